@@ -147,7 +147,8 @@ rows_of f component n rows = map (λ group. named_row f component n group.name) 
 abbrev modulo_row : FunctionData → (ℕ → ℕ) → ℕ → List KeptRow → PivotRow → KeptRow
 modulo_row f component n kept group = row_kept_by (modulo modulus) f component n kept group
 
--- the kept rows behind a group: triangular, and solved modulo the modulus by what solves the kept rows before and its row
+-- the kept rows behind a group: triangular, and solved modulo the modulus by what solves the kept
+-- rows before and its row
 record KeepsModulo (f : FunctionData) (component : ℕ → ℕ) (n : ℕ) (kept : List KeptRow) (group : PivotRow) (after : List KeptRow) : Type 0 where
   triangular : AreTriangularResidues n after
   solved : (w : List ℤ) → SolvesKeptModulo modulus w kept → SolvesModulo modulus w (named_row f component n group.name) →
@@ -196,7 +197,8 @@ group_keeps_modulo f component n kept group h meets =
     (solves_residues modulus named w (lit< tt) row))
     (inverse modulus (at_column present c)) refl
 
--- the rows behind groups, which what solves all their rows modulo the modulus solves, and as many more as groups
+-- the rows behind groups, which what solves all their rows modulo the modulus solves, and as many
+-- more as groups
 record AreKeptModulo (f : FunctionData) (component : ℕ → ℕ) (n : ℕ) (kept : List KeptRow) (groups : List PivotRow) (after : List KeptRow) :
     Type 0 where
   triangular : AreTriangularResidues n after

@@ -126,7 +126,8 @@ one_gmic right entry x y not_whole h k =
 
 -- ---- the coefficient as it is computed
 
--- p is the numerator of the fractional part of the right side over its denominator q, and r that of the entry's over d
+-- p is the numerator of the fractional part of the right side over its denominator q, and r that of
+-- the entry's over d
 pub record AreParts (right entry : Frac) (p q r d : ℕ) : Type 0 where
   place : pos p ≡ numerator (part_of right)
   right_over : pos q ≡ denominator right

@@ -1,4 +1,5 @@
--- The demands of a claim that a function is not extreme: when all hold, and which is the first that fails.
+-- The demands of a claim that a function is not extreme: when all hold, and which is the first that
+-- fails.
 use Rattle.std.proofs.Common.{◌≡◌, ℕ, zero, ◌+◌, ◌-◌, ◌<◌, List, [], ◌∷◌, ◌++◌, All, suc, refl, sym, ap, subst, ◌∙◌, arith}
 use Rattle.std.specs.List.{range_with_len}
 use Rattle.std.proofs.lemmas.List.Elements.{All-nil, All-cons, All-append}

@@ -29,7 +29,8 @@ average_of_pairs P a (suc n) i from below h =
       | inr other ↦ average_of_pairs P (a + 1) n i (omega arith) (omega arith) (All-tail P (Demand.average a) later behind)
     ]
 
--- what the rules on halves say, if the order is m times the function's and the scale c times that of its table
+-- what the rules on halves say, if the order is m times the function's and the scale c times that
+-- of its table
 record MeetHalves (f : FunctionData) (h : Halves) (m c : ℕ) : Type 0 where
   order : h.order ≡ f.order * m
   scale : h.scale ≡ pos (c * (f.scale * m))

@@ -43,7 +43,8 @@ any_other P xs y other (k, x, below, there, h) =
           (k, x, low, sym (get_or-append xs (y ∷ []) x k low) ∙ there, h)
     ]
 
--- the first k lines meet the rule, and these are the intervals that have one of them, and the numbers of these
+-- the first k lines meet the rule, and these are the intervals that have one of them, and the
+-- numbers of these
 pub record AreNumbered (f : FunctionData) (lines : List CoverLine) (k : ℕ) (has_line : List Bool) (number : List ℕ) (count : ℕ) : Type 0 where
   pub has_length : length has_line ≡ f.order
   pub number_length : length number ≡ f.order

@@ -1,4 +1,5 @@
--- All tests pass exactly if those at 0, those of signs, those of symmetry and those of each square do.
+-- All tests pass exactly if those at 0, those of signs, those of symmetry and those of each square
+-- do.
 use Rattle.std.proofs.Common.{◌↔◌}
 use Rattle.gj_shape.specs.FunctionData.{FunctionData}
 use Rattle.gj_shape.specs.FirstViolation.{Test, Passes, PassesAll}

@@ -66,7 +66,8 @@ module _ {L : Type 0} (number : L → ℤ) (natural : L → ℕ) (least : ℤ) (
 
 -- ---- all rows
 
--- what holds from the diagonal on holds everywhere, if it does not change with the order of the indices
+-- what holds from the diagonal on holds everywhere, if it does not change with the order of the
+-- indices
 pub from_diagonals : (P : ℕ → ℕ → Type 0) (n : ℕ) → ((a b : ℕ) → P a b → P b a) →
     ((a : ℕ) → a < n → (b : ℕ) → a ≤ b → b < n → P a b) → (a b : ℕ) → a < n → b < n → P a b
 from_diagonals P n mirror h a b a_below b_below =

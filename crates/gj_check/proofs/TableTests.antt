@@ -24,8 +24,8 @@ mirrored_pair values i j h =
 
 -- ---- one row over the entries of two periods
 
--- the greatest of the value at i and of the rises over the pairs from `from` on and before j is that value exactly if these
--- pairs pass
+-- the greatest of the value at i and of the rises over the pairs from `from` on and before j is
+-- that value exactly if these pairs pass
 abbrev pub BoundsRises : List ℤ → ℕ → ℕ → ℕ → ℤ → Type 0
 BoundsRises values i from j rise = (rise ≤ℤ at values i) ↔ ((k : ℕ) → k < j → from ≤ k → IsSubadditivePair values i k)
 

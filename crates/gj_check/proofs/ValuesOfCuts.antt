@@ -36,7 +36,8 @@ one_value f n d x y l some x_is y_is =
 place_z : (r w d q : ℤ) → (r +ℤ w *ℤ d) *ℤ q ≡ r *ℤ q +ℤ w *ℤ (q *ℤ d)
 place_z r w d q = by_ring (r ∷ w ∷ d ∷ q ∷ []) (search ring depth 30) refl
 
--- an entry x is r/d and a whole number, so in steps of 1/(q d) it is at the place r q, but for a multiple of the period
+-- an entry x is r/d and a whole number, so in steps of 1/(q d) it is at the place r q, but for a
+-- multiple of the period
 place_of : (x : Frac) (r q : ℕ) → IsRestOf r x →
     IsCongruent (numerator x *ℤ pos q) (pos (r * q)) (q * unsigned_abs (denominator x))
 place_of x r q is =

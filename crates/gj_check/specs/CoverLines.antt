@@ -1,4 +1,5 @@
--- The rule `cover` over cover lines in turn: whether all meet it, and which is the first that does not (own).
+-- The rule `cover` over cover lines in turn: whether all meet it, and which is the first that does
+-- not (own).
 use Rattle.std.specs.Prelude.{ℕ, ◌≡◌, ◌↔◌, ◌<◌, Bool, false, List, All, IsTrue, length, get_or}
 use Rattle.gj_shape.specs.Additive.{IsTight}
 use Rattle.gj_shape.specs.Cover.{HasCoverLine, components_in}

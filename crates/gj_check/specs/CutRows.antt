@@ -1,4 +1,5 @@
--- The rules on a row of a claim about cuts: whether all hold, and which is the first that fails (own).
+-- The rules on a row of a claim about cuts: whether all hold, and which is the first that fails
+-- (own).
 use Rattle.std.specs.Prelude.{ℕ, ◌≡◌, ◌+◌, ◌<◌, pos, List, [], ◌∷◌, map, length}
 use Rattle.std.specs.declared.option.Option.{Option}
 use Rattle.std.specs.declared.option.Option.TheVariants.{Some, None}
@@ -17,7 +18,8 @@ use Rattle.gj_check.specs.declared.cut_rows.RowFailure.{RowFailure}
 
 -- ---- a term
 
--- its rules hold: within the limits of its row, of a new name, and with the rule's value as its coefficient
+-- its rules hold: within the limits of its row, of a new name, and with the rule's value as its
+-- coefficient
 pub record MeetsTerm (rule : CutRule) (basic : List ℕ) (right : Frac) (before : List CutTerm) (t : CutTerm) : Type 0 where
   pub limit : MeetsLimit (right ∷ map (λ u. u.entry) before) t.entry
   pub name : MeetsName basic before t
@@ -59,7 +61,8 @@ abbrev pub GivesCut : CutRule → Frac → Type 0
 GivesCut (Table f) right = HasFractionalPart right (pos f.place) (pos f.order)
 GivesCut Gmic right = IsWhole right → ⊥
 
--- a right side of another fractional part than the function's, which is not whole; the mixed-integer cut has none such
+-- a right side of another fractional part than the function's, which is not whole; the
+-- mixed-integer cut has none such
 abbrev pub GivesNoCut : CutRule → Frac → Type 0
 GivesNoCut (Table f) right = (IsWhole right → ⊥) × (HasFractionalPart right (pos f.place) (pos f.order) → ⊥)
 GivesNoCut Gmic right = ⊥
@@ -69,7 +72,8 @@ pub record MeetsCutRow (rule : CutRule) (l : CutLine) : Type 0 where
   pub fraction : MeetsFraction rule l
   pub cut : IfCut l (λ basic right terms. MeetsLimit [] right × MeetTerms rule basic right terms)
 
--- the first that fails, and how many lines below that of the row: on the row's line `fraction` or `limit`, or one of a term
+-- the first that fails, and how many lines below that of the row: on the row's line `fraction` or
+-- `limit`, or one of a term
 pub data FailsRow (rule : CutRule) (l : CutLine) (f : RowFailure) : Type 0 where
   at_fraction : f.below ≡ 0 → f.rule ≡ Fraction → (MeetsFraction rule l → ⊥) → FailsRow rule l f
   at_limit : (basic : List ℕ) (right : Frac) (terms : List CutTerm) → l ≡ Cut basic right terms → f.below ≡ 0 → f.rule ≡ Limit →

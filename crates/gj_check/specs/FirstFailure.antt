@@ -42,7 +42,8 @@ pub record IsFirstFailure (c : Claim) (n : ℕ) (rule : CheckRule) : Type 0 wher
   pub rule_is : rule ≡ rule_of demand
   pub number : HasNumber c (line_of_demand demand) n
 
--- the check of a claim about cuts, or that a function is extreme or not extreme, takes memory, and that of another claim none
+-- the check of a claim about cuts, or that a function is extreme or not extreme, takes memory, and
+-- that of another claim none
 abbrev pub TakesMemory : Claim → Type 0
 TakesMemory (claim.Minimal f) = ⊥
 TakesMemory (claim.NotMinimal f v) = ⊥

@@ -10,7 +10,8 @@ use Rattle.gj_check.specs.declared.rules.CheckRule.TheVariants.{Range, Average}
 use Rattle.gj_check.specs.declared.halves.Refinement.{Refinement}
 use Rattle.gj_check.specs.declared.halves.PairFailure.{PairFailure}
 
--- the order of the halves is so many times the function's, and the scale so many times that multiple of the function's
+-- the order of the halves is so many times the function's, and the scale so many times that
+-- multiple of the function's
 pub record IsHalvesRefinement (f : FunctionData) (h : Halves) (r : Refinement) : Type 0 where
   pub order : h.order ≡ f.order * r.times
   pub scale : h.scale ≡ pos (r.factor * (f.scale * r.times))

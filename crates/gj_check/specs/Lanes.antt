@@ -27,7 +27,8 @@ part_at l i e = record {
 abbrev pub IsPartBelow : {L : Type 0} → (L → ℕ) → ℕ → Part L → Type 0
 IsPartBelow number bound p = (number p.value < bound) × (number p.right < bound) × (number p.left < bound)
 
--- no limit of the slack in the square (a, b) is negative, by the pieces from a/q, b/q, (a + b)/q and (a + b + 1)/q on
+-- no limit of the slack in the square (a, b) is negative, by the pieces from a/q, b/q, (a + b)/q
+-- and (a + b + 1)/q on
 pub record HasNoExcess {L : Type 0} (number : L → ℕ) (first second sum next : Part L) : Type 0 where
   pub at_vertex : number sum.value ≤ number first.value + number second.value
   pub at_sum : (number sum.right ≤ number first.right + number second.value)

@@ -17,6 +17,7 @@ IsOpposite xs ys place total i = at xs i +ℤ at ys (place + (length xs - i)) �
 abbrev pub AreOpposite : List ℤ → List ℤ → ℕ → ℤ → Type 0
 AreOpposite xs ys place total = (i : ℕ) → i < length xs → IsOpposite xs ys place total i
 
--- each from an index up to another adds up to the total with that of the others whose index makes up the sum
+-- each from an index up to another adds up to the total with that of the others whose index makes
+-- up the sum
 abbrev pub AreOppositeBetween : List ℤ → List ℤ → ℕ → ℕ → ℕ → ℤ → Type 0
 AreOppositeBetween xs ys from end sum total = (i : ℕ) → i < end → from ≤ i → at xs i +ℤ at ys (sum - i) ≡ total

@@ -11,7 +11,8 @@ pub record IsRowDenominator (xs : List Frac) (c : ℕ) : Type 0 where
   pub high : c < denominator_bound
   pub least : IsLeastCommonDenominator xs c
 
--- behind numbers with the least common denominator c the number x is within the limits, and with it they have that of m
+-- behind numbers with the least common denominator c the number x is within the limits, and with it
+-- they have that of m
 abbrev pub ExtendsRowDenominator : ℕ → Frac → ℕ → Type 0
 ExtendsRowDenominator c x m = (xs : List Frac) → IsRowDenominator xs c → MeetsLimit xs x × IsRowDenominator (xs ++ x ∷ []) m
 

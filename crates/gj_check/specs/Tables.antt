@@ -3,7 +3,8 @@ use Rattle.std.specs.Prelude.{ℕ, ℤ, pos, ◌≡◌, ◌+◌, ◌-◌, ◌*�
 use Rattle.gj_shape.specs.FunctionData.{at}
 use Rattle.gj_shape.specs.Limits.{greatest_halves_order, greatest_halves_scale}
 
--- the values lie from 0 to the scale, which is at most 2^124; there are at most 4,000, and the place is one of theirs
+-- the values lie from 0 to the scale, which is at most 2^124; there are at most 4,000, and the
+-- place is one of theirs
 pub record IsTableInRange (values : List ℤ) (place : ℕ) (scale : ℤ) : Type 0 where
   pub place_below : place < length values
   pub few : length values ≤ greatest_halves_order

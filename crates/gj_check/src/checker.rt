@@ -17,10 +17,10 @@ use std::alloc::Global;
 
 /// Checks every rule on a proof, in the order of its lines.
 ///
-/// Ok exactly if every rule holds; else the line and the rule of the first that fails. `Memory` may come in place of
-/// either if the claim is about cuts, or says that a function is extreme or not extreme, and never for another claim,
-/// whose check takes no memory. It says that memory ran out, or that a line of the proof has a
-/// number from 2^64 on, so that its text fits no memory.
+/// Ok exactly if every rule holds; else the line and the rule of the first that fails. `Memory` may
+/// come in place of either if the claim is about cuts, or says that a function is extreme or not
+/// extreme, and never for another claim, whose check takes no memory. It says that memory ran out,
+/// or that a line of the proof has a number from 2^64 on, so that its text fits no memory.
 ///
 /// ```rust
 /// let proof = read_proof(alloc, text)?;
@@ -32,7 +32,8 @@ pub fn check(alloc: Global, proof: &Proof) -> Result<(), CheckFault>
     // So what the claim says is true. A claim that was read is bounded.
     ensures holds { IsBounded proof.now → OnOk result (ClaimHolds proof.now) }
     // If every rule holds, it answers Ok, unless there is no memory.
-    ensures only { MeetsRules proof.now → MatchResult result (λ _. Unit {0}) (IsWantOfMemory proof.now) }
+    ensures only { MeetsRules proof.now → MatchResult result (λ _. Unit {0})
+        (IsWantOfMemory proof.now) }
     // If it rejects, this is the first rule that fails.
     ensures fault { IfErr result (IsCheckFaultOf proof.now) }
 {

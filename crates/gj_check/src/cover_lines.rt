@@ -1,4 +1,5 @@
-//! The rule `cover`: each cover line opens a component, or puts an interval into the component of another.
+//! The rule `cover`: each cover line opens a component, or puts an interval into the component of
+//! another.
 ghost use Rattle.std.specs.Prelude.{ℕ, ◌≡◌, ◌↔◌, ◌+◌, ◌<◌, ◌≤◌, ◌++◌, List, All, IsTrue, IfOk, length};
 ghost use Rattle.gj_shape.specs.Limits.{greatest_order};
 ghost use Rattle.gj_shape.specs.Additive.{IsAdditive, IsTight};
@@ -30,7 +31,8 @@ pub(crate) enum Covered {
     BrokenAt(usize),
 }
 
-/// The components by as many cover lines as there are intervals, or the first of these lines that breaks the rule.
+/// The components by as many cover lines as there are intervals, or the first of these lines that
+/// breaks the rule.
 pub(crate) fn components_by(
     alloc: Global,
     shape: &Shape,
@@ -130,7 +132,8 @@ fn covers(face: Face, interval: u32, order: u32) -> bool
     requires order { order ≤ greatest_order }
     requires first { face.a < order }
     requires second { face.b < order }
-    ensures { IsTrue result ↔ IsOneOf order (triangle_projections face.kind face.a face.b) interval }
+    ensures { IsTrue result ↔
+        IsOneOf order (triangle_projections face.kind face.a face.b) interval }
 {
     match face.kind {
         FaceKind::Lower | FaceKind::Upper => meets_interval(face, interval, order),
@@ -144,8 +147,10 @@ fn joins(face: Face, first: u32, second: u32, order: u32) -> bool
     requires first { face.a < order }
     requires second { face.b < order }
     ensures { IsTrue result
-        ↔ (IsOneOf order (links_of face.kind face.a face.b ++ triangle_projections face.kind face.a face.b) first
-        × IsOneOf order (links_of face.kind face.a face.b ++ triangle_projections face.kind face.a face.b) second) }
+        ↔ (IsOneOf order (links_of face.kind face.a face.b ++ triangle_projections face.kind
+        face.a face.b) first
+        × IsOneOf order (links_of face.kind face.a face.b ++ triangle_projections face.kind
+        face.a face.b) second) }
 {
     meets_interval(face, first, order) && meets_interval(face, second, order)
 }
@@ -156,7 +161,8 @@ fn meets_interval(face: Face, interval: u32, order: u32) -> bool
     requires first { face.a < order }
     requires second { face.b < order }
     ensures { IsTrue result
-        ↔ IsOneOf order (links_of face.kind face.a face.b ++ triangle_projections face.kind face.a face.b) interval }
+        ↔ IsOneOf order (links_of face.kind face.a face.b ++ triangle_projections face.kind face.a
+        face.b) interval }
 {
     let a = face.a;
     let b = face.b;

@@ -50,8 +50,8 @@ pub(crate) fn failure_in_row(
     }
 }
 
-/// The first rule that fails on the lines of the terms of a row, if its right side meets its rules and has the
-/// denominator `common`; none if all hold.
+/// The first rule that fails on the lines of the terms of a row, if its right side meets its rules
+/// and has the denominator `common`; none if all hold.
 fn failure_in_terms(
     alloc: Global,
     rule: &CutRule,

@@ -75,8 +75,9 @@ pub(crate) fn has_value(rule: &CutRule, right: Frac, term: &CutTerm) -> bool
     }
 }
 
-/// Whether the number is the coefficient of the mixed-integer cut at the entry: with f the fractional part of the right side
-/// and r that of the entry it is r/f if r is at most f, and else (1 - r)/(1 - f).
+/// Whether the number is the coefficient of the mixed-integer cut at the entry: with f the
+/// fractional part of the right side and r that of the entry it is r/f if r is at most f, and else
+/// (1 - r)/(1 - f).
 fn is_gmic_coefficient(x: Frac, right: Frac, entry: Frac) -> bool
     requires gives { IsWhole right → ⊥ }
     requires right { IsRowNumber right }

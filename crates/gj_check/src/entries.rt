@@ -1,4 +1,5 @@
-//! Numbers of four widths, in which the values of a table are kept: the fewer bits, the faster the tests.
+//! Numbers of four widths, in which the values of a table are kept: the fewer bits, the faster the
+//! tests.
 ghost use Rattle.std.specs.Prelude.{ℕ, ℤ, pos, ◌≡◌, ◌↔◌, ◌^◌, ◌-ℤ◌, ◌<ℤ◌, ◌≤ℤ◌, IsTrue};
 ghost use Rattle.std.specs.Int.{int_max};
 

@@ -17,7 +17,8 @@ use gj_proof::{
 use gj_shape::{CoverLine, Shape};
 use std::alloc::{AllocError, Global};
 
-/// Checks every rule on the cover lines and the rows of these numbers of a function, in the order of the lines of their proof.
+/// Checks every rule on the cover lines and the rows of these numbers of a function, in the order
+/// of the lines of their proof.
 pub(crate) fn check_extreme(
     alloc: Global,
     numbers: Numbers,
@@ -29,7 +30,8 @@ pub(crate) fn check_extreme(
     requires lines { All (IsCoverLineBelow shape.now.order) lines.now }
     requires rows { All (IsPivotRowBelow shape.now.order) rows.now }
     ensures ok { OnOk result (MeetsRules (extreme_claim numbers shape.now lines.now rows.now)) }
-    ensures fault { IfErr result (IsCheckFaultOf (extreme_claim numbers shape.now lines.now rows.now)) }
+    ensures fault { IfErr result (IsCheckFaultOf
+        (extreme_claim numbers shape.now lines.now rows.now)) }
 {
     if !is_minimal(shape) {
         return Err(CheckFault::Rejected(CLAIM_LINE, CheckRule::Minimal));

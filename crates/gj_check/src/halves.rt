@@ -178,7 +178,8 @@ fn table_entry(shape: &Shape, times_finer: u32, index: usize) -> i128
     times(i128::from(values[here]), times_finer - rest) + times(i128::from(values[next]), rest)
 }
 
-/// Whether the table of these values is minimal, over the scale of the halves and with the function's place.
+/// Whether the table of these values is minimal, over the scale of the halves and with the
+/// function's place.
 fn is_minimal_half(
     alloc: Global,
     shape: &Shape,
@@ -190,7 +191,8 @@ fn is_minimal_half(
     requires refinement { IsHalvesRefinement shape.now halves.now refinement }
     requires length { length values.now ≡ halves.now.order }
     requires range { (i : ℕ) → i < halves.now.order → IsBetween (at values.now i) halves.now.scale }
-    ensures { IfOk result (λ minimal. IsTrue minimal ↔ IsMinimalHalf shape.now halves.now values.now) }
+    ensures { IfOk result (λ minimal. IsTrue minimal ↔
+        IsMinimalHalf shape.now halves.now values.now) }
 {
     let place = (shape.place() * refinement.times) as usize;
     is_minimal_table(alloc, values, place, halves.scale)

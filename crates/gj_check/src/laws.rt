@@ -16,5 +16,6 @@ pub fn rules_give_meaning()
 pub fn one_first_failure()
     ensures one { (c : Claim) (n m : ℕ) (rule other : CheckRule) →
         IsFirstFailure c n rule → IsFirstFailure c m other → (n ≡ m) × (rule ≡ other) }
-    ensures none { (c : Claim) (n : ℕ) (rule : CheckRule) → IsFirstFailure c n rule → MeetsRules c → ⊥ }
+    ensures none { (c : Claim) (n : ℕ) (rule : CheckRule) → IsFirstFailure c n rule →
+        MeetsRules c → ⊥ }
 {}

@@ -1,9 +1,11 @@
-//! The separate checker: every rule on a proof, by code that calls nothing of the searches and the elimination that make proofs.
+//! The separate checker: every rule on a proof, by code that calls nothing of the searches and the
+//! elimination that make proofs.
 //!
-//! `check` takes the demands of a claim in their order, and answers the first that fails by its rule and the number of its line.
-//! `rules_give_meaning`: if every rule holds, what the claim says is true. With them it
-//! shares functions and fractions as data, numbers in lanes, the reading of texts, definitions and theorems. The rules on the
-//! rows of a proof that a function is extreme are those of `gj_check_groups`.
+//! `check` takes the demands of a claim in their order, and answers the first that fails by its
+//! rule and the number of its line. `rules_give_meaning`: if every rule holds, what the claim says
+//! is true. With them it shares functions and fractions as data, numbers in lanes, the reading of
+//! texts, definitions and theorems. The rules on the rows of a proof that a function is extreme are
+//! those of `gj_check_groups`.
 #![tactic(auto)]
 
 mod checker;

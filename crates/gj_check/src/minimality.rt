@@ -20,6 +20,12 @@ use gj_shape::{GREATEST_ORDER, Shape};
 /// How many entries there are: those of two periods of the greatest order.
 const COUNT: usize = 2 * GREATEST_ORDER as usize;
 
+/// The orders up to it are small.
+const SMALL_ORDER: u32 = 120;
+
+/// How many entries serve a small order.
+const SMALL_COUNT: usize = 2 * SMALL_ORDER as usize;
+
 /// How many lanes there are: those of two periods, and one more.
 const LANES: usize = COUNT + 1;
 
@@ -90,7 +96,8 @@ fn is_symmetric(shape: &Shape) -> bool
     )
 }
 
-/// Whether each of the numbers adds up to the total with that of the others at the place less its index, modulo their count.
+/// Whether each of the numbers adds up to the total with that of the others at the place less its
+/// index, modulo their count.
 fn are_opposite(numbers: &[i64], others: &[i64], place: usize, total: i64) -> bool
     requires count { length others.now ≡ length numbers.now }
     requires few { length numbers.now ≤ greatest_order }
@@ -106,7 +113,8 @@ fn are_opposite(numbers: &[i64], others: &[i64], place: usize, total: i64) -> bo
     are_opposite_between(numbers, others, place + 1, count, place + count, total)
 }
 
-/// Whether each of the numbers from an index up to another adds up to the total with that of the others whose index makes up the sum.
+/// Whether each of the numbers from an index up to another adds up to the total with that of the
+/// others whose index makes up the sum.
 fn are_opposite_between(
     numbers: &[i64],
     others: &[i64],
@@ -131,8 +139,8 @@ fn are_opposite_between(
     true
 }
 
-/// Whether no limit of the slack is negative in any square. Those of a continuous function are slacks at grid points. The other
-/// functions are tested over lanes of the fewest bits that serve.
+/// Whether no limit of the slack is negative in any square. Those of a continuous function are
+/// slacks at grid points. The other functions are tested over lanes of the fewest bits that serve.
 fn is_subadditive(shape: &Shape) -> bool
     requires { PassesSymmetry shape.now }
     ensures { IsTrue result ↔ IsSubadditive shape.now }
@@ -156,22 +164,28 @@ fn is_subadditive(shape: &Shape) -> bool
     )
 }
 
-/// Whether no slack at grid points is negative, over entries of the fewest bits that serve.
+/// Whether no slack at grid points is negative, over entries of the fewest bits that serve; of a
+/// small order, over few.
 fn is_subadditive_on_grid(shape: &Shape) -> bool
     requires { PassesSymmetry shape.now }
     ensures grid { IsTrue result ↔ IsSubadditiveOnGrid shape.now }
     ensures limits { IsWithinBounds shape.now }
 {
-    if shape.common_denominator() <= i128::from(i16::MAX) {
-        return is_subadditive_in(shape, &mut [0i16; COUNT]);
+    if shape.common_denominator() > i128::from(i16::MAX) {
+        return is_subadditive_in(shape, &mut [0i32; COUNT]);
     }
-    is_subadditive_in(shape, &mut [0i32; COUNT])
+    if shape.order() <= SMALL_ORDER {
+        is_subadditive_in(shape, &mut [0i16; SMALL_COUNT])
+    } else {
+        is_subadditive_in(shape, &mut [0i16; COUNT])
+    }
 }
 
-/// The same over entries of one width, in which the common denominator fits: these are written over.
+/// The same over entries of one width, in which the common denominator fits: these are written
+/// over.
 fn is_subadditive_in<E: Entry>(shape: &Shape, entries: &mut [E]) -> bool
     requires symmetric { PassesSymmetry shape.now }
-    requires room { length entries.old ≡ 2 * greatest_order }
+    requires room { 2 * shape.now.order ≤ length entries.old }
     requires fits { shape.now.scale < E.bound }
     ensures { IsTrue result ↔ IsSubadditiveOnGrid shape.now }
 {
@@ -182,7 +196,7 @@ fn is_subadditive_in<E: Entry>(shape: &Shape, entries: &mut [E]) -> bool
 /// Writes the values of two periods.
 fn write_two_periods<E: Entry>(shape: &Shape, entries: &mut [E])
     requires symmetric { PassesSymmetry shape.now }
-    requires room { length entries.old ≡ 2 * greatest_order }
+    requires room { 2 * shape.now.order ≤ length entries.old }
     requires fits { shape.now.scale < E.bound }
     ensures { AreTwoPeriods E.number entries.new shape.now.value }
 {
@@ -193,8 +207,8 @@ fn write_two_periods<E: Entry>(shape: &Shape, entries: &mut [E])
     }
 }
 
-/// Whether no limit of the slack is negative in any square, over lanes of one width, in which the common denominator fits: these
-/// are written over.
+/// Whether no limit of the slack is negative in any square, over lanes of one width, in which the
+/// common denominator fits: these are written over.
 fn is_subadditive_over<L: UnsignedLane>(
     shape: &Shape,
     value: &mut [L],
@@ -214,7 +228,8 @@ fn is_subadditive_over<L: UnsignedLane>(
     is_subadditive_between(shape, Lanes { value, right, left })
 }
 
-/// Whether no limit of the slack is negative in any square. The squares (a, b) and (b, a) have the same limits, so half are tested.
+/// Whether no limit of the slack is negative in any square. The squares (a, b) and (b, a) have the
+/// same limits, so half are tested.
 fn is_subadditive_between<L: UnsignedLane>(shape: &Shape, lanes: Lanes<'_, L>) -> bool
     requires { AreLanesOf L.number L.least L.bound shape.now lanes }
     ensures { IsTrue result ↔ IsSubadditive shape.now }

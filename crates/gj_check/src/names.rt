@@ -7,8 +7,8 @@ use gj_proof::CutTerm;
 use indexmap::IndexSet;
 use std::alloc::{AllocError, Global};
 
-/// The index of the first term whose name is that of the basic variable or of a term before it; the number of terms
-/// if each name is new.
+/// The index of the first term whose name is that of the basic variable or of a term before it; the
+/// number of terms if each name is new.
 pub(crate) fn first_repeated(
     alloc: Global,
     basic: &Name,

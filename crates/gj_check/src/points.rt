@@ -11,8 +11,8 @@ use crate::denominators::{are_coordinates, is_coordinate};
 use gj_frac::Frac;
 use gj_shape::{Shape, Violation};
 
-/// Whether the violation's coordinates lie from 0 to below 1 and have a common denominator of at most 2^62, and
-/// the violation is shown there. It takes no memory.
+/// Whether the violation's coordinates lie from 0 to below 1 and have a common denominator of at
+/// most 2^62, and the violation is shown there. It takes no memory.
 pub(crate) fn is_shown(shape: &Shape, violation: Violation) -> bool
     ensures { IsTrue result ↔ MeetsPoint shape.now violation }
 {

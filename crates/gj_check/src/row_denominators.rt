@@ -7,8 +7,8 @@ ghost use Rattle.gj_check.specs.RowLimits.{ExtendsRowDenominator, IsBeyond};
 use gj_frac::{Frac, lcm};
 use gj_shape::{GREATEST_DENOMINATOR, GREATEST_NUMBER};
 
-/// The least common denominator of the numbers of a row so far, `common`, with one more number; none if with it
-/// they are beyond the limits.
+/// The least common denominator of the numbers of a row so far, `common`, with one more number;
+/// none if with it they are beyond the limits.
 pub(crate) fn extended(common: u64, x: Frac) -> Option<u64>
     requires some { 0 < common }
     requires high { common < 2 ^ 31 }

@@ -7,7 +7,8 @@ pub enum CheckRule {
     Minimal,
     /// The function is continuous.
     Continuous,
-    /// The coordinates of a violation lie from 0 to below 1, with a common denominator of at most 2^62, and the violation is shown there.
+    /// The coordinates of a violation lie from 0 to below 1, with a common denominator of at most
+    /// 2^62, and the violation is shown there.
     Point,
     /// A line of a cover extends a component.
     Cover,
@@ -17,7 +18,8 @@ pub enum CheckRule {
     Reduce,
     /// The numbers of a reduction of whole numbers are at most 2^127 - 1 in absolute value.
     Size,
-    /// The pivot of a row is its first entry, in a column with no earlier pivot; of residues, it has an inverse.
+    /// The pivot of a row is its first entry, in a column with no earlier pivot; of residues, it
+    /// has an inverse.
     Pivot,
     /// There are as many pivots as components.
     Rank,
@@ -33,8 +35,8 @@ pub enum CheckRule {
     Second,
     /// The halves differ.
     Same,
-    /// The fractional part of a right side fits the line: for a cut it is the function's f, or for the mixed-integer cut not 0; for a
-    /// skipped row it is 0, or another than f, as the line says.
+    /// The fractional part of a right side fits the line: for a cut it is the function's f, or for
+    /// the mixed-integer cut not 0; for a skipped row it is 0, or another than f, as the line says.
     Fraction,
     /// The numbers of a row are within the limits.
     Limit,

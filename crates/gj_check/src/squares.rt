@@ -1,4 +1,5 @@
-//! Rows of squares, whose limits of the subadditivity slack are tested all at once over lanes of one width.
+//! Rows of squares, whose limits of the subadditivity slack are tested all at once over lanes of
+//! one width.
 ghost use Rattle.std.specs.Prelude.{◌≡◌, ◌<◌, ◌≤◌, ◌↔◌, IsTrue};
 ghost use Rattle.gj_check.specs.Tests.{IsSubadditiveRow};
 ghost use Rattle.gj_check.specs.Lanes.{IsPartBelow, HasNoExcess};
@@ -61,8 +62,8 @@ impl<'a, L: UnsignedLane> Lanes<'a, L> {
     }
 }
 
-/// By how much a limit of the slack in a square is negative at most, and 0 if none is: by the pieces from a/q, from b/q, from
-/// (a + b)/q and from (a + b + 1)/q on.
+/// By how much a limit of the slack in a square is negative at most, and 0 if none is: by the
+/// pieces from a/q, from b/q, from (a + b)/q and from (a + b + 1)/q on.
 fn excess_in_square<L: UnsignedLane>(
     first: Part<L>,
     second: Part<L>,
@@ -100,7 +101,8 @@ fn excess_in_square<L: UnsignedLane>(
 
 /// By how much the sum is above the lesser of two totals, and 0 if it is not.
 fn excess_over_lesser<L: UnsignedLane>(sum: L, first: L, second: L) -> L
-    ensures { (L.natural result ≡ 0) ↔ ((L.natural sum ≤ L.natural first) × (L.natural sum ≤ L.natural second)) }
+    ensures { (L.natural result ≡ 0) ↔ ((L.natural sum ≤ L.natural first) ×
+        (L.natural sum ≤ L.natural second)) }
 {
     sum.excess_over(first.lesser(second))
 }

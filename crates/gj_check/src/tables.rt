@@ -102,8 +102,9 @@ fn two_periods<E: Entry>(
     Ok(entries)
 }
 
-/// Whether the pairs pass that are tried, by the entries of two periods of so many values. Of three indices that add up to the place
-/// modulo their number the pairs of any two pass or fail together, if the values are symmetric: only that of the two least is tried.
+/// Whether the pairs pass that are tried, by the entries of two periods of so many values. Of three
+/// indices that add up to the place modulo their number the pairs of any two pass or fail together,
+/// if the values are symmetric: only that of the two least is tried.
 pub(crate) fn has_subadditive_totals<E: Entry>(entries: &[E], count: usize, place: usize) -> bool
     requires periods { HaveTwoPeriods E.number entries.now count }
     requires few { count ≤ greatest_halves_order }
@@ -120,7 +121,8 @@ pub(crate) fn has_subadditive_totals<E: Entry>(entries: &[E], count: usize, plac
     has_subadditive_total(entries, count, place + 2 * count)
 }
 
-/// The same for three indices with this total. The least of them, i, is at most a third of it, and the others are below the count.
+/// The same for three indices with this total. The least of them, i, is at most a third of it, and
+/// the others are below the count.
 fn has_subadditive_total<E: Entry>(entries: &[E], count: usize, total: usize) -> bool
     requires periods { HaveTwoPeriods E.number entries.now count }
     requires few { count ≤ greatest_halves_order }
@@ -138,7 +140,8 @@ fn has_subadditive_total<E: Entry>(entries: &[E], count: usize, total: usize) ->
     true
 }
 
-/// The same for one i as the least of the three: no rise from a value to that at the sum is above the value at i.
+/// The same for one i as the least of the three: no rise from a value to that at the sum is above
+/// the value at i.
 fn is_subadditive_part<E: Entry>(entries: &[E], count: usize, total: usize, i: usize) -> bool
     requires periods { HaveTwoPeriods E.number entries.now count }
     requires few { count ≤ greatest_halves_order }

@@ -1,5 +1,5 @@
--- The rules on the groups of a proof that a function is extreme: what they say of the groups alone, and which is the first that
--- fails (own).
+-- The rules on the groups of a proof that a function is extreme: what they say of the groups alone,
+-- and which is the first that fails (own).
 use Rattle.std.specs.Prelude.{ℕ, ℤ, ◌≡◌, List, ◌∷◌, ◌++◌, All, length}
 use Rattle.std.specs.declared.option.Option.{Option}
 use Rattle.std.specs.declared.option.Option.TheVariants.{Some, None}
@@ -19,13 +19,15 @@ use Rattle.gj_check_groups.specs.declared.failure.GroupFailure.{GroupFailure}
 
 -- ---- what the demands say
 
--- the g-th group has a property: of the rows that the groups before it keep, and the row that it begins with
+-- the g-th group has a property: of the rows that the groups before it keep, and the row that it
+-- begins with
 abbrev pub IfGroupOf : Numbers → FunctionData → (ℕ → ℕ) → ℕ → List PivotRow → ℕ → (List KeptRow → List ℤ → PivotRow → Type 0) → Type 0
 IfGroupOf numbers f component n rows g P =
     AtIndex rows g (λ before one.
     P (rows_before_by (arithmetic_of numbers) f component n before) (begun_row (arithmetic_of numbers) f component n one.name) one)
 
--- the r-th step of the g-th group has a property: of the rows kept before, the row before the step, and the column
+-- the r-th step of the g-th group has a property: of the rows kept before, the row before the step,
+-- and the column
 abbrev pub IfStepOf : Numbers → FunctionData → (ℕ → ℕ) → ℕ → List PivotRow → ℕ → ℕ → (List KeptRow → List ℤ → ℕ → Type 0) → Type 0
 IfStepOf numbers f component n rows g r P =
     IfGroupOf numbers f component n rows g (λ kept begun one. AtIndex one.reduce r (λ before column.
@@ -51,7 +53,8 @@ IsRuleOf rule (size g r) = rule ≡ Size
 IsRuleOf rule (pivot g) = rule ≡ Pivot
 IsRuleOf rule _ = ⊥
 
--- the first demand on the groups that fails has this rule, and is written with the line that stands so many below their first
+-- the first demand on the groups that fails has this rule, and is written with the line that stands
+-- so many below their first
 pub record IsFirstGroupFailure (numbers : Numbers) (f : FunctionData) (component : ℕ → ℕ) (n : ℕ) (rows : List PivotRow)
     (failure : GroupFailure) : Type 0 where
   pub before : List Demand

@@ -15,7 +15,8 @@ fn add_named(row: &mut [i128], component: &[u32], place: u32, name: RowName)
     requires place_within { place < length component.now }
     requires name_within { IsRowNameBelow (length component.now) name }
     requires zeros { All (λ x. x ≡ pos 0) row.old }
-    ensures { row.new ≡ row_of (component_in component.now) (length row.old) (length component.now) place name }
+    ensures { row.new ≡ row_of (component_in component.now) (length row.old)
+        (length component.now) place name }
 {
     let order = component.len();
     match name {
@@ -39,8 +40,8 @@ fn read(numbers: Numbers, row: &mut [i128])
     }
 }
 
-/// Puts the row of this name, of one entry for each component, in the place of a row, as these numbers read it. `component` has the
-/// component of each interval, and its length is the order.
+/// Puts the row of this name, of one entry for each component, in the place of a row, as these
+/// numbers read it. `component` has the component of each interval, and its length is the order.
 pub(crate) fn begin_row(
     numbers: Numbers,
     row: &mut [i128],
@@ -51,7 +52,8 @@ pub(crate) fn begin_row(
     requires components { All (λ c. c < length row.old) component.now }
     requires place_within { place < length component.now }
     requires name_within { IsRowNameBelow (length component.now) name }
-    ensures { row.new ≡ (arithmetic_of numbers).read (row_of (component_in component.now) (length row.old) (length component.now) place name) }
+    ensures { row.new ≡ (arithmetic_of numbers).read (row_of (component_in component.now)
+        (length row.old) (length component.now) place name) }
 {
     row.fill(0);
     add_named(row, component, place, name);

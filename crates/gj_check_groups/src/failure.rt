@@ -9,7 +9,8 @@ pub enum GroupRule {
     Reduce,
     /// No number of a step passes 2^127 - 1 in absolute value.
     Size,
-    /// The pivot is new and within the components, and the row is 0 before it and not 0 there; of residues, it is invertible there.
+    /// The pivot is new and within the components, and the row is 0 before it and not 0 there; of
+    /// residues, it is invertible there.
     Pivot,
 }
 

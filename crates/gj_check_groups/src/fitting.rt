@@ -1,4 +1,5 @@
-//! Products and differences of at most 2^127 - 1 in absolute value, and quotients: of narrow numbers by steps of 64 bits.
+//! Products and differences of at most 2^127 - 1 in absolute value, and quotients: of narrow
+//! numbers by steps of 64 bits.
 ghost use Rattle.std.specs.Prelude.{pos, ◌*ℤ◌, ◌-ℤ◌, ◌<ℤ◌, ◌≡◌, ◌<◌, ◌↔◌, ◌^◌, IsErr, IsTrue, MatchOption, int_div, unsigned_abs};
 ghost use Rattle.std.specs.Result.{OkIff};
 ghost use Rattle.gj_frac.specs.Fraction.{Fits};
@@ -57,7 +58,8 @@ pub(crate) fn difference(n: i128, m: i128) -> Result<i128, TooWide>
     fitting(n.checked_sub(m))
 }
 
-/// The quotient of a number by a positive one, rounded to 0: of narrow numbers, by one division of 64 bits.
+/// The quotient of a number by a positive one, rounded to 0: of narrow numbers, by one division of
+/// 64 bits.
 pub(crate) fn quotient(n: i128, divisor: i128) -> i128
     requires { pos 0 <ℤ divisor }
     ensures { result ≡ int_div n divisor }

@@ -15,8 +15,8 @@ use crate::step::reduce;
 use gj_proof::{Numbers, PivotRow, lines_with_steps};
 use gj_shape::{List, RowName, Shape};
 
-/// The first rule that fails in a group, if the row is that of its name; none if all hold, and then the row is as its steps
-/// leave it.
+/// The first rule that fails in a group, if the row is that of its name; none if all hold, and then
+/// the row is as its steps leave it.
 pub(crate) fn failure_in_group(
     numbers: Numbers,
     shape: &Shape,
@@ -71,7 +71,8 @@ fn is_tight(shape: &Shape, a: u32, b: u32) -> bool
     first + shape.value_numerator(b) == shape.value_numerator(a + b)
 }
 
-/// Reduces a row at these columns in turn. The answer is the first rule that fails; the row is no longer used then.
+/// Reduces a row at these columns in turn. The answer is the first rule that fails; the row is no
+/// longer used then.
 fn failure_in_steps(
     numbers: Numbers,
     table: &[Option<List<i128>>],
@@ -95,7 +96,8 @@ fn failure_in_steps(
     None
 }
 
-/// Reduces a row at a column. The answer is the first rule that fails; the row is no longer used then.
+/// Reduces a row at a column. The answer is the first rule that fails; the row is no longer used
+/// then.
 fn failure_in_step(
     numbers: Numbers,
     table: &[Option<List<i128>>],
@@ -152,7 +154,8 @@ fn meets_pivot_by(numbers: Numbers, table: &[Option<List<i128>>], row: &[i128], 
     }
 }
 
-/// Whether the column is within the row and has no pivot yet, and the row is 0 before it and not 0 there.
+/// Whether the column is within the row and has no pivot yet, and the row is 0 before it and not 0
+/// there.
 fn meets_pivot(table: &[Option<List<i128>>], row: &[i128], column: u32) -> bool
     requires { length table.now ≡ length row.now }
     ensures outcome { (kept : List KeptRow) → AreRowsAt kept table.now →

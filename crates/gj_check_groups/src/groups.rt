@@ -14,10 +14,11 @@ use gj_proof::{Numbers, PivotRow, line_behind_group, line_below};
 use gj_shape::{List, Shape};
 use std::alloc::{AllocError, Global};
 
-/// The first rule that fails on the groups of a proof that a function is extreme by rows of these numbers, of the rules `row`,
-/// `reduce`, `size` and `pivot`; none if all hold. An error says that memory ran out, or that a
-/// line of the groups has a number from 2^64 on, so that their text fits no memory. `component` has
-/// the component of each interval, and `count` is the number of components.
+/// The first rule that fails on the groups of a proof that a function is extreme by rows of these
+/// numbers, of the rules `row`, `reduce`, `size` and `pivot`; none if all hold. An error says that
+/// memory ran out, or that a line of the groups has a number from 2^64 on, so that their text fits
+/// no memory. `component` has the component of each interval, and `count` is the number of
+/// components.
 pub fn failure_in_groups(
     alloc: Global,
     numbers: Numbers,
@@ -29,7 +30,8 @@ pub fn failure_in_groups(
     requires order { length component.now ≡ shape.now.order }
     requires components { All (λ c. c < count) component.now }
     requires rows { All (IsPivotRowBelow shape.now.order) rows.now }
-    ensures { IfOk result (IsGroupsOutcome numbers shape.now (component_in component.now) count rows.now) }
+    ensures { IfOk result (IsGroupsOutcome numbers shape.now
+        (component_in component.now) count rows.now) }
 {
     let mut table = no_rows(alloc, count)?;
     let mut row = vec![in alloc; 0; count as usize]?;
@@ -44,7 +46,8 @@ pub fn failure_in_groups(
     )
 }
 
-/// The first rule that fails on groups, from a table without rows on. The row is used for one group after another.
+/// The first rule that fails on groups, from a table without rows on. The row is used for one group
+/// after another.
 fn failure_in_turn(
     alloc: Global,
     numbers: Numbers,
@@ -58,7 +61,8 @@ fn failure_in_turn(
     requires components { All (λ c. c < length row.old) component.now }
     requires rows { All (IsPivotRowBelow shape.now.order) rows.now }
     requires table { table.old ≡ map (λ i. None) (range_with_len 0 (length row.old)) }
-    ensures { IfOk result (IsGroupsOutcome numbers shape.now (component_in component.now) (length row.old) rows.now) }
+    ensures { IfOk result (IsGroupsOutcome numbers shape.now (component_in component.now)
+        (length row.old) rows.now) }
 {
     let mut above = 0;
     for group in rows {

@@ -22,7 +22,8 @@ pub(crate) fn keep(
     pivot: u32,
 ) -> Result<(), AllocError>
     requires columns { length table.old ≡ length row.now }
-    requires pivot { (kept : List KeptRow) × MeetsPivotBy numbers (length row.now) kept row.now pivot }
+    requires pivot { (kept : List KeptRow) × MeetsPivotBy numbers
+        (length row.now) kept row.now pivot }
     requires fits { AreRowNumbers numbers row.now }
     ensures table { OnOk result (table.new ≡ set table.old pivot
         (Some (entries_or_none ((arithmetic_of numbers).keep row.now pivot)))) }
@@ -37,7 +38,8 @@ pub(crate) fn keep(
 
 /// Makes of a row of these numbers what is kept of it, with its pivot at the column.
 fn make_kept_by(numbers: Numbers, row: &mut [i128], column: usize)
-    requires pivot { (kept : List KeptRow) × MeetsPivotBy numbers (length row.old) kept row.old column }
+    requires pivot { (kept : List KeptRow) × MeetsPivotBy numbers
+        (length row.old) kept row.old column }
     requires fits { AreRowNumbers numbers row.old }
     ensures value { row.new ≡ entries_or_none ((arithmetic_of numbers).keep row.old column) }
     ensures kept { IsKeptAt numbers (length row.old) column row.new }

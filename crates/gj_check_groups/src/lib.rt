@@ -1,11 +1,13 @@
 //! The separate checker's rules on the rows of a proof that a function is extreme.
 //!
-//! A group of lines names a row of the linear system for the slopes of a perturbation, reduces it by the rows that the groups
-//! before it keep, and keeps what is left. `failure_in_groups` takes the rules `row`, `reduce`, `size` and `pivot` of all groups in
-//! the order of their lines, and answers the first that fails; in a proof by residues it takes `pivot` as that proof has it, and no
-//! `size`. The rule `rank`, that there are as many groups as components, is not among them. It calls nothing of the elimination that
-//! finds such rows: the steps on two rows, by whole numbers and by residues, and the counts of a row, the natural loops for their
-//! definitions, are written out here too.
+//! A group of lines names a row of the linear system for the slopes of a perturbation, reduces it
+//! by the rows that the groups before it keep, and keeps what is left. `failure_in_groups` takes
+//! the rules `row`, `reduce`, `size` and `pivot` of all groups in the order of their lines, and
+//! answers the first that fails; in a proof by residues it takes `pivot` as that proof has it, and
+//! no `size`. The rule `rank`, that there are as many groups as components, is not among them. It
+//! calls nothing of the elimination that finds such rows: the steps on two rows, by whole numbers
+//! and by residues, and the counts of a row, the natural loops for their definitions, are written
+//! out here too.
 #![tactic(auto)]
 
 mod begin;

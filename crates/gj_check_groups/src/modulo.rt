@@ -56,7 +56,8 @@ pub(crate) fn make_kept_modulo(row: &mut [i128], column: usize)
     requires within { column < length row.old }
     requires row { All IsResidue row.old }
     requires invertible { gcd_of (unsigned_abs (at_column row.old column)) modulus ≡ 1 }
-    ensures { Some row.new ≡ times_inverse modulus row.old (inverse modulus (at_column row.old column)) }
+    ensures { Some row.new ≡ times_inverse modulus row.old (inverse modulus
+        (at_column row.old column)) }
 {
     if let Some(factor) = inverse_modulo(row[column]) {
         multiply(i128::from(factor), row);

@@ -66,7 +66,8 @@ fn less_multiple(x: u64, u: u64, e: u64) -> u64
     less_product(i128::from(x), i128::from(u), i128::from(e)) as u64
 }
 
-/// The inverse of a number below the modulus, if it has one: by Euclid's algorithm, with each remainder as a multiple of x.
+/// The inverse of a number below the modulus, if it has one: by Euclid's algorithm, with each
+/// remainder as a multiple of x.
 pub(crate) fn inverse_of(x: u64) -> Option<u64>
     requires { x < modulus }
     ensures { result ≡ inverse modulus (pos x) }

@@ -2,8 +2,8 @@
 ghost use Rattle.std.specs.Prelude.{ℕ, pos, ◌≡◌, ◌<◌, ◌≤◌, ◌^◌, ◌+ℤ◌, get_or, length, All, unsigned_abs};
 ghost use Rattle.gj_shape.specs.SlopeRows.{rises, component_in};
 
-/// Adds to each column the number of intervals before one grid point that are in its component, less that of those before another:
-/// only the intervals between both are counted.
+/// Adds to each column the number of intervals before one grid point that are in its component,
+/// less that of those before another: only the intervals between both are counted.
 pub(crate) fn add_rises(row: &mut [i128], component: &[u32], less: usize, before: usize)
     requires components { All (λ c. c < length row.old) component.now }
     requires less { less ≤ length component.now }
@@ -35,7 +35,8 @@ fn add_between(row: &mut [i128], component: &[u32], from: usize, to: usize)
     }
 }
 
-/// Subtracts from each column the number of intervals between two grid points that are in its component.
+/// Subtracts from each column the number of intervals between two grid points that are in its
+/// component.
 fn subtract_between(row: &mut [i128], component: &[u32], from: usize, to: usize)
     requires components { All (λ c. c < length row.old) component.now }
     requires order { from ≤ to }

@@ -13,7 +13,8 @@ use crate::modulo::reduce_modulo;
 use gj_frac::gcd;
 use gj_proof::Numbers;
 
-/// The greatest common divisor of the absolute values of two numbers, one of them at most 2^127 - 1 and not 0.
+/// The greatest common divisor of the absolute values of two numbers, one of them at most 2^127 - 1
+/// and not 0.
 pub(crate) fn common_divisor(n: i128, m: i128) -> i128
     requires fits { Fits n }
     requires some { n ≢ pos 0 }
@@ -62,7 +63,8 @@ fn combination(u: i128, x: i128, w: i128, e: i128) -> Result<i128, TooWide>
     difference(first, second)
 }
 
-/// Puts u times the row less w times the kept row in the place of the row. After an error some entries are changed.
+/// Puts u times the row less w times the kept row in the place of the row. After an error some
+/// entries are changed.
 fn combine(u: i128, row: &mut [i128], w: i128, kept: &[i128]) -> Result<(), TooWide>
     requires { length kept.now ≡ length row.old }
     ensures value { OnOk result (row.new ≡ differences (scaled u row.old) (scaled w kept.now)) }
@@ -77,7 +79,8 @@ fn combine(u: i128, row: &mut [i128], w: i128, kept: &[i128]) -> Result<(), TooW
     Ok(())
 }
 
-/// Reduces a row by a kept row with its pivot at the column. After an error some entries are changed.
+/// Reduces a row by a kept row with its pivot at the column. After an error some entries are
+/// changed.
 pub(crate) fn reduce_by(kept: &[i128], row: &mut [i128], column: usize) -> Result<(), TooWide>
     requires columns { length kept.now ≡ length row.old }
     requires within { column < length row.old }
@@ -96,7 +99,8 @@ pub(crate) fn reduce_by(kept: &[i128], row: &mut [i128], column: usize) -> Resul
     Ok(())
 }
 
-/// Reduces a row of these numbers by a kept row with its pivot at the column. After an error some entries are changed.
+/// Reduces a row of these numbers by a kept row with its pivot at the column. After an error some
+/// entries are changed.
 pub(crate) fn reduce(
     numbers: Numbers,
     kept: &[i128],
@@ -108,7 +112,8 @@ pub(crate) fn reduce(
     requires row { AreRowNumbers numbers row.old }
     ensures value { OnOk result (row.new ≡ (arithmetic_of numbers).step kept.now row.old column) }
     ensures fits { OnOk result (AreRowNumbers numbers row.new) }
-    ensures narrow { OnOk result (¬ Passes ((arithmetic_of numbers).marked kept.now row.old column)) }
+    ensures narrow { OnOk result
+        (¬ Passes ((arithmetic_of numbers).marked kept.now row.old column)) }
     ensures wide { OnErr result (Passes ((arithmetic_of numbers).marked kept.now row.old column)) }
 {
     match numbers {

@@ -10,8 +10,8 @@ use Rattle.gj_proof.specs.declared.cut.CutLine.{CutLine}
 use Rattle.gj_proof.specs.declared.cut.CutRule.{CutRule}
 use Rattle.gj_claims.specs.CutLines.{IsLineFor}
 
--- the claim has a line for each row, in their order; each cut holds at every solution of its row, and every rule of the checker holds
--- of the claim
+-- the claim has a line for each row, in their order; each cut holds at every solution of its row,
+-- and every rule of the checker holds of the claim
 pub record IsCutClaim (r : CutRule) (t : Tableau) (c : Claim) : Type 0 where
   pub lines : List CutLine
   pub claim_is : c ≡ Cut r lines

@@ -11,10 +11,11 @@ use gj_row::Tableau;
 use gj_shape::List;
 use std::alloc::{AllocError, Global};
 
-/// The proof of the claim about the cuts of the rows of the tableau by the rule: a line for each row, with its cut or why it has none.
+/// The proof of the claim about the cuts of the rows of the tableau by the rule: a line for each
+/// row, with its cut or why it has none.
 ///
-/// [`violation_of_rule`](crate::violation_of_rule) has found no violation of the rule. Every column is taken for whole. The only error is
-/// want of memory.
+/// [`violation_of_rule`](crate::violation_of_rule) has found no violation of the rule. Every column
+/// is taken for whole. The only error is want of memory.
 ///
 /// ```text
 /// let tableau = Tableau::read(alloc, b"basic,rhs,x1,x2\nx0,8/5,7/5,-1/5\n")?;

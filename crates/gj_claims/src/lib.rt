@@ -1,8 +1,10 @@
-//! What is claimed of a function and of the rows of a tableau: the claims that are put together of what is found and made elsewhere.
+//! What is claimed of a function and of the rows of a tableau: the claims that are put together of
+//! what is found and made elsewhere.
 //!
-//! [`minimality_proof`] is the proof that a function is minimal, or that it is not, with its first violation. [`violation_of_rule`] tells
-//! whether a rule makes cuts, and [`cuts_proof`] is the proof that the cuts of the rows of a tableau by such a rule hold. Every rule of the
-//! checker holds of these claims.
+//! [`minimality_proof`] is the proof that a function is minimal, or that it is not, with its first
+//! violation. [`violation_of_rule`] tells whether a rule makes cuts, and [`cuts_proof`] is the
+//! proof that the cuts of the rows of a tableau by such a rule hold. Every rule of the checker
+//! holds of these claims.
 #![tactic(auto)]
 
 mod cuts;

@@ -28,7 +28,8 @@ pub(crate) fn cut_lines(
     tableau: &Tableau,
 ) -> Result<Vec<CutLine>, AllocError>
     requires { IsTableau tableau.now }
-    ensures { IfOk result (λ lines. AllZip (IsLineFor rule.now tableau.now.columns) tableau.now.rows lines.items) }
+    ensures { IfOk result (λ lines. AllZip (IsLineFor rule.now tableau.now.columns)
+        tableau.now.rows lines.items) }
 {
     let columns = tableau.columns.as_slice();
     let rows = tableau.rows.as_slice();
@@ -59,7 +60,8 @@ fn function_lines(
     rows: &[Row],
 ) -> Result<Vec<CutLine>, AllocError>
     requires { All (IsRowWithinLimits (length columns.now)) rows.now }
-    ensures { IfOk result (λ lines. AllZip (IsLineFor (Table shape.now) columns.now) rows.now lines.items) }
+    ensures { IfOk result (λ lines. AllZip (IsLineFor (Table shape.now) columns.now)
+        rows.now lines.items) }
 {
     let kept = shape.copy(alloc)?;
     let eval = |x: Frac|
@@ -80,7 +82,8 @@ fn lines_by<E: Evaluator>(
 ) -> Result<Vec<CutLine>, AllocError>
     requires evaluates { Evaluates E.can_answer E.answers (kind.Table shape) eval }
     requires rows { All (IsRowWithinLimits (length columns.now)) rows.now }
-    ensures { IfOk result (λ lines. AllZip (IsLineFor (Table shape) columns.now) rows.now lines.items) }
+    ensures { IfOk result (λ lines. AllZip (IsLineFor (Table shape) columns.now)
+        rows.now lines.items) }
 {
     let rule = Rule::new(RuleKind::Table(shape), eval);
     let mut lines = Vec::with_capacity(alloc, rows.len())?;

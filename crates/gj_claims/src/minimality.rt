@@ -6,7 +6,8 @@ use gj_minimal::find_violation;
 use gj_proof::{Claim, Proof};
 use gj_shape::Shape;
 
-/// The proof that the function is minimal, or that it is not, with the first violation. It takes no memory.
+/// The proof that the function is minimal, or that it is not, with the first violation. It takes no
+/// memory.
 ///
 /// ```text
 /// // order 5, f = 3/5, values 0, 1/10, 9/10, 1, 1/2: 1/10 + 1/10 is less than 9/10

@@ -6,7 +6,8 @@ use gj_minimal::find_violation;
 use gj_proof::CutRule;
 use gj_shape::Violation;
 
-/// The first violation of the function of the rule, or None if there is none: then the rule makes cuts. It takes no memory.
+/// The first violation of the function of the rule, or None if there is none: then the rule makes
+/// cuts. It takes no memory.
 ///
 /// The mixed-integer cut has no violation.
 pub fn violation_of_rule(rule: &CutRule) -> Option<Violation>

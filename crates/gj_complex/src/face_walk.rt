@@ -9,7 +9,8 @@ use gj_shape::{Face, FaceKind};
 
 /// The faces of the complex that are left to give, in walk order.
 ///
-/// In walk order a comes from 0, inside it b from 0, and inside a square the kinds come in the order of `FaceKind`.
+/// In walk order a comes from 0, inside it b from 0, and inside a square the kinds come in the
+/// order of `FaceKind`.
 #[derive(Debug, Drop)]
 pub struct FaceWalk {
     order: u32,

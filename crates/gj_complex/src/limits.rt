@@ -27,7 +27,8 @@ pub fn slack(shape: &Shape, face: Face, corner: u32) -> Frac
     requires first { face.a < shape.now.order }
     requires second { face.b < shape.now.order }
     requires corner { corner < length (corners_of face.kind face.a face.b) }
-    ensures { IsRatio result (get_or (limits_of shape.now face.kind face.a face.b) corner (pos 0)) (pos shape.now.scale) }
+    ensures { IsRatio result (get_or (limits_of shape.now face.kind face.a face.b) corner (pos 0))
+        (pos shape.now.scale) }
 {
     Frac::new(slack_num(shape, face, corner), shape.common_denominator()).unwrap()
 }

@@ -5,10 +5,12 @@ ghost use Rattle.gj_complex.specs.Bounds.{AreNumerators};
 
 use gj_shape::{FaceKind, Shape};
 
-/// The numbers that the limits of the slack in one square are made of, over the function's common denominator.
+/// The numbers that the limits of the slack in one square are made of, over the function's common
+/// denominator.
 #[derive(Clone, Copy, Debug, PartialEq, Eq)]
 pub struct Square {
-    /// The limit from the right, the value, and the limit from the left one further on, at the square's first index.
+    /// The limit from the right, the value, and the limit from the left one further on, at the
+    /// square's first index.
     right_first: i64,
     value_first: i64,
     left_first: i64,
@@ -56,7 +58,8 @@ impl Square {
         }
     }
 
-    /// The limit of the slack from inside the face of this kind at a corner, times the common denominator.
+    /// The limit of the slack from inside the face of this kind at a corner, times the common
+    /// denominator.
     pub fn limit(&self, kind: FaceKind, corner: u32) -> i64
         requires { corner < length (corners_of kind 0 0) }
         ensures value { result ≡ get_or (limits_in self.now kind) corner (pos 0) }
@@ -66,10 +69,12 @@ impl Square {
         x + y - sum
     }
 
-    /// The values or limits at x, at y and at their sum that make up the limit of the slack at a corner.
+    /// The values or limits at x, at y and at their sum that make up the limit of the slack at a
+    /// corner.
     fn terms(&self, kind: FaceKind, corner: u32) -> (i64, i64, i64)
         requires { corner < length (corners_of kind 0 0) }
-        ensures value { slack_from result.0 result.1 result.2 ≡ get_or (limits_in self.now kind) corner (pos 0) }
+        ensures value { slack_from result.0 result.1 result.2 ≡ get_or
+            (limits_in self.now kind) corner (pos 0) }
         ensures fits { AreNumerators result.0 result.1 result.2 }
     {
         match (kind, corner) {

@@ -13,7 +13,8 @@ EitherOf S T kind a b = S kind a b ⊎ T kind a b
 
 -- ---- walk order
 
--- a face that is not behind another is not behind one of the same square with a rank that is not lower
+-- a face that is not behind another is not behind one of the same square with a rank that is not
+-- lower
 pub ranked_behind : (f : Face) (kind other : FaceKind) (a b : ℕ) → position_of_kind kind ≤ position_of_kind other → IsNotBefore f kind a b →
     IsNotBefore f other a b
 ranked_behind f kind other a b r (inl x) = inl x

@@ -189,7 +189,8 @@ record IsSquare (q a b : ℕ) : Type 0 where
   first : a < q
   second : b < q
 
--- an additive face of the square (a, b) leads from one of two intervals to the other, and has no higher rank than the kind
+-- an additive face of the square (a, b) leads from one of two intervals to the other, and has no
+-- higher rank than the kind
 pub record IsLed (q : ℕ) (T : ℕ → ℕ → Type 0) (kind : FaceKind) (a b i j : ℕ) : Type 0 where
   pub by : FaceKind
   pub leads : LeadsBy q i j by a b ⊎ LeadsBy q j i by a b

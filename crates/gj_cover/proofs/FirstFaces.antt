@@ -24,7 +24,8 @@ use Rattle.gj_cover.proofs.WalkPlaces.{first_face}
 abbrev pub Square : ℕ → ℕ → ℕ → ℕ → Type 0
 Square a b c d = (c ≡ a) × (d ≡ b)
 
--- by which steps an interval j is reached from another modulo q: by step, and by one and then by short
+-- by which steps an interval j is reached from another modulo q: by step, and by one and then by
+-- short
 pub record AreSteps (q i step short j : ℕ) : Type 0 where
   pub start : i < q
   pub end : j < q

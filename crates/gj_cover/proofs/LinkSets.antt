@@ -122,7 +122,8 @@ linked_to t i j k r d h v i_below j_below k_below leads r_is d_is h_is v_is =
       ]),
     )
 
--- if the test does not see the order of two indices, the horizontal edges are all but those diagonal ones that link both ways
+-- if the test does not see the order of two indices, the horizontal edges are all but those
+-- diagonal ones that link both ways
 pub linked_to_symmetric : (t : Table) (i j k : ℕ) (h : Bool) → i < t.order → j < t.order → k < t.order →
     (j + k) % t.order ≡ i → ((a b : ℕ) → is_tight_in t a b ≡ is_tight_in t b a) →
     h ≡ (is_tight_in t j k && is_tight_in t ((j + 1) % t.order) k) →

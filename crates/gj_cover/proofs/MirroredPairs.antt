@@ -1,4 +1,5 @@
--- Tight pairs of a function as rows of sets, and those of a function whose values at opposite points add up to 1 by their sums.
+-- Tight pairs of a function as rows of sets, and those of a function whose values at opposite
+-- points add up to 1 by their sums.
 use Rattle.std.proofs.Common.{◌≡◌, ℕ, ◌+◌, ◌-◌, ◌%◌, ◌<◌, ◌↔◌, ℤ, pos, ◌+ℤ◌, IsTrue, List, [], ◌∷◌, ◌++◌, length, refl, sym, ap, ◌∙◌, subst, inl, inr, arith}
 use Rattle.std.proofs.Math.Nat.{mod-mod, mod-lt, mod-eq_of_lt, mod-eq-sub-mod}
 use Rattle.std.proofs.lemmas.Bool.{cases_lt}

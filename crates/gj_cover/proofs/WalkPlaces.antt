@@ -95,7 +95,8 @@ of_square Q Diagonal a b h = h 3 (face_at Vertex a b) (omega arith)
 of_square Q Lower a b h = h 4 (face_at Vertex a b) (omega arith)
 of_square Q Upper a b h = h 5 (face_at Vertex a b) (omega arith)
 
--- a face that is not before another is not in an earlier row or square, and not of a lower rank in its own
+-- a face that is not before another is not in an earlier row or square, and not of a lower rank in
+-- its own
 abbrev Bars : ℕ → (FaceKind → ℕ → ℕ → Type 0) → Face → Type 0
 Bars q P face = (kind : FaceKind) (a b : ℕ) → a < q → b < q → P kind a b → IsNotBefore face kind a b
 

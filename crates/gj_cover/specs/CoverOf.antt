@@ -1,6 +1,6 @@
--- The cover of a continuous function: its components, their number, its cover lines and the class of the least uncovered
--- interval (Light on the Infinite Group Relaxation I and II; the order of the lines is own).
--- Nothing here looks at a function but by the order q and its tight pairs.
+-- The cover of a continuous function: its components, their number, its cover lines and the class
+-- of the least uncovered interval (Light on the Infinite Group Relaxation I and II; the order of
+-- the lines is own). Nothing here looks at a function but by the order q and its tight pairs.
 use Rattle.std.specs.Prelude.{ℕ, ◌≡◌, ◌↔◌, ◌<◌, List, [], Option, Some, None, Contains, length, slice_index_or}
 use Rattle.std.specs.List.Sorted.{IsStrictlyIncreasing}
 use Rattle.gj_shape.specs.Cover.{IsCovered, AreInOneComponent, IsInClassOf, AreCoverLines, HasComponent, components_in}
@@ -21,8 +21,8 @@ pub record AreComponents (q : ℕ) (Tight : ℕ → ℕ → Type 0) (lines : Lis
       ((n : ℕ) × (number_at component i ≡ Some n) × (number_at component j ≡ Some n)) ↔ AreInOneComponent q Tight i j
   pub below : (i n : ℕ) → number_at component i ≡ Some n → n < components_in lines
 
--- the list has the intervals of the class of the least uncovered interval in ascending order, and none if all are
--- covered
+-- the list has the intervals of the class of the least uncovered interval in ascending order, and
+-- none if all are covered
 pub record IsLeastClass (q : ℕ) (Tight : ℕ → ℕ → Type 0) (class : List ℕ) : Type 0 where
   pub ascending : IsStrictlyIncreasing class
   pub members : (least : ℕ) → IsLeastFrom 0 (λ i. (i < q) × (IsCovered q Tight i → ⊥)) least →

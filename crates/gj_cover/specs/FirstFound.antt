@@ -9,7 +9,8 @@ abbrev pub IsNotBefore : Face → FaceKind → ℕ → ℕ → Type 0
 IsNotBefore face kind a b =
     (face.a < a) ⊎ ((face.a ≡ a) × ((face.b < b) ⊎ ((face.b ≡ b) × (position_of_kind face.kind ≤ position_of_kind kind))))
 
--- the face is one of these squares and has the property, and none of these squares that has it is before it
+-- the face is one of these squares and has the property, and none of these squares that has it is
+-- before it
 pub record IsFirstOf (Square : ℕ → ℕ → Type 0) (P : FaceKind → ℕ → ℕ → Type 0) (face : Face) : Type 0 where
   pub square : Square face.a face.b
   pub holds : P face.kind face.a face.b
@@ -35,7 +36,8 @@ IsThis kind a b other c d = (other ≡ kind) × (c ≡ a) × (d ≡ b)
 abbrev pub IsFaceReached : Option Face → FaceKind → ℕ → ℕ → Type 0
 IsFaceReached found kind a b = MatchOption found ⊥ (λ f. IsNotBefore f kind a b)
 
--- the first of a face that may have been found before and of those of these faces that have the property
+-- the first of a face that may have been found before and of those of these faces that have the
+-- property
 pub record AddsFirst (These P : FaceKind → ℕ → ℕ → Type 0) (found result : Option Face) : Type 0 where
   pub from : IfSome result (λ f. (found ≡ Some f) ⊎ (These f.kind f.a f.b × P f.kind f.a f.b))
   pub behind : (kind : FaceKind) (a b : ℕ) → IsFaceReached found kind a b → IsFaceReached result kind a b

@@ -4,8 +4,8 @@ use Rattle.gj_shape.specs.Additive.{IsAdditive}
 use Rattle.gj_shape.specs.declared.faces.FaceKind.{FaceKind}
 use Rattle.gj_shape.specs.declared.faces.FaceKind.TheVariants.{Vertex, Horizontal, Vertical, Diagonal, Lower, Upper}
 
--- the face is an edge of the complex of order q that links the interval i and j behind it, or an upper triangle that projects on
--- both, with j as its sum
+-- the face is an edge of the complex of order q that links the interval i and j behind it, or an
+-- upper triangle that projects on both, with j as its sum
 abbrev pub LeadsBy : ℕ → ℕ → ℕ → FaceKind → ℕ → ℕ → Type 0
 LeadsBy q i j Vertex a b = ⊥
 LeadsBy q i j Horizontal a b = (a ≡ i) × (b < q) × ((a + b) % q ≡ j)

@@ -19,7 +19,8 @@ pub record AreNumbered (lines : List CoverLine) (component : List (Option ℕ)) 
       l.from ≢ l.interval → (n : ℕ) × (number_at component l.interval ≡ Some n) × (number_at component l.from ≡ Some n)
   pub shown : (i n : ℕ) → number_at component i ≡ Some n → HasComponent lines n i
 
--- the numbers below the count are those of components: only the last may be joined to an interval without a number
+-- the numbers below the count are those of components: only the last may be joined to an interval
+-- without a number
 pub record AreClasses (q : ℕ) (Tight : ℕ → ℕ → Type 0) (component : List (Option ℕ)) (count : ℕ) : Type 0 where
   pub one : (i j m n : ℕ) → AreJoined q Tight i j → number_at component i ≡ Some m → number_at component j ≡ Some n → m ≡ n
   pub last : (i j n : ℕ) → j < q → AreJoined q Tight i j → number_at component i ≡ Some n → number_at component j ≡ None → n + 1 ≡ count

@@ -15,7 +15,8 @@ pub record AreUncovered (q : ℕ) (Tight : ℕ → ℕ → Type 0) (free : Index
 abbrev pub unfinished : Reached → ℕ → ℕ
 unfinished r n = count_below (λ i. has r.waiting i || not (has r.reached i)) n
 
--- each interval that was reached waits, or all that are joined to it were reached, and joined ones lead to it from the start
+-- each interval that was reached waits, or all that are joined to it were reached, and joined ones
+-- lead to it from the start
 pub record AreReached (q : ℕ) (Tight : ℕ → ℕ → Type 0) (start : ℕ) (r : Reached) : Type 0 where
   pub begun : IsTrue (has r.reached start)
   pub waiting : (i : ℕ) → IsTrue (has r.waiting i) → IsTrue (has r.reached i)
@@ -23,7 +24,8 @@ pub record AreReached (q : ℕ) (Tight : ℕ → ℕ → Type 0) (start : ℕ) (
       IsTrue (has r.waiting i) ⊎ ((j : ℕ) → j < q → AreJoined q Tight j i → IsTrue (has r.reached j))
   pub led : (i : ℕ) → IsTrue (has r.reached i) → (i < q) × LeadsTo q Tight i start
 
--- all free intervals that are joined to the interval were reached too, and no others; the new ones wait, the interval does not
+-- all free intervals that are joined to the interval were reached too, and no others; the new ones
+-- wait, the interval does not
 pub record IsReachedFrom (q : ℕ) (Tight : ℕ → ℕ → Type 0) (interval : ℕ) (free : IndexSet) (old new : Reached) : Type 0 where
   pub more : (i : ℕ) → IsTrue (has old.reached i) → IsTrue (has new.reached i)
   pub joined : (i : ℕ) → i < q → IsTrue (has free i) → AreJoined q Tight i interval → IsTrue (has new.reached i)

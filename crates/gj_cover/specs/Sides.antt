@@ -15,7 +15,8 @@ pub record AreApart (q : ℕ) (rows columns firsts seconds : List IndexSet) : Ty
   pub firsts_are : AreFirsts q rows firsts
   pub seconds_are : AreSeconds q rows seconds
 
--- the rows themselves: the pairs turned around are in them, and those with a sum are the row of the place less the sum
+-- the rows themselves: the pairs turned around are in them, and those with a sum are the row of the
+-- place less the sum
 pub record AreOwnSides (q : ℕ) (rows : List IndexSet) (place : ℕ) : Type 0 where
   pub place_below : place < q
   pub columns_are : AreColumns q rows rows

@@ -12,7 +12,8 @@ use crate::table::Table;
 use gj_sets::IndexSet;
 use std::alloc::{AllocError, Global};
 
-/// The class of the least free interval, in ascending order, if the free intervals are the uncovered ones.
+/// The class of the least free interval, in ascending order, if the free intervals are the
+/// uncovered ones.
 pub(crate) fn least_class(
     alloc: Global,
     table: &Table,

@@ -10,7 +10,7 @@ pub struct Cover {
     pub count: u32,
     /// Why each covered interval is covered, in the order in which they are found.
     pub lines: List<CoverLine>,
-    /// All intervals to which joined ones lead from the least uncovered interval, in ascending order; none if all
-    /// are covered.
+    /// All intervals to which joined ones lead from the least uncovered interval, in ascending
+    /// order; none if all are covered.
     pub class: List<u32>,
 }

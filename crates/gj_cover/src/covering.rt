@@ -18,14 +18,15 @@ use gj_faces::{Run, TightPairs};
 use gj_shape::Shape;
 use std::alloc::{AllocError, Global};
 
-/// The covered intervals of a continuous function, their components, the lines that show why they are covered, and the
-/// class of the least uncovered interval.
+/// The covered intervals of a continuous function, their components, the lines that show why they
+/// are covered, and the class of the least uncovered interval.
 ///
-/// An interval is directly covered if an additive triangle projects on it, and two are joined if an additive edge
-/// links them or an additive triangle projects on both. Covered is what is directly covered or joined to a covered
-/// interval. The lines come in this order: if an interval without a line is joined to one with a line, the next line
-/// is for the least such, with the least interval to which it is joined and the first face in walk order that joins the
-/// two; otherwise it is for the least interval without a line that is directly covered, with the first triangle in walk
+/// An interval is directly covered if an additive triangle projects on it, and two are joined if an
+/// additive edge links them or an additive triangle projects on both. Covered is what is directly
+/// covered or joined to a covered interval. The lines come in this order: if an interval without a
+/// line is joined to one with a line, the next line is for the least such, with the least interval
+/// to which it is joined and the first face in walk order that joins the two; otherwise it is for
+/// the least interval without a line that is directly covered, with the first triangle in walk
 /// order, and opens the next component.
 ///
 /// ```text
@@ -51,9 +52,11 @@ pub fn cover_of_pairs(alloc: Global, shape: &Shape, pairs: &TightPairs) -> Resul
     Ok(found)
 }
 
-/// The same for the complex of order q, from 2 to 1,000, in which the tight pairs are those in the runs.
+/// The same for the complex of order q, from 2 to 1,000, in which the tight pairs are those in the
+/// runs.
 ///
-/// The runs are in order: each is of indices below q, and they ascend by a and then by b, with no b in two runs of one a.
+/// The runs are in order: each is of indices below q, and they ascend by a and then by b, with no b
+/// in two runs of one a.
 pub fn cover_of_runs(alloc: Global, runs: &[Run], q: u32) -> Result<Cover, AllocError>
     requires order { IsOrder q }
     requires in_order { AreInOrder q runs.now }

@@ -33,7 +33,8 @@ fn mark(rows: &mut Vec<IndexSet>, run: Run, q: u32)
     requires length { length rows.old.items ≡ q }
     ensures length { length rows.new.items ≡ q }
     ensures marked { (i j : ℕ) → i < q → j < q →
-        IsTrue (in_row rows.new.items i j) ↔ (IsTrue (in_row rows.old.items i j) ⊎ RunHolds q i j run) }
+        IsTrue (in_row rows.new.items i j) ↔ (IsTrue (in_row rows.old.items i j) ⊎
+        RunHolds q i j run) }
 {
     let places = IndexSet::between(run.from as usize, run.to as usize + 1);
     let row = run.a as usize;

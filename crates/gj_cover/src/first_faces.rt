@@ -13,8 +13,8 @@ use gj_shape::{Face, FaceKind};
 
 /// The first face in walk order that joins two different intervals.
 ///
-/// A triangle that projects on both has an edge that links them, in its own square and before it, unless it is an upper one and one
-/// of the two is its sum.
+/// A triangle that projects on both has an edge that links them, in its own square and before it,
+/// unless it is an upper one and one of the two is its sum.
 pub(crate) fn first_joining(table: &Table, i: u32, j: u32) -> Option<Face>
     requires first { i < table.now.order }
     requires second { j < table.now.order }
@@ -26,12 +26,14 @@ pub(crate) fn first_joining(table: &Table, i: u32, j: u32) -> Option<Face>
     joining_from(table, found, j, i)
 }
 
-/// The first of a face that was found and the additive ones that lead from one interval to the other: the edges that link both
-/// with `to` behind `from`, and the upper triangles that project on both with `to` as the sum.
+/// The first of a face that was found and the additive ones that lead from one interval to the
+/// other: the edges that link both with `to` behind `from`, and the upper triangles that project on
+/// both with `to` as the sum.
 fn joining_from(table: &Table, found: Option<Face>, from: u32, to: u32) -> Option<Face>
     requires start { from < table.now.order }
     requires end { to < table.now.order }
-    ensures { AddsFirst (LeadsBy table.now.order from to) (IsAdditive (IsTightInTable table.now)) found result }
+    ensures { AddsFirst (LeadsBy table.now.order from to) (IsAdditive
+        (IsTightInTable table.now)) found result }
 {
     let q = table.order();
     let step = difference(to, from, q);
@@ -43,7 +45,8 @@ fn joining_from(table: &Table, found: Option<Face>, from: u32, to: u32) -> Optio
     with_face(table, found, FaceKind::Upper, short, from)
 }
 
-/// The first of a face that was found and the face of this kind of the square (a, b), if that is additive.
+/// The first of a face that was found and the face of this kind of the square (a, b), if that is
+/// additive.
 fn with_face(table: &Table, found: Option<Face>, kind: FaceKind, a: u32, b: u32) -> Option<Face>
     requires first { a < table.now.order }
     requires second { b < table.now.order }
@@ -58,7 +61,8 @@ fn with_face(table: &Table, found: Option<Face>, kind: FaceKind, a: u32, b: u32)
     found
 }
 
-/// Whether a face was found that is not behind the face of this kind of the square (a, b) in walk order.
+/// Whether a face was found that is not behind the face of this kind of the square (a, b) in walk
+/// order.
 fn is_reached(found: Option<Face>, kind: FaceKind, a: u32, b: u32) -> bool
     ensures { IsTrue result ↔ IsFaceReached found kind a b }
 {
@@ -78,7 +82,8 @@ fn is_reached(found: Option<Face>, kind: FaceKind, a: u32, b: u32) -> bool
 pub(crate) fn first_covering(table: &Table, i: u32) -> Option<Face>
     requires { i < table.now.order }
     ensures found { IfSome result (IsFirstFace table.now.order (CoversBy table.now i)) }
-    ensures none { IfNone result (IsDirectlyCovered table.now.order (IsTightInTable table.now) i → ⊥) }
+    ensures none { IfNone result (IsDirectlyCovered table.now.order
+        (IsTightInTable table.now) i → ⊥) }
 {
     earlier(first_in_row(table, i), first_across(table, i))
 }
@@ -94,8 +99,8 @@ fn first_in_row(table: &Table, i: u32) -> Option<Face>
     covering_in_square(table, i, b as u32, i)
 }
 
-/// The first triangle that covers the interval i in the squares (a, b) of other rows. Of one row only the squares (a, i), (a, i - a)
-/// and (a, i - 1 - a) have one.
+/// The first triangle that covers the interval i in the squares (a, b) of other rows. Of one row
+/// only the squares (a, i), (a, i - a) and (a, i - 1 - a) have one.
 fn first_across(table: &Table, i: u32) -> Option<Face>
     requires { i < table.now.order }
     ensures { FindsFirst (IsAcross table.now.order i) (CoversBy table.now i) result }

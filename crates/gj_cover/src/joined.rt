@@ -7,7 +7,8 @@ ghost use Rattle.gj_cover.specs.Links.{Links};
 use crate::table::Table;
 use gj_sets::IndexSet;
 
-/// The intervals that are joined to the interval, besides itself. A triangle has an edge for each two of its projections.
+/// The intervals that are joined to the interval, besides itself. A triangle has an edge for each
+/// two of its projections.
 pub(crate) fn joined(table: &Table, i: u32) -> IndexSet
     requires { i < table.now.order }
     ensures within { (j : ℕ) → IsTrue (has result j) → j < table.now.order }
@@ -16,12 +17,13 @@ pub(crate) fn joined(table: &Table, i: u32) -> IndexSet
     linked_from(table, i).or(&linked_to(table, i))
 }
 
-/// The intervals j to which an additive edge links the interval i as one that stands behind it: that of the square (i, j), that
-/// from the square (i, j - i) or that from the square (j - i, i).
+/// The intervals j to which an additive edge links the interval i as one that stands behind it:
+/// that of the square (i, j), that from the square (i, j - i) or that from the square (j - i, i).
 fn linked_from(table: &Table, i: u32) -> IndexSet
     requires { i < table.now.order }
     ensures within { (j : ℕ) → IsTrue (has result j) → j < table.now.order }
-    ensures links { (j : ℕ) → j < table.now.order → IsTrue (has result j) ↔ Links table.now.order (IsTightInTable table.now) i j }
+    ensures links { (j : ℕ) → j < table.now.order → IsTrue (has result j) ↔
+        Links table.now.order (IsTightInTable table.now) i j }
 {
     let order = table.order() as usize;
     let (row, next_row) = (table.row(i), table.row(i + 1));
@@ -36,13 +38,15 @@ fn linked_from(table: &Table, i: u32) -> IndexSet
     links.or(&vertical)
 }
 
-/// The intervals j that an additive edge links to the interval i as one that stands behind them, perhaps without those to which a
-/// diagonal edge links it both ways.
+/// The intervals j that an additive edge links to the interval i as one that stands behind them,
+/// perhaps without those to which a diagonal edge links it both ways.
 fn linked_to(table: &Table, i: u32) -> IndexSet
     requires { i < table.now.order }
     ensures within { (j : ℕ) → IsTrue (has result j) → j < table.now.order }
-    ensures links { (j : ℕ) → j < table.now.order → IsTrue (has result j) → Links table.now.order (IsTightInTable table.now) j i }
-    ensures all { (j : ℕ) → j < table.now.order → Links table.now.order (IsTightInTable table.now) j i →
+    ensures links { (j : ℕ) → j < table.now.order → IsTrue (has result j) →
+        Links table.now.order (IsTightInTable table.now) j i }
+    ensures all { (j : ℕ) → j < table.now.order → Links table.now.order
+        (IsTightInTable table.now) j i →
         IsTrue (has result j) ⊎ Links table.now.order (IsTightInTable table.now) i j }
 {
     let horizontal = table.firsts(i).and(&table.turned_back(table.firsts(i + 1)));

@@ -15,8 +15,8 @@ use std::alloc::{AllocError, Global};
 
 /// The table of the tight pairs of a function.
 ///
-/// If the values at each two points with the sum f add up to 1, the pairs with a sum are those of one row, so that the rows are all
-/// sets of the table.
+/// If the values at each two points with the sum f add up to 1, the pairs with a sum are those of
+/// one row, so that the rows are all sets of the table.
 pub(crate) fn table_of_pairs(
     alloc: Global,
     shape: &Shape,
@@ -69,7 +69,8 @@ fn is_mirrored(shape: &Shape) -> bool
 fn is_mirrored_at(shape: &Shape, i: u32) -> bool
     requires { i < shape.now.order }
     ensures { IsTrue result ↔
-        (at shape.now.value i +ℤ at shape.now.value (shape.now.place + (shape.now.order - i)) ≡ pos shape.now.scale) }
+        (at shape.now.value i +ℤ at shape.now.value (shape.now.place +
+        (shape.now.order - i)) ≡ pos shape.now.scale) }
 {
     let opposite = shape.place() + (shape.order() - i);
     let sum = shape.value_numerator(i) + shape.value_numerator(opposite);

@@ -58,7 +58,8 @@ impl Progress {
     /// All lines.
     pub(crate) fn of(alloc: Global, table: &Table) -> Result<Progress, AllocError>
         ensures progress { IfOk result (IsProgress table.now.order (IsTightInTable table.now)) }
-        ensures complete { IfOk result (λ p. IsComplete table.now.order (IsTightInTable table.now) p.lines.items) }
+        ensures complete { IfOk result (λ p. IsComplete table.now.order
+            (IsTightInTable table.now) p.lines.items) }
     {
         let mut progress = Progress::new(alloc, table)?;
         while let Some(next) = progress.next_line(table) {
@@ -96,8 +97,10 @@ impl Progress {
         requires { IsProgress table.now.order (IsTightInTable table.now) self.now }
         ensures found { IfSome result (λ next.
             IsNextLine table.now.order (IsTightInTable table.now) self.now.lines.items next.line) }
-        ensures joined { IfSome result (λ next. IsJoinedSet table.now next.line.interval next.joined) }
-        ensures none { IfNone result (IsComplete table.now.order (IsTightInTable table.now) self.now.lines.items) }
+        ensures joined { IfSome result
+            (λ next. IsJoinedSet table.now next.line.interval next.joined) }
+        ensures none { IfNone result (IsComplete table.now.order
+            (IsTightInTable table.now) self.now.lines.items) }
     {
         let Some((interval, from, joined)) = self.next_joined(table) else {
             let line = self.next_opening(table)?;
@@ -113,11 +116,13 @@ impl Progress {
         Some(Next { line, joined })
     }
 
-    /// The least interval without a line that is joined to one with a line, the least such, and all that are joined to it.
+    /// The least interval without a line that is joined to one with a line, the least such, and all
+    /// that are joined to it.
     fn next_joined(&self, table: &Table) -> Option<(u32, u32, IndexSet)>
         requires { IsProgress table.now.order (IsTightInTable table.now) self.now }
         ensures interval { IfSome result (λ p. IsLeastFrom 0
-            (λ i. (j : ℕ) × JoinsLines table.now.order (IsTightInTable table.now) self.now.lines.items i j) p.0) }
+            (λ i. (j : ℕ) × JoinsLines table.now.order
+            (IsTightInTable table.now) self.now.lines.items i j) p.0) }
         ensures from { IfSome result (λ p. IsLeastFrom 0
             (JoinsLines table.now.order (IsTightInTable table.now) self.now.lines.items p.0) p.1) }
         ensures joined { IfSome result (λ p. IsJoinedSet table.now p.0 p.2) }
@@ -139,7 +144,8 @@ impl Progress {
         requires progress { IsProgress table.now.order (IsTightInTable table.now) self.now }
         requires none_joins { (i j : ℕ) →
             JoinsLines table.now.order (IsTightInTable table.now) self.now.lines.items i j → ⊥ }
-        ensures found { IfSome result (IsOpeningLine table.now.order (IsTightInTable table.now) self.now.lines.items) }
+        ensures found { IfSome result (IsOpeningLine table.now.order
+            (IsTightInTable table.now) self.now.lines.items) }
         ensures none { IfNone result ((i : ℕ) →
             IsOpen table.now.order (IsTightInTable table.now) self.now.lines.items i → ⊥) }
     {
@@ -160,10 +166,13 @@ impl Progress {
     /// Adds the next line, if these intervals are joined to its own.
     fn add(&mut self, table: &Table, line: CoverLine, joined: &IndexSet) -> Result<(), AllocError>
         requires progress { IsProgress table.now.order (IsTightInTable table.now) self.old }
-        requires next { IsNextLine table.now.order (IsTightInTable table.now) self.old.lines.items line }
+        requires next { IsNextLine table.now.order
+            (IsTightInTable table.now) self.old.lines.items line }
         requires joined { IsJoinedSet table.now line.interval joined.now }
-        ensures progress { OnOk result (IsProgress table.now.order (IsTightInTable table.now) self.new) }
-        ensures fewer { OnOk result (unnumbered self.new.component.items < unnumbered self.old.component.items) }
+        ensures progress { OnOk result (IsProgress table.now.order
+            (IsTightInTable table.now) self.new) }
+        ensures fewer { OnOk result
+            (unnumbered self.new.component.items < unnumbered self.old.component.items) }
     {
         self.lines.push(line)?;
         let number = self.component[line.from as usize].unwrap_or(self.count);

@@ -8,7 +8,8 @@ use crate::joined::joined;
 use crate::table::Table;
 use gj_sets::IndexSet;
 
-/// The intervals that were reached, and those among them whose joined intervals are still to be looked for.
+/// The intervals that were reached, and those among them whose joined intervals are still to be
+/// looked for.
 #[derive(Drop)]
 pub(crate) struct Reached {
     reached: IndexSet,
@@ -23,7 +24,8 @@ impl Reached {
         requires uncovered { AreUncovered table.now.order (IsTightInTable table.now) free.now }
         requires start { IsTrue (has free.now start) }
         ensures { (i : ℕ) →
-            IsTrue (has result i) ↔ ((i < table.now.order) × IsInClassOf table.now.order (IsTightInTable table.now) start i) }
+            IsTrue (has result i) ↔ ((i < table.now.order) × IsInClassOf table.now.order
+            (IsTightInTable table.now) start i) }
     {
         let mut found = Reached::new(table, start);
         while let Some(interval) = found.waiting.first() {
@@ -50,7 +52,8 @@ impl Reached {
         requires within { interval < table.now.order }
         requires reached { IsTrue (has self.old.reached interval) }
         requires waits { IsTrue (has self.old.waiting interval) }
-        ensures { IsReachedFrom table.now.order (IsTightInTable table.now) interval free.now self.old self.new }
+        ensures { IsReachedFrom table.now.order
+            (IsTightInTable table.now) interval free.now self.old self.new }
     {
         let more = joined(table, interval).and(free).and_not(&self.reached);
         self.reached = self.reached.or(&more);

@@ -49,7 +49,8 @@ fn is_covering(table: &Table, face: Face, i: u32) -> bool
     has_interval(face, i, table.order())
 }
 
-/// Whether the interval i is one that the edge links or on which the triangle projects, in the complex of order q.
+/// Whether the interval i is one that the edge links or on which the triangle projects, in the
+/// complex of order q.
 fn has_interval(face: Face, i: u32, q: u32) -> bool
     requires order { IsOrder q }
     requires first { face.a < q }

@@ -10,8 +10,8 @@ use gj_sets::IndexSet;
 use gj_shape::{FaceKind, wrapped};
 use std::alloc::{AllocError, Global};
 
-/// Which pairs of indices below the order are tight, as sets, so that each question about all pairs with one index, or with one
-/// sum, is asked of a whole set.
+/// Which pairs of indices below the order are tight, as sets, so that each question about all pairs
+/// with one index, or with one sum, is asked of a whole set.
 #[derive(Drop)]
 pub(crate) struct Table {
     order: u32,
@@ -38,8 +38,8 @@ enum Sides {
         /// For each s the indices b of the tight pairs (a, b) with the sum s.
         seconds: Vec<IndexSet>,
     },
-    /// The rows again: (b, a) is tight with each tight (a, b), and the indices of the pairs with the sum s are those in the row of
-    /// the place less s.
+    /// The rows again: (b, a) is tight with each tight (a, b), and the indices of the pairs with
+    /// the sum s are those in the row of the place less s.
     Rows {
         place: u32,
     },
@@ -73,8 +73,8 @@ impl Table {
         })
     }
 
-    /// The table of the pairs in these rows, if (b, a) is tight with each tight (a, b), and the pairs with a sum are those in the
-    /// row of the place less the sum. It takes no memory.
+    /// The table of the pairs in these rows, if (b, a) is tight with each tight (a, b), and the
+    /// pairs with a sum are those in the row of the place less the sum. It takes no memory.
     pub(crate) fn with_own_sides(rows: Vec<IndexSet>, order: u32, place: u32) -> Table
         requires few { IsOrder order }
         requires length { length rows.items ≡ order }
@@ -105,9 +105,11 @@ impl Table {
         matches!(self.sides, Sides::Rows { .. })
     }
 
-    /// Each index of the set less 1, where 0 becomes the last index below the order; none that is not below the order.
+    /// Each index of the set less 1, where 0 becomes the last index below the order; none that is
+    /// not below the order.
     pub(crate) fn turned_back(&self, set: &IndexSet) -> IndexSet
-        ensures { (j : ℕ) → has result j ≡ (nat_lt j self.now.order && has set.now ((j + 1) % self.now.order)) }
+        ensures { (j : ℕ) → has result j ≡ (nat_lt j self.now.order && has set.now
+            ((j + 1) % self.now.order)) }
     {
         self.within.and(&set.turned_down(self.order as usize))
     }
@@ -134,7 +136,8 @@ impl Table {
     /// The first indices of the tight pairs with this sum, modulo the order.
     pub(crate) fn firsts(&self, sum: u32) -> &IndexSet
         requires { sum ≤ self.now.order }
-        ensures { (a b : ℕ) → a < self.now.order → b < self.now.order → (a + b) % self.now.order ≡ sum % self.now.order →
+        ensures { (a b : ℕ) → a < self.now.order → b < self.now.order →
+            (a + b) % self.now.order ≡ sum % self.now.order →
             has result.now a ≡ is_tight_in self.now a b }
     {
         match &self.sides {
@@ -146,7 +149,8 @@ impl Table {
     /// The second indices of the tight pairs with this sum, modulo the order.
     pub(crate) fn seconds(&self, sum: u32) -> &IndexSet
         requires { sum ≤ self.now.order }
-        ensures { (a b : ℕ) → a < self.now.order → b < self.now.order → (a + b) % self.now.order ≡ sum % self.now.order →
+        ensures { (a b : ℕ) → a < self.now.order → b < self.now.order →
+            (a + b) % self.now.order ≡ sum % self.now.order →
             has result.now b ≡ is_tight_in self.now a b }
     {
         match &self.sides {
@@ -155,11 +159,13 @@ impl Table {
         }
     }
 
-    /// The row of the place less the sum, which has the first indices of the tight pairs with this sum.
+    /// The row of the place less the sum, which has the first indices of the tight pairs with this
+    /// sum.
     fn row_of_sum(&self, place: u32, sum: u32) -> &IndexSet
         requires sides { AreOwnSides self.now.order self.now.rows.items place }
         requires sum { sum ≤ self.now.order }
-        ensures { (a b : ℕ) → a < self.now.order → b < self.now.order → (a + b) % self.now.order ≡ sum % self.now.order →
+        ensures { (a b : ℕ) → a < self.now.order → b < self.now.order →
+            (a + b) % self.now.order ≡ sum % self.now.order →
             has result.now a ≡ is_tight_in self.now a b }
     {
         let sum = wrapped(sum, self.order);
@@ -195,7 +201,8 @@ impl Table {
     fn has_diagonal(&self, a: u32, b: u32) -> bool
         requires first { a < self.now.order }
         requires second { b < self.now.order }
-        ensures { IsTrue result ↔ (IsTightInTable self.now (a + 1) b × IsTightInTable self.now a (b + 1)) }
+        ensures { IsTrue result ↔ (IsTightInTable self.now (a + 1) b ×
+            IsTightInTable self.now a (b + 1)) }
     {
         self.is_tight(a + 1, b) && self.is_tight(a, b + 1)
     }

@@ -7,7 +7,8 @@ ghost use Rattle.gj_cover.specs.SetRows.{in_row, AreColumns, AreFirsts};
 use gj_sets::IndexSet;
 use std::alloc::{AllocError, Global};
 
-/// The rows with the indices turned around, if there are as many indices as rows: a is in row b exactly if b was in row a.
+/// The rows with the indices turned around, if there are as many indices as rows: a is in row b
+/// exactly if b was in row a.
 pub(crate) fn transposed(alloc: Global, rows: &[IndexSet]) -> Result<Vec<IndexSet>, AllocError>
     requires { length rows.now ≤ greatest_order }
     ensures length { IfOk result (λ v. length v.items ≡ length rows.now) }
@@ -66,7 +67,8 @@ fn turned_rows(alloc: Global, rows: &[IndexSet]) -> Result<Vec<IndexSet>, AllocE
     requires { length rows.now ≤ greatest_order }
     ensures length { IfOk result (λ v. length v.items ≡ length rows.now) }
     ensures turned { IfOk result (λ v. (a s : ℕ) → a < length rows.now → s < length rows.now →
-        in_row v.items a s ≡ in_row rows.now a (if nat_le a s then s - a else s + (length rows.now - a))) }
+        in_row v.items a s ≡ in_row rows.now a (if nat_le a s then s - a else s +
+        (length rows.now - a))) }
 {
     let mut turned = Vec::with_capacity(alloc, rows.len())?;
     for a in 0..rows.len() {

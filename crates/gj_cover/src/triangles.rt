@@ -20,12 +20,14 @@ pub(crate) fn covering_row(table: &Table, i: u32) -> IndexSet
     east.and(&north).and(&here.or(&corner))
 }
 
-/// The indices a besides i for which a triangle of a square (a, b) covers the interval i: b is i, or the sum or the one behind it is.
+/// The indices a besides i for which a triangle of a square (a, b) covers the interval i: b is i,
+/// or the sum or the one behind it is.
 pub(crate) fn covering_across(table: &Table, i: u32) -> IndexSet
     requires { i < table.now.order }
     ensures within { (a : ℕ) → IsTrue (has result a) → a < table.now.order }
     ensures covering { (a : ℕ) → a < table.now.order → a ≢ i →
-        IsTrue (has result a) ↔ ((kind : FaceKind) × (b : ℕ) × (b < table.now.order) × CoversBy table.now i kind a b) }
+        IsTrue (has result a) ↔ ((kind : FaceKind) × (b : ℕ) × (b < table.now.order) ×
+        CoversBy table.now i kind a b) }
     ensures other { has result i ≡ false }
 {
     let (here, north) = (table.column(i), table.column(i + 1));

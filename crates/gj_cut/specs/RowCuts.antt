@@ -45,7 +45,8 @@ IsCutOf answers rule = IsCutWith (IsTermOf answers rule) rule.kind
 abbrev pub IsCutOfKind : RuleKind → Row → RowCut → Type 0
 IsCutOfKind kind = IsCutWith (IsTermOfKind kind) kind
 
--- the mixed-integer cut of the row for the fractional part f of its right side, or the right side is whole
+-- the mixed-integer cut of the row for the fractional part f of its right side, or the right side
+-- is whole
 abbrev pub IsGmicCutOf : Row → RowCut → Type 0
 IsGmicCutOf row (Cut terms) = (f : Frac) × IsCutOfKind (Gmic f) row (Cut terms)
 IsGmicCutOf row Integral = IsWhole row.rhs

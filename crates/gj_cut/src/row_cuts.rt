@@ -19,9 +19,10 @@ use std::alloc::{AllocError, Global};
 
 /// The cut of the row by the rule: for each entry the column, the entry and the rule's value at it.
 ///
-/// It is `Integral` exactly if the right side is whole, and `OtherFraction` exactly if it is not and its
-/// fractional part is not the rule's f. The right side and the entries are at most 2^31 in absolute value and have a
-/// common denominator of at most 2^31 - 1. The only error is want of memory.
+/// It is `Integral` exactly if the right side is whole, and `OtherFraction` exactly if it is not
+/// and its fractional part is not the rule's f. The right side and the entries are at most 2^31 in
+/// absolute value and have a common denominator of at most 2^31 - 1. The only error is want of
+/// memory.
 ///
 /// ```text
 /// let rule = Rule::new(RuleKind::Table(shape), |x| table_value(&function, x));
@@ -44,8 +45,8 @@ pub fn cut_row<E: Evaluator>(alloc: Global, rule: &Rule<E>, row: &Row) -> Result
 
 /// The mixed-integer cut of the row, for f the fractional part of its right side.
 ///
-/// It is `Integral` exactly if the right side is whole, and never `OtherFraction`. The limits are those of
-/// [`cut_row`], and the only error is want of memory.
+/// It is `Integral` exactly if the right side is whole, and never `OtherFraction`. The limits are
+/// those of [`cut_row`], and the only error is want of memory.
 ///
 /// ```text
 /// let tableau = Tableau::read(alloc, b"basic,rhs,x1,x2\nx0,8/5,7/5,-1/5\n")?;

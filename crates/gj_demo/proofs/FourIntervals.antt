@@ -1,4 +1,5 @@
--- Each interval of the demonstration is joined to one of the intervals 0, 1, q - 2 and q - 1, or is it.
+-- Each interval of the demonstration is joined to one of the intervals 0, 1, q - 2 and q - 1, or is
+-- it.
 use Rattle.std.proofs.Common.{◌≡◌, ℕ, ◌+◌, ◌-◌, ◌*◌, ◌%◌, ◌<◌, ◌≤◌, ◌⊎◌, ⊎_elim, inl, inr, leb, eqb, if◌then◌else◌, refl, sym, ap, subst, ◌∙◌, arith}
 use Rattle.std.proofs.Math.Nat.{add-mod_right}
 use Rattle.std.proofs.lemmas.Bool.{le-leb, lt-leb, cases_lt}

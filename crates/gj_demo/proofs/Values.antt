@@ -1,4 +1,5 @@
--- The function's values by the numbers of the demonstration: it is minimal, not extreme, and of a small scale.
+-- The function's values by the numbers of the demonstration: it is minimal, not extreme, and of a
+-- small scale.
 use Rattle.std.proofs.Common.{◌≡◌, ℕ, ◌+◌, ◌*◌, ◌%◌, ◌<◌, ◌≤◌, ℤ, pos, ◌+ℤ◌, ◌*ℤ◌, ◌++◌, get_or, All, unsigned_abs, inl, refl, sym, ap, ap₂, ◌∙◌, subst₂, arith}
 use Rattle.std.proofs.Math.Nat.{mod-lt, mul-one, one-mul, mul_comm, eq_of_mul-eq-mul_right, le_of_dvd}
 use Rattle.std.specs.Int.{IsGcd, ◌∣◌}

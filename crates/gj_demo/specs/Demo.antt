@@ -6,8 +6,8 @@ use Rattle.gj_shape.specs.FunctionData.{FunctionData, IsContinuous, at}
 abbrev pub greatest_demo : ℕ
 greatest_demo = 249
 
--- 2 k times the value at i/(2 k): the mixed-integer cut with f = 1/2 is min(i, 2 k - i)/k there, the function that is
--- 0 at even and 1 at odd i is i mod 2, and the value is half their sum
+-- 2 k times the value at i/(2 k): the mixed-integer cut with f = 1/2 is min(i, 2 k - i)/k there,
+-- the function that is 0 at even and 1 at odd i is i mod 2, and the value is half their sum
 abbrev pub demo_number : ℕ → ℕ → ℕ
 demo_number k i = min i (2 * k - i) + k * (i % 2)
 

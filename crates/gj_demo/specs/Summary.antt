@@ -27,8 +27,9 @@ lines_with n order triangles covered uncovered components h =
     ++ count_line (codes "covered ") covered ++ count_line (codes "uncovered ") uncovered
     ++ count_line (codes "components ") components ++ line (codes "verdict not-extreme") ++ halves_line h
 
--- the text sums up the n-th function: how many triangles are additive, how many intervals are covered and how many are not, how many
--- components there are, and that it is not extreme, with the order and scale of the halves
+-- the text sums up the n-th function: how many triangles are additive, how many intervals are
+-- covered and how many are not, how many components there are, and that it is not extreme, with the
+-- order and scale of the halves
 pub record IsSummary (n : ℕ) (f : FunctionData) (h : Halves) (text : List ℕ) : Type 0 where
   pub demo : IsDemo n f
   pub triangles : List Face
@@ -41,7 +42,8 @@ pub record IsSummary (n : ℕ) (f : FunctionData) (h : Halves) (text : List ℕ)
   pub are_lines : AreCoverLines f.order (IsTight f) lines
   pub spelled : text ≡ lines_with n f.order (length triangles) (length intervals) uncovered (components_in lines) h
 
--- the text is such a summary, of a function within the limits, with the halves that the decision gives
+-- the text is such a summary, of a function within the limits, with the halves that the decision
+-- gives
 pub record HasSummary (n : ℕ) (text : List ℕ) : Type 0 where
   pub function : FunctionData
   pub halves : Halves

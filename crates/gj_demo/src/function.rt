@@ -9,8 +9,8 @@ use gj_frac::Frac;
 use gj_shape::Shape;
 use std::alloc::{AllocError, Global};
 
-/// The function of the demonstration: with k = 2 n + 1 and q = 2 k, the continuous function of order q with f = 1/2
-/// whose value at i/q is (min(i, q - i)/k + (i mod 2))/2.
+/// The function of the demonstration: with k = 2 n + 1 and q = 2 k, the continuous function of
+/// order q with f = 1/2 whose value at i/q is (min(i, q - i)/k + (i mod 2))/2.
 ///
 /// ```
 /// let shape = demo_function(alloc, 1)?;

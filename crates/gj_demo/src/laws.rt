@@ -10,11 +10,12 @@ ghost use Rattle.gj_shape.specs.Table.{IsMinimal};
 ghost use Rattle.gj_shape.specs.declared.extremality.CoverLine.{CoverLine};
 ghost use Rattle.gj_demo.specs.Demo.{IsAlternating, IsDemo};
 
-/// The function is half the sum of the mixed-integer cut with f = 1/2 and the function that is 0 at even and 1 at odd
-/// multiples of 1/q.
+/// The function is half the sum of the mixed-integer cut with f = 1/2 and the function that is 0 at
+/// even and 1 at odd multiples of 1/q.
 pub fn demo_is_average()
     ensures { (n : ℕ) (f g h : FunctionData) → IsDemo n f → IsWithinBounds f →
-        IsGmic (2 * (2 * n + 1)) (2 * n + 1) g → IsWithinBounds g → IsAlternating n h → IsWithinBounds h →
+        IsGmic (2 * (2 * n + 1)) (2 * n + 1) g → IsWithinBounds g → IsAlternating n h →
+        IsWithinBounds h →
         IsAverageOf g h f }
 {}
 

@@ -21,9 +21,10 @@ use gj_proof::{Claim, Proof, push_halves_line};
 use gj_shape::{Halves, Shape};
 use std::alloc::{AllocError, Global};
 
-/// The summary of the decision on the function of the demonstration with this number: its order, how many of its triangles are
-/// additive, how many of its intervals are covered and in how many components, and the order and scale of the halves by which
-/// it is not extreme. There is no other verdict.
+/// The summary of the decision on the function of the demonstration with this number: its order,
+/// how many of its triangles are additive, how many of its intervals are covered and in how many
+/// components, and the order and scale of the halves by which it is not extreme. There is no other
+/// verdict.
 pub fn summary(alloc: Global, n: u32) -> Result<Vec<u8>, AllocError>
     requires low { 1 ≤ n }
     requires high { n ≤ greatest_demo }
@@ -59,7 +60,8 @@ fn text_of(
 ) -> Result<Vec<u8>, AllocError>
     requires covered { covered ≤ order }
     requires halves { AreHalvesInBounds halves.now }
-    ensures { IfOk result (λ text. text.items ≡ lines_with n order triangles covered (order - covered) components halves.now) }
+    ensures { IfOk result (λ text. text.items ≡ lines_with n order triangles covered
+        (order - covered) components halves.now) }
 {
     let mut text = Vec::new(alloc);
     push_count_line(&mut text, b"demo ", n)?;
@@ -74,7 +76,8 @@ fn text_of(
     Ok(text)
 }
 
-/// The proof that the function of the demonstration with this number is not extreme. It is never anything else, and never too wide.
+/// The proof that the function of the demonstration with this number is not extreme. It is never
+/// anything else, and never too wide.
 fn verdict(
     alloc: Global,
     shape: &Shape,

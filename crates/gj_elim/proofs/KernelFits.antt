@@ -1,4 +1,5 @@
--- The numbers of the kernel are at most 2^127 - 1 in absolute value, if none of the marked ones is above.
+-- The numbers of the kernel are at most 2^127 - 1 in absolute value, if none of the marked ones is
+-- above.
 use Rattle.std.proofs.Common.{mul-le-mul_left, ◌≡◌, ℕ, zero, suc, ◌<◌, ◌≤◌, ◌^◌, ◌*◌, ◌==◌, ◌⊎◌, inl, inr, Bool, true, false, if◌then◌else◌, Option, None, Some, ℤ, pos, ◌+ℤ◌, ◌*ℤ◌, neg_ℤ, int_div, List, [], ◌∷◌, ◌++◌, unsigned_abs, sym, ap, subst, ◌∙◌, arith}
 use Rattle.std.proofs.Math.Nat.{eq-zero-or-pos}
 use Rattle.std.specs.Prelude.{All}

@@ -1,4 +1,5 @@
--- A step without divisions leaves a positive multiple of the row that the definition has, and marks nothing that it does not exceed.
+-- A step without divisions leaves a positive multiple of the row that the definition has, and marks
+-- nothing that it does not exceed.
 use Rattle.std.proofs.Common.{◌≡◌, ◌≢◌, ℕ, zero, suc, ◌*◌, ◌<◌, ◌≤◌, ◌⊎◌, inl, inr, ⊎_elim, Bool, true, false, if◌then◌else◌, ℤ, pos, ◌-ℤ◌, ◌*ℤ◌, neg_ℤ, ◌<ℤ◌, int_lt, List, [], ◌∷◌, ◌++◌, length, map, unsigned_abs, refl, sym, ap, ap₂, subst, ◌∙◌, arith}
 use Rattle.std.specs.Int.{IsGcd, ◌∣◌}
 use Rattle.std.proofs.lemmas.Int.{ints}

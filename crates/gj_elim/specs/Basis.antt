@@ -11,8 +11,9 @@ use Rattle.gj_elim.specs.declared.basis.Basis.TheInside.{Inside}
 abbrev pub data_of : Inside → BasisData
 data_of b = record { columns = b.columns; inserted = b.inserted; kept = kept_rows b.log.items b.rows.items }
 
--- the log has a line for each row, the rows are triangular with entries of at most 2^127 - 1 in absolute value, and the row
--- that is reduced has its length, once with 128 bits a number and once with 64; the tables tell of the kept rows
+-- the log has a line for each row, the rows are triangular with entries of at most 2^127 - 1 in
+-- absolute value, and the row that is reduced has its length, once with 128 bits a number and once
+-- with 64; the tables tell of the kept rows
 pub record IsBasis (b : Inside) : Type 0 where
   pub lines : length b.log.items ≡ length b.rows.items
   pub triangular : AreTriangular b.columns (kept_rows b.log.items b.rows.items)

@@ -8,19 +8,22 @@ pub record IsMultipleRow (other row : List ℤ) : Type 0 where
   pub some : 0 < factor
   pub is : row ≡ scaled (pos factor) other
 
--- a step by the kept row at the column leaves this row in the place of another or of a multiple of it, and marks nothing that passes
+-- a step by the kept row at the column leaves this row in the place of another or of a multiple of
+-- it, and marks nothing that passes
 pub record IsLazyStep (kept other row : List ℤ) (c : ℕ) : Type 0 where
   pub multiple : IsMultipleRow (reduced kept other c) row
   pub narrow : Passes (marked_in_step kept other c) → ⊥
 
--- the factors of the row and of a kept row with these entries at the column of a step: both entries have one divisor
+-- the factors of the row and of a kept row with these entries at the column of a step: both entries
+-- have one divisor
 pub record AreLazyFactors (pivot entry u w : ℤ) : Type 0 where
   pub divisor : ℕ
   pub some : 0 < divisor
   pub row : u *ℤ pos divisor ≡ pivot
   pub kept : w *ℤ pos divisor ≡ entry
 
--- a bound of the absolute values of a row, if it is below 2^63, and the column from which on the row is 0
+-- a bound of the absolute values of a row, if it is below 2^63, and the column from which on the
+-- row is 0
 pub record IsExtent (bound end : ℕ) (row : List ℤ) : Type 0 where
   pub small : bound < 2 ^ 63 → (k : ℕ) → unsigned_abs (at_column row k) ≤ bound
   pub zero_from : (k : ℕ) → end ≤ k → at_column row k ≡ pos 0
@@ -31,7 +34,8 @@ pub record IsZeroOutside (from to : ℕ) (row : List ℤ) : Type 0 where
   pub before : (k : ℕ) → k < from → at_column row k ≡ pos 0
   pub behind : (k : ℕ) → to ≤ k → at_column row k ≡ pos 0
 
--- the products of the factors u and w with what the bounds let through are small, and the row after the step has this extent
+-- the products of the factors u and w with what the bounds let through are small, and the row after
+-- the step has this extent
 pub record HasRoom (u w : ℤ) (row_bound row_end kept_bound kept_end next_bound next_end : ℕ) : Type 0 where
   pub row : unsigned_abs u * row_bound < 2 ^ 62
   pub kept : unsigned_abs w * kept_bound < 2 ^ 62

@@ -1,4 +1,5 @@
--- What is known beside the kept rows: the place of the row with each pivot, and how far each row goes.
+-- What is known beside the kept rows: the place of the row with each pivot, and how far each row
+-- goes.
 use Rattle.std.specs.Prelude.{ℕ, ℤ, ◌≡◌, ◌<◌, ◌==◌, Option, None, List, [], length, get_or}
 use Rattle.std.specs.List.{position}
 use Rattle.gj_elim.specs.declared.log.LogRow.{LogRow}

@@ -16,8 +16,8 @@ use gj_shape::List;
 use std::alloc::{AllocError, Global};
 use std::marker::Model;
 
-/// Rows of whole numbers, of which plain elimination keeps those that are needed. Contracts see how many columns they have, how
-/// many rows were inserted, and the kept rows.
+/// Rows of whole numbers, of which plain elimination keeps those that are needed. Contracts see how
+/// many columns they have, how many rows were inserted, and the kept rows.
 ///
 /// ```rust
 /// let mut basis = Basis::new(alloc, 3)?;
@@ -39,7 +39,8 @@ pub struct Basis {
     extents: Vec<Extent>,
     /// For each column the place of the kept row with its pivot there.
     places: Vec<Option<u32>>,
-    /// The row that is being reduced, with 128 and with 64 bits a number, and the columns of its steps.
+    /// The row that is being reduced, with 128 and with 64 bits a number, and the columns of its
+    /// steps.
     row: Vec<i128>,
     small: Vec<i64>,
     reduce: Vec<u32>,
@@ -78,17 +79,21 @@ impl Basis {
         })
     }
 
-    /// Inserts a row: it is reduced by the kept rows, and what is left of it is kept. `Wide` exactly if one of the numbers that
-    /// the elimination marks passes 2^127 - 1 in absolute value. After an error the basis is as it was.
+    /// Inserts a row: it is reduced by the kept rows, and what is left of it is kept. `Wide`
+    /// exactly if one of the numbers that the elimination marks passes 2^127 - 1 in absolute value.
+    /// After an error the basis is as it was.
     pub fn insert(&mut self, row: &[i128]) -> Result<Inserted, ElimFault>
         requires columns { length row.now ≡ self.old.columns }
         requires entries { All Fits row.now }
         requires count { self.old.inserted + 1 < 2 ^ 64 }
 
         ensures kept { OnOk result (self.new ≡ behind self.old row.now) }
-        ensures answer { IfOk result (λ a. a ≡ answer_of (inserted self.old.columns self.old.kept row.now).kept) }
-        ensures narrow { OnOk result (¬ Passes (inserted self.old.columns self.old.kept row.now).marked) }
-        ensures wide { IsErrOf result ElimFault.Wide → Passes (inserted self.old.columns self.old.kept row.now).marked }
+        ensures answer { IfOk result (λ a. a ≡ answer_of
+            (inserted self.old.columns self.old.kept row.now).kept) }
+        ensures narrow { OnOk result (¬ Passes
+            (inserted self.old.columns self.old.kept row.now).marked) }
+        ensures wide { IsErrOf result ElimFault.Wide → Passes
+            (inserted self.old.columns self.old.kept row.now).marked }
         ensures unchanged { OnErr result (self.new ≡ self.old) }
 
         ensures solutions { OnOk result ((w : List ℤ) →
@@ -158,14 +163,17 @@ impl Basis {
         self.log
     }
 
-    /// Numbers that solve all kept rows and are not all 0; None exactly if there are as many kept rows as columns. `Wide`
-    /// exactly if one of the numbers that the definition marks passes 2^127 - 1 in absolute value.
+    /// Numbers that solve all kept rows and are not all 0; None exactly if there are as many kept
+    /// rows as columns. `Wide` exactly if one of the numbers that the definition marks passes 2^127
+    /// - 1 in absolute value.
     pub fn kernel(&self) -> Result<Option<Vec<i128>>, ElimFault>
         ensures none { IfOk result (λ o. IsNone o ↔ (length self.now.kept ≡ self.now.columns)) }
         ensures value { IfOk result (λ o. IfSome o (λ v.
             IfSome (kernel self.now.columns self.now.kept) (λ s. v.items ≡ s.numbers))) }
-        ensures narrow { OnOk result (¬ Passes (marked_in (kernel self.now.columns self.now.kept))) }
-        ensures wide { IsErrOf result ElimFault.Wide → Passes (marked_in (kernel self.now.columns self.now.kept)) }
+        ensures narrow { OnOk result (¬ Passes
+            (marked_in (kernel self.now.columns self.now.kept))) }
+        ensures wide { IsErrOf result ElimFault.Wide → Passes
+            (marked_in (kernel self.now.columns self.now.kept)) }
 
         ensures solves { IfOk result (λ o. IfSome o (λ v. SolvesKept v.items self.now.kept)) }
         ensures some { IfOk result (λ o. IfSome o (λ v. Any (λ x. pos 0 <ℤ x) v.items)) }

@@ -2,7 +2,8 @@
 ghost use Rattle.std.specs.Prelude.{ℕ, ℤ, pos, ◌≡◌, ◌<◌, ◌≤◌, ◌+◌, ◌^◌, length, unsigned_abs};
 ghost use Rattle.gj_elim.specs.Lazy.{IsExtent};
 
-/// A bound of the absolute values of a row, if it is below 2^63, and the column from which on the row is 0.
+/// A bound of the absolute values of a row, if it is below 2^63, and the column from which on the
+/// row is 0.
 #[derive(Clone, Copy)]
 pub(crate) struct Extent {
     pub(crate) bound: u64,

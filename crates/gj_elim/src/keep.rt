@@ -18,7 +18,8 @@ pub(crate) fn no_places(alloc: Global, columns: usize) -> Result<Vec<Option<u32>
     vec![in alloc; None; columns]
 }
 
-/// Keeps what is left of a row, and writes to the log how it came to be kept. After an error nothing is changed.
+/// Keeps what is left of a row, and writes to the log how it came to be kept. After an error
+/// nothing is changed.
 pub(crate) fn keep(
     alloc: Global,
     log: &mut Vec<LogRow>,
@@ -39,7 +40,8 @@ pub(crate) fn keep(
     requires free { IsFreeColumn (length places.old) log.old.items pivot }
     ensures line { OnOk result (log.new.items
         ≡ log.old.items ++ record { number = number; reduce = reduce.now; pivot = pivot } ∷ []) }
-    ensures entries { OnOk result (rows.new.items ≡ rows.old.items ++ kept_entries row.now pivot ∷ []) }
+    ensures entries { OnOk result
+        (rows.new.items ≡ rows.old.items ++ kept_entries row.now pivot ∷ []) }
     ensures fits { OnOk result (All Fits (kept_entries row.now pivot)) }
     ensures extents { OnOk result (AreExtents rows.new.items extents.new.items) }
     ensures places { OnOk result (ArePlaces (length places.old) log.new.items places.new) }

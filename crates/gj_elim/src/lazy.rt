@@ -1,4 +1,5 @@
-//! Steps in 64 bits, without a division: they leave a positive multiple of the row that the definition has.
+//! Steps in 64 bits, without a division: they leave a positive multiple of the row that the
+//! definition has.
 ghost use Rattle.std.specs.Prelude.{ℕ, ℤ, pos, ◌≡◌, ◌≢◌, ◌<◌, ◌≤◌, ◌+◌, ◌*◌, ◌^◌, ◌*ℤ◌, ◌<ℤ◌, List, length, unsigned_abs, IfSome, IsNone, IfOk, [], All};
 ghost use Rattle.gj_shape.specs.Elimination.{at_column, gcd_of_row, divided, scaled, differences, inserted};
 ghost use Rattle.std.specs.Int.{IsGcd};
@@ -48,7 +49,8 @@ fn factors_of(pivot: i64, entry: i64) -> Factors
 
 /// The extent of the row after a step, if its numbers are small.
 fn room(factors: Factors, row: Extent, kept: Extent) -> Option<Extent>
-    ensures { IfSome result (λ e. HasRoom factors.row factors.kept row.bound row.end kept.bound kept.end e.bound e.end) }
+    ensures { IfSome result (λ e. HasRoom factors.row factors.kept row.bound row.end kept.bound
+        kept.end e.bound e.end) }
 {
     let first = u128::from(factors.row.unsigned_abs()) * u128::from(row.bound);
     let second = u128::from(factors.kept.unsigned_abs()) * u128::from(kept.bound);
@@ -61,7 +63,8 @@ fn room(factors: Factors, row: Extent, kept: Extent) -> Option<Extent>
     })
 }
 
-/// Subtracts the kept row times its factor from the row, if both rows are 0 outside of these columns.
+/// Subtracts the kept row times its factor from the row, if both rows are 0 outside of these
+/// columns.
 fn subtract(factor: i64, row: &mut [i64], kept: &[i128], from: usize, to: usize)
     requires columns { length kept.now ≡ length row.old }
     requires within { to ≤ length row.old }
@@ -77,7 +80,8 @@ fn subtract(factor: i64, row: &mut [i64], kept: &[i128], from: usize, to: usize)
     }
 }
 
-/// Puts the row times its factor less the kept row times its own in the place of the row, if both rows are 0 outside of these columns.
+/// Puts the row times its factor less the kept row times its own in the place of the row, if both
+/// rows are 0 outside of these columns.
 fn scale_and_subtract(factors: Factors, row: &mut [i64], kept: &[i128], from: usize, to: usize)
     requires columns { length kept.now ≡ length row.old }
     requires within { to ≤ length row.old }
@@ -93,7 +97,8 @@ fn scale_and_subtract(factors: Factors, row: &mut [i64], kept: &[i128], from: us
     }
 }
 
-/// Puts the row times its factor less the kept row times its own in the place of the row, if both rows are 0 outside of these columns.
+/// Puts the row times its factor less the kept row times its own in the place of the row, if both
+/// rows are 0 outside of these columns.
 fn combine_within(factors: Factors, row: &mut [i64], kept: &[i128], from: usize, to: usize)
     requires columns { length kept.now ≡ length row.old }
     requires within { to ≤ length row.old }
@@ -128,7 +133,8 @@ fn step_once(
     requires row_zero { (k : ℕ) → k < column → at_column row.old k ≡ pos 0 }
     requires positive { pos 0 <ℤ at_column kept.now column }
     requires some { at_column row.old column ≢ pos 0 }
-    ensures step { IfSome result (λ _. (other : List ℤ) → IsMultipleRow other row.old → IsLazyStep kept.now other row.new column) }
+    ensures step { IfSome result (λ _. (other : List ℤ) → IsMultipleRow other row.old →
+        IsLazyStep kept.now other row.new column) }
     ensures extent { IfSome result (λ e. IsExtent e.bound e.end row.new) }
     ensures bound { IfSome result (λ e. e.bound < 2 ^ 63) }
     ensures same { IsNone result → row.new ≡ row.old }
@@ -180,7 +186,8 @@ fn divisor_with(divisor: u64, x: i64) -> u64
     gcd(u128::from(x.unsigned_abs()), u128::from(divisor)) as u64
 }
 
-/// The greatest common divisor of all entries of a row that is 0 outside of these columns; 0 if all are 0.
+/// The greatest common divisor of all entries of a row that is 0 outside of these columns; 0 if all
+/// are 0.
 fn divisor_within(row: &[i64], from: usize, to: usize) -> u64
     requires within { to ≤ length row.now }
     requires zero { IsZeroOutside from to row.now }
@@ -212,7 +219,8 @@ fn divide_within(row: &mut [i64], divisor: u64, from: usize, to: usize)
     }
 }
 
-/// Divides a row that is 0 outside of these columns by the greatest common divisor of its entries, if that is not 1.
+/// Divides a row that is 0 outside of these columns by the greatest common divisor of its entries,
+/// if that is not 1.
 fn divide_small(row: &mut [i64], from: usize, to: usize)
     requires within { to ≤ length row.old }
     requires zero { IsZeroOutside from to row.old }
@@ -240,7 +248,8 @@ fn bound_within(row: &[i64], from: usize, to: usize) -> u64
     bound
 }
 
-/// Divides a row that is 0 before the column by the greatest common divisor of its entries, and gives its extent then.
+/// Divides a row that is 0 before the column by the greatest common divisor of its entries, and
+/// gives its extent then.
 fn tighten(row: &mut [i64], extent: Extent, column: usize) -> Extent
     requires extent { IsExtent extent.bound extent.end row.old }
     requires bound { extent.bound < 2 ^ 63 }
@@ -256,8 +265,9 @@ fn tighten(row: &mut [i64], extent: Extent, column: usize) -> Extent
     }
 }
 
-/// A step at the column, if its numbers are small, or are small once the row is divided. Only a row that comes from a step is divided,
-/// since each such row is divided in the definition. If there is no step, the row of the definition is written with 128 bits a number.
+/// A step at the column, if its numbers are small, or are small once the row is divided. Only a row
+/// that comes from a step is divided, since each such row is divided in the definition. If there is
+/// no step, the row of the definition is written with 128 bits a number.
 pub(crate) fn step(
     kept: &[i128],
     kept_extent: Extent,
@@ -277,11 +287,13 @@ pub(crate) fn step(
     requires row_zero { (k : ℕ) → k < column → at_column row.old k ≡ pos 0 }
     requires positive { pos 0 <ℤ at_column kept.now column }
     requires some { at_column row.old column ≢ pos 0 }
-    ensures step { IfSome result (λ _. (other : List ℤ) → IsMultipleRow other row.old → IsExactly is_stepped other row.old →
+    ensures step { IfSome result (λ _. (other : List ℤ) → IsMultipleRow other row.old →
+        IsExactly is_stepped other row.old →
         IsLazyStep kept.now other row.new column) }
     ensures extent { IfSome result (λ e. IsExtent e.bound e.end row.new) }
     ensures bound { IfSome result (λ e. e.bound < 2 ^ 63) }
-    ensures exact { IsNone result → (other : List ℤ) → IsMultipleRow other row.old → IsExactly is_stepped other row.old →
+    ensures exact { IsNone result → (other : List ℤ) → IsMultipleRow other row.old →
+        IsExactly is_stepped other row.old →
         exact.new ≡ other }
     ensures fits { IsNone result → All Fits exact.new }
 {
@@ -310,8 +322,9 @@ pub(crate) enum Reached {
     Column(usize),
 }
 
-/// Takes a row through the columns as far as its numbers stay small, and adds to `reduce` the columns at which it is reduced. It
-/// becomes a multiple of the row of the definition; if a step may have large numbers, that row itself is written with 128 bits a number.
+/// Takes a row through the columns as far as its numbers stay small, and adds to `reduce` the
+/// columns at which it is reduced. It becomes a multiple of the row of the definition; if a step
+/// may have large numbers, that row itself is written with 128 bits a number.
 pub(crate) fn reduce_lazily(
     _log: &[LogRow],
     rows: &[List<i128>],
@@ -331,9 +344,11 @@ pub(crate) fn reduce_lazily(
     requires extent { IsExtent first_extent.bound first_extent.end row.old }
     requires bound { first_extent.bound < 2 ^ 63 }
     requires empty { reduce.old.items ≡ [] }
-    ensures reached { IfOk result (λ r. IsReached (kept_rows _log.now rows.now) (inserted (length row.old) (kept_rows _log.now rows.now) row.old)
+    ensures reached { IfOk result (λ r. IsReached (kept_rows _log.now rows.now)
+        (inserted (length row.old) (kept_rows _log.now rows.now) row.old)
         r row.new exact.new reduce.new.items) }
-    ensures within { IfOk result (λ r. IsReachedWithin (length row.old) _log.now r row.new exact.new) }
+    ensures within { IfOk result (λ r. IsReachedWithin
+        (length row.old) _log.now r row.new exact.new) }
 {
     let mut extent = first_extent;
     let mut is_stepped = false;

@@ -1,10 +1,12 @@
 //! Plain elimination over whole numbers of 128 bits.
 //!
-//! A [`Basis`] takes rows one after another. It reduces each row by the rows that it keeps, and keeps what is left, so that its
-//! rows have exactly the solutions of all rows that were inserted. `kernel` gives a solution of them that is not 0.
+//! A [`Basis`] takes rows one after another. It reduces each row by the rows that it keeps, and
+//! keeps what is left, so that its rows have exactly the solutions of all rows that were inserted.
+//! `kernel` gives a solution of them that is not 0.
 //!
-//! As long as the numbers of a row stay small, its steps are made in 64 bits and without divisions: what they leave is a positive
-//! multiple of the row of the definition, and marks nothing that passes.
+//! As long as the numbers of a row stay small, its steps are made in 64 bits and without divisions:
+//! what they leave is a positive multiple of the row of the definition, and marks nothing that
+//! passes.
 #![tactic(auto)]
 
 mod basis;

@@ -35,8 +35,9 @@ pub(crate) fn free_column(log: &[LogRow], columns: u32) -> Option<u32>
     None
 }
 
-/// Takes a row through the columns from one on, and adds to `reduce` the columns at which it is reduced. The answer is the column at
-/// which something is left of the row. After an error the row and the columns are no longer used.
+/// Takes a row through the columns from one on, and adds to `reduce` the columns at which it is
+/// reduced. The answer is the column at which something is left of the row. After an error the row
+/// and the columns are no longer used.
 fn reduce_exactly(
     log: &[LogRow],
     rows: &[List<i128>],
@@ -52,12 +53,14 @@ fn reduce_exactly(
     requires count { length row.old < 2 ^ 32 }
     requires fits { All Fits row.old }
     ensures done { IfOk result (λ left. (i : Insertion) →
-        IsBehind i reduce.old.items (rest whole_numbers (kept_rows log.now rows.now) (length row.old) first row.old) →
+        IsBehind i reduce.old.items (rest whole_numbers (kept_rows log.now rows.now)
+        (length row.old) first row.old) →
         IsDone whole_numbers i left row.new reduce.new.items) }
     ensures within { IfOk result (λ left. IfSome left (IsFreeColumn (length row.old) log.now)) }
     ensures fits { OnOk result (All Fits row.new) }
     ensures wide { IsErrOf result ElimFault.Wide → (i : Insertion) →
-        IsBehind i reduce.old.items (rest whole_numbers (kept_rows log.now rows.now) (length row.old) first row.old) → Passes i.marked }
+        IsBehind i reduce.old.items (rest whole_numbers (kept_rows log.now rows.now)
+        (length row.old) first row.old) → Passes i.marked }
 {
     for column in first..row.len() {
         if row[column] != 0 {
@@ -74,8 +77,9 @@ fn reduce_exactly(
     Ok(None)
 }
 
-/// Takes a row through all columns, and adds to `reduce` the columns at which it is reduced. The answer is the column at which
-/// something is left of the row, which is then `row`, or a multiple of it. After an error the rows and the columns are no longer used.
+/// Takes a row through all columns, and adds to `reduce` the columns at which it is reduced. The
+/// answer is the column at which something is left of the row, which is then `row`, or a multiple
+/// of it. After an error the rows and the columns are no longer used.
 pub(crate) fn reduce_row(
     log: &[LogRow],
     rows: &[List<i128>],
@@ -96,11 +100,13 @@ pub(crate) fn reduce_row(
     requires small_columns { length small.old ≡ length given.now }
     requires fits { All Fits given.now }
     requires empty { reduce.old.items ≡ [] }
-    ensures left { IfOk result (λ left. IsLeft whole_numbers (inserted (length given.now) (kept_rows log.now rows.now) given.now) left row.new
+    ensures left { IfOk result (λ left. IsLeft whole_numbers (inserted (length given.now)
+        (kept_rows log.now rows.now) given.now) left row.new
         reduce.new.items) }
     ensures within { IfOk result (λ left. IfSome left (IsFreeColumn (length given.now) log.now)) }
     ensures fits { IfOk result (λ left. IfSome left (λ _. All Fits row.new)) }
-    ensures narrow { OnOk result (¬ Passes (inserted (length given.now) (kept_rows log.now rows.now) given.now).marked) }
+    ensures narrow { OnOk result (¬ Passes (inserted (length given.now)
+        (kept_rows log.now rows.now) given.now).marked) }
     ensures wide { IsErrOf result ElimFault.Wide →
         Passes (inserted (length given.now) (kept_rows log.now rows.now) given.now).marked }
 {

@@ -52,8 +52,8 @@ fn multiply(factor: i128, numbers: &mut [i128]) -> Result<(), Wide>
     Ok(())
 }
 
-/// Multiplies the numbers, and sets that of the column, so that they solve the row with its pivot there. After an error some are
-/// changed.
+/// Multiplies the numbers, and sets that of the column, so that they solve the row with its pivot
+/// there. After an error some are changed.
 pub(crate) fn solve_at(row: &[i128], column: usize, numbers: &mut [i128]) -> Result<(), Wide>
     requires columns { length row.now ≡ length numbers.old }
     requires within { column < length row.now }

@@ -9,7 +9,8 @@ ghost use Rattle.gj_theory.specs.Fitting.{FitsCombined};
 use crate::checked::{product, quotient};
 use gj_frac::{Wide, checked_difference, gcd};
 
-/// The greatest common divisor of the absolute values of two numbers, one of them at most 2^127 - 1 and not 0.
+/// The greatest common divisor of the absolute values of two numbers, one of them at most 2^127 - 1
+/// and not 0.
 pub(crate) fn common_divisor(n: i128, m: i128) -> i128
     requires fits { Fits n }
     requires some { n ≢ pos 0 }
@@ -71,7 +72,8 @@ fn combination(u: i128, x: i128, w: i128, e: i128) -> Result<i128, Wide>
     checked_difference(first, second)
 }
 
-/// Puts u times the row less w times the kept row in the place of the row. After an error some entries are changed.
+/// Puts u times the row less w times the kept row in the place of the row. After an error some
+/// entries are changed.
 fn combine(u: i128, row: &mut [i128], w: i128, kept: &[i128]) -> Result<(), Wide>
     requires { length kept.now ≡ length row.old }
     ensures value { OnOk result (row.new ≡ differences (scaled u row.old) (scaled w kept.now)) }
@@ -86,7 +88,8 @@ fn combine(u: i128, row: &mut [i128], w: i128, kept: &[i128]) -> Result<(), Wide
     Ok(())
 }
 
-/// Reduces a row by a kept row with its pivot at the column. After an error some entries are changed.
+/// Reduces a row by a kept row with its pivot at the column. After an error some entries are
+/// changed.
 pub(crate) fn reduce_by(kept: &[i128], row: &mut [i128], column: usize) -> Result<(), Wide>
     requires columns { length kept.now ≡ length row.old }
     requires within { column < length row.old }

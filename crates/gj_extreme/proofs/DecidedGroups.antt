@@ -1,4 +1,5 @@
--- The groups that the decision gives of an extreme function meet the rules, by any numbers of the components.
+-- The groups that the decision gives of an extreme function meet the rules, by any numbers of the
+-- components.
 use Rattle.std.proofs.Common.{◌≡◌, ◌≢◌, ℕ, zero, suc, inl, inr, ◌+◌, ◌%◌, ◌<◌, ◌≤◌, Bool, true, false, cond, Some, ℤ, pos, ◌+ℤ◌, ◌-ℤ◌, List, [], ◌∷◌, ◌++◌, map, count_by, eqb, refl, sym, ap, ap₂, subst, subst₂, ◌∙◌, append_assoc, arith}
 use Rattle.std.specs.Prelude.{All, Any}
 use Rattle.std.specs.List.{range_with_len}

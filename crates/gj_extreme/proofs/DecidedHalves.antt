@@ -1,4 +1,5 @@
--- The halves that the decision gives are two different minimal tables that average to the function's.
+-- The halves that the decision gives are two different minimal tables that average to the
+-- function's.
 use Rattle.std.proofs.Common.{◌≡◌, ◌≢◌, ℕ, zero, suc, inl, inr, ◌+◌, ◌*◌, ◌<◌, Bool, true, false, ◌||◌, Option, Some, ℤ, pos, ◌<ℤ◌, List, [], ◌∷◌, length, map, get_or, eqb, refl, sym, ap, subst, ◌∙◌, arith}
 use Rattle.std.specs.Prelude.{All, Any, Contains, IfSome}
 use Rattle.std.specs.List.{list_any}

@@ -2,6 +2,7 @@
 use Rattle.std.proofs.Common.{◌≡◌, ℕ, Result, Ok, Err, refl}
 use Rattle.std.specs.Prelude.{IsErr, IsErrOf}
 use Rattle.std.specs.Result.{IsErrAnd}
+use Rattle.std.specs.declared.alloc.AllocError.{AllocError}
 use Rattle.gj_elim.specs.declared.faults.ElimFault.{ElimFault}
 use Rattle.gj_elim.specs.declared.faults.ElimFault.TheVariants as elimination
 use Rattle.gj_perturb.specs.declared.faults.SplitFault.{SplitFault}
@@ -10,7 +11,7 @@ use Rattle.gj_residue.specs.declared.settling.SettleFault.{SettleFault}
 use Rattle.gj_residue.specs.declared.settling.SettleFault.TheVariants as settling
 use Rattle.gj_extreme.specs.Faults.{of_elimination, of_split, of_settling}
 use Rattle.gj_extreme.specs.declared.faults.DecideFault.{DecideFault}
-use Rattle.gj_extreme.specs.declared.faults.DecideFault.TheVariants.{NotContinuous, Wide}
+use Rattle.gj_extreme.specs.declared.faults.DecideFault.TheVariants.{NotContinuous, Wide, Memory}
 
 -- Wide comes from a part only if the part is too wide
 pub wide_elimination : {T U : Type 0} (r : Result T DecideFault) (x : ElimFault) → IsErr r → IsErrAnd r (λ e. e ≡ of_elimination x) →
@@ -43,3 +44,14 @@ pub no_jump_split : {T : Type 0} (r : Result T DecideFault) (x : SplitFault) (i 
 no_jump_split (Ok v) x i is_err h e = absurd cc
 no_jump_split (Err z) split.Wide i is_err h e = absurd cc
 no_jump_split (Err z) (split.Memory m) i is_err h e = absurd cc
+
+-- want of memory is neither
+pub no_wide_memory : {T : Type 0} (r : Result T DecideFault) (x : AllocError) → IsErr r → IsErrAnd r (λ e. e ≡ Memory x) →
+    IsErrOf r Wide → ⊥
+no_wide_memory (Ok v) x is_err h e = absurd cc
+no_wide_memory (Err z) x is_err h e = absurd cc
+
+pub no_jump_memory : {T : Type 0} (r : Result T DecideFault) (x : AllocError) (i : ℕ) → IsErr r → IsErrAnd r (λ e. e ≡ Memory x) →
+    IsErrOf r (NotContinuous i) → ⊥
+no_jump_memory (Ok v) x i is_err h e = absurd cc
+no_jump_memory (Err z) x i is_err h e = absurd cc

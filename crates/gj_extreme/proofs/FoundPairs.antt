@@ -53,7 +53,8 @@ found_none f pairs a from row behind p r low none =
 
 -- ---- pairs of one row
 
--- the rows of these names are to come, and the last pair (a, b) with b below `from` was seen, if there is one
+-- the rows of these names are to come, and the last pair (a, b) with b below `from` was seen, if
+-- there is one
 abbrev pub IsBehind : FunctionData → (ℕ → ℕ) → ℕ → ℕ → ℕ → Rows → List RowName → Type 0
 IsBehind f component n a from rows rest =
     (h : AreToCome f component n rows rest) × (a < from → IsSeenRow f component n h.handed_over.before (record { a = a; b = from - 1 }))

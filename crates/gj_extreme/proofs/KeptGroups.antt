@@ -1,12 +1,12 @@
--- The rows that the elimination keeps meet the rules for groups, over whole numbers and over residues.
-use Rattle.std.proofs.Common.{◌≡◌, ◌≢◌, ℕ, zero, suc, ◌⊎◌, inl, inr, ◌+◌, ◌<◌, ◌≤◌, Bool, true, false, if◌then◌else◌, Option, None, Some, ℤ, pos, ◌-ℤ◌, ◌*ℤ◌, List, [], ◌∷◌, ◌++◌, length, map, get_or, unsigned_abs, ◌^◌, refl, sym, ap, ap₂, subst, ◌∙◌, append_assoc, lit<, arith}
+-- The rows that the elimination keeps meet the rules for groups, over whole numbers and over
+-- residues.
+use Rattle.std.proofs.Common.{◌≡◌, ◌≢◌, ℕ, zero, suc, ◌⊎◌, inl, inr, ◌+◌, ◌<◌, ◌≤◌, Bool, true, false, if◌then◌else◌, Option, None, Some, ℤ, pos, List, [], ◌∷◌, ◌++◌, length, map, get_or, unsigned_abs, ◌^◌, refl, sym, ap, ap₂, subst, ◌∙◌, append_assoc, lit<, arith}
 use Rattle.std.specs.Prelude.{All, Any, nat_le}
 use Rattle.std.specs.List.{range_with_len}
 use Rattle.std.specs.Ordering.{int_eq}
 use Rattle.std.proofs.Math.Seq.{get_or-append_seam}
 use Rattle.std.proofs.lemmas.Bool.{cases_eq}
 use Rattle.std.proofs.lemmas.Bool.Decides.{Decides-int_eq, not_from_Decides}
-use Rattle.std.proofs.lemmas.Int.{ints}
 use Rattle.std.proofs.lemmas.List.{append-nil, length_push, length-map}
 use Rattle.std.proofs.lemmas.List.FromFn.{length-map-range_with_len}
 use Rattle.std.proofs.lemmas.List.Elements.{All-head, All-tail}
@@ -14,7 +14,7 @@ use Rattle.gj_lemmas.specs.Divisors.{gcd_of}
 use Rattle.gj_cover.proofs.Parts.{any_none, any_cases, any_here, any_there}
 use Rattle.gj_shape.specs.Elimination.{KeptRow, Insertion, at_column, entries_of, row_with_pivot, insertion_by, inserted_by, inserted_at_by, kept_behind, Elimination, elimination_from_by, behind_insertion, with_pivot, Passes}
 use Rattle.gj_shape.specs.FunctionData.{FunctionData}
-use Rattle.gj_shape.specs.Residues.{residue, residues, inverse, reduced_modulo, times_inverse, modulo}
+use Rattle.gj_shape.specs.Residues.{residue, residues, inverse, times_inverse, modulo}
 use Rattle.gj_shape.specs.SlopeRows.{row_entry, row_names}
 use Rattle.gj_shape.specs.declared.extremality.CoverLine.{CoverLine}
 use Rattle.gj_shape.specs.declared.extremality.RowName.{RowName}
@@ -135,7 +135,8 @@ StepsMeet numbers kept row (c ∷ columns) =
 abbrev pub present_over : Numbers → List KeptRow → List ℤ → List ℕ → List ℤ
 present_over numbers kept row columns = present_row_by (arithmetic_of numbers) kept row columns
 
--- nothing is left of the row that can be kept, or it has a new pivot after its steps, and is kept with its entries
+-- nothing is left of the row that can be kept, or it has a new pivot after its steps, and is kept
+-- with its entries
 abbrev pub PivotMeets : Numbers → ℕ → List KeptRow → List ℤ → List ℕ → Option (ℕ × List ℤ) → Type 0
 PivotMeets numbers n kept row reduce None = Unit {0}
 PivotMeets numbers n kept row reduce (Some p) =
@@ -226,7 +227,8 @@ insertion_meets numbers n kept a (suc m) row h whole len none fits =
 
 -- ---- the rows of an elimination
 
--- a kept row behind others: it begins with a row of the function, its steps and its pivot meet the rules, and it has its entries
+-- a kept row behind others: it begins with a row of the function, its steps and its pivot meet the
+-- rules, and it has its entries
 pub record MeetsKept (numbers : Numbers) (f : FunctionData) (component : ℕ → ℕ) (n : ℕ) (kept : List KeptRow) (k : KeptRow) : Type 0 where
   pub row : MeetsRow f (group_of f k).name
   pub steps : StepsMeet numbers kept (begun_row (arithmetic_of numbers) f component n (group_of f k).name) k.reduce

@@ -96,7 +96,8 @@ slope_not_wide f h l low slope component numbers s same (scale_passes other halv
     apart : (x : ℤ) (top : ℕ) → x ≤ℤ pos top → pos top <ℤ x → ⊥
     apart x top low high = omega (arith, ints)
 
--- a proof that the decision gives of a minimal function, and that has a text, excludes numbers that are too wide
+-- a proof that the decision gives of a minimal function, and that has a text, excludes numbers that
+-- are too wide
 pub decided_not_wide : (f : FunctionData) (c : Claim) → IsWithinBounds f → IsMinimal f → HasText c → IsDecided f c → IsTooWide f → ⊥
 decided_not_wide f (Minimal g) l minimal text h wide = h
 decided_not_wide f (NotMinimal g v) l minimal text h wide = first_denies f v h.1 (tests_from_minimal f l minimal)

@@ -89,7 +89,8 @@ next_sum x q other small = elim (cases_lt (x + 1) q) [
   ]
 ]
 
--- if the intervals before b and before the sum are in one component, the pair has the row of the one before
+-- if the intervals before b and before the sum are in one component, the pair has the row of the
+-- one before
 pub same_row_as_before : (component : ℕ → ℕ) (n q k a b s : ℕ) → 0 < b → a < q → b < q → a + b ≢ q →
     s ≡ (a + (b - 1)) % q → component (b - 1) ≡ component s →
     row_of component n q k (Pair a (b - 1)) ≡ row_of component n q k (Pair a b)

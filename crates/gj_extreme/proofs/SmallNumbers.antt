@@ -113,7 +113,8 @@ step_small r k kept row c kept_small row_small some =
 
 -- ---- the bound behind some steps
 
--- rows whose entries are at most b at the start are at most this behind j steps, if the rows that they are reduced by are so before
+-- rows whose entries are at most b at the start are at most this behind j steps, if the rows that
+-- they are reduced by are so before
 unfoldable pub bound : ℕ → ℕ → ℕ
 bound b zero = b
 bound b (suc j) = bound b j * bound b j + bound b j * bound b j

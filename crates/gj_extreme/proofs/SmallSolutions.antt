@@ -102,7 +102,8 @@ solving_small m k v row j w m_some row_small w_small short some =
 
 -- ---- the columns below
 
--- numbers grow by at most this factor if the j columns below are solved by rows of the bound, with at most m products summed
+-- numbers grow by at most this factor if the j columns below are solved by rows of the bound, with
+-- at most m products summed
 unfoldable pub grown : ℕ → ℕ → ℕ → ℕ
 grown b m zero = 1
 grown b m (suc j) = m * bound b j * grown b m j

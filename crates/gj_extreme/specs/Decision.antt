@@ -1,5 +1,5 @@
--- Which proof the decision gives of a function, and when its numbers are too wide (Equivariant Perturbation I; which halves
--- and which rows are own choices).
+-- Which proof the decision gives of a function, and when its numbers are too wide (Equivariant
+-- Perturbation I; which halves and which rows are own choices).
 use Rattle.std.specs.Prelude.{ℕ, ℤ, pos, ◌≡◌, ◌≢◌, ◌⊎◌, ◌*◌, ◌<◌, ◌≤◌, ◌^◌, ◌<ℤ◌, List, [], Some, length, map, get_or, unsigned_abs}
 use Rattle.gj_shape.specs.Additive.{IsTight}
 use Rattle.gj_shape.specs.Cover.{AreCoverLines, components_in}
@@ -24,7 +24,8 @@ use Rattle.gj_proof.specs.declared.pivot.PivotRow.{PivotRow}
 
 -- ---- the linear system for the slopes
 
--- the cover lines are those of the function, and cover all its intervals, with these numbers of n components
+-- the cover lines are those of the function, and cover all its intervals, with these numbers of n
+-- components
 pub record AreAllCovered (f : FunctionData) (lines : List CoverLine) (component : ℕ → ℕ) (n : ℕ) : Type 0 where
   pub are_lines : AreCoverLines f.order (IsTight f) lines
   pub numbers : AreNumbersOf f lines component
@@ -53,7 +54,8 @@ slope_perturbation f component numbers i = perturbation_of f.order (λ a. at_col
 
 -- ---- the three ends of the decision on a minimal continuous function
 
--- all intervals are covered, and the rows that are kept over these numbers, one for each component, leave only the slopes 0
+-- all intervals are covered, and the rows that are kept over these numbers, one for each component,
+-- leave only the slopes 0
 pub record AreExtremeRows (numbers : Numbers) (f : FunctionData) (lines : List CoverLine) (rows : List PivotRow) : Type 0 where
   pub component : ℕ → ℕ
   pub n : ℕ
@@ -69,7 +71,8 @@ pub record AreZigzagHalves (f : FunctionData) (h : Halves) : Type 0 where
   pub some : intervals ≢ []
   pub halves : AreHalvesOf f 4 (zigzag f.order intervals) h
 
--- all intervals are covered, fewer rows are kept than there are components, and the halves are those of the slopes that solve them
+-- all intervals are covered, fewer rows are kept than there are components, and the halves are
+-- those of the slopes that solve them
 pub record AreSlopeHalves (f : FunctionData) (h : Halves) : Type 0 where
   pub lines : List CoverLine
   pub component : ℕ → ℕ
@@ -81,7 +84,8 @@ pub record AreSlopeHalves (f : FunctionData) (h : Halves) : Type 0 where
   pub solution_fits : Passes solution.marked → ⊥
   pub halves : AreHalvesOf f 1 (slope_perturbation f component solution.numbers) h
 
--- what the decision gives: the first violation; or, of a minimal continuous function, the cover and the rows, or the halves
+-- what the decision gives: the first violation; or, of a minimal continuous function, the cover and
+-- the rows, or the halves
 abbrev pub IsDecided : FunctionData → Claim → Type 0
 IsDecided f (Minimal g) = ⊥
 IsDecided f (NotMinimal g v) = (g ≡ f) × IsFirstViolation f v
@@ -117,8 +121,9 @@ pub data IsWideBehind (f : FunctionData) (component : ℕ → ℕ) (s : Solution
   perturbation_passes : (i : ℕ) → i < f.order → 2 ^ 127 ≤ unsigned_abs (slope_perturbation f component s.numbers i) → IsWideBehind f component s
   scale_passes : (h : Halves) → AreHalvesOf f 1 (slope_perturbation f component s.numbers) h → pos greatest_halves_scale <ℤ h.scale → IsWideBehind f component s
 
--- all intervals are covered, and a number of the elimination is above 2^127 - 1 in absolute value and residues keep fewer rows than
--- there are components, or none is, and one of those behind it is too wide
+-- all intervals are covered, and a number of the elimination is above 2^127 - 1 in absolute value
+-- and residues keep fewer rows than there are components, or none is, and one of those behind it is
+-- too wide
 pub record IsTooWide (f : FunctionData) : Type 0 where
   pub lines : List CoverLine
   pub component : ℕ → ℕ

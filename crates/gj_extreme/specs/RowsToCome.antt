@@ -48,8 +48,9 @@ AreLoggedRows kept log = map line_parts log ≡ map row_parts kept
 
 -- ---- the rows to come
 
--- rows are handed over, each with its number, and the basis has them; behind this number the rows of these names are to come, and
--- with each list of those that are handed over of them these are handed over of all rows
+-- rows are handed over, each with its number, and the basis has them; behind this number the rows
+-- of these names are to come, and with each list of those that are handed over of them these are
+-- handed over of all rows
 pub record AreHandedOver (f : FunctionData) (component : ℕ → ℕ) (n : ℕ) (rows : Rows) (rest : List RowName) : Type 0 where
   pub handed : List (ℕ × List ℤ)
   pub before : List (List ℤ)
@@ -85,7 +86,8 @@ abbrev pub IsSeen : FunctionData → (ℕ → ℕ) → ℕ → ℕ → ℕ → R
 IsSeen f component n a b rows rest =
     (h : AreToCome f component n rows rest) × IsSeenRow f component n h.handed_over.before (record { a = a; b = b })
 
--- all rows are inserted, or as many are kept as there are components; the basis numbers those that were handed over
+-- all rows are inserted, or as many are kept as there are components; the basis numbers those that
+-- were handed over
 pub record AreInserted (f : FunctionData) (component : ℕ → ℕ) (n : ℕ) (rows : Rows) : Type 0 where
   pub columns : rows.basis.columns ≡ n
   pub width : length rows.row.items ≡ n
@@ -94,7 +96,8 @@ pub record AreInserted (f : FunctionData) (component : ℕ → ℕ) (n : ℕ) (r
   pub fits : Passes (slope_elimination f component n).marked → ⊥
   pub names : rows.names.items ≡ map (name_of f) (slope_elimination f component n).kept
 
--- if fewer rows are kept than there are components, fewer than 2^32 are inserted, so that one more can be
+-- if fewer rows are kept than there are components, fewer than 2^32 are inserted, so that one more
+-- can be
 pub record IsReady (rows : Rows) (q n : ℕ) : Type 0 where
   pub columns : rows.basis.columns ≡ n
   pub width : length rows.row.items ≡ n

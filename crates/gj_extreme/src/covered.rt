@@ -23,7 +23,8 @@ use gj_shape::{List, Shape};
 use gj_system::SlopeRows;
 use std::alloc::{AllocError, Global};
 
-/// The claim that the function is extreme, if the rows leave no other slopes than 0, and that it is not, if they do.
+/// The claim that the function is extreme, if the rows leave no other slopes than 0, and that it is
+/// not, if they do.
 pub(crate) fn extreme_or_slopes(
     alloc: Global,
     shape: &Shape,
@@ -49,7 +50,8 @@ pub(crate) fn extreme_or_slopes(
     }
 }
 
-/// The claim that the function is extreme, if a row is kept for each component, and that it is not, if fewer are.
+/// The claim that the function is extreme, if a row is kept for each component, and that it is not,
+/// if fewer are.
 fn extreme_or_kernel(
     alloc: Global,
     shape: &Shape,
@@ -61,8 +63,10 @@ fn extreme_or_kernel(
     requires minimal { IsMinimal shape.now }
     requires continuous { IsContinuous shape.now }
     requires order { length component.now ≡ shape.now.order }
-    requires covered { AreAllCovered shape.now cover.lines (component_in component.now) (length rows.now.row.items) }
-    requires inserted { AreInserted shape.now (component_in component.now) (length rows.now.row.items) rows.now }
+    requires covered { AreAllCovered shape.now cover.lines (component_in component.now)
+        (length rows.now.row.items) }
+    requires inserted { AreInserted shape.now (component_in component.now)
+        (length rows.now.row.items) rows.now }
     ensures decided { IfOk result (IsDecided shape.now) }
     ensures text { IfOk result HasText }
     ensures wide { IsErrOf result DecideFault.Wide → IsTooWide shape.now }

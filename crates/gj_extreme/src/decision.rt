@@ -24,17 +24,20 @@ use gj_proof::{Claim, Proof};
 use gj_shape::Shape;
 use std::alloc::Global;
 
-/// Whether the function is extreme, with a proof: the first violation of a function that is not minimal; of one that is minimal
-/// and continuous, cover lines and rows of an elimination, or two different minimal tables that average to its own. The rows are
-/// of whole numbers, or over residues, if a number of the plain elimination is above 2^127 - 1 in absolute value.
+/// Whether the function is extreme, with a proof: the first violation of a function that is not
+/// minimal; of one that is minimal and continuous, cover lines and rows of an elimination, or two
+/// different minimal tables that average to its own. The rows are of whole numbers, or over
+/// residues, if a number of the plain elimination is above 2^127 - 1 in absolute value.
 ///
-/// `NotContinuous` comes exactly if the function is minimal and jumps, with the first index of a jump. `Wide` comes exactly if it
-/// is minimal and continuous, all its intervals are covered, and either a number of the elimination is above 2^127 - 1 in absolute
-/// value and residues keep fewer rows than there are components, or none is, but one of its kernel or of the perturbation is, or
-/// the scale of the halves is above 2^124; never with at most four components. The only other error is want of memory.
-/// No function is known for which a number is too wide.
-/// A minimal continuous function with two slopes is always proved extreme, if there is memory (Gomory and Johnson 1972).
-/// Source: Basu, Hildebrand and Köppe, "Equivariant Perturbation in Gomory and Johnson's infinite group problem I".
+/// `NotContinuous` comes exactly if the function is minimal and jumps, with the first index of a
+/// jump. `Wide` comes exactly if it is minimal and continuous, all its intervals are covered, and
+/// either a number of the elimination is above 2^127 - 1 in absolute value and residues keep fewer
+/// rows than there are components, or none is, but one of its kernel or of the perturbation is, or
+/// the scale of the halves is above 2^124; never with at most four components. The only other error
+/// is want of memory. No function is known for which a number is too wide. A minimal continuous
+/// function with two slopes is always proved extreme, if there is memory (Gomory and Johnson 1972).
+/// Source: Basu, Hildebrand and Köppe, "Equivariant Perturbation in Gomory and Johnson's infinite
+/// group problem I".
 ///
 /// ```rust
 /// let values = [Frac::ratio(0, 1), Frac::ratio(1, 3), Frac::ratio(2, 3), Frac::ratio(1, 1), Frac::ratio(1, 2)];
@@ -46,13 +49,16 @@ pub fn decide(alloc: Global, shape: &Shape) -> Result<Proof, DecideFault>
     ensures bounded { IfOk result IsBounded }
     ensures rules { IfOk result MeetsRules }
     ensures holds { IfOk result ClaimHolds }
-    ensures not_continuous { (i : ℕ) → result ≡ Err (DecideFault.NotContinuous i) → IsMinimal shape.now × IsFirstJump shape.now i }
-    ensures wide { result ≡ Err DecideFault.Wide → IsMinimal shape.now × IsContinuous shape.now × IsTooWide shape.now }
+    ensures not_continuous { (i : ℕ) → result ≡ Err (DecideFault.NotContinuous i) →
+        IsMinimal shape.now × IsFirstJump shape.now i }
+    ensures wide { result ≡ Err DecideFault.Wide → IsMinimal shape.now × IsContinuous shape.now ×
+        IsTooWide shape.now }
     ensures not_wide { IsMinimal shape.now → IfOk result (λ c. IsTooWide shape.now → ⊥) }
     ensures few_components { (lines : List CoverLine) (component : ℕ → ℕ) (n : ℕ) →
         AreAllCovered shape.now lines component n → n ≤ 4 → IsTooWide shape.now → ⊥ }
     ensures by_table { IfOk result (IsByTable shape.now) }
-    ensures two_slopes { IsMinimal shape.now → HasTwoSlopes shape.now → MatchResult result (IsExtremeClaim shape.now) IsMemoryFault }
+    ensures two_slopes { IsMinimal shape.now → HasTwoSlopes shape.now →
+        MatchResult result (IsExtremeClaim shape.now) IsMemoryFault }
     ensures order_4q { IsContinuous shape.now → IsExtreme shape.now ↔ IsExtremeOnGrid4 shape.now }
 {
     let claim = claim_of(alloc, shape)?;
@@ -91,8 +97,10 @@ fn claim_of(alloc: Global, shape: &Shape) -> Result<Claim, DecideFault>
     ensures decided { IfOk result (IsDecided shape.now) }
     ensures text { IfOk result HasText }
     ensures rules { IfOk result MeetsRules }
-    ensures not_continuous { (i : ℕ) → IsErrOf result (DecideFault.NotContinuous i) → IsMinimal shape.now × IsFirstJump shape.now i }
-    ensures wide { IsErrOf result DecideFault.Wide → IsMinimal shape.now × IsContinuous shape.now × IsTooWide shape.now }
+    ensures not_continuous { (i : ℕ) → IsErrOf result (DecideFault.NotContinuous i) →
+        IsMinimal shape.now × IsFirstJump shape.now i }
+    ensures wide { IsErrOf result DecideFault.Wide → IsMinimal shape.now × IsContinuous shape.now ×
+        IsTooWide shape.now }
 {
     if let Some(violation) = find_violation(shape) {
         return Ok(Claim::NotMinimal(shape.copy(alloc)?, violation));

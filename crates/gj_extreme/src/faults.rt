@@ -10,11 +10,12 @@ use thiserror::Error;
 /// Why there is no proof that a function is extreme, and none that it is not.
 #[derive(Debug, Drop, Error)]
 pub enum DecideFault {
-    /// The function is minimal and not continuous: it jumps at i/q, and at no multiple of 1/q before.
+    /// The function is minimal and not continuous: it jumps at i/q, and at no multiple of 1/q
+    /// before.
     #[error("the function jumps at the index {0}")]
     NotContinuous(u32),
-    /// A number of the elimination passes 2^127 - 1 in absolute value and residues do not help, or one of those behind it passes its
-    /// bound.
+    /// A number of the elimination passes 2^127 - 1 in absolute value and residues do not help, or
+    /// one of those behind it passes its bound.
     #[error("a number of the decision is too wide")]
     Wide,
     /// There was no memory.

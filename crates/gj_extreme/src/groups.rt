@@ -18,7 +18,8 @@ pub(crate) fn groups_of(
     log: &[LogRow],
 ) -> Result<Vec<PivotRow>, AllocError>
     requires { length names.now ≡ length log.now }
-    ensures { IfOk result (λ v. (f : FunctionData) (kept : List KeptRow) → names.now ≡ map (name_of f) kept →
+    ensures { IfOk result (λ v. (f : FunctionData) (kept : List KeptRow) →
+        names.now ≡ map (name_of f) kept →
         AreLoggedRows kept log.now → v.items ≡ map (group_of f) kept) }
 {
     let mut groups = Vec::with_capacity(alloc, log.len())?;

@@ -1,4 +1,5 @@
-//! The rows of the linear system for the slopes, inserted in their order until there is one for each component.
+//! The rows of the linear system for the slopes, inserted in their order until there is one for
+//! each component.
 ghost use Rattle.std.specs.Prelude.{ℕ, ◌≡◌, ◌<◌, ◌≤◌, ◌+◌, ◌-◌, ◌^◌, ◌↔◌, ◌∷◌, List, length, IfOk, OnOk, IsErrOf, IsTrue};
 ghost use Rattle.gj_faces.specs.TightPairs.{AreTightPairsOf};
 ghost use Rattle.gj_shape.specs.Elimination.{Passes};
@@ -17,8 +18,8 @@ use gj_shape::{RowName, Shape, wrapped};
 use gj_system::SlopeRows;
 use std::alloc::{AllocError, Global};
 
-/// Rows that are inserted, with the names of those that are kept. A row that was inserted before is passed over, since it
-/// changes nothing.
+/// Rows that are inserted, with the names of those that are kept. A row that was inserted before is
+/// passed over, since it changes nothing.
 #[derive(Drop)]
 pub(crate) struct Rows {
     pub(crate) basis: Basis,
@@ -28,7 +29,8 @@ pub(crate) struct Rows {
     pub(crate) seen: SeenPairs,
 }
 
-/// The rows of the system for intervals in these components, inserted in their order until there is one for each component.
+/// The rows of the system for intervals in these components, inserted in their order until there is
+/// one for each component.
 pub(crate) fn rows_of(
     alloc: Global,
     shape: &Shape,
@@ -38,7 +40,8 @@ pub(crate) fn rows_of(
     requires pairs { AreTightPairsOf shape.now pairs.now }
     requires components { length system.now.component ≡ shape.now.order }
     ensures limits { IsWithinBounds shape.now }
-    ensures rows { IfOk result (AreInserted shape.now (component_in system.now.component) system.now.columns) }
+    ensures rows { IfOk result (AreInserted shape.now
+        (component_in system.now.component) system.now.columns) }
     ensures wide { IsErrOf result ElimFault.Wide →
         Passes (slope_elimination shape.now (component_in system.now.component) system.now.columns).marked }
 {
@@ -67,7 +70,8 @@ fn insert_pairs(
     requires pairs { AreTightPairsOf shape.now pairs.now }
     requires order { length system.now.component ≡ shape.now.order }
     requires below { a < shape.now.order }
-    requires to_come { AreToCome shape.now (component_in system.now.component) system.now.columns rows.old (row_names_from shape.now a) }
+    requires to_come { AreToCome shape.now (component_in system.now.component) system.now.columns
+        rows.old (row_names_from shape.now a) }
     ensures to_come { OnOk result
         (AreToCome shape.now (component_in system.now.component) system.now.columns rows.new (row_names_from shape.now (a + 1))) }
     ensures wide { IsErrOf result ElimFault.Wide →
@@ -89,8 +93,8 @@ fn insert_pairs(
     Ok(())
 }
 
-/// Whether it is known that the pairs (a, b - 1) and (a, b) have the same row: a + b is not q, and the intervals that end at b/q
-/// and at (a + b)/q are in one component.
+/// Whether it is known that the pairs (a, b - 1) and (a, b) have the same row: a + b is not q, and
+/// the intervals that end at b/q and at (a + b)/q are in one component.
 fn has_row_of_pair_before(component: &[u32], a: usize, b: usize) -> bool
     requires first { a < length component.now }
     requires second { b < length component.now }
@@ -144,10 +148,12 @@ impl Rows {
         requires name { IsNameBelow (Pair a b) shape.now.order }
         requires ready { IsReady self.old shape.now.order system.now.columns }
         ensures to_come { OnOk result ((rest : List RowName) →
-            AreToCome shape.now (component_in system.now.component) system.now.columns self.old (Pair a b ∷ rest) →
+            AreToCome shape.now (component_in system.now.component) system.now.columns self.old
+            (Pair a b ∷ rest) →
             IsSeen shape.now (component_in system.now.component) system.now.columns a b self.new rest) }
         ensures wide { IsErrOf result ElimFault.Wide → (rest : List RowName) →
-            AreToCome shape.now (component_in system.now.component) system.now.columns self.old (Pair a b ∷ rest) →
+            AreToCome shape.now (component_in system.now.component) system.now.columns self.old
+            (Pair a b ∷ rest) →
             Passes (slope_elimination shape.now (component_in system.now.component) system.now.columns).marked }
     {
         let place = self.seen.place(a, b);
@@ -167,10 +173,12 @@ impl Rows {
         requires name { IsNameBelow name shape.now.order }
         requires ready { IsReady self.old shape.now.order system.now.columns }
         ensures to_come { OnOk result ((rest : List RowName) →
-            AreToCome shape.now (component_in system.now.component) system.now.columns self.old (name ∷ rest) →
+            AreToCome shape.now (component_in system.now.component) system.now.columns
+            self.old (name ∷ rest) →
             IsTaken shape.now (component_in system.now.component) system.now.columns name self.new rest) }
         ensures wide { IsErrOf result ElimFault.Wide → (rest : List RowName) →
-            AreToCome shape.now (component_in system.now.component) system.now.columns self.old (name ∷ rest) →
+            AreToCome shape.now (component_in system.now.component) system.now.columns
+            self.old (name ∷ rest) →
             Passes (slope_elimination shape.now (component_in system.now.component) system.now.columns).marked }
         ensures seen { self.new.seen ≡ self.old.seen }
     {

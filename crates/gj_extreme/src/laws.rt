@@ -10,32 +10,42 @@ ghost use Rattle.gj_proof.specs.declared.claim.Claim.{Claim};
 ghost use Rattle.gj_proof.specs.declared.numbers.Numbers.TheVariants.{Whole};
 ghost use Rattle.gj_extreme.specs.Decision.{AreAllCovered, IsDecided, IsExtremeClaim, IsTooWide};
 
-/// What the decision gives of a function within the limits holds, and is decided by the function alone. A proof of a minimal
-/// function excludes numbers that are too wide.
+/// What the decision gives of a function within the limits holds, and is decided by the function
+/// alone. A proof of a minimal function excludes numbers that are too wide.
 pub fn decided_claims()
-    ensures holds { (f : FunctionData) (c : Claim) → IsWithinBounds f → IsDecided f c → ClaimHolds c }
-    ensures one { (f : FunctionData) (c d : Claim) → IsWithinBounds f → IsDecided f c → IsDecided f d → c ≡ d }
-    ensures not_wide { (f : FunctionData) (c : Claim) → IsWithinBounds f → IsMinimal f → HasText c → IsDecided f c →
+    ensures holds { (f : FunctionData) (c : Claim) → IsWithinBounds f →
+        IsDecided f c → ClaimHolds c }
+    ensures one { (f : FunctionData) (c d : Claim) → IsWithinBounds f → IsDecided f c →
+        IsDecided f d → c ≡ d }
+    ensures not_wide { (f : FunctionData) (c : Claim) → IsWithinBounds f → IsMinimal f →
+        HasText c → IsDecided f c →
         IsTooWide f → ⊥ }
 {}
 
-/// The proof text of what the decision gives of a function within the limits is at most 12,000,000 bytes long.
+/// The proof text of what the decision gives of a function within the limits is at most 12,000,000
+/// bytes long.
 pub fn decided_texts_are_short()
-    ensures { (f : FunctionData) (c : Claim) (text : List ℕ) → IsWithinBounds f → IsDecided f c → IsProofText c text →
+    ensures { (f : FunctionData) (c : Claim) (text : List ℕ) → IsWithinBounds f → IsDecided f c →
+        IsProofText c text →
         length text ≤ 12_000_000 }
 {}
 
 /// With at most four components no number is too wide, and a proof is never by residues.
 pub fn few_components_are_not_wide()
-    ensures not_wide { (f : FunctionData) (lines : List CoverLine) (component : ℕ → ℕ) (n : ℕ) → IsWithinBounds f →
+    ensures not_wide { (f : FunctionData) (lines : List CoverLine) (component : ℕ → ℕ) (n : ℕ) →
+        IsWithinBounds f →
         AreAllCovered f lines component n → n ≤ 4 → IsTooWide f → ⊥ }
-    ensures plain { (f : FunctionData) (lines : List CoverLine) (component : ℕ → ℕ) (n : ℕ) (c : Claim) → IsWithinBounds f →
+    ensures plain { (f : FunctionData) (lines : List CoverLine) (component : ℕ → ℕ) (n : ℕ)
+        (c : Claim) → IsWithinBounds f →
         AreAllCovered f lines component n → n ≤ 4 → IsDecided f c → numbers_of c ≡ Whole }
 {}
 
-/// What the decision gives of a minimal continuous function with two slopes is that it is extreme, and no number is too wide.
+/// What the decision gives of a minimal continuous function with two slopes is that it is extreme,
+/// and no number is too wide.
 pub fn two_slopes_are_decided_extreme()
-    ensures extreme { (f : FunctionData) (c : Claim) → IsWithinBounds f → IsMinimal f → HasTwoSlopes f → IsDecided f c →
+    ensures extreme { (f : FunctionData) (c : Claim) → IsWithinBounds f → IsMinimal f →
+        HasTwoSlopes f → IsDecided f c →
         IsExtremeClaim f c }
-    ensures not_wide { (f : FunctionData) → IsWithinBounds f → IsMinimal f → HasTwoSlopes f → IsTooWide f → ⊥ }
+    ensures not_wide { (f : FunctionData) → IsWithinBounds f → IsMinimal f →
+        HasTwoSlopes f → IsTooWide f → ⊥ }
 {}

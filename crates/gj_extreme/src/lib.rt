@@ -1,6 +1,7 @@
 //! The decision whether a minimal function is extreme, with its proof.
 //!
-//! `specs/Decision.antt` says which proof the decision gives of a function, and when its numbers are too wide.
+//! `specs/Decision.antt` says which proof the decision gives of a function, and when its numbers
+//! are too wide.
 #![tactic(auto)]
 
 mod covered;

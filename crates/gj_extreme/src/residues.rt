@@ -1,4 +1,5 @@
-//! The decision on a function whose intervals are all covered, if a number of the plain elimination passes.
+//! The decision on a function whose intervals are all covered, if a number of the plain elimination
+//! passes.
 ghost use Rattle.std.specs.Prelude.{ℕ, ◌≡◌, ◌<◌, ◌++◌, List, length, map, All, IfOk, OnOk, IsErrOf};
 ghost use Rattle.gj_faces.specs.TightPairs.{AreTightPairsOf};
 ghost use Rattle.gj_shape.specs.Elimination.{KeptRow, Passes};
@@ -23,7 +24,8 @@ use gj_shape::{List, RowName, Shape};
 use gj_system::SlopeRows;
 use std::alloc::{AllocError, Global};
 
-/// The claim that the function is extreme, if residues keep a row for each component. No function is known that comes here.
+/// The claim that the function is extreme, if residues keep a row for each component. No function
+/// is known that comes here.
 pub(crate) fn extreme_by_residues(
     alloc: Global,
     shape: &Shape,
@@ -35,8 +37,10 @@ pub(crate) fn extreme_by_residues(
     requires minimal { IsMinimal shape.now }
     requires continuous { IsContinuous shape.now }
     requires components { length system.now.component ≡ shape.now.order }
-    requires covered { AreAllCovered shape.now cover.lines (component_in system.now.component) system.now.columns }
-    requires passes { Passes (slope_elimination shape.now (component_in system.now.component) system.now.columns).marked }
+    requires covered { AreAllCovered shape.now cover.lines
+        (component_in system.now.component) system.now.columns }
+    requires passes { Passes (slope_elimination shape.now
+        (component_in system.now.component) system.now.columns).marked }
     ensures decided { IfOk result (IsDecided shape.now) }
     ensures text { IfOk result HasText }
     ensures wide { IsErrOf result DecideFault.Wide → IsTooWide shape.now }
@@ -73,7 +77,8 @@ fn names_of(alloc: Global, shape: &Shape, pairs: &TightPairs) -> Result<Vec<RowN
 /// Appends the names of the rows of the tight pairs (a, b) with b from a on.
 fn push_names(pairs: &TightPairs, a: u32, names: &mut Vec<RowName>) -> Result<(), AllocError>
     requires { a < pairs.now.order }
-    ensures { OnOk result ((f : FunctionData) (behind : List RowName) → AreTightPairsOf f pairs.now →
+    ensures { OnOk result ((f : FunctionData) (behind : List RowName) →
+        AreTightPairsOf f pairs.now →
         names.new.items ++ behind ≡ names.old.items ++ (pairs_from f a a ++ behind)) }
 {
     let row = pairs.row(a);

@@ -22,11 +22,13 @@ pub(crate) struct SeenPair {
 
 /// At each place the last pair whose code led there, at first (0, 0), whose row has only zeros.
 ///
-/// Pairs with the same row have the same code. So a row is known again, unless another row with its place came between.
+/// Pairs with the same row have the same code. So a row is known again, unless another row with its
+/// place came between.
 #[derive(Drop)]
 pub(crate) struct SeenPairs {
     pub(crate) pairs: Vec<SeenPair>,
-    /// For each grid point, below the order twice, the code of the counts of the intervals before it.
+    /// For each grid point, below the order twice, the code of the counts of the intervals before
+    /// it.
     pub(crate) codes: Vec<u64>,
 }
 
@@ -36,7 +38,8 @@ impl SeenPairs {
         requires some { 0 < length component.now }
         requires few { length component.now < 2 ^ 31 }
         ensures below { IfOk result (AreSeenBelow (length component.now)) }
-        ensures zeros { IfOk result (λ seen. All (λ p. p ≡ record { a = 0; b = 0 }) seen.pairs.items) }
+        ensures zeros { IfOk result (λ seen. All
+            (λ p. p ≡ record { a = 0; b = 0 }) seen.pairs.items) }
     {
         let places = (PLACES_OF_INTERVAL * component.len()).min(MOST_PLACES);
         Ok(SeenPairs {
@@ -60,8 +63,8 @@ impl SeenPairs {
     }
 }
 
-/// For each grid point, below the order twice, the code of the counts of the intervals before it: the sum of the codes of their
-/// components.
+/// For each grid point, below the order twice, the code of the counts of the intervals before it:
+/// the sum of the codes of their components.
 fn codes_of(alloc: Global, component: &[u32]) -> Result<Vec<u64>, AllocError>
     requires { length component.now < 2 ^ 31 }
     ensures { IfOk result (λ v. length v.items ≡ 2 * length component.now) }

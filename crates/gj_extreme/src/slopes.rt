@@ -27,7 +27,8 @@ pub(crate) fn slope_halves(
     requires order { length component.now ≡ shape.now.order }
     requires covered { (lines : List CoverLine) ×
         AreAllCovered shape.now lines (component_in component.now) (length rows.now.row.items) }
-    requires inserted { AreInserted shape.now (component_in component.now) (length rows.now.row.items) rows.now }
+    requires inserted { AreInserted shape.now (component_in component.now)
+        (length rows.now.row.items) rows.now }
     requires fewer { length rows.now.basis.kept < length rows.now.row.items }
     ensures halves { IfOk result (AreSlopeHalves shape.now) }
     ensures limits { IfOk result AreHalvesInBounds }

@@ -1,4 +1,5 @@
--- When an additive face lies in the closure of one of higher dimension: by the tight pairs around it.
+-- When an additive face lies in the closure of one of higher dimension: by the tight pairs around
+-- it.
 use Rattle.std.proofs.Common.{◌≡◌, ◌⊎◌, inl, inr, ℕ, ◌+◌, ◌-◌, ◌%◌, ◌<◌, false, List, [], ◌∷◌, get_or, length, All, Any, refl, sym, ap, subst, lit<, ◌∙◌, arith}
 use Rattle.std.proofs.Math.Nat.{add-mod_right}
 use Rattle.std.proofs.lemmas.Bool.{true≢false}

@@ -18,8 +18,8 @@ set_of alone Diagonal = alone.diagonal
 set_of alone Lower = alone.lower
 set_of alone Upper = alone.upper
 
--- the sets say of each b below the order which faces of the square (a, b) are maximal, whether any is, and whether one is that is
--- no triangle; if one is, no other is
+-- the sets say of each b below the order which faces of the square (a, b) are maximal, whether any
+-- is, and whether one is that is no triangle; if one is, no other is
 pub record AreAlone (f : FunctionData) (a : ℕ) (alone : Alone) : Type 0 where
   pub each : (kind : FaceKind) (b : ℕ) → b < f.order →
       IsTrue (has (set_of alone kind) b) ↔ IsMaximalIn f (record { kind = kind; a = a; b = b })

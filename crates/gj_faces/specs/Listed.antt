@@ -1,4 +1,5 @@
--- The maximal additive faces of a continuous function as a list (Light on the Infinite Group Relaxation I).
+-- The maximal additive faces of a continuous function as a list (Light on the Infinite Group
+-- Relaxation I).
 use Rattle.std.specs.Prelude.{ℕ, ◌<◌, ◌↔◌, List, Any}
 use Rattle.gj_shape.specs.FunctionData.{FunctionData}
 use Rattle.gj_shape.specs.Additive.{IsTight, IsTightOnGrid, IsAdditive, IsInClosure, IsMaximalFace}

@@ -1,4 +1,5 @@
--- The additive triangles of a continuous function as a list (Light on the Infinite Group Relaxation I).
+-- The additive triangles of a continuous function as a list (Light on the Infinite Group Relaxation
+-- I).
 use Rattle.std.specs.Prelude.{Bool, true, false, IsTrue, List}
 use Rattle.gj_shape.specs.Additive.{IsTight, IsAdditive}
 use Rattle.gj_shape.specs.FunctionData.{FunctionData}

@@ -3,10 +3,11 @@ use crate::tight_pairs::TightPairs;
 use gj_sets::IndexSet;
 use gj_shape::{FaceKind, Shape, wrapped};
 
-/// For each kind the indices b below the order for which the face of the square (a, b) is a maximal additive face, and those
-/// for which any is.
+/// For each kind the indices b below the order for which the face of the square (a, b) is a maximal
+/// additive face, and those for which any is.
 ///
-/// An additive face lies in the closure of one of higher dimension if one more pair around it is tight.
+/// An additive face lies in the closure of one of higher dimension if one more pair around it is
+/// tight.
 #[derive(Drop)]
 pub(crate) struct Alone {
     pub(crate) any: IndexSet,

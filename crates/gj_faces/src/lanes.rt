@@ -9,7 +9,8 @@ use gj_sets::IndexSet;
 use gj_shape::{GREATEST_ORDER, Shape};
 use std::alloc::{AllocError, Global};
 
-/// How many lanes serve each order: one for each index below 2 q, q being the greatest order, and 64 behind the last.
+/// How many lanes serve each order: one for each index below 2 q, q being the greatest order, and
+/// 64 behind the last.
 const COUNT: usize = 2 * GREATEST_ORDER as usize + 64;
 
 /// The orders up to it are small.
@@ -20,7 +21,8 @@ const SMALL_COUNT: usize = 2 * SMALL_ORDER as usize + 64;
 
 /// For each a below the order, the indices b below it for which the pair (a, b) is tight.
 ///
-/// The values, each times the common denominator, are added in the narrowest lanes in which they fit.
+/// The values, each times the common denominator, are added in the narrowest lanes in which they
+/// fit.
 pub(crate) fn tight_rows(alloc: Global, shape: &Shape) -> Result<Vec<IndexSet>, AllocError>
     ensures { IfOk result (λ rows. AreRows shape.now shape.now.order rows.items) }
 {
@@ -53,7 +55,8 @@ fn are_below(values: &[i64], bound: u64) -> bool
 
 /// The rows of tight pairs off lanes of 32 bits.
 ///
-/// It stands apart, so that a call whose values fit narrower lanes has no room for these on its stack.
+/// It stands apart, so that a call whose values fit narrower lanes has no room for these on its
+/// stack.
 #[inline(never)]
 fn narrow_rows(alloc: Global, shape: &Shape) -> Result<Vec<IndexSet>, AllocError>
     requires few { shape.now.order ≤ greatest_order }
@@ -65,7 +68,8 @@ fn narrow_rows(alloc: Global, shape: &Shape) -> Result<Vec<IndexSet>, AllocError
 
 /// The rows of tight pairs off lanes of 64 bits.
 ///
-/// It stands apart, so that a call whose values fit narrower lanes has no room for these on its stack.
+/// It stands apart, so that a call whose values fit narrower lanes has no room for these on its
+/// stack.
 #[inline(never)]
 fn wide_rows(alloc: Global, shape: &Shape) -> Result<Vec<IndexSet>, AllocError>
     requires few { shape.now.order ≤ greatest_order }

@@ -16,14 +16,16 @@ use std::alloc::{AllocError, Global};
 
 /// The maximal additive faces of the continuous function, in walk order.
 ///
-/// A face is maximal if it is additive and lies in the closure of no additive face of higher dimension, indices modulo
-/// the order. So the closure of each additive face lies in the closures of the listed ones; and if the function is
-/// minimal, these hold all pairs at which the slack is 0, and no others.
+/// A face is maximal if it is additive and lies in the closure of no additive face of higher
+/// dimension, indices modulo the order. So the closure of each additive face lies in the closures
+/// of the listed ones; and if the function is minimal, these hold all pairs at which the slack is
+/// 0, and no others.
 pub fn maximal(alloc: Global, shape: &Shape) -> Result<Vec<Face>, AllocError>
     requires { IsContinuous shape.now }
     ensures faces { IfOk result (λ faces. AreMaximalFaces shape.now faces.items) }
     ensures closures { IfOk result (λ faces. HoldAdditive shape.now faces.items) }
-    ensures tight_pairs { IfOk result (λ faces. IsMinimal shape.now → TellTightPairs shape.now faces.items) }
+    ensures tight_pairs { IfOk result (λ faces. IsMinimal shape.now →
+        TellTightPairs shape.now faces.items) }
 {
     let pairs = TightPairs::new(alloc, shape)?;
     let mut faces = Vec::new(alloc);
@@ -33,10 +35,11 @@ pub fn maximal(alloc: Global, shape: &Shape) -> Result<Vec<Face>, AllocError>
     Ok(faces)
 }
 
-/// Adds the maximal additive faces of the squares (a, b) with this a and b below the order, in walk order.
+/// Adds the maximal additive faces of the squares (a, b) with this a and b below the order, in walk
+/// order.
 ///
-/// The pairs are the function's tight pairs. So all rows in turn add what `maximal` lists, and a caller that is done with a
-/// row can empty the list.
+/// The pairs are the function's tight pairs. So all rows in turn add what `maximal` lists, and a
+/// caller that is done with a row can empty the list.
 pub fn push_maximal_row(
     faces: &mut Vec<Face>,
     shape: &Shape,
@@ -45,7 +48,8 @@ pub fn push_maximal_row(
 ) -> Result<(), AllocError>
     requires pairs { AreTightPairsOf shape.now pairs.now }
     requires within { a < shape.now.order }
-    ensures { OnOk result (AddsMaximal shape.now (faces_of_row shape.now.order a) faces.old.items faces.new.items) }
+    ensures { OnOk result (AddsMaximal shape.now
+        (faces_of_row shape.now.order a) faces.old.items faces.new.items) }
 {
     faces.reserve(2 * shape.order() as usize)?;
     push_row(faces, &Alone::of(pairs, shape, a), shape, a);
@@ -57,7 +61,8 @@ fn push_row(faces: &mut Vec<Face>, alone: &Alone, shape: &Shape, a: u32)
     requires order { IsOrder shape.now.order }
     requires alone { AreAlone shape.now a alone.now }
     requires room { vec_len faces.old + 2 * shape.now.order ≤ vec_capacity faces.old }
-    ensures { AddsMaximal shape.now (faces_of_row shape.now.order a) faces.old.items faces.new.items }
+    ensures { AddsMaximal shape.now (faces_of_row shape.now.order a)
+        faces.old.items faces.new.items }
 {
     let mut from = 0;
     while let Some(b) = alone.any.first_from(from) {
@@ -104,9 +109,11 @@ fn push_square(faces: &mut Vec<Face>, alone: &Alone, shape: &Shape, a: u32, b: u
 /// Adds the face if it is maximal.
 #[inline]
 fn push_if(faces: &mut Vec<Face>, is_maximal: bool, shape: &Shape, kind: FaceKind, a: u32, b: u32)
-    requires maximal { IsTrue is_maximal ↔ IsMaximalIn shape.now (record { kind = kind; a = a; b = b }) }
+    requires maximal { IsTrue is_maximal ↔ IsMaximalIn shape.now
+        (record { kind = kind; a = a; b = b }) }
     requires room { vec_len faces.old < vec_capacity faces.old }
-    ensures added { AddsMaximal shape.now (record { kind = kind; a = a; b = b } ∷ []) faces.old.items faces.new.items }
+    ensures added { AddsMaximal shape.now (record { kind = kind; a = a; b = b } ∷ [])
+        faces.old.items faces.new.items }
     ensures few { vec_len faces.new ≤ vec_len faces.old + 1 }
     ensures capacity { vec_capacity faces.new ≡ vec_capacity faces.old }
 {

@@ -8,10 +8,11 @@ use crate::run::Run;
 use gj_complex::{corner, corners};
 use gj_shape::{Face, wrapped};
 
-/// Whether each corner of the face is in one of the runs, indices modulo the order q, from 2 to 1,000.
+/// Whether each corner of the face is in one of the runs, indices modulo the order q, from 2 to
+/// 1,000.
 ///
-/// The face lies in a square (a, b) with a and b below q. The runs are in order: each is of indices below q, and they
-/// ascend by a and then by b, with no b in two runs of one a. It takes no memory.
+/// The face lies in a square (a, b) with a and b below q. The runs are in order: each is of indices
+/// below q, and they ascend by a and then by b, with no b in two runs of one a. It takes no memory.
 pub fn in_runs(runs: &[Run], q: u32, face: Face) -> bool
     requires order { IsOrder q }
     requires first { face.a < q }

@@ -45,7 +45,8 @@ impl TightPairs {
     /// The indices b below the order for which the pair (a, b) is tight, and no others.
     pub fn row(&self, a: u32) -> &IndexSet
         requires { a < self.now.order }
-        ensures tells { (b : ℕ) → b < self.now.order → IsTrue (has result.now b) ↔ IsTightIn self.now a b }
+        ensures tells { (b : ℕ) → b < self.now.order → IsTrue (has result.now b) ↔
+            IsTightIn self.now a b }
         ensures within { (b : ℕ) → self.now.order ≤ b → has result.now b ≡ false }
     {
         &self.rows[a as usize]
@@ -65,7 +66,8 @@ impl TightPairs {
     /// So the pairs of a row are gone over: the next is asked for from b + 1.
     pub fn next_in_row(&self, a: u32, from: u32) -> Option<u32>
         requires { a < self.now.order }
-        ensures { MatchOption result ((b : ℕ) → from ≤ b → b < self.now.order → IsTightIn self.now a b → ⊥)
+        ensures { MatchOption result ((b : ℕ) → from ≤ b → b < self.now.order →
+            IsTightIn self.now a b → ⊥)
             (IsNextTight self.now a from) }
     {
         match self.row(a).first_from(from as usize) {

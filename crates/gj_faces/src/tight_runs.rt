@@ -13,10 +13,11 @@ use gj_sets::IndexSet;
 use gj_shape::Shape;
 use std::alloc::{AllocError, Global};
 
-/// The tight pairs of the continuous function as the longest runs: for a from 0, and then for b from 0.
+/// The tight pairs of the continuous function as the longest runs: for a from 0, and then for b
+/// from 0.
 ///
-/// The pair (a, b) with a and b below the order q is tight exactly if one run of a holds b. No run goes on from q - 1
-/// to 0.
+/// The pair (a, b) with a and b below the order q is tight exactly if one run of a holds b. No run
+/// goes on from q - 1 to 0.
 pub fn runs(alloc: Global, shape: &Shape) -> Result<Vec<Run>, AllocError>
     requires { IsContinuous shape.now }
     ensures { IfOk result (λ runs. AreRunsOf shape.now.order (IsTight shape.now) runs.items) }
@@ -33,9 +34,11 @@ pub fn runs(alloc: Global, shape: &Shape) -> Result<Vec<Run>, AllocError>
 fn push_row(runs: &mut Vec<Run>, shape: &Shape, a: u32, row: &IndexSet) -> Result<(), AllocError>
     requires order { IsOrder shape.now.order }
     requires within { a < shape.now.order }
-    requires row { (b : ℕ) → IsTrue (has row.now b) ↔ (b < shape.now.order) × IsTight shape.now a b }
+    requires row { (b : ℕ) → IsTrue (has row.now b) ↔ (b < shape.now.order) ×
+        IsTight shape.now a b }
     requires before { AreRunsBefore shape.now.order (IsTight shape.now) a 0 runs.old.items }
-    ensures { OnOk result (AreRunsBefore shape.now.order (IsTight shape.now) (a + 1) 0 runs.new.items) }
+    ensures { OnOk result (AreRunsBefore shape.now.order (IsTight shape.now)
+        (a + 1) 0 runs.new.items) }
 {
     let starts = row.and_not(&row.up(1));
     let ends = row.and_not(&row.down(1));

@@ -14,7 +14,8 @@ use gj_shape::{Shape, wrapped};
 /// The pairs are the function's tight pairs. It takes no memory.
 pub fn count_additive_triangles(shape: &Shape, pairs: &TightPairs) -> u32
     requires { AreTightPairsOf shape.now pairs.now }
-    ensures { (triangles : List Face) × AreAdditiveTriangles shape.now triangles × (result ≡ length triangles) }
+    ensures { (triangles : List Face) × AreAdditiveTriangles shape.now triangles ×
+        (result ≡ length triangles) }
 {
     let mut count = 0;
     for a in 0..shape.order() {
@@ -28,7 +29,8 @@ fn count_in_row(shape: &Shape, pairs: &TightPairs, a: u32) -> u32
     requires pairs { AreTightPairsOf shape.now pairs.now }
     requires within { a < shape.now.order }
     ensures count { (triangles : List Face)
-        × ArePicked (IsAdditiveTriangle shape.now) (faces_of_row shape.now.order a) triangles × (result ≡ length triangles) }
+        × ArePicked (IsAdditiveTriangle shape.now) (faces_of_row shape.now.order a) triangles ×
+        (result ≡ length triangles) }
     ensures few { result ≤ 2048 }
 {
     let order = shape.order();

@@ -22,9 +22,9 @@ pub record IsHalf (q k : ℕ) (f : FunctionData) : Type 0 where
   pub left_is : (i : ℕ) → at f.left i *ℤ pos 2 ≡ pos f.scale
   pub right_is : (i : ℕ) → at f.right i *ℤ pos 2 ≡ pos f.scale
 
--- two slopes by signs, with f at the place k: at i/order the height of the first i steps over that of the first k,
--- so each rise is t/(r' t - t' r) and each fall is r/(r' t - t' r), with r rises and t falls in all, and r' rises
--- and t' falls among the first k (Gomory and Johnson 1972)
+-- two slopes by signs, with f at the place k: at i/order the height of the first i steps over that
+-- of the first k, so each rise is t/(r' t - t' r) and each fall is r/(r' t - t' r), with r rises
+-- and t falls in all, and r' rises and t' falls among the first k (Gomory and Johnson 1972)
 pub record IsTwoSlope (k : ℕ) (signs : List Bool) (f : FunctionData) : Type 0 where
   pub order : f.order ≡ length signs
   pub place : f.place ≡ k

@@ -13,6 +13,7 @@ falls signs = count_by (λ sign. not sign) signs
 abbrev pub sum_of_steps : ℕ → ℕ → List Bool → ℕ → ℤ
 sum_of_steps up down signs i = pos (rises (take i signs) * up) -ℤ pos (falls (take i signs) * down)
 
--- the same, if with r rises and t falls in all a rise goes up by t and a fall down by r, so that the sum of all is 0
+-- the same, if with r rises and t falls in all a rise goes up by t and a fall down by r, so that
+-- the sum of all is 0
 abbrev pub height : List Bool → ℕ → ℤ
 height signs i = sum_of_steps (falls signs) (rises signs) signs i

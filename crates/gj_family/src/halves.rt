@@ -12,10 +12,11 @@ use gj_frac::Frac;
 use gj_shape::Shape;
 use std::alloc::{AllocError, Global};
 
-/// The function that is 0 at 0 and 1 at f, with every other value and every limit 1/2. Its order is the denominator of f.
+/// The function that is 0 at 0 and 1 at f, with every other value and every limit 1/2. Its order is
+/// the denominator of f.
 ///
-/// The error is `BadF` exactly if f is not between 0 and 1, both excluded, and otherwise `TooManyPieces` exactly
-/// if the order is above 1,000.
+/// The error is `BadF` exactly if f is not between 0 and 1, both excluded, and otherwise
+/// `TooManyPieces` exactly if the order is above 1,000.
 pub fn half(alloc: Global, f: Frac) -> Result<Shape, FamilyFault>
     ensures closed_form { IfOk result (IsHalf (order_of f) (place_of f)) }
     ensures within_bounds { IfOk result IsWithinBounds }

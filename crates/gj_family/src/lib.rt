@@ -1,11 +1,13 @@
 //! Named families of cut-generating functions, each by its closed form.
 //!
-//! [`gmic`] is the mixed-integer cut of Gomory, [`half`] the function that is 1/2 almost everywhere, and [`two_slope`]
-//! a continuous function with one slope for its rises and one for its falls. Each gives a [`Shape`], and refuses
-//! what has no such function by the first of its tests that fails ([`FamilyFault`]).
+//! [`gmic`] is the mixed-integer cut of Gomory, [`half`] the function that is 1/2 almost
+//! everywhere, and [`two_slope`] a continuous function with one slope for its rises and one for its
+//! falls. Each gives a [`Shape`], and refuses what has no such function by the first of its tests
+//! that fails ([`FamilyFault`]).
 //!
-//! [`gmic_is_gmic_table`] is a theorem: on every grid the mixed-integer cut is the table of the definitions of
-//! `gj_shape`. [`one_function_of_a_family`] is another: a closed form has one function.
+//! [`gmic_is_gmic_table`] is a theorem: on every grid the mixed-integer cut is the table of the
+//! definitions of `gj_shape`. [`one_function_of_a_family`] is another: a closed form has one
+//! function.
 //!
 //! [`Shape`]: gj_shape::Shape
 #![tactic(auto)]

@@ -13,11 +13,11 @@ use gj_frac::Frac;
 use gj_shape::Shape;
 use std::alloc::{AllocError, Global};
 
-/// The mixed-integer cut of Gomory for this f: x/f from 0 to f and (1 - x)/(1 - f) from f to 1, continuous. Its order is
-/// the denominator of f.
+/// The mixed-integer cut of Gomory for this f: x/f from 0 to f and (1 - x)/(1 - f) from f to 1,
+/// continuous. Its order is the denominator of f.
 ///
-/// The error is `BadF` exactly if f is not between 0 and 1, both excluded, and otherwise `TooManyPieces` exactly
-/// if the order is above 1,000.
+/// The error is `BadF` exactly if f is not between 0 and 1, both excluded, and otherwise
+/// `TooManyPieces` exactly if the order is above 1,000.
 ///
 /// ```
 /// let shape = gmic(alloc, Frac::new(3, 5).unwrap())?;
@@ -36,7 +36,8 @@ pub fn gmic(alloc: Global, f: Frac) -> Result<Shape, FamilyFault>
     Ok(shape_over(alloc, place, place * (order - place), values, values)?)
 }
 
-/// The values of the mixed-integer cut with this order and place, each times the place and the order less the place.
+/// The values of the mixed-integer cut with this order and place, each times the place and the
+/// order less the place.
 fn gmic_entries(alloc: Global, order: u32, place: u32) -> Result<Vec<i64>, AllocError>
     requires order_fits { IsOrder order }
     requires place_fits { IsPlace order place }

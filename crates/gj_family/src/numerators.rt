@@ -21,8 +21,8 @@ fn fractions(alloc: Global, numerators: &[i64], denominator: u32) -> Result<Vec<
     Ok(items)
 }
 
-/// The function with f at this place whose values, and whose limits from both sides, are these whole numbers over the
-/// denominator. Its order is their number.
+/// The function with f at this place whose values, and whose limits from both sides, are these
+/// whole numbers over the denominator. Its order is their number.
 pub(crate) fn shape_over(
     alloc: Global,
     place: u32,

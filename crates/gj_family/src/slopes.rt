@@ -12,15 +12,16 @@ use crate::numerators::shape_over;
 use gj_shape::{GREATEST_ORDER, Shape};
 use std::alloc::{AllocError, Global};
 
-/// The continuous function that is 0 at 0, rises on the intervals whose sign is true and falls on the others, each
-/// rise by the same and each fall by the same, with value 1 at f = k/q. Its order q is the number of signs.
+/// The continuous function that is 0 at 0, rises on the intervals whose sign is true and falls on
+/// the others, each rise by the same and each fall by the same, with value 1 at f = k/q. Its order
+/// q is the number of signs.
 ///
-/// With r rises and t falls in all, and r' rises and t' falls among the first `k` intervals, each rise is
-/// t/(r' t - t' r) and each fall is r/(r' t - t' r).
+/// With r rises and t falls in all, and r' rises and t' falls among the first `k` intervals, each
+/// rise is t/(r' t - t' r) and each fall is r/(r' t - t' r).
 ///
-/// The error is that of the first test that fails: `TooManyPieces` if there are more than 1,000 signs, `BadSigns`
-/// if there are fewer than two, `BadF` if `k` is not from 1 to q - 1, and `NoSlopes` if r = 0, t = 0 or
-/// r' t - t' r is not above 0.
+/// The error is that of the first test that fails: `TooManyPieces` if there are more than 1,000
+/// signs, `BadSigns` if there are fewer than two, `BadF` if `k` is not from 1 to q - 1, and
+/// `NoSlopes` if r = 0, t = 0 or r' t - t' r is not above 0.
 pub fn two_slope(alloc: Global, k: u32, signs: &[bool]) -> Result<Shape, FamilyFault>
     ensures closed_form { IfOk result (IsTwoSlope k signs.now) }
     ensures within_bounds { IfOk result IsWithinBounds }
@@ -74,13 +75,14 @@ fn last_sum(signs: &[bool], up: u32, down: u32) -> i64
     i64::from(count_rises(signs) * up) - i64::from(count_falls(signs) * down)
 }
 
-/// The sums of the first 0, 1, .., q - 1 steps, if a rise goes up by `up`, a fall goes down by `down`, and q is the
-/// number of signs.
+/// The sums of the first 0, 1, .., q - 1 steps, if a rise goes up by `up`, a fall goes down by
+/// `down`, and q is the number of signs.
 fn sums_of_steps(alloc: Global, signs: &[bool], up: u32, down: u32) -> Result<Vec<i64>, AllocError>
     requires few { length signs.now ≤ greatest_order }
     requires up_small { up ≤ greatest_order }
     requires down_small { down ≤ greatest_order }
-    ensures { IfOk result (λ v. HasEntries (sum_of_steps up down signs.now) (length signs.now) v.items) }
+    ensures { IfOk result (λ v. HasEntries (sum_of_steps up down signs.now)
+        (length signs.now) v.items) }
 {
     let mut sums = Vec::with_capacity(alloc, signs.len())?;
     let mut sum = 0;

@@ -15,8 +15,8 @@ pub fn rules_of_minimal_functions_over_reals<K: Reals>()
         IsMinimalAmong K.field v f → HasRules K.field v f }
 {}
 
-/// The cut of a row with continuous columns, by a function that meets the rules and has slopes at 0:
-/// if points, each as often as it is used, and the entries of continuous columns times their
+/// The cut of a row with continuous columns, by a function that meets the rules and has slopes at
+/// 0: if points, each as often as it is used, and the entries of continuous columns times their
 /// variables, numbers not below 0, add up to f modulo 1, the values at the points and the weights
 /// times the variables add up to 1 or more.
 pub fn mixed_cuts_over_reals<K: Reals>()

@@ -1,4 +1,5 @@
--- The fill-in of a table: the least over all places of the table plus a sublinear function, and so subadditive.
+-- The fill-in of a table: the least over all places of the table plus a sublinear function, and so
+-- subadditive.
 use Rattle.std.proofs.Common.{◌≡◌, ℕ, zero, suc, ◌⊎◌, inl, inr, ◌+◌, ◌-◌, ◌*◌, ◌/◌, ◌%◌, ◌<◌, ◌≤◌, ℤ, pos, ◌+ℤ◌, ◌-ℤ◌, ◌*ℤ◌, ◌≤ℤ◌, [], ◌∷◌, refl, ap, ap₂, sym, subst, ◌∙◌, arith}
 use Rattle.std.specs.Int.{int_min}
 use Rattle.std.proofs.Math.Nat.{div-add-mod', mod-lt, mul-le-mul_right, mul-lt-mul_of_pos_right}
@@ -49,7 +50,8 @@ times_bound m k x y z h =
     by_ring (pos m ∷ pos k ∷ y ∷ z ∷ []) (search ring depth 20) refl in
     omega (arith, ints)
 
--- ---- the least over all places u of the table at u plus s or t times the distance, by which side the place lies on
+-- ---- the least over all places u of the table at u plus s or t times the distance, by which side
+-- the place lies on
 
 pub below_rise : (v : ℕ → ℤ) (s t : ℤ) (m i u d : ℕ) → AreGreatestSteps v s t → 0 < m → i ≡ u * m + d →
     filled v s t m i ≤ℤ (pos m *ℤ v u +ℤ pos d *ℤ s)

@@ -1,10 +1,11 @@
 -- The points of a fill-in as pairs of fractions.
-use Rattle.std.proofs.Common.{◌≡◌, ℕ, ◌+◌, ◌<◌, ◌^◌, Bool, true, false, ◌&&◌, cond, ℤ, pos, neg_ℤ, int_lt, ◌+ℤ◌, ◌*ℤ◌, ◌<ℤ◌, unsigned_abs, to_z, of_z, List, [], ◌∷◌, ◌++◌, flat_map, refl, ap, sym, subst, ◌∙◌, append-nil, arith}
+use Rattle.std.proofs.Common.{◌≡◌, ℕ, ◌+◌, ◌<◌, ◌≤◌, ◌^◌, Bool, true, false, ◌&&◌, cond, ℤ, pos, neg_ℤ, int_lt, ◌+ℤ◌, ◌*ℤ◌, ◌<ℤ◌, unsigned_abs, FitsSigned, to_z, of_z, List, [], ◌∷◌, ◌++◌, flat_map, refl, ap, ap₂, sym, subst, ◌∙◌, append-nil, arith}
 use Rattle.std.specs.List.{range_with_len, AllZip}
-use Rattle.std.proofs.Math.Nat.{zero-add}
-use Rattle.std.proofs.lemmas.Int.{ints}
+use Rattle.std.proofs.Math.Nat.{zero-add, mul-le-mul}
+use Rattle.std.proofs.lemmas.Int.{ints, to_z-of_z, fits_signed_from_abs}
 use Rattle.std.proofs.lemmas.Grind.{flat_map-append}
-use mir.Syntax.{w64}
+use mir.Syntax.{w64, w128}
+use Rattle.gj_lemmas.proofs.Integers.{unsigned_abs-mul}
 use Rattle.gj_lemmas.proofs.Lists.{range_split}
 use Rattle.gj_frac.specs.declared.Frac.{Frac}
 use Rattle.gj_frac.specs.Fraction.{IsRatio}
@@ -15,14 +16,64 @@ use Rattle.gj_fill.specs.FillPoints.{IsPairOf, value_point, crossing_point, poin
 -- ---- numbers of 64 bits
 
 pub itself : (x : ℤ) → unsigned_abs x < 2 ^ 52 → to_z w64 (of_z w64 x) ≡ x
-itself x low = omega (arith, ints)
+itself x low = to_z-of_z w64 x (fits_signed_from_abs w64 x (omega arith))
 
-pub sum_is : (x y : ℤ) → unsigned_abs x < 2 ^ 52 → unsigned_abs y < 2 ^ 52 →
-    to_z w64 (of_z w64 (to_z w64 (of_z w64 x) +ℤ to_z w64 (of_z w64 y))) ≡ x +ℤ y
-sum_is x y low high =
-    let first = itself x low in
-    let second = itself y high in
-    omega (arith, ints)
+pub itself_small : (x : ℤ) → unsigned_abs x < 2 ^ 52 → unsigned_abs (to_z w64 (of_z w64 x)) ≤ 2 ^ 53
+itself_small x low = subst (λ z. unsigned_abs z ≤ 2 ^ 53) (sym (itself x low)) (omega arith)
+
+-- the sum of two steps, as the code has it
+pub record IsSmallSum (x y : ℤ) : Type 0 where
+  pub fits : FitsSigned w64 (to_z w64 (of_z w64 x) +ℤ to_z w64 (of_z w64 y))
+  pub value : to_z w64 (of_z w64 (to_z w64 (of_z w64 x) +ℤ to_z w64 (of_z w64 y))) ≡ x +ℤ y
+  pub small : unsigned_abs (to_z w64 (of_z w64 (to_z w64 (of_z w64 x) +ℤ to_z w64 (of_z w64 y)))) ≤ 2 ^ 53
+
+pub small_sum : (x y : ℤ) → unsigned_abs x < 2 ^ 52 → unsigned_abs y < 2 ^ 52 → IsSmallSum x y
+small_sum x y low high =
+    let parts = ap₂ (λ m n. m +ℤ n) (itself x low) (itself y high) in
+    let small : unsigned_abs (x +ℤ y) ≤ 2 ^ 53 = omega (arith, ints) in
+    let fits : FitsSigned w64 (x +ℤ y) = fits_signed_from_abs w64 (x +ℤ y) (omega arith) in
+    let value = ap (λ z. to_z w64 (of_z w64 z)) parts ∙ to_z-of_z w64 (x +ℤ y) fits in record {
+      fits = subst (FitsSigned w64) (sym parts) fits;
+      value = value;
+      small = subst (λ z. unsigned_abs z ≤ 2 ^ 53) (sym value) small;
+    }
+
+pub positive_sum : (x y r : ℤ) → neg_ℤ y <ℤ r → r <ℤ x → pos 0 <ℤ (x +ℤ y)
+positive_sum x y r above below = omega (arith, ints)
+
+-- ---- numbers of 128 bits
+
+pub wide_itself : (x : ℤ) → unsigned_abs x ≤ 2 ^ 107 → to_z w128 (of_z w128 x) ≡ x
+wide_itself x low = to_z-of_z w128 x (fits_signed_from_abs w128 x (omega arith))
+
+pub wide_small : (x : ℤ) → unsigned_abs x ≤ 2 ^ 107 → unsigned_abs (to_z w128 (of_z w128 x)) < 2 ^ 127
+wide_small x low = subst (λ z. unsigned_abs z < 2 ^ 127) (sym (wide_itself x low)) (omega arith)
+
+pub scale_itself : (x : ℤ) (n : ℕ) → x ≡ pos n → n < 2 ^ 31 → unsigned_abs (to_z w128 (of_z w128 x)) ≡ n
+scale_itself x n e low =
+    ap (λ z. unsigned_abs (to_z w128 (of_z w128 z))) e ∙ ap unsigned_abs (wide_itself (pos n) (omega arith))
+
+-- the product of two numbers of 64 bits, as the code has it
+pub record IsSmallProduct (a b x y : ℤ) : Type 0 where
+  pub fits : FitsSigned w128 (to_z w128 (of_z w128 a) *ℤ to_z w128 (of_z w128 b))
+  pub value : to_z w128 (of_z w128 (to_z w128 (of_z w128 a) *ℤ to_z w128 (of_z w128 b))) ≡ x *ℤ y
+  pub small : unsigned_abs (to_z w128 (of_z w128 (to_z w128 (of_z w128 a) *ℤ to_z w128 (of_z w128 b)))) ≤ 2 ^ 106
+
+widened : (a x : ℤ) → a ≡ to_z w64 (of_z w64 x) → unsigned_abs x ≤ 2 ^ 53 → to_z w128 (of_z w128 a) ≡ x
+widened a x e low =
+    ap (λ z. to_z w128 (of_z w128 z)) (e ∙ to_z-of_z w64 x (fits_signed_from_abs w64 x (omega arith))) ∙ wide_itself x (omega arith)
+
+pub small_product : (a b x y : ℤ) → a ≡ to_z w64 (of_z w64 x) → b ≡ to_z w64 (of_z w64 y) → unsigned_abs x ≤ 2 ^ 53 →
+    unsigned_abs y ≤ 2 ^ 53 → IsSmallProduct a b x y
+small_product a b x y a_is b_is first second =
+    let parts = ap₂ (λ m n. m *ℤ n) (widened a x a_is first) (widened b y b_is second) in
+    let low : unsigned_abs (x *ℤ y) ≤ 2 ^ 106 =
+    subst (λ n. n ≤ 2 ^ 106) (sym (unsigned_abs-mul x y)) (mul-le-mul first second) in
+    let value = ap (λ z. to_z w128 (of_z w128 z)) parts ∙ wide_itself (x *ℤ y) (omega arith) in record {
+      fits = subst (FitsSigned w128) (sym parts) (fits_signed_from_abs w128 (x *ℤ y) (omega arith));
+      value = value;
+      small = subst (λ z. unsigned_abs z ≤ 2 ^ 106) (sym value) low;
+    }
 
 -- ---- the same fraction by equal numbers
 

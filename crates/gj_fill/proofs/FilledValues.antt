@@ -1,8 +1,9 @@
 -- The value of the fill-in at a fraction, by the place of the fraction.
-use Rattle.std.proofs.Common.{◌≡◌, ℕ, inl, inr, ◌+◌, ◌-◌, ◌*◌, ◌/◌, ◌%◌, ◌<◌, ℤ, pos, ◌+ℤ◌, ◌*ℤ◌, [], ◌∷◌, unsigned_abs, refl, sym, ap, ap₂, subst, ◌∙◌, arith}
+use Rattle.std.proofs.Common.{◌≡◌, ℕ, inl, inr, ◌+◌, ◌-◌, ◌*◌, ◌/◌, ◌%◌, ◌<◌, ◌^◌, ℤ, pos, ◌<ℤ◌, ◌+ℤ◌, ◌*ℤ◌, [], ◌∷◌, unsigned_abs, refl, sym, ap, ap₂, subst, ◌∙◌, arith}
 use Rattle.std.specs.Int.{int_min}
 use Rattle.std.proofs.Math.Nat.{div-add-mod', mod-lt, mul-le-mul_right, mul-lt-mul_of_pos_left}
 use Rattle.std.proofs.lemmas.Bool.{cases_lt}
+use Rattle.std.proofs.lemmas.Int.{ints}
 use Rattle.gj_lemmas.proofs.Quotients.{same_at_remainder}
 use Rattle.gj_lemmas.proofs.Ring.{by_ring, ring}
 use Rattle.gj_frac.specs.declared.Frac.{Frac}
@@ -48,6 +49,25 @@ place_by_parts q x p rest i q_some some below i_is congruent index_is part_is re
       ]);
       place = subst (λ n. IsCongruent (numerator x *ℤ pos q) (pos (n * d + i % d)) (q * d)) (sym index_is)
           (place_of_rest (numerator x) q d rest (i / d * d + i % d) congruent (split ∙ i_is));
+    }
+
+positive_number : (n : ℕ) → 0 < n → pos 0 <ℤ pos n
+positive_number n some = omega (arith, ints)
+
+-- the parts of a place for a denominator below 2^31
+pub record AreSmallParts (p : Place) : Type 0 where
+  pub parts : unsigned_abs p.parts < 2 ^ 31
+  pub part : unsigned_abs p.part < 2 ^ 31
+  pub rest : unsigned_abs p.rest < 2 ^ 31
+  pub some : pos 0 <ℤ p.parts
+
+pub small_parts : (q : ℕ) (x : Frac) (p : Place) → IsPlaceOf q x p → unsigned_abs (denominator x) < 2 ^ 31 → AreSmallParts p
+small_parts q x p h fine =
+    let below = h.before_next in record {
+      parts = subst (λ z. unsigned_abs z < 2 ^ 31) (sym h.parts_are) fine;
+      part = subst (λ z. unsigned_abs z < 2 ^ 31) (sym h.part_is) (omega arith);
+      rest = subst (λ z. unsigned_abs z < 2 ^ 31) (sym h.rest_is) (omega arith);
+      some = subst (λ (z : ℤ). pos 0 <ℤ z) (sym h.parts_are) (positive_number (unsigned_abs (denominator x)) (omega arith));
     }
 
 -- ---- sums of two products, of equal numbers

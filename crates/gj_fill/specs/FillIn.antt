@@ -1,5 +1,6 @@
--- The two-slope fill-in of a table (Gomory and Johnson 1972): between neighbouring places the lesser of a line that rises by the
--- greatest rise and one that falls by the greatest fall. All is over the table's own scale.
+-- The two-slope fill-in of a table (Gomory and Johnson 1972): between neighbouring places the
+-- lesser of a line that rises by the greatest rise and one that falls by the greatest fall. All is
+-- over the table's own scale.
 use Rattle.std.specs.Prelude.{ℕ, ℤ, pos, ◌≡◌, ◌+◌, ◌-◌, ◌/◌, ◌%◌, ◌+ℤ◌, ◌-ℤ◌, ◌*ℤ◌, ◌≤ℤ◌}
 use Rattle.std.specs.Int.{int_min}
 

@@ -1,4 +1,5 @@
--- The points between which the fill-in of a continuous function is affine (Gomory and Johnson 1972).
+-- The points between which the fill-in of a continuous function is affine (Gomory and Johnson
+-- 1972).
 use Rattle.std.specs.Prelude.{ℕ, ℤ, pos, ◌≡◌, ◌⊎◌, ◌*◌, ◌<◌, ◌+ℤ◌, ◌*ℤ◌, neg_ℤ, int_lt, ◌&&◌, if◌then◌else◌, List, [], ◌∷◌, ◌++◌, flat_map}
 use Rattle.std.specs.List.{range_with_len, AllZip}
 use Rattle.gj_frac.specs.declared.Frac.{Frac}
@@ -19,14 +20,16 @@ value_point f a = record {
   y = record { top = at f.value a; bottom = pos f.scale };
 }
 
--- the point behind a/order where the line that rises by s from the value there meets the line that falls by t to the next value
+-- the point behind a/order where the line that rises by s from the value there meets the line that
+-- falls by t to the next value
 abbrev pub crossing_point : FunctionData → ℤ → ℤ → ℕ → GraphPoint
 crossing_point f s t a = record {
   x = record { top = pos a *ℤ (s +ℤ t) +ℤ (rise f a +ℤ t); bottom = pos f.order *ℤ (s +ℤ t) };
   y = record { top = at f.value a *ℤ (s +ℤ t) +ℤ s *ℤ (rise f a +ℤ t); bottom = pos f.scale *ℤ (s +ℤ t) };
 }
 
--- the points from a/order up to the next: if the function goes by neither slope there, the crossing of the lines is one
+-- the points from a/order up to the next: if the function goes by neither slope there, the crossing
+-- of the lines is one
 abbrev pub points_from : FunctionData → ℤ → ℤ → ℕ → List GraphPoint
 points_from f s t a =
     if int_lt (neg_ℤ t) (rise f a) && int_lt (rise f a) s
@@ -43,7 +46,8 @@ fill_points f s t = flat_map (points_from f s t) (range_with_len 0 f.order)
 abbrev pub IsOnLine : Fraction → GraphPoint → Fraction → Fraction → Type 0
 IsOnLine slope p x y = SameValue (difference_of y p.y) (product_of slope (difference_of x p.x))
 
--- from p to q the fill-in goes along the line of this slope: on it lie q and, at each i/(order m) between the two, the filled value
+-- from p to q the fill-in goes along the line of this slope: on it lie q and, at each i/(order m)
+-- between the two, the filled value
 pub record GoesAlong (f : FunctionData) (s t : ℤ) (slope : Fraction) (p q : GraphPoint) : Type 0 where
   pub end : IsOnLine slope p q.x q.y
   pub between : (m i : ℕ) → 0 < m → AtMostValue p.x (record { top = pos i; bottom = pos (f.order * m) }) →
@@ -57,9 +61,9 @@ HasFillSlope f s t p q =
     GoesAlong f s t (record { top = pos f.order *ℤ s; bottom = pos f.scale }) p q
     ⊎ GoesAlong f s t (record { top = neg_ℤ (pos f.order *ℤ t); bottom = pos f.scale }) p q
 
--- what holds of a fill-in, whose lines rise by s and fall by t: at the multiples of 1/order it is the function; at each two
--- fractions it is subadditive; and from each of its points to the next, that at 1 behind the last, it is affine, with the slope
--- order s or -(order t), each over scale
+-- what holds of a fill-in, whose lines rise by s and fall by t: at the multiples of 1/order it is
+-- the function; at each two fractions it is subadditive; and from each of its points to the next,
+-- that at 1 behind the last, it is affine, with the slope order s or -(order t), each over scale
 pub record IsFillIn (f : FunctionData) (s t : ℤ) : Type 0 where
   pub value : (m a : ℕ) → 0 < m → filled (at f.value) s t m (a * m) ≡ pos m *ℤ at f.value a
   pub subadditive : (m : ℕ) → 0 < m → IsSubadditiveTable (filled (at f.value) s t m)

@@ -7,7 +7,8 @@ use Rattle.gj_shape.specs.Values.{IsCongruent}
 use Rattle.gj_fill.specs.FillIn.{filled, AreGreatestSteps}
 use Rattle.gj_fill.specs.declared.at_fractions.Place.{Place}
 
--- y is the value of the fill-in of f at x: what it has on the grid of order times the denominator of x, at each index of x modulo 1
+-- y is the value of the fill-in of f at x: what it has on the grid of order times the denominator
+-- of x, at each index of x modulo 1
 pub record IsFilledValue (f : FunctionData) (x y : Frac) : Type 0 where
   pub rise : ℤ
   pub fall : ℤ

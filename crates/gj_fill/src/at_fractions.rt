@@ -11,7 +11,8 @@ use crate::steps::{Steps, greatest_steps};
 use gj_frac::Frac;
 use gj_shape::Shape;
 
-/// A place of period 1: behind index/q by `part` of `parts` equal parts of the way to the next multiple of 1/q, so that `rest` are left.
+/// A place of period 1: behind index/q by `part` of `parts` equal parts of the way to the next
+/// multiple of 1/q, so that `rest` are left.
 #[derive(Clone, Copy)]
 struct Place {
     index: u32,
@@ -20,19 +21,21 @@ struct Place {
     parts: i64,
 }
 
-/// What the lines are at a place that go through the multiples of 1/q before and behind it, times the common denominator and the parts.
+/// What the lines are at a place that go through the multiples of 1/q before and behind it, times
+/// the common denominator and the parts.
 #[derive(Clone, Copy)]
 struct Lines {
     rising: i128,
     falling: i128,
 }
 
-/// The value of the two-slope fill-in at x: the lesser there of the line that rises by the greatest rise from the multiple of 1/q
-/// before x, and the line that falls by the greatest fall to the one behind it.
+/// The value of the two-slope fill-in at x: the lesser there of the line that rises by the greatest
+/// rise from the multiple of 1/q before x, and the line that falls by the greatest fall to the one
+/// behind it.
 ///
-/// x has a denominator of at most 2^31 - 1 and is at most 2^31 in absolute value. Between its multiples of 1/q the function is not
-/// looked at, and it need not be subadditive.
-/// Source: Gomory and Johnson, "Some continuous functions related to corner polyhedra" (1972).
+/// x has a denominator of at most 2^31 - 1 and is at most 2^31 in absolute value. Between its
+/// multiples of 1/q the function is not looked at, and it need not be subadditive. Source: Gomory
+/// and Johnson, "Some continuous functions related to corner polyhedra" (1972).
 pub fn filled_value(shape: &Shape, x: Frac) -> Frac
     requires { IsRowNumber x }
     ensures { IsFilledValue shape.now x result }
@@ -53,8 +56,10 @@ fn lines_at(shape: &Shape, steps: Steps, place: Place) -> Lines
     requires parts { unsigned_abs place.parts < 2 ^ 31 }
     requires part { unsigned_abs place.part < 2 ^ 31 }
     requires rest { unsigned_abs place.rest < 2 ^ 31 }
-    ensures rising { result.rising ≡ place.parts *ℤ at shape.now.value place.index +ℤ place.part *ℤ steps.rise }
-    ensures falling { result.falling ≡ place.parts *ℤ at shape.now.value (place.index + 1) +ℤ place.rest *ℤ steps.fall }
+    ensures rising { result.rising ≡ place.parts *ℤ at shape.now.value place.index +ℤ
+        place.part *ℤ steps.rise }
+    ensures falling { result.falling ≡ place.parts *ℤ at shape.now.value
+        (place.index + 1) +ℤ place.rest *ℤ steps.fall }
     ensures rising_small { unsigned_abs result.rising ≤ 2 ^ 107 }
     ensures falling_small { unsigned_abs result.falling ≤ 2 ^ 107 }
 {

@@ -8,7 +8,8 @@ use thiserror::Error;
 /// Why a function has no fill-in.
 #[derive(Clone, Copy, Debug, PartialEq, Eq, Error)]
 pub enum FillFault {
-    /// The values at a/q and b/q add up to less than that at (a + b)/q, first for these a and b, a ascending, inside it b.
+    /// The values at a/q and b/q add up to less than that at (a + b)/q, first for these a and b, a
+    /// ascending, inside it b.
     #[error("the function is not subadditive at {0}/q and {1}/q")]
     NotSubadditive(u32, u32),
     /// There was no memory.

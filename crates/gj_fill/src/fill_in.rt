@@ -17,7 +17,8 @@ use gj_frac::Frac;
 use gj_shape::{List, Shape};
 use std::alloc::{AllocError, Global};
 
-/// A continuous function that is affine between neighbouring points, and behind the last one goes back to the first, at 1.
+/// A continuous function that is affine between neighbouring points, and behind the last one goes
+/// back to the first, at 1.
 #[derive(Debug, Drop)]
 pub struct Filled {
     /// f, between 0 and 1.
@@ -26,23 +27,31 @@ pub struct Filled {
     pub points: List<(Frac, Frac)>,
 }
 
-/// The two-slope fill-in of a continuous function of order q: with s the greatest rise from one multiple of 1/q to the next and t the
-/// greatest fall, between two neighbours the lesser of the line that rises by s from the left one and the line that falls by t to the
-/// right one. Its points are those of the function at the multiples of 1/q and, if the function goes by neither slope from one to
-/// the next, the crossing of the two lines.
+/// The two-slope fill-in of a continuous function of order q: with s the greatest rise from one
+/// multiple of 1/q to the next and t the greatest fall, between two neighbours the lesser of the
+/// line that rises by s from the left one and the line that falls by t to the right one. Its points
+/// are those of the function at the multiples of 1/q and, if the function goes by neither slope
+/// from one to the next, the crossing of the two lines.
 ///
-/// `NotSubadditive` comes exactly if the function is not subadditive at its multiples of 1/q, with the first two, a ascending,
-/// inside it b. The only other error is want of memory.
-/// Source: Gomory and Johnson, "Some continuous functions related to corner polyhedra" (1972).
+/// `NotSubadditive` comes exactly if the function is not subadditive at its multiples of 1/q, with
+/// the first two, a ascending, inside it b. The only other error is want of memory. Source: Gomory
+/// and Johnson, "Some continuous functions related to corner polyhedra" (1972).
 pub fn fill(alloc: Global, shape: &Shape) -> Result<Filled, FillFault>
     requires { IsContinuous shape.now }
     ensures f { IfOk result (λ g. IsRatio g.f (pos shape.now.place) (pos shape.now.order)) }
     ensures inside { IfOk result (λ g. IsInside g.f) }
     ensures points { IfOk result (λ g. AreFillPoints shape.now g.points) }
     ensures ascending { IfOk result (λ g.
-        AreAscending (map (λ p. record { x = p.0; left = p.1; value = p.1; right = p.1 }) g.points)) }
+        AreAscending (map (λ p. record {
+          x = p.0;
+          left = p.1;
+          value = p.1;
+          right =
+              p.1;
+        }) g.points)) }
     // It is the function at the multiples of 1/q, subadditive, and affine between its points.
-    ensures fill_in { IfOk result (λ g. (s t : ℤ) → AreGreatestSteps (at shape.now.value) s t → IsFillIn shape.now s t) }
+    ensures fill_in { IfOk result (λ g. (s t : ℤ) → AreGreatestSteps (at shape.now.value) s t →
+        IsFillIn shape.now s t) }
     ensures subadditive { IfOk result (λ g. IsSubadditiveTable (at shape.now.value)) }
     ensures fault { IfErr result (IsFillFault shape.now) }
 {
@@ -60,7 +69,8 @@ pub fn fill(alloc: Global, shape: &Shape) -> Result<Filled, FillFault>
 
 /// All points of the fill-in by lines with these steps, from 0 on.
 fn points_of(alloc: Global, shape: &Shape, steps: Steps) -> Result<Vec<(Frac, Frac)>, AllocError>
-    ensures { IfOk result (λ points. AllZip IsPairOf (fill_points shape.now steps.rise steps.fall) points.items) }
+    ensures { IfOk result (λ points. AllZip IsPairOf
+        (fill_points shape.now steps.rise steps.fall) points.items) }
 {
     let mut points = Vec::with_capacity(alloc, 2 * shape.order() as usize)?;
     for a in 0..shape.order() {
@@ -77,7 +87,8 @@ fn push_points(
     a: u32,
 ) -> Result<(), AllocError>
     requires { a < shape.now.order }
-    ensures { OnOk result ((more : List (Frac × Frac)) × AllZip IsPairOf (points_from shape.now steps.rise steps.fall a) more
+    ensures { OnOk result ((more : List (Frac × Frac)) × AllZip IsPairOf
+        (points_from shape.now steps.rise steps.fall a) more
         × (points.new.items ≡ points.old.items ++ more)) }
 {
     points.push(pair_at(shape, a))?;
@@ -90,7 +101,8 @@ fn push_points(
 /// Whether the function goes by neither slope from a/q to the next multiple of 1/q.
 fn crosses(shape: &Shape, steps: Steps, a: u32) -> bool
     requires { a < shape.now.order }
-    ensures { IsTrue result ↔ ((neg_ℤ steps.fall <ℤ rise shape.now a) × (rise shape.now a <ℤ steps.rise)) }
+    ensures { IsTrue result ↔ ((neg_ℤ steps.fall <ℤ rise shape.now a) ×
+        (rise shape.now a <ℤ steps.rise)) }
 {
     let rise = rise_at(shape, a);
     -steps.fall < rise && rise < steps.rise
@@ -135,7 +147,8 @@ fn place_over(order: u32, a: u32, part: i64, width: i64) -> Frac
     )
 }
 
-/// What a line that begins at this value and rises by so much to the next place has after part/width of the way.
+/// What a line that begins at this value and rises by so much to the next place has after
+/// part/width of the way.
 fn height_over(scale: u32, value: i64, rise: i64, part: i64, width: i64) -> Frac
     requires scale { 0 < scale }
     requires value { unsigned_abs value ≤ 2 ^ 53 }

@@ -1,14 +1,16 @@
 //! The two-slope fill-in of a continuous function, and whether a function has two slopes.
 //!
-//! [`fill`] gives the points of the fill-in (Gomory and Johnson 1972): a subadditive function that is the given one at the
-//! multiples of 1/q and goes everywhere by one of two slopes. It is 1 at f if the function is, so its cuts hold; but the fill-in
-//! of a minimal function need not be minimal. [`filled_value`] is its value at any fraction that can stand in a row.
-//! [`two_slopes`] is true of a function that has exactly two slopes already: if it is
-//! minimal, it is extreme, by `two_slopes_are_extreme` of `gj_theory`.
+//! [`fill`] gives the points of the fill-in (Gomory and Johnson 1972): a subadditive function that
+//! is the given one at the multiples of 1/q and goes everywhere by one of two slopes. It is 1 at f
+//! if the function is, so its cuts hold; but the fill-in of a minimal function need not be minimal.
+//! [`filled_value`] is its value at any fraction that can stand in a row. [`two_slopes`] is true of
+//! a function that has exactly two slopes already: if it is minimal, it is extreme, by
+//! `two_slopes_are_extreme` of `gj_theory`.
 //!
-//! What is filled in is defined in `specs/FillIn.antt`, its points in `specs/FillPoints.antt`. The theorems about it say that it is
-//! subadditive on every grid, one function on all grids, the least over all places of the function there plus a sublinear one, and
-//! affine between neighbouring points.
+//! What is filled in is defined in `specs/FillIn.antt`, its points in `specs/FillPoints.antt`. The
+//! theorems about it say that it is subadditive on every grid, one function on all grids, the least
+//! over all places of the function there plus a sublinear one, and affine between neighbouring
+//! points.
 #![tactic(auto)]
 
 mod at_fractions;

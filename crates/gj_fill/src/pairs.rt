@@ -8,7 +8,8 @@ ghost use Rattle.gj_fill.specs.FirstPair.{IsSuperadditivePair, IsFirstPair};
 
 use gj_shape::Shape;
 
-/// The first a and b, a ascending, inside it b, for which the values at a/q and b/q add up to less than that at (a + b)/q.
+/// The first a and b, a ascending, inside it b, for which the values at a/q and b/q add up to less
+/// than that at (a + b)/q.
 pub(crate) fn first_pair(shape: &Shape) -> Option<(u32, u32)>
     ensures found { IfSome result (λ p. IsFirstPair shape.now p.0 p.1) }
     ensures none { IfNone result (IsSubadditiveTable (at shape.now.value)) }
@@ -21,13 +22,14 @@ pub(crate) fn first_pair(shape: &Shape) -> Option<(u32, u32)>
     None
 }
 
-/// The least b from a on for which the values at a/q and b/q add up to less than that at (a + b)/q. Pairs with a lesser b are
-/// those of an earlier row.
+/// The least b from a on for which the values at a/q and b/q add up to less than that at (a + b)/q.
+/// Pairs with a lesser b are those of an earlier row.
 fn first_behind(shape: &Shape, a: u32) -> Option<u32>
     requires { a < shape.now.order }
     ensures found { IfSome result (IsLeastFrom a (IsSuperadditivePair shape.now a)) }
     ensures below { IfSome result (λ b. b < shape.now.order) }
-    ensures none { IfNone result ((b : ℕ) → a ≤ b → b < shape.now.order → IsSuperadditivePair shape.now a b → ⊥) }
+    ensures none { IfNone result ((b : ℕ) → a ≤ b → b < shape.now.order →
+        IsSuperadditivePair shape.now a b → ⊥) }
 {
     if is_subadditive_from(shape.value_numerators(), a as usize) {
         return None;
@@ -41,7 +43,8 @@ fn first_behind(shape: &Shape, a: u32) -> Option<u32>
     None
 }
 
-/// Whether the values at a/q and b/q add up to no less than that at (a + b)/q, for each b from a to below q.
+/// Whether the values at a/q and b/q add up to no less than that at (a + b)/q, for each b from a to
+/// below q.
 fn is_subadditive_from(values: &[i64], a: usize) -> bool
     requires small { All IsNumerator values.now }
     requires within { a < length values.now }
@@ -55,8 +58,8 @@ fn is_subadditive_from(values: &[i64], a: usize) -> bool
     passes_from(values, a, a.max(turn))
 }
 
-/// The same for each b from a to below `end`, up to which a + b is below q. The loop has no early end, so that the processor tests
-/// several at once.
+/// The same for each b from a to below `end`, up to which a + b is below q. The loop has no early
+/// end, so that the processor tests several at once.
 fn passes_up_to(values: &[i64], a: usize, end: usize) -> bool
     requires small { All IsNumerator values.now }
     requires within { a < length values.now }
@@ -74,7 +77,8 @@ fn passes_up_to(values: &[i64], a: usize, end: usize) -> bool
     passes
 }
 
-/// The same for each b from `start` to below q, from which on a + b is at least q. The loop has no early end either.
+/// The same for each b from `start` to below q, from which on a + b is at least q. The loop has no
+/// early end either.
 fn passes_from(values: &[i64], a: usize, start: usize) -> bool
     requires small { All IsNumerator values.now }
     requires within { a < length values.now }

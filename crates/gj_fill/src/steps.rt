@@ -26,7 +26,8 @@ pub(crate) fn rise_at(shape: &Shape, a: u32) -> i64
     shape.value_numerator(a + 1) - here
 }
 
-/// The greatest rise and the greatest fall from one place to the next, and behind the last one to the first.
+/// The greatest rise and the greatest fall from one place to the next, and behind the last one to
+/// the first.
 pub(crate) fn greatest_steps(shape: &Shape) -> Steps
     ensures { AreGreatestSteps (at shape.now.value) result.rise result.fall }
 {
@@ -64,10 +65,12 @@ pub fn two_slopes(shape: &Shape) -> bool
     true
 }
 
-/// Whether the function rises by the greatest rise or falls by the greatest fall from a/q to the next place.
+/// Whether the function rises by the greatest rise or falls by the greatest fall from a/q to the
+/// next place.
 fn goes_by_step(shape: &Shape, steps: Steps, a: u32) -> bool
     requires { a < shape.now.order }
-    ensures { IsTrue result ↔ ((rise shape.now a ≡ steps.rise) ⊎ (rise shape.now a ≡ neg_ℤ steps.fall)) }
+    ensures { IsTrue result ↔ ((rise shape.now a ≡ steps.rise) ⊎
+        (rise shape.now a ≡ neg_ℤ steps.fall)) }
 {
     let rise = rise_at(shape, a);
     rise == steps.rise || rise == -steps.fall

@@ -1,5 +1,5 @@
--- The lines of a form: the words of a line spell one thing or break the form for one reason, and what is printed is read
--- again as the same.
+-- The lines of a form: the words of a line spell one thing or break the form for one reason, and
+-- what is printed is read again as the same.
 use Rattle.std.proofs.Common.{◌≡◌, ◌≢◌, inl, inr, Result, Err, IfErr, ℕ, List, [], ◌∷◌, ◌++◌, refl, sym, ap, subst, ◌∙◌}
 use Rattle.std.specs.List.{join_with_byte}
 use Rattle.std.proofs.lemmas.List.{append_assoc}
@@ -15,7 +15,8 @@ use Rattle.gj_lex.proofs.WhereLaws.{other_word}
 use Rattle.gj_forms.specs.ListParts.{IsPrinted}
 use Rattle.gj_forms.proofs.FieldWords.{AreGood, words_are_plain, own_numbers, joined_words}
 
--- what is asked of a form: a thing that has a line has words of the form, they are plain, and are those of no other thing
+-- what is asked of a form: a thing that has a line has words of the form, they are plain, and are
+-- those of no other thing
 pub record IsClear {A : Type 0} (form : LineForm A) : Type 0 where
   pub of_form : (a : A) → form.HasLine a → form.HasForm a
   pub good : (a : A) → form.HasLine a → AreGood (form.fields a)

@@ -43,7 +43,8 @@ spelled_once s (f ∷ fs) (g ∷ gs) (w ∷ words) k h i =
 spelled_once s (f ∷ fs) gs [] k h i = absurd h
 spelled_once s fs gs words k h i = absurd k
 
--- a thing with a line has words of the form; two things whose words differ in numbers alone are alike; and the fields tell the thing
+-- a thing with a line has words of the form; two things whose words differ in numbers alone are
+-- alike; and the fields tell the thing
 pub record IsClearForm {A : Type 0} (form : LineForm A) : Type 0 where
   pub of_form : (a : A) → form.HasLine a → form.HasForm a
   pub alike : (a b : A) (words : List (List ℕ)) → with_numbers (form.fields a) words ≡ with_numbers (form.fields b) words →

@@ -1,4 +1,5 @@
--- Lines of a form in either spelling: what is printed is read again, and what is read in strict spelling is what is printed.
+-- Lines of a form in either spelling: what is printed is read again, and what is read in strict
+-- spelling is what is printed.
 use Rattle.std.proofs.Common.{◌≡◌, ◌≢◌, inl, inr, ℕ, List, [], ◌∷◌, ◌++◌, get_or, refl, sym, ap, subst, ◌∙◌}
 use Rattle.std.specs.List.{join_with_byte}
 use Rattle.std.proofs.lemmas.List.{append_assoc}
@@ -83,7 +84,8 @@ strict_bytes form text words a rest good is h =
 
 -- ---- rules
 
--- a form whose things all have a line is clear if words of one kind have one kind of fields, and these tell the thing
+-- a form whose things all have a line is clear if words of one kind have one kind of fields, and
+-- these tell the thing
 pub clear_form : {A : Type 0} (fields : A → List Field) →
     ((a b : A) (words : List (List ℕ)) → with_numbers (fields a) words ≡ with_numbers (fields b) words → AreAlike (fields a) (fields b)) →
     ((a b : A) → fields a ≡ fields b → a ≡ b) → IsClearForm (form_of fields)

@@ -1,5 +1,5 @@
--- Lines of texts, each defined once: one function from a thing to the fields of its line. Words, bytes and the rule by
--- which a line is read are derived from it (own).
+-- Lines of texts, each defined once: one function from a thing to the fields of its line. Words,
+-- bytes and the rule by which a line is read are derived from it (own).
 use Rattle.std.specs.Prelude.{ℕ, ℤ, ◌≡◌, ◌⊎◌, List, [], ◌∷◌, ◌++◌, decimal}
 use Rattle.std.specs.Fmt.{signed_decimal}
 use Rattle.gj_frac.specs.declared.Frac.{Frac}
@@ -44,8 +44,8 @@ with_numbers (fraction x ∷ fields) words = first_of words ∷ with_numbers fie
 with_numbers (count n ∷ fields) words = first_of words ∷ with_numbers fields (others_of words)
 with_numbers (whole n ∷ fields) words = first_of words ∷ with_numbers fields (others_of words)
 
--- the lines that tell things of one type: the fields of each thing, the things whose words may stand there (else `form`),
--- and those that have a line (else `number`)
+-- the lines that tell things of one type: the fields of each thing, the things whose words may
+-- stand there (else `form`), and those that have a line (else `number`)
 pub record LineForm (A : Type 0) : Type 1 where
   pub fields : A → List Field
   pub HasForm : A → Type 0

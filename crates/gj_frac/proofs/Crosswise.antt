@@ -1,4 +1,5 @@
--- The product of two fractions of which no number but 1 divides a numerator and the other's denominator.
+-- The product of two fractions of which no number but 1 divides a numerator and the other's
+-- denominator.
 use Rattle.std.proofs.Common.{◌≡◌, ◌≢◌, ℕ, ◌*◌, ℤ, ◌*ℤ◌, unsigned_abs, sym, ap, subst, subst₂, ◌∙◌}
 use Rattle.std.proofs.Math.Nat.{mul_comm, dvd-mul_right}
 use Rattle.std.proofs.lemmas.Int.{unsigned_abs-mul}
@@ -63,7 +64,8 @@ numerator_divides_each x n d h =
     gauss (unsigned_abs x.num) (unsigned_abs x.den) (unsigned_abs n) x.lowest.coprime
     (subst (λ (m : ℕ). unsigned_abs x.num ∣ m) sizes (dvd-mul_right (unsigned_abs x.num) (unsigned_abs d)))
 
--- if x is n/m and y is k/l, and n and l have only 1 in common, so have the numerator of x and the denominator of y
+-- if x is n/m and y is k/l, and n and l have only 1 in common, so have the numerator of x and the
+-- denominator of y
 pub crosswise_coprime : (x y : Frac) (n m k l : ℤ) → IsRatio x n m → IsRatio y k l →
     IsGcd (unsigned_abs n) (unsigned_abs l) 1 → IsGcd (unsigned_abs x.num) (unsigned_abs y.den) 1
 crosswise_coprime x y n m k l x_is y_is h =

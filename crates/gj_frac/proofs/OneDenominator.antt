@@ -1,4 +1,5 @@
--- Two fractions over one denominator: their common denominator divides it, so what fits there fits over the common denominator.
+-- Two fractions over one denominator: their common denominator divides it, so what fits there fits
+-- over the common denominator.
 use Rattle.std.proofs.Common.{◌≡◌, ◌≢◌, ℕ, ◌*◌, ◌/◌, ◌≤◌, ℤ, pos, ◌+ℤ◌, ◌-ℤ◌, ◌*ℤ◌, unsigned_abs, int_div, inl, sym, ap, subst, ◌∙◌, arith}
 use Rattle.std.proofs.Math.Nat.{dvd-mul_left, div-mul_cancel, le-mul_of_pos_right, mul_comm, pos_of_ne-zero}
 use Rattle.std.proofs.lemmas.Int.{unsigned_abs-mul}
@@ -43,7 +44,8 @@ factor_within k s n some is =
     let larger : unsigned_abs s ≤ unsigned_abs s * unsigned_abs k = le-mul_of_pos_right (unsigned_abs s) (pos_of_ne-zero some) in
     omega arith
 
--- over the denominator d of both fractions stands one multiple of what stands over the common denominator
+-- over the denominator d of both fractions stands one multiple of what stands over the common
+-- denominator
 pub record MultipliedBy (x y : Frac) (g : ℕ) (n m d k : ℤ) : Type 0 where
   pub some : unsigned_abs k ≢ 0
   pub first : k *ℤ scaled_numerator x y g ≡ n
@@ -67,7 +69,8 @@ multiplier x y g n m d h x_is y_is some =
       },
     )
 
--- two fractions over one denominator can be added if their parts and the sum of the numerators fit there
+-- two fractions over one denominator can be added if their parts and the sum of the numerators fit
+-- there
 pub fits_sum_over : (x y : Frac) (n m d : ℤ) → IsRatio x n d → IsRatio y m d → unsigned_abs d ≢ 0 → Fits d →
     Fits n → Fits m → Fits (n +ℤ m) → FitsSum x y
 fits_sum_over x y n m d x_is y_is some d_fits n_fits m_fits total_fits g h =

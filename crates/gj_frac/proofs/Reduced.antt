@@ -58,7 +58,8 @@ unsigned_abs-negated (pos (suc n)) =
     let turned : pos 0 -ℤ pos (suc n) ≡ negsuc n = omega (arith, ints) in ap unsigned_abs turned
 unsigned_abs-negated (negsuc n) = omega arith
 
--- with both signs turned the parts of a fraction in lowest terms stay so, if the denominator was negative
+-- with both signs turned the parts of a fraction in lowest terms stay so, if the denominator was
+-- negative
 pub lowest_negated : (num den : ℤ) → pos 0 <ℤ (pos 0 -ℤ den) → unsigned_abs num < 2 ^ 127 → unsigned_abs den < 2 ^ 127 →
     IsGcd (unsigned_abs num) (unsigned_abs den) 1 → IsLowest (pos 0 -ℤ num) (pos 0 -ℤ den)
 lowest_negated num den h f g d =

@@ -73,7 +73,8 @@ short_tens f t few few' =
     let both : 5 ^ f * 2 ^ t ≤ 5 ^ 19 * 2 ^ 19 = mul-le-mul fives twos in
     omega arith
 
--- a number with none of the fives and none of the twos below it is in lowest terms over their product
+-- a number with none of the fives and none of the twos below it is in lowest terms over their
+-- product
 pub lowest_over_tens : (a f t : ℕ) → a < 2 ^ 64 → f ≤ 19 → t ≤ 19 → (f ≡ 0) ⊎ (a % 5 ≢ 0) → (t ≡ 0) ⊎ (a % 2 ≡ 1) →
     IsLowest (pos a) (pos (5 ^ f * 2 ^ t))
 lowest_over_tens a f t small few few' fives twos =

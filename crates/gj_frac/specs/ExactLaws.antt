@@ -1,5 +1,5 @@
--- The laws of sums and products of fractions, each proved from those of ratios. They stand here since the laws of
--- `ExactNumber` cite them.
+-- The laws of sums and products of fractions, each proved from those of ratios. They stand here
+-- since the laws of `ExactNumber` cite them.
 use Rattle.std.proofs.Common.{◌≡◌, sym, subst, subst₂}
 use Rattle.std.proofs.lemmas.Nat.Gcd.{IsGcd-swap}
 use Rattle.std.specs.Cmp.{int_cmp_is}

@@ -52,7 +52,8 @@ FitsDifference x y = (g : ℕ) → IsDenominatorGcd x y g → FitsDifferenceOver
 abbrev pub FitsProduct : Frac → Frac → Type 0
 FitsProduct x y = (z : Frac) × SameValue (fraction_of z) (product_of (fraction_of x) (fraction_of y))
 
--- x / y can be computed: y is not 0, and some fraction, in lowest terms and within the limit, has its value
+-- x / y can be computed: y is not 0, and some fraction, in lowest terms and within the limit, has
+-- its value
 pub record FitsQuotient (x y : Frac) : Type 0 where
   pub divisor : numerator y ≢ pos 0
   pub fits : (z : Frac) × SameValue (fraction_of z) (quotient_of (fraction_of x) (fraction_of y))

@@ -1,4 +1,5 @@
--- The value of a fraction, and what a `Frac` is (own; the usual cross products over whole numbers without bound).
+-- The value of a fraction, and what a `Frac` is (own; the usual cross products over whole numbers
+-- without bound).
 use Rattle.std.specs.Prelude.{ℕ, ℤ, pos, ◌≡◌, ◌*ℤ◌, ◌+ℤ◌, ◌-ℤ◌, neg_ℤ, ◌<ℤ◌, ◌≤ℤ◌, ◌^◌, ◌<◌, ◌≤◌, ◌*◌, unsigned_abs}
 use Rattle.gj_frac.specs.declared.Frac.{Frac}
 

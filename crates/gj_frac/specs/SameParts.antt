@@ -1,4 +1,5 @@
--- Fractions of equal value are one, proved. It stands here since the laws of `Ord` and `ExactNumber` cite it.
+-- Fractions of equal value are one, proved. It stands here since the laws of `Ord` and
+-- `ExactNumber` cite it.
 use Rattle.std.proofs.Common.{◌≡◌, ℤ}
 use Rattle.gj_frac.specs.declared.Frac.{Frac}
 use Rattle.gj_frac.specs.Lowest.{IsLowest}

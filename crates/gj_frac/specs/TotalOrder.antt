@@ -1,4 +1,5 @@
--- The laws of the order of fractions, each proved: a total order by value, in which equal values are one fraction.
+-- The laws of the order of fractions, each proved: a total order by value, in which equal values
+-- are one fraction.
 use Rattle.std.proofs.Common.{◌≡◌, ◌&&◌, true, ◌*ℤ◌, refl, ap, subst}
 use Rattle.std.proofs.lemmas.Cmp.{int_ranked, int_eq_equiv}
 use Rattle.std.specs.Bool.{Decides, one_answer}

@@ -53,8 +53,8 @@ const SHORT: usize = 19;
 impl Frac {
     /// The fraction `num / 10^places`, in lowest terms: what a decimal with so many places writes.
     ///
-    /// No divisor is sought if `num` is below 2^64 in absolute value and there are at most 19 places: a power of 10 has no
-    /// prime factors but 2 and 5.
+    /// No divisor is sought if `num` is below 2^64 in absolute value and there are at most 19
+    /// places: a power of 10 has no prime factors but 2 and 5.
     pub fn decimal(num: i128, places: usize) -> Frac
         requires places { places ≤ 38 }
         requires num_fits { unsigned_abs num < 2 ^ 127 }
@@ -77,7 +77,8 @@ impl Frac {
     }
 }
 
-/// The fraction `top / (5^fives 2^twos)`, if `twos` is 0 or `top` is odd: then only factors of 5 can be taken out.
+/// The fraction `top / (5^fives 2^twos)`, if `twos` is 0 or `top` is odd: then only factors of 5
+/// can be taken out.
 fn without_fives(top: u64, fives: usize, twos: usize) -> Frac
     requires fives { fives ≤ 19 }
     requires twos { twos ≤ 19 }

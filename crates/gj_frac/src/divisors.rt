@@ -47,7 +47,8 @@ fn gcd_in_64_bits(a: u64, b: u64) -> u64
     gcd_of_positive(lesser, rest)
 }
 
-/// The greatest common divisor of two positive numbers: the lesser of their powers of 2, times that of their odd parts.
+/// The greatest common divisor of two positive numbers: the lesser of their powers of 2, times that
+/// of their odd parts.
 fn gcd_of_positive(a: u64, b: u64) -> u64
     requires first { 0 < a }
     requires second { 0 < b }
@@ -58,8 +59,8 @@ fn gcd_of_positive(a: u64, b: u64) -> u64
     gcd_with_odd(a >> a_zeros, b >> b_zeros) << a_zeros.min(b_zeros)
 }
 
-/// The greatest common divisor of an odd number and another, by the binary algorithm: the odd part of the difference of
-/// two odd numbers stands for the greater of them.
+/// The greatest common divisor of an odd number and another, by the binary algorithm: the odd part
+/// of the difference of two odd numbers stands for the greater of them.
 fn gcd_with_odd(a: u64, b: u64) -> u64
     requires { a % 2 ≡ 1 }
     ensures { IsGcd a b result }

@@ -1,13 +1,14 @@
 //! Exact fractions of 128 bits.
 //!
-//! A `Frac` is a whole number over a positive one, in lowest terms, each at most 2^127 - 1 in absolute value. So `==`
-//! and the hash go by value. Nothing wraps and nothing is rounded: `+`, `-`, `*` and `/` are exact, each under a
-//! condition that its result fits, which the caller proves; `checked_add` and the like test that condition instead. The
-//! order is that of the values, without a condition.
+//! A `Frac` is a whole number over a positive one, in lowest terms, each at most 2^127 - 1 in
+//! absolute value. So `==` and the hash go by value. Nothing wraps and nothing is rounded: `+`,
+//! `-`, `*` and `/` are exact, each under a condition that its result fits, which the caller
+//! proves; `checked_add` and the like test that condition instead. The order is that of the values,
+//! without a condition.
 //!
-//! `ExactNumber` has the laws that generic code may rely on: the order and the grouping of sums and products do not
-//! matter if they can be formed. `gcd` and `lcm` are the greatest common divisor and the least common
-//! multiple that all crates use.
+//! `ExactNumber` has the laws that generic code may rely on: the order and the grouping of sums and
+//! products do not matter if they can be formed. `gcd` and `lcm` are the greatest common divisor
+//! and the least common multiple that all crates use.
 #![tactic(auto)]
 
 ghost use Rattle.std.specs.Prelude.{◌≡◌, ◌≢◌, ◌⊎◌, ◌↔◌, pos, ◌^◌, ◌<◌, unsigned_abs, IsNone, IfSome};
@@ -54,7 +55,8 @@ impl Frac {
     ///
     /// None if `den` is 0, or if one of the two is -2^127, whose absolute value does not fit.
     pub fn new(num: i128, den: i128) -> Option<Frac>
-        ensures none { IsNone result ↔ ((den ≡ pos 0) ⊎ (unsigned_abs num ≡ 2 ^ 127) ⊎ (unsigned_abs den ≡ 2 ^ 127)) }
+        ensures none { IsNone result ↔ ((den ≡ pos 0) ⊎ (unsigned_abs num ≡ 2 ^ 127) ⊎
+            (unsigned_abs den ≡ 2 ^ 127)) }
         ensures value { IfSome result (λ x. IsRatio x num den) }
     {
         if den == 0 || num == i128::MIN || den == i128::MIN {

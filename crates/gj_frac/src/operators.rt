@@ -30,15 +30,16 @@ fn over_common_denominator(x: Frac, y: Frac) -> Together
     }
 }
 
-/// The exact sum. With g the greatest common divisor of the denominators b and d, the sum of a/b and
-/// c/d can be formed if a (d/g), c (b/g), their sum and (b/g) d are each at most 2^127 - 1 in
+/// The exact sum. With g the greatest common divisor of the denominators b and d, the sum of a/b
+/// and c/d can be formed if a (d/g), c (b/g), their sum and (b/g) d are each at most 2^127 - 1 in
 /// absolute value.
 impl Add for Frac {
     type Output = Frac;
 
     ghost can_add = { FitsSum };
 
-    ghost add_gives = { λ x y z. SameValue (fraction_of z) (sum_of (fraction_of x) (fraction_of y)) };
+    ghost add_gives = { λ x y z. SameValue (fraction_of z) (sum_of (fraction_of x)
+        (fraction_of y)) };
 
     fn add(self, other: Frac) -> Frac {
         let Together {
@@ -57,7 +58,8 @@ impl Sub for Frac {
 
     ghost can_sub = { FitsDifference };
 
-    ghost sub_gives = { λ x y z. SameValue (fraction_of z) (difference_of (fraction_of x) (fraction_of y)) };
+    ghost sub_gives = { λ x y z. SameValue (fraction_of z) (difference_of (fraction_of x)
+        (fraction_of y)) };
 
     fn sub(self, other: Frac) -> Frac {
         let Together {

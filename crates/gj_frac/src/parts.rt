@@ -57,8 +57,10 @@ pub(crate) fn floor_rest(n: i128, d: i128) -> i128
 pub(crate) fn coprime_quotients(n: i128, d: i128) -> (i128, i128)
     requires n_positive { pos 0 <ℤ n }
     requires d_positive { pos 0 <ℤ d }
-    ensures first { (g : ℕ) → IsGcd (unsigned_abs n) (unsigned_abs d) g → result.0 ≡ pos (unsigned_abs n / g) }
-    ensures second { (g : ℕ) → IsGcd (unsigned_abs n) (unsigned_abs d) g → result.1 ≡ pos (unsigned_abs d / g) }
+    ensures first { (g : ℕ) → IsGcd (unsigned_abs n) (unsigned_abs d) g →
+        result.0 ≡ pos (unsigned_abs n / g) }
+    ensures second { (g : ℕ) → IsGcd (unsigned_abs n) (unsigned_abs d) g →
+        result.1 ≡ pos (unsigned_abs d / g) }
 {
     let divisor = common_divisor(n, d);
     (quotient(n, divisor), quotient(d, divisor))

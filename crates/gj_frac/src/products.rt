@@ -25,7 +25,8 @@ impl Mul for Frac {
 
     ghost can_mul = { FitsProduct };
 
-    ghost mul_gives = { λ x y z. SameValue (fraction_of z) (product_of (fraction_of x) (fraction_of y)) };
+    ghost mul_gives = { λ x y z. SameValue (fraction_of z) (product_of (fraction_of x)
+        (fraction_of y)) };
 
     fn mul(self, other: Frac) -> Frac {
         crosswise_coprime_product(
@@ -42,7 +43,8 @@ impl Div for Frac {
 
     ghost can_div = { FitsQuotient };
 
-    ghost div_gives = { λ x y z. SameValue (fraction_of z) (quotient_of (fraction_of x) (fraction_of y)) };
+    ghost div_gives = { λ x y z. SameValue (fraction_of z) (quotient_of (fraction_of x)
+        (fraction_of y)) };
 
     fn div(self, other: Frac) -> Frac {
         crosswise_coprime_product(

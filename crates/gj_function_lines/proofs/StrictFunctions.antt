@@ -1,4 +1,5 @@
--- What is read in strict spelling is the lines of a function in their one spelling, and these are short.
+-- What is read in strict spelling is the lines of a function in their one spelling, and these are
+-- short.
 use Rattle.std.proofs.Common.{◌≡◌, ℕ, zero, suc, ◌*◌, ◌≤◌, pos, List, [], ◌∷◌, ◌++◌, length, flat_map, decimal, sym, ap, subst, ◌∙◌, append_assoc, append-nil, length-append, arith}
 use Rattle.gj_frac.specs.declared.Frac.{Frac}
 use Rattle.gj_frac.specs.Fraction.{IsRatio}

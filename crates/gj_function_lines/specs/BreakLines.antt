@@ -1,4 +1,5 @@
--- The line of a breakpoint, `point X V` or `point X L V R`, in lenient spelling, and in its one spelling (own).
+-- The line of a breakpoint, `point X V` or `point X L V R`, in lenient spelling, and in its one
+-- spelling (own).
 use Rattle.std.specs.Prelude.{ℕ, List, ◌∷◌, codes}
 use Rattle.gj_frac.specs.declared.Frac.{Frac}
 use Rattle.gj_lex.specs.Parts.{LineRule}
@@ -24,6 +25,7 @@ break_at x p = record { x = x; left = p.left; value = p.value; right = p.right }
 abbrev pub spelled_break_rule : LineRule Break
 spelled_break_rule = turned_rule (λ b. break_at b.0 (point_of b.1)) (rule_in Lenient break_form)
 
--- in its one spelling: canonical numbers, one space between words, and one fraction if the three are equal
+-- in its one spelling: canonical numbers, one space between words, and one fraction if the three
+-- are equal
 abbrev pub break_line : Break → List ℕ
 break_line b = line_of break_form (b.x, numbers_of (point_at b))

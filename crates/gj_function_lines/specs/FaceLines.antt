@@ -20,7 +20,8 @@ face_word Upper = codes "upper"
 abbrev pub face_text : Face → List ℕ
 face_text face = face_word face.kind ++ codes " " ++ decimal face.a ++ codes " " ++ decimal face.b
 
--- `cover I J KIND A B`: an interval, the interval to which it is joined, and the face that joins the two
+-- `cover I J KIND A B`: an interval, the interval to which it is joined, and the face that joins
+-- the two
 abbrev pub cover_fields : CoverLine → List Field
 cover_fields l =
     word (codes "cover") ∷ count l.interval ∷ count l.from ∷ word (face_word l.face.kind) ∷ count l.face.a ∷ count l.face.b ∷ []

@@ -1,4 +1,5 @@
--- The lines of a function, each defined once by its fields, and printed in their one spelling (own).
+-- The lines of a function, each defined once by its fields, and printed in their one spelling
+-- (own).
 use Rattle.std.specs.Prelude.{ℕ, pos, ◌≡◌, Bool, ◌&&◌, if◌then◌else◌, List, [], ◌∷◌, ◌++◌, codes, flat_map}
 use Rattle.std.specs.Ordering.{int_eq}
 use Rattle.gj_frac.specs.declared.Frac.{Frac}
@@ -32,8 +33,8 @@ place_form = form_of (λ place. word (codes "f") ∷ fraction place ∷ [])
 abbrev pub place_line : Frac → List ℕ
 place_line place = line_of place_form place
 
--- the numbers of a point: one for its value and both limits; or the limit from the left, the value and the limit from
--- the right
+-- the numbers of a point: one for its value and both limits; or the limit from the left, the value
+-- and the limit from the right
 pub data PointNumbers : Type 0 where
   one : Frac → PointNumbers
   three : Point → PointNumbers

@@ -11,8 +11,8 @@ use crate::points::{PointWords, fractions_in, point_of};
 use gj_lex::{Reason, Spelling, behind_name, fraction_of, split_word};
 use gj_shape::Break;
 
-/// The breakpoint that the line gives in lenient spelling, `point X V` or `point X L V R`, or the rule that it breaks
-/// first: its form, or that its words are numbers. It takes no memory.
+/// The breakpoint that the line gives in lenient spelling, `point X V` or `point X L V R`, or the
+/// rule that it breaks first: its form, or that its words are numbers. It takes no memory.
 pub fn break_in(line: &[u8]) -> Result<Break, Reason>
     ensures found { IfOk result (spelled_break_rule.Spells (word_texts line.now)) }
     ensures broken { IfErr result (spelled_break_rule.Breaks (word_texts line.now)) }
@@ -28,7 +28,8 @@ pub fn break_in(line: &[u8]) -> Result<Break, Reason>
 
 /// The word of the place and the words of the limits and the value, if the line has such words.
 fn break_words(line: &[u8]) -> Option<(&[u8], PointWords<'_>)>
-    ensures found { IfSome result (λ r. word_texts line.now ≡ codes "point" ∷ r.0.now ∷ words_of_point r.1) }
+    ensures found { IfSome result
+        (λ r. word_texts line.now ≡ codes "point" ∷ r.0.now ∷ words_of_point r.1) }
     ensures none { IfNone result ((word : List ℕ) (words : List (List ℕ)) →
         word_texts line.now ≡ codes "point" ∷ word ∷ words → IsOneOrThree words → ⊥) }
 {
@@ -39,7 +40,8 @@ fn break_words(line: &[u8]) -> Option<(&[u8], PointWords<'_>)>
 /// The breakpoint that the words spell.
 fn break_of(place: &[u8], words: PointWords<'_>) -> Option<Break>
     ensures place { IfSome result (λ b. IsFractionWord Spelling.Lenient place.now b.x) }
-    ensures point { IfSome result (λ b. (numbers_rule Spelling.Lenient).Spells (words_of_point words.entry) (point_at b)) }
+    ensures point { IfSome result (λ b. (numbers_rule Spelling.Lenient).Spells
+        (words_of_point words.entry) (point_at b)) }
     ensures none { IfNone result ((b : Break) → IsFractionWord Spelling.Lenient place.now b.x →
         (numbers_rule Spelling.Lenient).Spells (words_of_point words.entry) (point_at b) → ⊥) }
 {

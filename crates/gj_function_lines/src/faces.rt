@@ -8,7 +8,8 @@ use gj_lex::print_count;
 use gj_shape::{CoverLine, Face, FaceKind};
 use std::alloc::AllocError;
 
-/// Appends the lines of covered intervals. An error says that memory ran out; `out` may then have a part of them.
+/// Appends the lines of covered intervals. An error says that memory ran out; `out` may then have a
+/// part of them.
 pub fn push_cover_lines(out: &mut Vec<u8>, lines: &[CoverLine]) -> Result<(), AllocError>
     ensures { OnOk result (out.new.items ≡ out.old.items ++ flat_map cover_line lines.now) }
 {
@@ -32,7 +33,8 @@ fn push_cover_line(out: &mut Vec<u8>, line: CoverLine) -> Result<(), AllocError>
 
 /// Appends the word of a face and its square, and the end of the line.
 fn push_face(out: &mut Vec<u8>, face: Face) -> Result<(), AllocError>
-    ensures { OnOk result (out.new.items ≡ out.old.items ++ bytes_of (word (face_word face.kind) ∷ count face.a ∷ count face.b ∷ [])) }
+    ensures { OnOk result (out.new.items ≡ out.old.items ++ bytes_of
+        (word (face_word face.kind) ∷ count face.a ∷ count face.b ∷ [])) }
 {
     out.extend_from_slice(face_word(face.kind))?;
     out.push(b' ')?;

@@ -9,12 +9,13 @@ use gj_lex::{PartFault, Spelling};
 use gj_shape::Shape;
 use std::alloc::Global;
 
-/// The function whose lines come next in the text, and what follows them: `order Q`, `f F`, and a line `point V` or
-/// `point L V R` for each multiple of 1/q.
+/// The function whose lines come next in the text, and what follows them: `order Q`, `f F`, and a
+/// line `point V` or `point L V R` for each multiple of 1/q.
 ///
-/// The fault is the first line that breaks its rule, with the first rule that it breaks: its form; that its numbers are
-/// such; that the order is from 2 to 1,000; that f is k/q, strictly between 0 and 1; that a value is at most 2^20 in
-/// absolute value, and has a common denominator of at most 2^31 - 1 with all before it.
+/// The fault is the first line that breaks its rule, with the first rule that it breaks: its form;
+/// that its numbers are such; that the order is from 2 to 1,000; that f is k/q, strictly between 0
+/// and 1; that a value is at most 2^20 in absolute value, and has a common denominator of at most
+/// 2^31 - 1 with all before it.
 pub fn function_at(
     alloc: Global,
     spelling: Spelling,

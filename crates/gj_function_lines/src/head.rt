@@ -13,7 +13,8 @@ use gj_shape::GREATEST_ORDER;
 
 /// The order in the next line, from 2 to 1,000, and what follows the line.
 pub(crate) fn order_at(spelling: Spelling, text: &[u8]) -> Result<(u32, &[u8]), PartFault>
-    ensures found { IfOk result (λ r. (line_part spelling (order_rule spelling)).Reads text.now r.0 r.1.now) }
+    ensures found { IfOk result
+        (λ r. (line_part spelling (order_rule spelling)).Reads text.now r.0 r.1.now) }
     ensures fault { IfErr result (IsFaultOf (line_part spelling (order_rule spelling)) text.now) }
 {
     let line = line_at(spelling, text)?;
@@ -68,8 +69,10 @@ pub(crate) fn place_at(
     order: u32,
 ) -> Result<(u32, &[u8]), PartFault>
     requires { IsOrder order }
-    ensures found { IfOk result (λ r. (line_part spelling (place_rule spelling order)).Reads text.now r.0 r.1.now) }
-    ensures fault { IfErr result (IsFaultOf (line_part spelling (place_rule spelling order)) text.now) }
+    ensures found { IfOk result
+        (λ r. (line_part spelling (place_rule spelling order)).Reads text.now r.0 r.1.now) }
+    ensures fault { IfErr result (IsFaultOf (line_part spelling
+        (place_rule spelling order)) text.now) }
 {
     let line = line_at(spelling, text)?;
     match place_in(spelling, line.bytes, order) {

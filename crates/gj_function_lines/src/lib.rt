@@ -1,9 +1,10 @@
 //! The lines of a function: its order, its place and its points.
 //!
-//! `function_at` reads them in either spelling, and tests them in their order; `push_function_lines` prints them in
-//! their one spelling. The form stands in `specs/FunctionGrammar` (what is read, and the first fault) and in
-//! `specs/FunctionLines` (what is printed). `break_in` reads the line of a breakpoint, and
-//! `push_break_line` prints it, `specs/BreakLines`. `push_cover_lines` prints the lines of covered intervals.
+//! `function_at` reads them in either spelling, and tests them in their order;
+//! `push_function_lines` prints them in their one spelling. The form stands in
+//! `specs/FunctionGrammar` (what is read, and the first fault) and in `specs/FunctionLines` (what
+//! is printed). `break_in` reads the line of a breakpoint, and `push_break_line` prints it,
+//! `specs/BreakLines`. `push_cover_lines` prints the lines of covered intervals.
 #![tactic(auto)]
 
 mod breaks;

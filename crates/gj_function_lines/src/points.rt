@@ -60,7 +60,8 @@ fn point_at<'a>(
 ) -> Result<&'a [u8], PartFault>
     ensures found { IfOk result (λ rest. (p : Point) × (points.new ≡ points.old ++ p ∷ [])
         × (line_part spelling (point_rule spelling points.old)).Reads text.now p rest.now) }
-    ensures fault { IfErr result (IsFaultOf (line_part spelling (point_rule spelling points.old)) text.now) }
+    ensures fault { IfErr result (IsFaultOf (line_part spelling
+        (point_rule spelling points.old)) text.now) }
 {
     let line = point_line_at(spelling, text)?;
     match points.push(line.point) {
@@ -69,9 +70,11 @@ fn point_at<'a>(
     }
 }
 
-/// The point of the next line. A line in the form in which it is printed is read in one pass, without the search for words.
+/// The point of the next line. A line in the form in which it is printed is read in one pass,
+/// without the search for words.
 fn point_line_at(spelling: Spelling, text: &[u8]) -> Result<PointLine<'_>, PartFault>
-    ensures found { IfOk result (λ l. IsPointLine spelling text.now l.start.now l.rest.now l.point) }
+    ensures found { IfOk result
+        (λ l. IsPointLine spelling text.now l.start.now l.rest.now l.point) }
     ensures fault { IfErr result (λ e. (points : List Point) →
         IsFaultOf (line_part spelling (point_rule spelling points)) text.now e) }
 {
@@ -161,7 +164,8 @@ fn are_three_same(spelling: Spelling, words: PointWords<'_>) -> bool
 /// The point that the words spell.
 pub(crate) fn point_of(spelling: Spelling, words: PointWords<'_>) -> Option<Point>
     ensures found { IfSome result ((numbers_rule spelling).Spells (words_of_point words.entry)) }
-    ensures none { IfNone result ((p : Point) → (numbers_rule spelling).Spells (words_of_point words.entry) p → ⊥) }
+    ensures none { IfNone result ((p : Point) → (numbers_rule spelling).Spells
+        (words_of_point words.entry) p → ⊥) }
 {
     match words {
         PointWords::One(word) => {

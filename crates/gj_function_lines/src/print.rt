@@ -14,7 +14,8 @@ use gj_lex::{print_frac, push_count_line};
 use gj_shape::{Break, Point, Shape};
 use std::alloc::{AllocError, Global};
 
-/// Appends the line of a word and a fraction. An error says that memory ran out; `out` may then have a part of it.
+/// Appends the line of a word and a fraction. An error says that memory ran out; `out` may then
+/// have a part of it.
 pub fn push_fraction_line(
     alloc: Global,
     out: &mut Vec<u8>,
@@ -29,7 +30,8 @@ pub fn push_fraction_line(
     Ok(())
 }
 
-/// Appends the lines of a function: `order Q`, `f F`, and a line `point V` or `point L V R` for each multiple of 1/q.
+/// Appends the lines of a function: `order Q`, `f F`, and a line `point V` or `point L V R` for
+/// each multiple of 1/q.
 ///
 /// An error says that memory ran out; `out` may then have a part of the lines.
 pub fn push_function_lines(
@@ -46,13 +48,15 @@ pub fn push_function_lines(
 
 /// Appends the lines of an order and a place.
 fn push_head(alloc: Global, out: &mut Vec<u8>, order: u32, place: Frac) -> Result<(), AllocError>
-    ensures { OnOk result (out.new.items ≡ out.old.items ++ (order_line order ++ place_line place)) }
+    ensures { OnOk result (out.new.items ≡ out.old.items ++
+        (order_line order ++ place_line place)) }
 {
     push_order_line(out, order)?;
     push_fraction_line(alloc, out, b"f ", place)
 }
 
-/// Appends the line `order Q` of an order. An error says that memory ran out; `out` may then have a part of it.
+/// Appends the line `order Q` of an order. An error says that memory ran out; `out` may then have a
+/// part of it.
 pub fn push_order_line(out: &mut Vec<u8>, order: u32) -> Result<(), AllocError>
     ensures { OnOk result (out.new.items ≡ out.old.items ++ order_line order) }
 {
@@ -82,8 +86,8 @@ fn push_line_at(alloc: Global, out: &mut Vec<u8>, shape: &Shape, i: u32) -> Resu
     Ok(())
 }
 
-/// Appends the one fraction of the point at i/q, or the three if they are not equal: the rest of its line but for the line
-/// feed. One fraction is made if the limits are the value.
+/// Appends the one fraction of the point at i/q, or the three if they are not equal: the rest of
+/// its line but for the line feed. One fraction is made if the limits are the value.
 fn push_point_at(alloc: Global, out: &mut Vec<u8>, shape: &Shape, i: u32) -> Result<(), AllocError>
     requires { i < shape.now.order }
     ensures { OnOk result ((p : Point) × IsPointAt shape.now i p
@@ -98,7 +102,8 @@ fn push_point_at(alloc: Global, out: &mut Vec<u8>, shape: &Shape, i: u32) -> Res
 /// Whether the limits at i/q are the value.
 fn is_even_at(shape: &Shape, i: u32) -> bool
     requires { i < shape.now.order }
-    ensures { IsTrue result → (at shape.now.left i ≡ at shape.now.value i) × (at shape.now.right i ≡ at shape.now.value i) }
+    ensures { IsTrue result → (at shape.now.left i ≡ at shape.now.value i) ×
+        (at shape.now.right i ≡ at shape.now.value i) }
 {
     let value = shape.value_num(i);
     shape.left_num(i) == value && shape.right_num(i) == value
@@ -116,7 +121,8 @@ fn point_at(shape: &Shape, i: u32) -> Point
     }
 }
 
-/// Appends the line of a breakpoint, `point X V`, or `point X L V R` if the limits are not the value.
+/// Appends the line of a breakpoint, `point X V`, or `point X L V R` if the limits are not the
+/// value.
 ///
 /// An error says that memory ran out; `out` may then have a part of it.
 pub fn push_break_line(alloc: Global, out: &mut Vec<u8>, point: Break) -> Result<(), AllocError>
@@ -141,9 +147,11 @@ fn limits_of(point: Break) -> Point
     }
 }
 
-/// Appends the one fraction of a point, or the three if they are not equal: the rest of its line but for the line feed.
+/// Appends the one fraction of a point, or the three if they are not equal: the rest of its line
+/// but for the line feed.
 fn push_point(alloc: Global, out: &mut Vec<u8>, point: Point) -> Result<(), AllocError>
-    ensures { OnOk result (out.new.items ++ 10 ∷ [] ≡ out.old.items ++ bytes_of (number_fields (numbers_of point))) }
+    ensures { OnOk result (out.new.items ++ 10 ∷ [] ≡ out.old.items ++ bytes_of
+        (number_fields (numbers_of point))) }
 {
     if has_no_jump(point) {
         return print_frac(alloc, out, point.value);

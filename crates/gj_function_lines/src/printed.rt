@@ -33,10 +33,11 @@ pub(crate) fn printed_point(text: &[u8]) -> Option<(Point, &[u8])>
     }
 }
 
-/// The point with this limit from the left whose value and limit from the right follow in the text, if the three are not the same, and
-/// what follows its line.
+/// The point with this limit from the left whose value and limit from the right follow in the text,
+/// if the three are not the same, and what follows its line.
 fn printed_jump(left: Frac, text: &[u8]) -> Option<(Point, &[u8])>
-    ensures { IfSome result (λ r. codes "point " ++ (fraction_text left ++ text.now) ≡ point_line r.0 ++ r.1.now) }
+    ensures { IfSome result (λ r. codes "point " ++
+        (fraction_text left ++ text.now) ≡ point_line r.0 ++ r.1.now) }
 {
     let (value, rest) = printed_fraction(behind_byte(text, b' ')?)?;
     let (right, rest) = printed_fraction(behind_byte(rest, b' ')?)?;
@@ -95,7 +96,8 @@ fn printed_numerator(text: &[u8]) -> Option<(i64, &[u8])>
     Some((-(size as i64), rest))
 }
 
-/// The denominator with whose printed text the text begins, and what follows that: 1 if no `/` stands there.
+/// The denominator with whose printed text the text begins, and what follows that: 1 if no `/`
+/// stands there.
 fn printed_denominator(text: &[u8]) -> Option<(u32, &[u8])>
     ensures some { IfSome result (λ r. 0 < r.0) }
     ensures printed { IfSome result (λ r. text.now ≡ denominator_text r.0 ++ r.1.now) }
@@ -133,14 +135,16 @@ fn printed_number(text: &[u8]) -> Option<(u64, &[u8])>
 
 /// Whether there is a digit, and no zero before others.
 fn is_canonical(digits: &[u8]) -> bool
-    ensures { IsTrue result → (0 < length digits.now) × (slice_index digits.now 0 ≡ 48 → length digits.now ≡ 1) }
+    ensures { IsTrue result → (0 < length digits.now) × (slice_index digits.now 0 ≡ 48 →
+        length digits.now ≡ 1) }
 {
     digits.len() == 1 || (!digits.is_empty() && digits[0] != b'0')
 }
 
 /// Whether a digit stands at this place of the text.
 fn has_digit_at(text: &[u8], place: usize) -> bool
-    ensures { IsTrue result → (place < length text.now) × IsAsciiDigit (slice_index text.now place) }
+    ensures { IsTrue result → (place < length text.now) × IsAsciiDigit
+        (slice_index text.now place) }
 {
     place < text.len() && text[place].is_ascii_digit()
 }

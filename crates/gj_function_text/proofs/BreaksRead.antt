@@ -1,4 +1,5 @@
--- How the lines of breakpoints that were read make the lines of the text, and a fault of theirs one of the text.
+-- How the lines of breakpoints that were read make the lines of the text, and a fault of theirs one
+-- of the text.
 use Rattle.std.proofs.Common.{◌≡◌, ◌⊎◌, inl, inr, ℕ, List, length, refl}
 use Rattle.gj_lex.specs.declared.fault.PartFault.{PartFault}
 use Rattle.gj_lex.specs.declared.spelling.Spelling.TheVariants.{Lenient}

@@ -1,4 +1,5 @@
--- A text begins with the function text of one function at most, and has no fault then; else it has one first fault.
+-- A text begins with the function text of one function at most, and has no fault then; else it has
+-- one first fault.
 use Rattle.std.proofs.Common.{◌≡◌, ℕ, List, codes}
 use Rattle.gj_lex.specs.declared.reason.Reason.{Reason}
 use Rattle.gj_lex.specs.declared.spelling.Spelling.TheVariants.{Lenient}

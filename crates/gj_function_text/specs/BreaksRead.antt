@@ -16,7 +16,8 @@ refusal_of fault.Large left = part.Refused left reason.Large
 refusal_of fault.Fine left = part.Refused left reason.Fine
 refusal_of (fault.Memory e) left = part.Memory e
 
--- the refusal of the line `end`, with so many bytes left, if there is no function: its fractions are too fine
+-- the refusal of the line `end`, with so many bytes left, if there is no function: its fractions
+-- are too fine
 abbrev pub end_refusal : ShapeFault → ℕ → PartFault
 end_refusal (shape.Memory e) left = part.Memory e
 end_refusal shape.Order left = part.Refused left reason.Fine

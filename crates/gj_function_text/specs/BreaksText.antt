@@ -1,5 +1,5 @@
--- Functions by their breakpoints, in lenient spelling (own): the line `f F`, a line `point X V` or `point X L V R` for each
--- breakpoint, and the line `end`.
+-- Functions by their breakpoints, in lenient spelling (own): the line `f F`, a line `point X V` or
+-- `point X L V R` for each breakpoint, and the line `end`.
 use Rattle.std.specs.Prelude.{ℕ, ◌≡◌, ◌≢◌, ◌⊎◌, ◌≤◌, List, [], ◌∷◌, codes, unsigned_abs}
 use Rattle.std.proofs.Common.{inl, inr}
 use Rattle.gj_frac.specs.Fraction.{denominator, IsInside}

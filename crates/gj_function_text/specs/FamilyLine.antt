@@ -62,7 +62,8 @@ IsReasonOf fault.BadF e = e ≡ reason.BadF
 IsReasonOf fault.NoSlopes e = e ≡ reason.Slopes
 IsReasonOf (fault.Memory error) e = ⊥
 
--- the line names a function of a family, or is refused: its signs are none, or its family has no function
+-- the line names a function of a family, or is refused: its signs are none, or its family has no
+-- function
 abbrev pub family_rule : LineRule FunctionData
 family_rule =
     made_rule (λ family g. IsOfFamily family g × IsWithinBounds g)

@@ -1,4 +1,5 @@
--- The first fault of a text that is no function text: its line and its reason; and what readers answer (own).
+-- The first fault of a text that is no function text: its line and its reason; and what readers
+-- answer (own).
 use Rattle.std.specs.Prelude.{ℕ, List}
 use Rattle.gj_lex.specs.declared.reason.Reason.{Reason}
 use Rattle.gj_lex.specs.Parts.{IsFirstFaultIn}

@@ -1,5 +1,5 @@
--- Function text: a function by its points, as one of a family or by its breakpoints, in lenient spelling, and its one
--- canonical text (own).
+-- Function text: a function by its points, as one of a family or by its breakpoints, in lenient
+-- spelling, and its one canonical text (own).
 use Rattle.std.specs.Prelude.{ℕ, ◌≡◌, List, [], ◌∷◌, ◌++◌, codes, flat_map}
 use Rattle.gj_frac.specs.declared.Frac.{Frac}
 use Rattle.gj_lex.specs.Parts.{Part, words_rule, line_part, framed_part, then_part, where_part, end_part, BeginsWithLine, BeginsWithWord}
@@ -51,15 +51,15 @@ IsFunctionText text f rest = function_text.Reads text f rest
 abbrev pub IsWholeFunctionText : List ℕ → FunctionData → Type 0
 IsWholeFunctionText text f = (rest : List ℕ) × whole_function_text.Reads text f rest
 
--- the text is the canonical text of f: one space between words, each line ended by LF, canonical numbers, and one
--- fraction if the three are equal
+-- the text is the canonical text of f: one space between words, each line ended by LF, canonical
+-- numbers, and one fraction if the three are equal
 pub record IsCanonicalText (text : List ℕ) (f : FunctionData) : Type 0 where
   pub lines : List ℕ
   pub are_lines : AreFunctionLines f lines
   pub spelled : text ≡ line (codes "gj-function 1") ++ lines ++ line (codes "end")
 
--- the canonical text by breakpoints: that of f and of the breakpoints, each line ended by LF, with one space between words,
--- canonical numbers, and one fraction if the three are equal
+-- the canonical text by breakpoints: that of f and of the breakpoints, each line ended by LF, with
+-- one space between words, canonical numbers, and one fraction if the three are equal
 abbrev pub canonical_breaks_text : Frac → List Break → List ℕ
 canonical_breaks_text place breaks =
     line (codes "gj-function 2") ++ place_line place ++ flat_map break_line breaks ++ line (codes "end")

@@ -24,8 +24,8 @@ use Rattle.gj_function_text.specs.FunctionText.{title_words, breaks_title_words}
 abbrev pub SpellPoint : List (List ℕ) → Point → Type 0
 SpellPoint words p = (n : PointNumbers) × Spell Lenient point_form words n × (p ≡ point_of n)
 
--- the text has the lines `gj-function 1`, `order Q`, `f F`, a line `point V` or `point L V R` for each point of f, a function
--- within the bounds, and `end`, and the rest follows
+-- the text has the lines `gj-function 1`, `order Q`, `f F`, a line `point V` or `point L V R` for
+-- each point of f, a function within the bounds, and `end`, and the rest follows
 pub record HasLinesOfFunction (text : List ℕ) (f : FunctionData) (rest : List ℕ) : Type 0 where
   pub within : IsWithinBounds f
   pub order : List (List ℕ)
@@ -42,7 +42,8 @@ pub record HasLinesOfFunction (text : List ℕ) (f : FunctionData) (rest : List 
 
 -- ---- functions of families
 
--- the text has the lines `gj-function 1`, one that names the function f of a family, and `end`, and the rest follows
+-- the text has the lines `gj-function 1`, one that names the function f of a family, and `end`, and
+-- the rest follows
 pub record HasLinesOfFamily (text : List ℕ) (f : FunctionData) (rest : List ℕ) : Type 0 where
   pub words : List (List ℕ)
   pub family : Family
@@ -57,9 +58,9 @@ pub record HasLinesOfFamily (text : List ℕ) (f : FunctionData) (rest : List �
 abbrev pub SpellBreak : List (List ℕ) → Break → Type 0
 SpellBreak words b = (t : Frac × PointNumbers) × Spell Lenient break_form words t × (b ≡ break_at t.0 (point_of t.1))
 
--- the text has the lines `gj-function 2`, `f F` with F between 0 and 1, a line `point X V` or `point X L V R` for each of one
--- or more breakpoints, and `end`, and the rest follows; f is the function of the breakpoints, of order the least common multiple
--- of all denominators
+-- the text has the lines `gj-function 2`, `f F` with F between 0 and 1, a line `point X V` or
+-- `point X L V R` for each of one or more breakpoints, and `end`, and the rest follows; f is the
+-- function of the breakpoints, of order the least common multiple of all denominators
 pub record HasLinesOfBreaks (text : List ℕ) (f : FunctionData) (rest : List ℕ) : Type 0 where
   pub place : List (List ℕ)
   pub points : List (List (List ℕ))

@@ -9,8 +9,8 @@ use gj_lex::{PartFault, Spelling, begins_with_word};
 use gj_shape::Shape;
 use std::alloc::Global;
 
-/// The function that the next lines tell, and what follows them: one line, if it begins with `family`, and else the
-/// lines of the order, of f and of the points.
+/// The function that the next lines tell, and what follows them: one line, if it begins with
+/// `family`, and else the lines of the order, of f and of the points.
 pub(crate) fn body_at(alloc: Global, text: &[u8]) -> Result<(Shape, &[u8]), PartFault>
     ensures found { IfOk result (λ r. body_part.Reads text.now r.0 r.1.now) }
     ensures fault { IfErr result (IsFaultOf body_part text.now) }

@@ -16,8 +16,8 @@ use gj_lex::{
 use gj_shape::{BreakFault, Breaks, GREATEST_ORDER, Shape, ShapeFault};
 use std::alloc::Global;
 
-/// The function that the next lines tell by its breakpoints, and what follows their line `end`: `f F`, and a line
-/// `point X V` or `point X L V R` for each breakpoint.
+/// The function that the next lines tell by its breakpoints, and what follows their line `end`: `f
+/// F`, and a line `point X V` or `point X L V R` for each breakpoint.
 pub(crate) fn breaks_at(alloc: Global, text: &[u8]) -> Result<(Shape, &[u8]), PartFault>
     ensures found { IfOk result (λ r. breaks_part.Reads text.now r.0 r.1.now) }
     ensures fault { IfErr result (IsFaultOf breaks_part text.now) }
@@ -28,7 +28,8 @@ pub(crate) fn breaks_at(alloc: Global, text: &[u8]) -> Result<(Shape, &[u8]), Pa
 
 /// f in the next line, and what follows the line.
 fn start_at(alloc: Global, text: &[u8]) -> Result<(Breaks, &[u8]), PartFault>
-    ensures found { IfOk result (λ r. (line_part Spelling.Lenient start_rule).Reads text.now r.0 r.1.now) }
+    ensures found { IfOk result
+        (λ r. (line_part Spelling.Lenient start_rule).Reads text.now r.0 r.1.now) }
     ensures fault { IfErr result (IsFaultOf (line_part Spelling.Lenient start_rule) text.now) }
 {
     let line = line_at(Spelling::Lenient, text)?;
@@ -74,7 +75,8 @@ fn is_coarse(x: Frac) -> bool
     x.den().unsigned_abs() <= u128::from(GREATEST_ORDER)
 }
 
-/// The function whose further breakpoints the next lines tell, up to their line `end`, and what follows that line.
+/// The function whose further breakpoints the next lines tell, up to their line `end`, and what
+/// follows that line.
 fn more_breaks_at(alloc: Global, text: &[u8], first: Breaks) -> Result<(Shape, &[u8]), PartFault>
     ensures found { IfOk result (λ r. (loop_part next_break first).Reads text.now r.0 r.1.now) }
     ensures fault { IfErr result (IsFaultOf (loop_part next_break first) text.now) }
@@ -96,8 +98,10 @@ fn ends_here(text: &[u8], breaks: &Breaks) -> bool
 
 /// Reads the breakpoint of the next line to those before, and gives what follows the line.
 fn break_at<'a>(text: &'a [u8], breaks: &mut Breaks) -> Result<&'a [u8], PartFault>
-    ensures found { IfOk result (λ rest. (line_part Spelling.Lenient (break_rule breaks.old)).Reads text.now breaks.new rest.now) }
-    ensures fault { IfErr result (IsFaultOf (line_part Spelling.Lenient (break_rule breaks.old)) text.now) }
+    ensures found { IfOk result (λ rest. (line_part Spelling.Lenient
+        (break_rule breaks.old)).Reads text.now breaks.new rest.now) }
+    ensures fault { IfErr result (IsFaultOf (line_part Spelling.Lenient
+        (break_rule breaks.old)) text.now) }
 {
     let line = line_at(Spelling::Lenient, text)?;
     let point = match break_in(line.bytes) {
@@ -130,8 +134,10 @@ fn last_at<'a>(
     breaks: &Breaks,
 ) -> Result<(Shape, &'a [u8]), PartFault>
     requires some { breaks.now.breaks ≢ [] }
-    ensures found { IfOk result (λ r. (line_part Spelling.Lenient (end_rule breaks.now)).Reads text.now r.0 r.1.now) }
-    ensures fault { IfErr result (IsFaultOf (line_part Spelling.Lenient (end_rule breaks.now)) text.now) }
+    ensures found { IfOk result (λ r. (line_part Spelling.Lenient
+        (end_rule breaks.now)).Reads text.now r.0 r.1.now) }
+    ensures fault { IfErr result (IsFaultOf (line_part Spelling.Lenient
+        (end_rule breaks.now)) text.now) }
 {
     let line = line_at(Spelling::Lenient, text)?;
     if !has_words(line.bytes, b"end") {

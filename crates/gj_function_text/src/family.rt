@@ -120,7 +120,8 @@ fn half_of(alloc: Global, word: &[u8]) -> Result<Shape, LineFault>
 /// The function with two slopes whose place of f and whose signs the words spell.
 fn two_slope_of(alloc: Global, count: &[u8], word: &[u8]) -> Result<Shape, LineFault>
     ensures found { IfOk result (family_rule.Spells (two_slope_words count.now word.now)) }
-    ensures broken { IfErr result (IsRefusedFor (family_rule.Breaks (two_slope_words count.now word.now))) }
+    ensures broken { IfErr result (IsRefusedFor (family_rule.Breaks
+        (two_slope_words count.now word.now))) }
 {
     if !is_count(Spelling::Lenient, count) {
         return Err(LineFault::Broken(Reason::Number));

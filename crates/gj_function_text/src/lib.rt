@@ -1,10 +1,12 @@
 //! Function text: read in any of its spellings, and printed in one.
 //!
-//! `read_function` reads a function text at the front of bytes, `read_whole_function` one after which nothing may follow, and
-//! `write_function` prints the canonical text, `write_breaks` that of breakpoints of a continuous
-//! function, and `write_breaks_with_limits` that of any breakpoints. The form stands in `specs/FunctionText.antt` as a part made of lines: the
-//! title, the lines of a function or one line that names a function of a family, and `end`. `read_rule` reads a rule text at the
-//! front of bytes, `specs/RuleText.antt`, and `begins_as_rule` tells which of the two forms a text is to be read in.
+//! `read_function` reads a function text at the front of bytes, `read_whole_function` one after
+//! which nothing may follow, and `write_function` prints the canonical text, `write_breaks` that of
+//! breakpoints of a continuous function, and `write_breaks_with_limits` that of any breakpoints.
+//! The form stands in `specs/FunctionText.antt` as a part made of lines: the title, the lines of a
+//! function or one line that names a function of a family, and `end`. `read_rule` reads a rule text
+//! at the front of bytes, `specs/RuleText.antt`, and `begins_as_rule` tells which of the two forms
+//! a text is to be read in.
 #![tactic(auto)]
 
 mod body;

@@ -12,13 +12,16 @@ use gj_lex::{PartFault, Spelling, begins_with_line, end_at, line_number, words_a
 use gj_shape::Shape;
 use std::alloc::Global;
 
-/// The function whose function text is at the front of the bytes, and the number of bytes up to and with the line `end`.
+/// The function whose function text is at the front of the bytes, and the number of bytes up to and
+/// with the line `end`.
 ///
-/// Between the lines `gj-function 1` and `end` the function is told by the lines of its order, of its f and of its points, or by
-/// one line `family gmic F`, `family half F` or `family two-slope K SIGNS`. Between `gj-function 2` and `end` it is told by its f
-/// and its breakpoints, a line `point X V` or `point X L V R` for each.
+/// Between the lines `gj-function 1` and `end` the function is told by the lines of its order, of
+/// its f and of its points, or by one line `family gmic F`, `family half F` or `family two-slope K
+/// SIGNS`. Between `gj-function 2` and `end` it is told by its f and its breakpoints, a line `point
+/// X V` or `point X L V R` for each.
 ///
-/// `Refused` has the line and the reason of the first fault, and comes exactly if no first lines of the bytes are a function text.
+/// `Refused` has the line and the reason of the first fault, and comes exactly if no first lines of
+/// the bytes are a function text.
 ///
 /// ```text
 /// let bytes = b"# a comment\ngj-function 1\norder 2\nf 0.5\npoint 0\npoint +1\nend\n";
@@ -27,7 +30,8 @@ use std::alloc::Global;
 /// ```
 pub fn read_function(alloc: Global, bytes: &[u8]) -> Result<(Shape, usize), TextFault>
     // What is read is spelled so.
-    ensures found { IfOk result (λ r. (r.1 ≤ length bytes.now) × IsFunctionText bytes.now r.0 (drop r.1 bytes.now)) }
+    ensures found { IfOk result (λ r. (r.1 ≤ length bytes.now) ×
+        IsFunctionText bytes.now r.0 (drop r.1 bytes.now)) }
     // What is spelled so is read, unless there is no memory.
     ensures only { (f : FunctionData) (rest : List ℕ) → IsFunctionText bytes.now f rest →
         MatchResult result (λ r. (r.0 ≡ f) × (drop r.1 bytes.now ≡ rest)) IsMemoryFault }
@@ -43,13 +47,15 @@ pub fn read_function(alloc: Global, bytes: &[u8]) -> Result<(Shape, usize), Text
     }
 }
 
-/// The function whose function text the bytes are, if only lines that are skipped follow its line `end`.
+/// The function whose function text the bytes are, if only lines that are skipped follow its line
+/// `end`.
 ///
-/// `Refused` has the line and the reason of the first fault; a line that is not skipped behind the line `end` is at
-/// fault as `tail`.
+/// `Refused` has the line and the reason of the first fault; a line that is not skipped behind the
+/// line `end` is at fault as `tail`.
 pub fn read_whole_function(alloc: Global, bytes: &[u8]) -> Result<Shape, TextFault>
     ensures found { IfOk result (IsWholeFunctionText bytes.now) }
-    ensures only { (f : FunctionData) → IsWholeFunctionText bytes.now f → MatchResult result (λ shape. shape ≡ f) IsMemoryFault }
+    ensures only { (f : FunctionData) → IsWholeFunctionText bytes.now f →
+        MatchResult result (λ shape. shape ≡ f) IsMemoryFault }
     ensures refused { IfErr result (NamesFirstFaultOfWhole bytes.now) }
 {
     match whole_function_text_at(alloc, bytes) {
@@ -83,7 +89,8 @@ fn function_text_at(alloc: Global, text: &[u8]) -> Result<(Shape, &[u8]), PartFa
     }
 }
 
-/// The function whose text by points, or as one of a family, is at the front, and what follows the line `end`.
+/// The function whose text by points, or as one of a family, is at the front, and what follows the
+/// line `end`.
 fn points_text_at(alloc: Global, text: &[u8]) -> Result<(Shape, &[u8]), PartFault>
     ensures found { IfOk result (λ r. points_text.Reads text.now r.0 r.1.now) }
     ensures fault { IfErr result (IsFaultOf points_text text.now) }

@@ -5,22 +5,24 @@ ghost use Rattle.gj_function_text.specs.RuleText.{rule_text, IsRuleText, IsFirst
 
 use gj_lex::{PartFault, Reason, Spelling, begins_with_word, line_number, words_at};
 
-/// Whether the text begins as a rule text: whether the first word of its first line that is not skipped is `gj-rule`.
-/// It takes no memory.
+/// Whether the text begins as a rule text: whether the first word of its first line that is not
+/// skipped is `gj-rule`. It takes no memory.
 pub fn begins_as_rule(bytes: &[u8]) -> bool
     ensures { IsTrue result ↔ BeginsAsRule bytes.now }
 {
     begins_with_word(Spelling::Lenient, bytes, b"gj-rule")
 }
 
-/// The number of bytes up to and with the line `end` of the rule text at the front of the bytes: the lines `gj-rule 1`,
-/// `gmic` and `end`. It takes no memory.
+/// The number of bytes up to and with the line `end` of the rule text at the front of the bytes:
+/// the lines `gj-rule 1`, `gmic` and `end`. It takes no memory.
 ///
-/// The error is the line and the reason of the first fault, and comes exactly if no first lines of the bytes are a rule
-/// text. Lines are numbered from 1; if the bytes end too early, the number is that of their LF and one.
+/// The error is the line and the reason of the first fault, and comes exactly if no first lines of
+/// the bytes are a rule text. Lines are numbered from 1; if the bytes end too early, the number is
+/// that of their LF and one.
 pub fn read_rule(bytes: &[u8]) -> Result<usize, (u64, Reason)>
     // What is read is spelled so.
-    ensures found { IfOk result (λ n. (n ≤ length bytes.now) × IsRuleText bytes.now (drop n bytes.now)) }
+    ensures found { IfOk result (λ n. (n ≤ length bytes.now) ×
+        IsRuleText bytes.now (drop n bytes.now)) }
     // What is spelled so is read.
     ensures only { (rest : List ℕ) → IsRuleText bytes.now rest →
         MatchResult result (λ n. drop n bytes.now ≡ rest) (λ e. ⊥) }

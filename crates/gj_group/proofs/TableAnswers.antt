@@ -1,5 +1,5 @@
 -- What the answers say of the table.
-use Rattle.std.proofs.Common.{◌≡◌, ◌≢◌, ℕ, ◌+◌, ◌*◌, ◌<◌, ◌≤◌, ◌<ℤ◌, ◌↔◌, ℤ, pos, List, Option, None, Some, length, get_or, Result, Ok, Err, refl, sym, ap, subst, subst₂, ◌∙◌, arith}
+use Rattle.std.proofs.Common.{◌≡◌, ℕ, ◌*◌, ◌<ℤ◌, ◌↔◌, ℤ, pos, List, Option, None, Some, length, Result, Ok, Err, refl, sym, ap, subst, subst₂, ◌∙◌, arith}
 use Rattle.std.specs.Prelude.{All, Any, IsErr, IsErrOf}
 use Rattle.std.specs.Result.{IsErrAnd}
 use Rattle.std.specs.declared.alloc.AllocError.{AllocError}
@@ -8,7 +8,7 @@ use Rattle.std.proofs.lemmas.Int.{ints}
 use Rattle.std.proofs.lemmas.List.{get_or_default}
 use Rattle.gj_frac.specs.Fraction.{Fits}
 use Rattle.gj_shape.proofs.AtLemmas.{at_below}
-use Rattle.gj_shape.specs.Elimination.{KeptRow, Solution, elimination, kernel, Passes}
+use Rattle.gj_shape.specs.Elimination.{Solution, elimination, kernel, Passes}
 use Rattle.gj_shape.specs.FunctionData.{FunctionData, IsWithinBounds, at}
 use Rattle.gj_shape.specs.Perturbation.{IsGreatestSize, AreHalvesOf, AreHalvesInBounds}
 use Rattle.gj_shape.specs.Table.{table, IsMinimal, IsMinimalOnGrid}
@@ -117,7 +117,8 @@ kernels_same n rows xs ys g h =
 
 -- ---- what the call settles
 
--- the function is within the limits and minimal, and these are the columns and the rows of its table
+-- the function is within the limits and minimal, and these are the columns and the rows of its
+-- table
 pub record IsAsked (f : FunctionData) (columns : ℕ) (all : List (List ℤ)) : Type 0 where
   pub within : IsWithinBounds f
   pub minimal : IsMinimal f
@@ -225,10 +226,6 @@ wide_split (Err z) (split.Memory m) is_err h e = absurd cc
 pub no_wide : {T : Type 0} (r : Result T GroupFault) (x : AllocError) → IsErr r → IsErrAnd r (λ e. e ≡ Memory x) → IsErrOf r Wide → ⊥
 no_wide (Ok v) x is_err h e = absurd cc
 no_wide (Err z) x is_err h e = absurd cc
-
-pub wide_asked : (f : FunctionData) (columns : ℕ) (all : List (List ℤ)) → IsAsked f columns all → AreRowsTooWide columns all → IsTooWideGroup f
-wide_asked f columns all asked wide =
-    rows_too_wide (subst₂ (λ (n : ℕ) (rows : List (List ℤ)). AreRowsTooWide n rows) asked.columns_is asked.all_is wide)
 
 pub some_is_not_none : (v : Violation) → Some v ≡ None → ⊥
 some_is_not_none v e = cc

@@ -1,5 +1,6 @@
--- What is decided of the table of a function's own order, and when the numbers are too wide: Gomory's cyclic group problem (Gomory and
--- Johnson 1972; the halves are those of Equivariant Perturbation I).
+-- What is decided of the table of a function's own order, and when the numbers are too wide:
+-- Gomory's cyclic group problem (Gomory and Johnson 1972; the halves are those of Equivariant
+-- Perturbation I).
 use Rattle.std.specs.Prelude.{ℕ, ℤ, pos, ◌≡◌, ◌*◌, List, Some}
 use Rattle.gj_shape.specs.Elimination.{Solution, elimination, kernel}
 use Rattle.gj_shape.specs.Extreme.{IsExtremeTable}
@@ -26,15 +27,16 @@ greatest_group_order = 120
 abbrev pub IsExtremeOnOwnGrid : FunctionData → Type 0
 IsExtremeOnOwnGrid f = IsExtremeTable (table f 1) (f.order * 1) (f.place * 1) (f.scale * 1)
 
--- these are two different minimal tables of the function's order, over this scale, that average to its own
+-- these are two different minimal tables of the function's order, over this scale, that average to
+-- its own
 pub record SplitTable (f : FunctionData) (h : Halves) : Type 0 where
   pub factor : ℕ
   pub order : h.order ≡ f.order
   pub scale : h.scale ≡ pos (factor * (f.scale * 1))
   pub halves : AreDifferentHalves (table f 1) (f.order * 1) (f.place * 1) (f.scale * 1) factor (at h.first) (at h.second)
 
--- the table is not minimal, and the function breaks the definition as the violation shows; or it is extreme; or it is minimal and not
--- extreme, as the halves show
+-- the table is not minimal, and the function breaks the definition as the violation shows; or it is
+-- extreme; or it is minimal and not extreme, as the halves show
 abbrev pub SaysOfTable : FunctionData → GroupAnswer → Type 0
 SaysOfTable f (NotMinimal v) = (IsMinimalOnGrid f 1 → ⊥) × ShowsViolation f v
 SaysOfTable f Extreme = IsExtremeOnOwnGrid f

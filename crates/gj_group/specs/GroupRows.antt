@@ -1,6 +1,6 @@
--- The linear system for the entries of a perturbation of a table, one column for each entry: Gomory's cyclic group problem, by
--- the table alone (Gomory and Johnson 1972).
-use Rattle.std.specs.Prelude.{ℕ, ℤ, pos, ◌≡◌, ◌+◌, ◌-◌, ◌%◌, ◌==◌, ◌+ℤ◌, ◌-ℤ◌, Bool, if◌then◌else◌, List, ◌∷◌, map, flat_map, filter, length, All}
+-- The linear system for the entries of a perturbation of a table, one column for each entry:
+-- Gomory's cyclic group problem, by the table alone (Gomory and Johnson 1972).
+use Rattle.std.specs.Prelude.{ℕ, ℤ, pos, ◌+◌, ◌-◌, ◌%◌, ◌==◌, ◌+ℤ◌, ◌-ℤ◌, Bool, if◌then◌else◌, List, ◌∷◌, map, flat_map, filter, All}
 use Rattle.std.specs.List.{range_with_len}
 use Rattle.std.specs.Ordering.{int_eq}
 use Rattle.gj_theory.specs.TriangularRows.{Solves}
@@ -25,7 +25,8 @@ is_tight_pair t a b = int_eq (t a +ℤ t b) (t (a + b))
 abbrev pub sum_rows_with : (ℕ → ℤ) → ℕ → ℕ → List (List ℤ)
 sum_rows_with t n a = map (sum_row n a) (filter (is_tight_pair t a) (range_with_len a (n - a)))
 
--- the rows in their order: the entries at 0 and at k, and the tight pairs (a, b) with 1 ≤ a ≤ b < n, a ascending, inside it b
+-- the rows in their order: the entries at 0 and at k, and the tight pairs (a, b) with 1 ≤ a ≤ b <
+-- n, a ascending, inside it b
 abbrev pub group_rows : (ℕ → ℤ) → ℕ → ℕ → List (List ℤ)
 group_rows t n k = entry_row n 0 ∷ entry_row n k ∷ flat_map (sum_rows_with t n) (range_with_len 1 (n - 1))
 

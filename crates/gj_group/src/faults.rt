@@ -9,8 +9,8 @@ use thiserror::Error;
 /// Why it is not known whether a minimal table is extreme.
 #[derive(Debug, Drop, Error)]
 pub enum GroupFault {
-    /// A number of the elimination or of its kernel passes 2^127 - 1 in absolute value and residues do not help, or the scale of the
-    /// halves passes 2^124.
+    /// A number of the elimination or of its kernel passes 2^127 - 1 in absolute value and residues
+    /// do not help, or the scale of the halves passes 2^124.
     #[error("a number of the decision is too wide")]
     Wide,
     /// There was no memory.

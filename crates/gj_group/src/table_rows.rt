@@ -22,8 +22,8 @@ pub(crate) enum Upcoming {
     Pair(usize, usize),
 }
 
-/// The rows of the values of a function at the multiples of 1/q: those of the entries at 0 and at f, and those of the tight pairs.
-/// Contracts see all of them, and those that are still to come.
+/// The rows of the values of a function at the multiples of 1/q: those of the entries at 0 and at
+/// f, and those of the tight pairs. Contracts see all of them, and those that are still to come.
 #[derive(Drop)]
 pub struct GroupRows {
     values: Vec<i64>,
@@ -46,7 +46,8 @@ impl Model for GroupRows {
 impl GroupRows {
     /// The rows of the function's values, of which all are to come.
     pub fn new(alloc: Global, shape: &Shape) -> Result<GroupRows, AllocError>
-        ensures all { IfOk result (λ rows. rows.all ≡ group_rows (at shape.now.value) shape.now.order shape.now.place) }
+        ensures all { IfOk result (λ rows. rows.all ≡ group_rows
+            (at shape.now.value) shape.now.order shape.now.place) }
     {
         Ok(GroupRows {
             values: Vec::from_slice(alloc, shape.value_numerators())?,

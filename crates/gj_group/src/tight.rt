@@ -31,7 +31,8 @@ fn tight_from(values: &[i64], a: usize, from: usize) -> Option<usize>
     requires second { from ≤ length values.now }
     requires few { length values.now ≤ greatest_order }
     ensures { MatchOption result (tight_in_row (at values.now) (length values.now) a from ≡ [])
-        (λ b. (from ≤ b) × (b < length values.now) × (tight_in_row (at values.now) (length values.now) a from
+        (λ b. (from ≤ b) × (b < length values.now) ×
+        (tight_in_row (at values.now) (length values.now) a from
         ≡ b ∷ tight_in_row (at values.now) (length values.now) a (b + 1))) }
 {
     for b in from..values.len() {

@@ -19,7 +19,8 @@ reason_word Place = codes "place"
 reason_word Large = codes "large"
 reason_word Fine = codes "fine"
 
--- why these fractions give no function: the order, then f, then the first fraction that is too large or too fine
+-- why these fractions give no function: the order, then f, then the first fraction that is too
+-- large or too fine
 abbrev pub RefusesFractions : Frac → List Frac → List Frac → List Frac → JsonReason → Type 0
 RefusesFractions place left value right Syntax = ⊥
 RefusesFractions place left value right Form = ⊥
@@ -40,7 +41,8 @@ HasRefusedFractions d e = (place : Frac) × (left : List Frac) × (value : List 
 abbrev pub IsOfForm : Data → Type 0
 IsOfForm d = (p : Data) × (ls : List Data) × (vs : List Data) × (rs : List Data) × HasForm d p ls vs rs
 
--- why the value says no function: it is not of the form; an entry spells no fraction; the fractions give none
+-- why the value says no function: it is not of the form; an entry spells no fraction; the fractions
+-- give none
 abbrev pub RefusesValue : Data → JsonReason → Type 0
 RefusesValue d Syntax = ⊥
 RefusesValue d Form = IsOfForm d → ⊥
@@ -51,7 +53,8 @@ RefusesValue d Place = HasRefusedFractions d Place
 RefusesValue d Large = HasRefusedFractions d Large
 RefusesValue d Fine = HasRefusedFractions d Fine
 
--- the first test that the text fails: it has no value, or its value says no function for this reason
+-- the first test that the text fails: it has no value, or its value says no function for this
+-- reason
 abbrev pub HasFirstReason : List ℕ → JsonReason → Type 0
 HasFirstReason text e = ((e ≡ Syntax) × ((d : Data) → HasValue text d → ⊥)) ⊎ ((d : Data) × HasValue text d × RefusesValue d e)
 

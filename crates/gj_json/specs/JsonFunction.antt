@@ -53,7 +53,8 @@ HasSideLimits d left value right =
 abbrev pub AreEntries : ℕ → List Data → Type 0
 AreEntries n ds = (length ds ≡ n) × All IsEntry ds
 
--- the value is of the form of a function: `f` is this entry, and the lists have these, as many as `order` says
+-- the value is of the form of a function: `f` is this entry, and the lists have these, as many as
+-- `order` says
 pub record HasForm (d : Data) (place : Data) (left value right : List Data) : Type 0 where
   pub keys : HasOnlyKeys d
   pub order_is : option_and_then integer (get (codes "order") d) ≡ Some (pos (length value))

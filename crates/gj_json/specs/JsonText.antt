@@ -25,7 +25,8 @@ fraction_strings xs = strings (map fraction_text xs)
 abbrev pub AreRatios : ℕ → List Frac → List ℤ → Type 0
 AreRatios scale xs ns = AllZip (λ x n. IsRatio x n (pos scale)) xs ns
 
--- the value of a function: its keys in alphabetical order, the order as a number and fractions as strings
+-- the value of a function: its keys in alphabetical order, the order as a number and fractions as
+-- strings
 abbrev pub function_value : ℕ → Frac → List Frac → List Frac → List Frac → Data
 function_value order place left value right =
     object

@@ -25,7 +25,8 @@ pub(crate) struct Form<'a> {
 pub(crate) fn form_of(value: &Value) -> Option<Form<'_>>
     ensures found { IfSome result (λ form. HasForm (view value.now) (view form.place.now)
         (map view form.left.now) (map view form.value.now) (map view form.right.now)) }
-    ensures none { IfNone result ((p : Data) (ls vs rs : List Data) → HasForm (view value.now) p ls vs rs → ⊥) }
+    ensures none { IfNone result ((p : Data) (ls vs rs : List Data) →
+        HasForm (view value.now) p ls vs rs → ⊥) }
 {
     let place = value.get("f")?;
     let values = list_at(value, "value")?;
@@ -50,8 +51,10 @@ pub(crate) fn form_of(value: &Value) -> Option<Form<'_>>
 
 /// Both lists of limits, or the values if it has neither.
 fn limits_of<'a>(value: &'a Value, values: &'a [Value]) -> Option<(&'a [Value], &'a [Value])>
-    ensures found { IfSome result (λ r. HasSideLimits (view value.now) (map view r.0.now) (map view values.now) (map view r.1.now)) }
-    ensures none { IfNone result ((ls rs : List Data) → HasSideLimits (view value.now) ls (map view values.now) rs → ⊥) }
+    ensures found { IfSome result (λ r. HasSideLimits (view value.now) (map view r.0.now)
+        (map view values.now) (map view r.1.now)) }
+    ensures none { IfNone result ((ls rs : List Data) → HasSideLimits (view value.now) ls
+        (map view values.now) rs → ⊥) }
 {
     match (value.get("left"), value.get("right")) {
         (None, None) => Some((values, values)),
@@ -69,14 +72,16 @@ fn list_at<'a>(value: &'a Value, key: &str) -> Option<&'a [Value]>
 
 /// The list that the value is.
 fn list(value: &Value) -> Option<&[Value]>
-    ensures { option_map (λ v. map view v.now) result ≡ option_map list_of (as_array (view value.now)) }
+    ensures { option_map (λ v. map view v.now) result ≡ option_map list_of
+        (as_array (view value.now)) }
 {
     Some(value.as_array()?.as_slice())
 }
 
 /// Whether the order is this count.
 fn has_order(value: &Value, count: usize) -> bool
-    ensures { IsTrue result ↔ (option_and_then integer (get (codes "order") (view value.now)) ≡ Some (pos count)) }
+    ensures { IsTrue result ↔
+        (option_and_then integer (get (codes "order") (view value.now)) ≡ Some (pos count)) }
 {
     match value.get("order") {
         Some(order) => integer(order) == Some(count as i128),

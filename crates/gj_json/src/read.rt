@@ -18,18 +18,20 @@ use gj_shape::{GREATEST_ORDER, Shape, ShapeFault};
 use serde_json::Value;
 use std::alloc::{AllocError, Global};
 
-/// The function that the JSON text spells: an object with `order`, a whole number; `f`, a number word in a string or a
-/// whole number; `value`, a list of such; and both or neither of `left` and `right`, lists of such. Lists of limits that
-/// are absent equal `value`. Each list has as many entries as `order` says, and there is no other key.
+/// The function that the JSON text spells: an object with `order`, a whole number; `f`, a number
+/// word in a string or a whole number; `value`, a list of such; and both or neither of `left` and
+/// `right`, lists of such. Lists of limits that are absent equal `value`. Each list has as many
+/// entries as `order` says, and there is no other key.
 ///
-/// A number word is in lenient form, as `1/2`, `+0.5` or `-3`, with no blanks. A whole number is one of 64 bits: `2.0`
-/// and `-0` are none. If a key stands twice, its value is the one that `serde_json` keeps.
+/// A number word is in lenient form, as `1/2`, `+0.5` or `-3`, with no blanks. A whole number is
+/// one of 64 bits: `2.0` and `-0` are none. If a key stands twice, its value is the one that
+/// `serde_json` keeps.
 ///
-/// A refusal names the first test that fails: `syntax`, the bytes are no JSON in UTF-8; `form`, the value is not of the
-/// form; `number`, a string is not in lenient form; `order`, the order is not from 2 to 1,000; `place`, f is not k/order
-/// for a k from 1 to the order less 1; then for each index the limit from the left, the value and the limit from the
-/// right: `large`, it is above 2^20 in absolute value; `fine`, with it the common denominator of all so far passes
-/// 2^31 - 1.
+/// A refusal names the first test that fails: `syntax`, the bytes are no JSON in UTF-8; `form`, the
+/// value is not of the form; `number`, a string is not in lenient form; `order`, the order is not
+/// from 2 to 1,000; `place`, f is not k/order for a k from 1 to the order less 1; then for each
+/// index the limit from the left, the value and the limit from the right: `large`, it is above 2^20
+/// in absolute value; `fine`, with it the common denominator of all so far passes 2^31 - 1.
 ///
 /// ```text
 /// let shape = read_json(alloc, b"{\"order\": 2, \"f\": \"0.5\", \"value\": [0, \"1\"]}")?;
@@ -41,7 +43,8 @@ pub fn read_json(alloc: Global, bytes: &[u8]) -> Result<Shape, JsonFault>
     // What is read is spelled so.
     ensures found { IfOk result (IsJsonFunction bytes.now) }
     // What is spelled so is read, unless there is no memory.
-    ensures only { (f : FunctionData) → IsJsonFunction bytes.now f → MatchResult result (λ shape. shape ≡ f) IsMemoryFault }
+    ensures only { (f : FunctionData) → IsJsonFunction bytes.now f →
+        MatchResult result (λ shape. shape ≡ f) IsMemoryFault }
     // A refusal names the first reason.
     ensures refused { IfErr result (NamesJsonReason (HasFirstReason bytes.now)) }
 {
@@ -60,7 +63,8 @@ fn function_of(alloc: Global, bytes: &[u8]) -> Result<Shape, JsonFault>
 /// The value of the JSON text.
 fn value_of(alloc: Global, bytes: &[u8]) -> Result<Value, JsonFault>
     ensures found { IfOk result (λ value. HasValue bytes.now (view value)) }
-    ensures refused { IfErr result (NamesJsonReason (λ e. (e ≡ Syntax) × ((d : Data) → HasValue bytes.now d → ⊥))) }
+    ensures refused { IfErr result (NamesJsonReason (λ e. (e ≡ Syntax) ×
+        ((d : Data) → HasValue bytes.now d → ⊥))) }
 {
     Value::from_slice(alloc, bytes).map_err(|error| fault_of(error.is_memory()))
 }
@@ -105,9 +109,11 @@ struct Given {
 
 /// The fractions that the entries of the form spell.
 fn fractions_of(alloc: Global, form: Form<'_>) -> Result<Given, JsonFault>
-    ensures found { IfOk result (λ g. SpellsForm (view form.entry.place.now) (map view form.entry.left.now)
+    ensures found { IfOk result (λ g. SpellsForm (view form.entry.place.now)
+        (map view form.entry.left.now)
         (map view form.entry.value.now) (map view form.entry.right.now) g.place g.left.items g.value.items g.right.items) }
-    ensures refused { IfErr result (NamesJsonReason (SpellsNoForm (view form.entry.place.now) (map view form.entry.left.now)
+    ensures refused { IfErr result (NamesJsonReason (SpellsNoForm (view form.entry.place.now)
+        (map view form.entry.left.now)
         (map view form.entry.value.now) (map view form.entry.right.now))) }
 {
     let Some(place) = fraction(form.place) else {
@@ -135,7 +141,8 @@ fn shape_given(
     requires left_length { length left.now ≡ length value.now }
     requires right_length { length right.now ≡ length value.now }
     ensures found { IfOk result (GivesFunction place left.now value.now right.now) }
-    ensures refused { IfErr result (NamesJsonReason (RefusesFractions place left.now value.now right.now)) }
+    ensures refused { IfErr result (NamesJsonReason
+        (RefusesFractions place left.now value.now right.now)) }
 {
     if !(2..=GREATEST_ORDER as usize).contains(&value.len()) {
         return Err(JsonFault::Refused(JsonReason::Order));

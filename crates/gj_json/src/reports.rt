@@ -8,8 +8,8 @@ use crate::show::line_of;
 use serde_json::{Value, json};
 use std::alloc::{AllocError, Global};
 
-/// A verdict and the lines of a proof text in JSON, with a line feed at the end: the keys `proof`, the lines as strings
-/// without their line feeds, and `verdict`.
+/// A verdict and the lines of a proof text in JSON, with a line feed at the end: the keys `proof`,
+/// the lines as strings without their line feeds, and `verdict`.
 ///
 /// ```text
 /// {"proof":["gj-proof 1","claim minimal","order 2","f 1/2","point 0","point 1","end"],"verdict":"minimal"}
@@ -37,7 +37,8 @@ fn object_of(alloc: Global, lines: Value, verdict: Value) -> Result<Value, Alloc
 fn line_values(alloc: Global, text: &[u8]) -> Result<Value, AllocError>
     requires bytes { All IsProofByte text.now }
     requires ended { IsEnded text.now }
-    ensures { IfOk result (λ v. (lines : List (List ℕ)) × HasJsonLines text.now lines × (view v ≡ array (strings lines))) }
+    ensures { IfOk result (λ v. (lines : List (List ℕ)) × HasJsonLines text.now lines ×
+        (view v ≡ array (strings lines))) }
 {
     let mut values = Vec::new(alloc);
     let mut line = Vec::new(alloc);

@@ -16,8 +16,9 @@ use gj_shape::Shape;
 use serde_json::{Value, json};
 use std::alloc::{AllocError, Global};
 
-/// The function in JSON, with a line feed at the end: the keys `f`, `left`, `order`, `right` and `value` in this order and
-/// no blanks, each fraction as a string in canonical form and the order as a number.
+/// The function in JSON, with a line feed at the end: the keys `f`, `left`, `order`, `right` and
+/// `value` in this order and no blanks, each fraction as a string in canonical form and the order
+/// as a number.
 ///
 /// ```text
 /// {"f":"1/2","left":["0","1"],"order":2,"right":["0","1"],"value":["0","1"]}
@@ -54,7 +55,8 @@ fn object_of(
     value: Value,
     right: Value,
 ) -> Result<Value, AllocError>
-    ensures { IfOk result (λ v. view v ≡ object (member (codes "f") (view place) (member (codes "left") (view left)
+    ensures { IfOk result (λ v. view v ≡ object (member (codes "f") (view place)
+        (member (codes "left") (view left)
         (member (codes "order") (number (unsigned order)) (member (codes "right") (view right)
         (member (codes "value") (view value) no_members)))))) }
 {
@@ -87,7 +89,8 @@ fn fraction_value(alloc: Global, x: Frac) -> Result<Value, AllocError>
 pub(crate) fn line_of(alloc: Global, value: &Value) -> Result<Vec<u8>, AllocError>
     requires { has_float (view value.now) ≡ false }
     ensures text { IfOk result (λ text. text.items ≡ json_line (view value.now)) }
-    ensures reads_back { IfOk result (λ text. nesting (view value.now) ≤ max_depth → HasValue text.items (view value.now)) }
+    ensures reads_back { IfOk result (λ text. nesting (view value.now) ≤ max_depth →
+        HasValue text.items (view value.now)) }
 {
     let mut text = value.to_vec(alloc)?;
     text.push(b'\n')?;

@@ -8,7 +8,8 @@ pub trait Lane: Copy {
     // The number.
     ghost number: { Self → ℤ };
 
-    // Each number from the least on and below the bound is a lane, and so is the sum of two of these.
+    // Each number from the least on and below the bound is a lane, and so is the sum of two of
+    // these.
     ghost least: { ℤ };
 
     ghost bound: { ℕ };

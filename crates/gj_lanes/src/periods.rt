@@ -4,7 +4,8 @@ ghost use Rattle.gj_lanes.specs.Lanes.{AreInRange, ArePeriods};
 
 use crate::lane::Lane;
 
-/// Writes the numbers into lanes twice, from lane 0 on, and the first of them once more behind the last. The other lanes stay.
+/// Writes the numbers into lanes twice, from lane 0 on, and the first of them once more behind the
+/// last. The other lanes stay.
 pub fn write_periods<L: Lane>(lanes: &mut [L], numbers: &[i64])
     requires some { 0 < length numbers.now }
     requires room { 2 * length numbers.now < length lanes.old }

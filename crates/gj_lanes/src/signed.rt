@@ -8,16 +8,20 @@ use std::simd::prelude::*;
 
 /// A number of either sign in a lane of some width.
 pub trait SignedLane: Lane {
-    /// The word of the 64 places from 64 times `place` on: bit b says whether the value at b of these and the first number add
-    /// up to the sum there.
+    /// The word of the 64 places from 64 times `place` on: bit b says whether the value at b of
+    /// these and the first number add up to the sum there.
     fn sums_word(values: &[Self], first: Self, sums: &[Self], place: usize) -> u64
         requires place { place < 16 }
         requires values { 64 * place + 64 ≤ length values.now }
         requires sums { 64 * place + 64 ≤ length sums.now }
-        ensures { (b : ℕ) (e : Self) → b < 64 → IsInRange Self.least Self.bound (Self.number first) →
-            IsInRange Self.least Self.bound (Self.number (slice_index_or values.now (64 * place + b) e)) →
-            IsInRange Self.least Self.bound (Self.number (slice_index_or sums.now (64 * place + b) e)) →
-            IsTrue (bit_at result b == 1) ↔ (Self.number (slice_index_or values.now (64 * place + b) e) +ℤ Self.number first
+        ensures { (b : ℕ) (e : Self) → b < 64 → IsInRange Self.least Self.bound
+            (Self.number first) →
+            IsInRange Self.least Self.bound (Self.number (slice_index_or values.now
+            (64 * place + b) e)) →
+            IsInRange Self.least Self.bound (Self.number (slice_index_or sums.now
+            (64 * place + b) e)) →
+            IsTrue (bit_at result b == 1) ↔
+            (Self.number (slice_index_or values.now (64 * place + b) e) +ℤ Self.number first
             ≡ Self.number (slice_index_or sums.now (64 * place + b) e)) };
 }
 

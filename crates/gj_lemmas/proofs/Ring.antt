@@ -1,11 +1,10 @@
--- Identities between sums and products of whole numbers, by a normal form.
--- An identity over the atoms x, y and z, each a variable or any other term, is one line:
---     by_ring (x ∷ y ∷ z ∷ []) (search ring depth 40) refl
--- The two sides may have +, -, *, signs, numerals, and sums and products of naturals under `pos`.
--- There are at most 20 atoms. Where it is refused:
---     `search` finds no proof          an atom is missing from the list, or the depth is below the longest sum
---     `search` stops at 1000 lemmas    beyond some 25 products: `search ring depth 100 fits 4000`
---     `refl` does not fit              the two sides differ: the message shows the two normal forms
+-- Identities between sums and products of whole numbers, by a normal form. An identity over the
+-- atoms x, y and z, each a variable or any other term, is one line: by_ring (x ∷ y ∷ z ∷ [])
+-- (search ring depth 40) refl The two sides may have +, -, *, signs, numerals, and sums and
+-- products of naturals under `pos`. There are at most 20 atoms. Where it is refused: `search` finds
+-- no proof an atom is missing from the list, or the depth is below the longest sum `search` stops
+-- at 1000 lemmas beyond some 25 products: `search ring depth 100 fits 4000` `refl` does not fit the
+-- two sides differ: the message shows the two normal forms
 use Rattle.std.proofs.Common.{◌≡◌, ℕ, zero, suc, ◌+◌, ◌*◌, Bool, true, false, T, eqb, ltb, leb, List, [], ◌∷◌, ℤ, pos, negsuc, ◌+ℤ◌, ◌*ℤ◌, neg_ℤ, refl, sym, ap, ap₂, subst, ◌∙◌, arith, eqb→eq, add-one}
 use Rattle.std.proofs.lemmas.Int.{ints}
 use Rattle.gj_lemmas.proofs.Choices.{by_test}

@@ -12,6 +12,7 @@ gcd_within (suc steps) a (suc b) = gcd_within steps (suc b) (a % suc b)
 unfoldable pub gcd_of : ℕ → ℕ → ℕ
 gcd_of a b = gcd_within b a b
 
--- m is the least common multiple of a and b: both divide it, and it divides each number that both divide
+-- m is the least common multiple of a and b: both divide it, and it divides each number that both
+-- divide
 abbrev pub IsLcm : ℕ → ℕ → ℕ → Type 0
 IsLcm a b m = (a ∣ m) × (b ∣ m) × ((c : ℕ) → a ∣ c → b ∣ c → m ∣ c)

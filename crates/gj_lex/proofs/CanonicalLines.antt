@@ -25,7 +25,7 @@ line_in s w ws text rest plain other e = subst (λ t. HasLine s t t (w ∷ ws) r
 
 -- ---- words that are known
 
-abbrev plain_bytes : List ℕ → Bool
+abbrev pub plain_bytes : List ℕ → Bool
 plain_bytes [] = true
 plain_bytes (b ∷ bs) = cond (eqb b 9) false (cond (eqb b 10) false (cond (eqb b 13) false (cond (eqb b 32) false (plain_bytes bs))))
 
@@ -46,7 +46,7 @@ byte_by_test b more h =
       rw (ne_eqb b 9 tab, ne_eqb b 10 feed, ne_eqb b 13 return, ne_eqb b 32 space) at h,
     )
 
-bytes_by_test : (bs : List ℕ) → plain_bytes bs ≡ true → All IsWordByte bs
+pub bytes_by_test : (bs : List ℕ) → plain_bytes bs ≡ true → All IsWordByte bs
 bytes_by_test [] h = All-nil IsWordByte
 bytes_by_test (b ∷ bs) h = let p = byte_by_test b (plain_bytes bs) h in All-cons IsWordByte b bs p.0 (bytes_by_test bs p.1)
 

@@ -1,4 +1,5 @@
--- The digits of numbers of 128 bits: what std says of 64 bits, and reading from the left with a limit.
+-- The digits of numbers of 128 bits: what std says of 64 bits, and reading from the left with a
+-- limit.
 use Rattle.std.proofs.Common.{◌≡◌, ℕ, zero, suc, ◌+◌, ◌-◌, ◌*◌, ◌/◌, ◌%◌, ◌^◌, ◌<◌, ◌≤◌, List, [], ◌∷◌, ◌++◌, length, get_or, take, drop, decimal, Option, None, Some, IfSome, sym, ◌∙◌, ap, subst, arith, append_assoc, append-nil, length-append, add-one, refl, take-append-drop}
 use lib.ListN.{get_or-append, set}
 use Rattle.std.specs.Char.{digit_value}

@@ -2,7 +2,8 @@
 use Rattle.std.specs.Prelude.{ℕ, ◌≡◌, ◌≢◌, ◌+◌, ◌<◌, ◌≤◌, min, List, length, drop, slice_index}
 use Rattle.gj_lex.specs.declared.cursor.LineSpan.{LineSpan}
 
--- what a cursor knows: the whole source, at which of its bytes it stands, and how many lines it gave
+-- what a cursor knows: the whole source, at which of its bytes it stands, and how many lines it
+-- gave
 pub record CursorState : Type 0 where
   pub source : List ℕ
   pub position : ℕ

@@ -6,11 +6,13 @@ use Rattle.std.specs.Str.Parse.{IsNumeral, digits_value, starts_with_minus, with
 use Rattle.gj_frac.specs.declared.Frac.{Frac}
 use Rattle.gj_frac.specs.Fraction.{numerator, denominator}
 
--- what stands for a denominator: nothing for 1, and else a `/` and its digits, without a leading zero
+-- what stands for a denominator: nothing for 1, and else a `/` and its digits, without a leading
+-- zero
 unfoldable pub denominator_text : ℕ → List ℕ
 denominator_text d = if nat_le 2 d then codes "/" ++ decimal d else []
 
--- the text of n/d: a `-` if n is below 0, the digits of n without a leading zero, and the denominator
+-- the text of n/d: a `-` if n is below 0, the digits of n without a leading zero, and the
+-- denominator
 abbrev pub ratio_text : ℤ → ℤ → List ℕ
 ratio_text n d = signed_decimal n ++ denominator_text (unsigned_abs d)
 

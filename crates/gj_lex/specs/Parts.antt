@@ -1,5 +1,5 @@
--- Parts of texts: what each spells, and where a text that does not spell it is at fault first (own). A form of text is
--- a part made of lines, one after the other.
+-- Parts of texts: what each spells, and where a text that does not spell it is at fault first
+-- (own). A form of text is a part made of lines, one after the other.
 use Rattle.std.specs.Prelude.{ℕ, ◌≡◌, ◌≢◌, ◌⊎◌, List, ◌∷◌, ◌++◌, length}
 use Rattle.std.proofs.Common.{inl, inr}
 use Rattle.gj_lex.specs.declared.spelling.Spelling.{Spelling}
@@ -18,8 +18,8 @@ pub record LineRule (A : Type 0) : Type 1 where
 abbrev pub words_rule : List (List ℕ) → LineRule (Unit {0})
 words_rule wanted = record { Spells = λ words a. words ≡ wanted; Breaks = λ words e. (e ≡ Form) × (words ≢ wanted) }
 
--- a part of a text: the text begins with it, spells this, and the rest follows; or it does not, and the line from `start`
--- on is the first at fault, for this reason
+-- a part of a text: the text begins with it, spells this, and the rest follows; or it does not, and
+-- the line from `start` on is the first at fault, for this reason
 pub record Part (A : Type 0) : Type 1 where
   pub Reads : List ℕ → A → List ℕ → Type 0
   pub Faults : List ℕ → List ℕ → Reason → Type 0
@@ -71,7 +71,8 @@ where_part Begins p q = record {
   Faults = λ text start e. (Begins text × p.Faults text start e) ⊎ ((Begins text → ⊥) × q.Faults text start e);
 }
 
--- the part of each state is read in turn: it leads to a next state, or ends with what the whole spells
+-- the part of each state is read in turn: it leads to a next state, or ends with what the whole
+-- spells
 pub data ReadsInTurn {S A : Type 0} (Reads : S → List ℕ → S ⊎ A → List ℕ → Type 0) (a : A) (rest : List ℕ) : S → List ℕ → Type 0 where
   last : (s : S) (text : List ℕ) → Reads s text (inr a) rest → ReadsInTurn Reads a rest s text
   onward : (s : S) (text : List ℕ) (next : S) (middle : List ℕ) → Reads s text (inl next) middle →
@@ -105,8 +106,8 @@ pub record IsExactRule {A : Type 0} (Spells : List (List ℕ) → A → Type 0) 
   pub one_reason : (words : List (List ℕ)) (e d : Reason) → Breaks words e → Breaks words d → e ≡ d
   pub not_both : (words : List (List ℕ)) (a : A) (e : Reason) → Spells words a → Breaks words e → ⊥
 
--- a text spells one thing and goes on at one place, or is at fault first in one line for one reason, and not both; what
--- follows, and the line at fault with what follows it, end the text
+-- a text spells one thing and goes on at one place, or is at fault first in one line for one
+-- reason, and not both; what follows, and the line at fault with what follows it, end the text
 pub record IsExactPart {A : Type 0} (Reads : List ℕ → A → List ℕ → Type 0) (Faults : List ℕ → List ℕ → Reason → Type 0) : Type 0 where
   pub one_thing : (text : List ℕ) (a b : A) (r t : List ℕ) → Reads text a r → Reads text b t → (a ≡ b) × (r ≡ t)
   pub one_fault : (text r t : List ℕ) (e d : Reason) → Faults text r e → Faults text t d → (r ≡ t) × (e ≡ d)
@@ -116,7 +117,8 @@ pub record IsExactPart {A : Type 0} (Reads : List ℕ → A → List ℕ → Typ
 
 -- ---- what readers answer
 
--- the fault is that of the part's first line at fault, told by what is left from it on, or want of memory
+-- the fault is that of the part's first line at fault, told by what is left from it on, or want of
+-- memory
 abbrev pub IsFaultOf : {A : Type 0} → Part A → List ℕ → PartFault → Type 0
 IsFaultOf p text (Refused left e) = (start : List ℕ) × (left ≡ length start) × p.Faults text start e
 IsFaultOf p text (Memory a) = Unit {0}

@@ -11,7 +11,8 @@ is_line_feed b = b == 10
 
 -- ---- lenient lines
 
--- the text is one line with its LF, and the rest follows; or the text is not empty and has no LF: then all of it is the line
+-- the text is one line with its LF, and the rest follows; or the text is not empty and has no LF:
+-- then all of it is the line
 pub data IsFirstLine (text line rest : List ℕ) : Type 0 where
   ended : All (λ b. b ≢ 10) line → text ≡ line ++ 10 ∷ rest → IsFirstLine text line rest
   unended : All (λ b. b ≢ 10) line → text ≡ line → line ≢ [] → rest ≡ [] → IsFirstLine text line rest
@@ -34,8 +35,8 @@ abbrev pub IsSkipped : List (List ℕ) → Type 0
 IsSkipped [] = Unit {0}
 IsSkipped (word ∷ words) = (more : List ℕ) × (word ≡ 35 ∷ more)
 
--- behind lines that are skipped, the text goes on from `start` with a line of these words that is not, and the rest
--- follows it
+-- behind lines that are skipped, the text goes on from `start` with a line of these words that is
+-- not, and the rest follows it
 pub data HasNextLine (start : List ℕ) (words : List (List ℕ)) (rest : List ℕ) : List ℕ → Type 0 where
   here : (text : List ℕ) → start ≡ text → HasFirstWords text words rest → (IsSkipped words → ⊥) → HasNextLine start words rest text
   further : (text : List ℕ) (skipped : List (List ℕ)) (next : List ℕ) → HasFirstWords text skipped next → IsSkipped skipped →
@@ -60,8 +61,8 @@ pub record IsWord (word : List ℕ) : Type 0 where
   pub some : 0 < length word
   pub bytes : All IsInWord word
 
--- the text begins with these words, one space between them and an LF behind them, and the rest follows; no CR stands
--- right before that LF
+-- the text begins with these words, one space between them and an LF behind them, and the rest
+-- follows; no CR stands right before that LF
 pub record HasStrictLine (text : List ℕ) (words : List (List ℕ)) (rest : List ℕ) : Type 0 where
   pub some : words ≢ []
   pub are_words : All IsWord words
@@ -75,7 +76,8 @@ abbrev pub HasLine : Spelling → List ℕ → List ℕ → List (List ℕ) → 
 HasLine Lenient text start words rest = HasNextLine start words rest text
 HasLine Strict text start words rest = (start ≡ text) × HasStrictLine text words rest
 
--- the text has no next line, which shows at `start`: at its end, or in strict spelling if its first line is none
+-- the text has no next line, which shows at `start`: at its end, or in strict spelling if its first
+-- line is none
 abbrev pub HasNoLine : Spelling → List ℕ → List ℕ → Type 0
 HasNoLine Lenient text start = (start ≡ []) × IsSkippedText text
 HasNoLine Strict text start = (start ≡ text) × ((words : List (List ℕ)) (rest : List ℕ) → HasStrictLine text words rest → ⊥)
@@ -101,6 +103,7 @@ HasLines s text (words ∷ lines) rest =
 abbrev pub line_feeds : List ℕ → ℕ
 line_feeds text = count_by (λ b. b == 10) text
 
--- the line that begins at `start`, a part of the text to its end, is the n-th; if that part is empty, n is the number of LF and one
+-- the line that begins at `start`, a part of the text to its end, is the n-th; if that part is
+-- empty, n is the number of LF and one
 abbrev pub IsLineNumber : List ℕ → List ℕ → ℕ → Type 0
 IsLineNumber text start n = n + line_feeds start ≡ line_feeds text + 1

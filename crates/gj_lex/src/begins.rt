@@ -29,7 +29,8 @@ pub fn begins_with_word(spelling: Spelling, text: &[u8], word: &[u8]) -> bool
 
 /// The next line of the text, if its first word is this word. It takes no memory.
 pub fn line_with_word<'a>(spelling: Spelling, text: &'a [u8], word: &[u8]) -> Option<TextLine<'a>>
-    ensures found { IfSome result (λ l. HasLine spelling text.now l.start.now (word_texts l.bytes.now) l.rest.now) }
+    ensures found { IfSome result (λ l. HasLine spelling text.now l.start.now
+        (word_texts l.bytes.now) l.rest.now) }
     ensures begins { OnSome result (BeginsWithWord spelling word.now text.now) }
     ensures none { IfNone result (BeginsWithWord spelling word.now text.now → ⊥) }
 {
@@ -45,7 +46,8 @@ pub fn line_with_word<'a>(spelling: Spelling, text: &'a [u8], word: &[u8]) -> Op
     }
 }
 
-/// Whether the next line of the text can begin with this word, by the first byte of the text: a strict line begins with its first word.
+/// Whether the next line of the text can begin with this word, by the first byte of the text: a
+/// strict line begins with its first word.
 fn may_begin_with(spelling: Spelling, text: &[u8], word: &[u8]) -> bool
     ensures { BeginsWithWord spelling word.now text.now → IsTrue result }
 {

@@ -72,7 +72,8 @@ fn first_slash(word: &[u8]) -> Option<usize>
 /// below 0.
 fn read_numerator(word: &[u8]) -> Option<i128>
     ensures found { IfSome result (λ n. word.now ≡ signed_decimal n) }
-    ensures only { (n : ℤ) → unsigned_abs n < 2 ^ 127 → word.now ≡ signed_decimal n → result ≡ Some n }
+    ensures only { (n : ℤ) → unsigned_abs n < 2 ^ 127 →
+        word.now ≡ signed_decimal n → result ≡ Some n }
 {
     match word.strip_prefix(b"-") {
         None => Some(read_digits(word)? as i128),
@@ -85,7 +86,8 @@ fn read_numerator(word: &[u8]) -> Option<i128>
 
 /// The denominator that the word spells: a `/` and digits for one of at least 2, nothing for 1.
 fn read_denominator(word: &[u8]) -> Option<i128>
-    ensures found { IfSome result (λ d. (pos 0 <ℤ d) × (word.now ≡ denominator_text (unsigned_abs d))) }
+    ensures found { IfSome result (λ d. (pos 0 <ℤ d) ×
+        (word.now ≡ denominator_text (unsigned_abs d))) }
     ensures only { (d : ℤ) → pos 0 <ℤ d → unsigned_abs d < 2 ^ 127 →
         word.now ≡ denominator_text (unsigned_abs d) → result ≡ Some d }
 {

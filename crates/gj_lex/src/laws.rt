@@ -31,7 +31,8 @@ pub fn count_is_one_word()
     ensures word { (n : ℕ) → n < 2 ^ 32 → All IsWordByte (decimal n) }
 {}
 
-/// Canonical texts are short: that of a fraction has at most 80 bytes, that of a count below 2^32 at most 10.
+/// Canonical texts are short: that of a fraction has at most 80 bytes, that of a count below 2^32
+/// at most 10.
 pub fn canonical_texts_are_short()
     ensures fraction { (x : Frac) → length (fraction_text x) ≤ 80 }
     ensures count { (n : ℕ) → n < 2 ^ 32 → length (decimal n) ≤ 10 }
@@ -45,6 +46,7 @@ pub fn canonical_text_is_a_word()
 
 /// A strict line is a lenient line of the same words, unless its first word begins with `#`.
 pub fn strict_line_is_lenient()
-    ensures { (text : List ℕ) (words : List (List ℕ)) (rest : List ℕ) → HasStrictLine text words rest → (IsSkipped words → ⊥) →
+    ensures { (text : List ℕ) (words : List (List ℕ)) (rest : List ℕ) →
+        HasStrictLine text words rest → (IsSkipped words → ⊥) →
         HasLine Spelling.Lenient text text words rest }
 {}

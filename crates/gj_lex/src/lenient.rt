@@ -9,7 +9,8 @@ ghost use Rattle.gj_lex.specs.NumberText.{IsNumberText, IsWritten};
 use crate::digits::{read_run, value_after};
 use gj_frac::Frac;
 
-/// A number has at most so many digits behind its point: 10^38 is the greatest power of 10 below 2^127.
+/// A number has at most so many digits behind its point: 10^38 is the greatest power of 10 below
+/// 2^127.
 const MOST_PLACES: usize = 38;
 
 /// The fraction that the word spells in lenient form, as `-1/2`, `+03` or `2.50`.
@@ -51,7 +52,8 @@ fn begins_with(word: &[u8], byte: u8) -> bool
 /// The fraction that the word writes without a sign.
 fn read_written(word: &[u8]) -> Option<Frac>
     ensures found { IfSome result (λ x. (n : ℕ) × (d : ℕ) ×
-        IsWritten word.now n d × (n < 2 ^ 127) × (d < 2 ^ 127) × (0 < d) × IsRatio x (pos n) (pos d)) }
+        IsWritten word.now n d × (n < 2 ^ 127) × (d < 2 ^ 127) × (0 < d) ×
+        IsRatio x (pos n) (pos d)) }
     ensures only { (n d : ℕ) → IsWritten word.now n d → n < 2 ^ 127 → d < 2 ^ 127 → 0 < d →
         IsSomeAnd result (λ x. IsRatio x (pos n) (pos d)) }
 {
@@ -89,7 +91,8 @@ fn read_whole(word: &[u8]) -> Option<Frac>
 fn read_ratio(front: &[u8], back: &[u8]) -> Option<Frac>
     ensures some { let top = digits_value 10 front.now in let bottom = digits_value 10 back.now in
         IsSome result ↔
-        ((IsNumeral 10 front.now × (top < 2 ^ 127)) × (IsNumeral 10 back.now × (bottom < 2 ^ 127) × (0 < bottom))) }
+        ((IsNumeral 10 front.now × (top < 2 ^ 127)) × (IsNumeral 10 back.now ×
+        (bottom < 2 ^ 127) × (0 < bottom))) }
     ensures value { IfSome result (λ x.
         IsRatio x (pos (digits_value 10 front.now)) (pos (digits_value 10 back.now))) }
 {
@@ -100,7 +103,8 @@ fn read_ratio(front: &[u8], back: &[u8]) -> Option<Frac>
 fn read_point(front: &[u8], back: &[u8]) -> Option<Frac>
     ensures some { let top = digits_value 10 (front.now ++ back.now) in
         IsSome result ↔
-        ((IsNumeral 10 front.now × IsNumeral 10 back.now) × ((top < 2 ^ 127) × (10 ^ length back.now < 2 ^ 127))) }
+        ((IsNumeral 10 front.now × IsNumeral 10 back.now) × ((top < 2 ^ 127) ×
+        (10 ^ length back.now < 2 ^ 127))) }
     ensures value { IfSome result (λ x.
         IsRatio x (pos (digits_value 10 (front.now ++ back.now))) (pos (10 ^ length back.now))) }
 {

@@ -1,11 +1,14 @@
 //! Lines, words and numbers of texts, read in two spellings and printed in one.
 //!
-//! A text is lenient or strict (`Spelling`); in both a line is a list of words. `line_at` gives the next line, `words_at` a line of
-//! given words, `end_at` that nothing follows, and `split_word` and its like the words of a line; `fraction_of`, `is_count` and
-//! `count_of` read numbers, `print_frac` and `print_count` print them, and `push_count_line` a line of a word and a count. None of the readers takes memory.
+//! A text is lenient or strict (`Spelling`); in both a line is a list of words. `line_at` gives the
+//! next line, `words_at` a line of given words, `end_at` that nothing follows, and `split_word` and
+//! its like the words of a line; `fraction_of`, `is_count` and `count_of` read numbers,
+//! `print_frac` and `print_count` print them, and `push_count_line` a line of a word and a count.
+//! None of the readers takes memory.
 //!
-//! A form of text is a part made of lines, `specs/Parts.antt`: it says what a text spells and which line is the first at
-//! fault. `proofs/PartLaws.antt` has the laws that crates above cite: parts made of exact parts are exact.
+//! A form of text is a part made of lines, `specs/Parts.antt`: it says what a text spells and which
+//! line is the first at fault. `proofs/PartLaws.antt` has the laws that crates above cite: parts
+//! made of exact parts are exact.
 #![tactic(auto)]
 
 mod begins;

@@ -23,7 +23,8 @@ pub fn print_count(out: &mut Vec<u8>, n: u32) -> Result<(), AllocError>
     out.extend_from_slice(&text[start..])
 }
 
-/// Appends a line of a word and a count: the word, the digits of the count without a leading zero, and a line feed.
+/// Appends a line of a word and a count: the word, the digits of the count without a leading zero,
+/// and a line feed.
 ///
 /// An error says that memory ran out; `out` may then have a part of the line.
 pub fn push_count_line(out: &mut Vec<u8>, word: &[u8], n: u32) -> Result<(), AllocError>
@@ -37,8 +38,8 @@ pub fn push_count_line(out: &mut Vec<u8>, word: &[u8], n: u32) -> Result<(), All
 
 /// Appends a fraction in canonical form, as `-1/2` or `3`.
 ///
-/// It takes an allocator first, as every call that may run out of memory does, though `out` grows by its own. An error
-/// says that memory ran out; `out` is then as it was.
+/// It takes an allocator first, as every call that may run out of memory does, though `out` grows
+/// by its own. An error says that memory ran out; `out` is then as it was.
 pub fn print_frac(_alloc: Global, out: &mut Vec<u8>, x: Frac) -> Result<(), AllocError>
     ensures ok { OnOk result (out.new.items ≡ out.old.items ++ fraction_text x) }
     ensures err { OnErr result (out.new.items ≡ out.old.items) }

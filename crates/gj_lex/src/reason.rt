@@ -18,7 +18,8 @@ pub enum Reason {
     Large,
     /// The common denominator of the values so far passes 2^31 - 1.
     Fine,
-    /// A breakpoint is not in its place: the first at 0, each further one behind the one before and below 1.
+    /// A breakpoint is not in its place: the first at 0, each further one behind the one before and
+    /// below 1.
     Break,
     /// f is not strictly between 0 and 1.
     BadF,

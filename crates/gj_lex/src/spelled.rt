@@ -12,8 +12,8 @@ use crate::lenient::read_number;
 use crate::spelling::Spelling;
 use gj_frac::Frac;
 
-/// The fraction that the word spells: in lenient spelling as `read_number` reads it, in strict spelling as
-/// `read_canonical` does.
+/// The fraction that the word spells: in lenient spelling as `read_number` reads it, in strict
+/// spelling as `read_canonical` does.
 pub fn fraction_of(spelling: Spelling, word: &[u8]) -> Option<Frac>
     ensures found { IfSome result (IsFractionWord spelling word.now) }
     ensures none { IfNone result ((x : Frac) → IsFractionWord spelling word.now x → ⊥) }

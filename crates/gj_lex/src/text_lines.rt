@@ -23,10 +23,11 @@ pub struct TextLine<'a> {
     pub rest: &'a [u8],
 }
 
-/// The next line of the text. If there is none, the fault is `Form`: in lenient spelling at the end of the text, and
-/// in strict spelling at the bytes that are no line. It takes no memory.
+/// The next line of the text. If there is none, the fault is `Form`: in lenient spelling at the end
+/// of the text, and in strict spelling at the bytes that are no line. It takes no memory.
 pub fn line_at(spelling: Spelling, text: &[u8]) -> Result<TextLine<'_>, PartFault>
-    ensures found { IfOk result (λ l. HasLine spelling text.now l.start.now (word_texts l.bytes.now) l.rest.now) }
+    ensures found { IfOk result (λ l. HasLine spelling text.now l.start.now
+        (word_texts l.bytes.now) l.rest.now) }
     ensures fault { IfErr result (IsNoLine spelling text.now) }
 {
     match spelling {
@@ -35,10 +36,14 @@ pub fn line_at(spelling: Spelling, text: &[u8]) -> Result<TextLine<'_>, PartFaul
     }
 }
 
-/// What follows the next line of the text, if that has the words of `words` and no others. It takes no memory.
+/// What follows the next line of the text, if that has the words of `words` and no others. It takes
+/// no memory.
 pub fn words_at<'a>(spelling: Spelling, text: &'a [u8], words: &[u8]) -> Result<&'a [u8], PartFault>
-    ensures found { IfOk result (λ rest. (line_part spelling (words_rule (word_texts words.now))).Reads text.now tt rest.now) }
-    ensures fault { IfErr result (IsFaultOf (line_part spelling (words_rule (word_texts words.now))) text.now) }
+    ensures found { IfOk result
+        (λ rest. (line_part spelling (words_rule (word_texts words.now))).Reads
+        text.now tt rest.now) }
+    ensures fault { IfErr result (IsFaultOf (line_part spelling
+        (words_rule (word_texts words.now))) text.now) }
     ensures no_memory { IfErr result IsRefusal }
 {
     let line = line_at(spelling, text)?;
@@ -48,8 +53,8 @@ pub fn words_at<'a>(spelling: Spelling, text: &'a [u8], words: &[u8]) -> Result<
     Ok(line.rest)
 }
 
-/// Nothing follows: no byte, or in lenient spelling only lines that are skipped. If something follows, the fault is
-/// `Tail`. It takes no memory.
+/// Nothing follows: no byte, or in lenient spelling only lines that are skipped. If something
+/// follows, the fault is `Tail`. It takes no memory.
 pub fn end_at(spelling: Spelling, text: &[u8]) -> Result<(), PartFault>
     ensures ended { OnOk result (HasNothing spelling text.now) }
     ensures fault { IfErr result (IsTail spelling text.now) }
@@ -88,7 +93,8 @@ pub(crate) fn first_line_feed(text: &[u8]) -> Option<usize>
 
 /// The first line of the text that is not skipped.
 fn next_lenient_line(text: &[u8]) -> Option<TextLine<'_>>
-    ensures found { IfSome result (λ l. HasNextLine l.start.now (word_texts l.bytes.now) l.rest.now text.now) }
+    ensures found { IfSome result (λ l. HasNextLine l.start.now
+        (word_texts l.bytes.now) l.rest.now text.now) }
     ensures none { IfNone result (IsSkippedText text.now) }
 {
     let mut left = text;
@@ -146,8 +152,10 @@ fn is_skipped(bytes: &[u8]) -> bool
 
 /// The strict line at the front of the text.
 fn strict_line(text: &[u8]) -> Option<TextLine<'_>>
-    ensures found { IfSome result (λ l. (l.start.now ≡ text.now) × HasStrictLine text.now (word_texts l.bytes.now) l.rest.now) }
-    ensures none { IfNone result ((words : List (List ℕ)) (rest : List ℕ) → HasStrictLine text.now words rest → ⊥) }
+    ensures found { IfSome result (λ l. (l.start.now ≡ text.now) ×
+        HasStrictLine text.now (word_texts l.bytes.now) l.rest.now) }
+    ensures none { IfNone result ((words : List (List ℕ)) (rest : List ℕ) →
+        HasStrictLine text.now words rest → ⊥) }
 {
     let end = first_line_feed(text)?;
     let bytes = &text[..end];

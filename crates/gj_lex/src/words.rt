@@ -69,7 +69,8 @@ pub fn has_no_word(line: &[u8]) -> bool
 /// What stands behind the first word of the line, if that word is the name.
 pub fn behind_name<'a>(line: &'a [u8], name: &[u8]) -> Option<&'a [u8]>
     ensures found { IfSome result (λ r. word_texts line.now ≡ name.now ∷ word_texts r.now) }
-    ensures none { IfNone result ((words : List (List ℕ)) → word_texts line.now ≡ name.now ∷ words → ⊥) }
+    ensures none { IfNone result ((words : List (List ℕ)) →
+        word_texts line.now ≡ name.now ∷ words → ⊥) }
 {
     let (word, rest) = split_word(line)?;
     if word != name {
@@ -93,7 +94,8 @@ pub fn only_word(line: &[u8]) -> Option<&[u8]>
 /// The word behind the name, if the line has these two words.
 pub fn field_of<'a>(line: &'a [u8], name: &[u8]) -> Option<&'a [u8]>
     ensures found { IfSome result (λ w. word_texts line.now ≡ name.now ∷ w.now ∷ []) }
-    ensures none { IfNone result ((word : List ℕ) → word_texts line.now ≡ name.now ∷ word ∷ [] → ⊥) }
+    ensures none { IfNone result ((word : List ℕ) →
+        word_texts line.now ≡ name.now ∷ word ∷ [] → ⊥) }
 {
     only_word(behind_name(line, name)?)
 }

@@ -24,8 +24,8 @@ pub record IsAnswered (bytes input : List ℕ) (status : Status) (text : List �
   pub left : Option (List ℕ)
   pub answer : IsAnswer words ⊥ (Some input) left status text
 
--- the code is that of the status of a run of the words over the input, which does not fail, and the text is what a sink that is sure of
--- so many bytes and has taken nothing before has then taken
+-- the code is that of the status of a run of the words over the input, which does not fail, and the
+-- text is what a sink that is sure of so many bytes and has taken nothing before has then taken
 pub record IsCall (bytes input : List ℕ) (room : ℕ) (text : List ℕ) (code : ℕ) : Type 0 where
   pub words : List (String Global)
   pub are_words : AreWordsOf bytes words

@@ -17,7 +17,8 @@ pub(crate) struct Answer {
 
 /// The answer to the words over the input, unless there is no memory.
 pub(crate) fn answer_to(alloc: Global, words: &[u8], input: &[u8]) -> Result<Answer, AllocError>
-    ensures { IfOk result (λ answer. IsAnswered words.now input.now answer.status answer.text.items) }
+    ensures { IfOk result (λ answer. IsAnswered words.now input.now answer.status
+        answer.text.items) }
 {
     let words = words_of(alloc, words)?;
     let mut source = MemSource::new(alloc, input, &[])?;

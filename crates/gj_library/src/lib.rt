@@ -1,4 +1,5 @@
-//! The top call for programs in C and in other languages: words and an input in memory, the answer and its status in memory.
+//! The top call for programs in C and in other languages: words and an input in memory, the answer
+//! and its status in memory.
 #![tactic(auto)]
 
 ghost use Rattle.std.specs.Prelude.{◌≡◌, ◌≢◌, ◌⊎◌, ◌≤◌, Bool, [], length, take, drop, Some};
@@ -24,11 +25,13 @@ mod words;
 
 use answer::answer_to;
 
-/// Answers the request that the words name, over the input, as the program does. The words stand behind one another with one blank
-/// between two; bytes that are not UTF-8 are no words. The answer is written to the front of the output, `written` is set to its
-/// length, and what stands behind it in the output stays. The result is the status of the program, with these meanings of two of
-/// them: 5 if the output has no room for the answer, of which it has then taken as many bytes as it has; 6 if there is no memory,
-/// and then nothing is written. 4 never comes. Nothing is kept from one call to the next, and `written` is not read.
+/// Answers the request that the words name, over the input, as the program does. The words stand
+/// behind one another with one blank between two; bytes that are not UTF-8 are no words. The answer
+/// is written to the front of the output, `written` is set to its length, and what stands behind it
+/// in the output stays. The result is the status of the program, with these meanings of two of
+/// them: 5 if the output has no room for the answer, of which it has then taken as many bytes as it
+/// has; 6 if there is no memory, and then nothing is written. 4 never comes. Nothing is kept from
+/// one call to the next, and `written` is not read.
 #[unsafe(no_mangle)]
 pub extern "C" fn gjcut_answer(
     alloc: Global,
@@ -38,37 +41,48 @@ pub extern "C" fn gjcut_answer(
     written: &mut usize,
 ) -> u8
     // The headline.
-    ensures headline { result ≡ 0 → OfWords words.now (λ given. IsTrueRun given input.now [] (Some (take written.new output.new))) }
+    ensures headline { result ≡ 0 → OfWords words.now (λ given. IsTrueRun given input.now []
+        (Some (take written.new output.new))) }
 
     // And what was written then is the reply of the request to what the input spells.
-    ensures reply { result ≡ 0 → OfWords words.now (λ given. IsDoneRun given input.now [] (Some (take written.new output.new))) }
+    ensures reply { result ≡ 0 → OfWords words.now (λ given. IsDoneRun given input.now []
+        (Some (take written.new output.new))) }
 
-    // What stands at the front of the output is the answer, all of it or as much as there is room for; or nothing for want of memory.
-    ensures outcome { result ≢ 6 → IsCall words.now input.now (length output.old) (take written.new output.new) result }
+    // What stands at the front of the output is the answer, all of it or as much as there is room
+    // for; or nothing for want of memory.
+    ensures outcome { result ≢ 6 → IsCall words.now input.now (length output.old)
+        (take written.new output.new) result }
     ensures memory { result ≡ 6 → written.new ≡ 0 }
     ensures within { written.new ≤ length output.old }
     ensures behind { drop written.new output.new ≡ drop written.new output.old }
 
     // Each status has its cause.
-    ensures cause { result ≢ 6 → OfWords words.now (λ given. (status : Status) × (result ≡ code_of status) × IsCause given input.now status) }
+    ensures cause { result ≢ 6 → OfWords words.now (λ given. (status : Status) ×
+        (result ≡ code_of status) × IsCause given input.now status) }
     ensures no_text { (IsUtf8 words.now → ⊥) → (result ≡ 2) ⊎ (result ≡ 5) ⊎ (result ≡ 6) }
     ensures no_read_fault { result ≢ 4 }
-    ensures narrow { result ≡ 7 → OfWords words.now (λ given. (json : Bool) (f : FunctionData) → AskIfExtreme json given input.now f →
+    ensures narrow { result ≡ 7 → OfWords words.now (λ given. (json : Bool) (f : FunctionData) →
+        AskIfExtreme json given input.now f →
         HasUncoveredInterval f ⊎ HasAtMostComponents 4 f → ⊥) }
-    ensures order_4q { result ≡ 0 → OfWords words.now (λ given. (json : Bool) (f : FunctionData) → AskIfExtreme json given input.now f →
+    ensures order_4q { result ≡ 0 → OfWords words.now (λ given. (json : Bool) (f : FunctionData) →
+        AskIfExtreme json given input.now f →
         IsDecisive json f [] (Some (take written.new output.new))) }
-    ensures two_slopes { (result ≡ 7) ⊎ (result ≡ 8) → OfWords words.now (λ given. (json : Bool) (f : FunctionData) →
+    ensures two_slopes { (result ≡ 7) ⊎ (result ≡ 8) → OfWords words.now
+        (λ given. (json : Bool) (f : FunctionData) →
         AskIfExtreme json given input.now f → IsMinimal f → HasTwoSlopes f → ⊥) }
-    ensures called_extreme { result ≡ 0 → OfWords words.now (λ given. (json : Bool) (f : FunctionData) →
+    ensures called_extreme { result ≡ 0 → OfWords words.now (λ given. (json : Bool)
+        (f : FunctionData) →
         AskIfExtreme json given input.now f → IsMinimal f → HasTwoSlopes f →
         IsCalledExtreme json f [] (Some (take written.new output.new))) }
     ensures full { result ≡ 5 → written.new ≡ length output.old }
     ensures room { result ≡ 5 → IsTooSmall words.now input.now (length output.old) }
 
     // An input in its form is answered, unless there is no room or no memory.
-    ensures complete { result ≢ 5 → result ≢ 6 → OfWords words.now (λ given. (r : Request) → IsNamed given r →
+    ensures complete { result ≢ 5 → result ≢ 6 → OfWords words.now
+        (λ given. (r : Request) → IsNamed given r →
         IsGoodInput (task_for r) (Some input.now) input.now →
-        (status : Status) × (result ≡ code_of status) × IsStatusOfReply (task_for r) input.now status) }
+        (status : Status) × (result ≡ code_of status) × IsStatusOfReply
+        (task_for r) input.now status) }
 {
     let Ok(answer) = answer_to(alloc, words, input) else {
         *written = 0;

@@ -6,7 +6,8 @@ ghost use Rattle.gj_port.specs.Sink.{Writes};
 use gj_port::{Failed, Sink};
 use std::alloc::{AllocError, Global};
 
-/// A sink over memory that grows: it takes all that it is given, and fails only if there is no memory.
+/// A sink over memory that grows: it takes all that it is given, and fails only if there is no
+/// memory.
 #[derive(Drop)]
 pub(crate) struct Kept {
     bytes: Vec<u8>,
@@ -46,7 +47,8 @@ impl Sink for Kept {
     fn write(&mut self, piece: &[u8]) -> Result<usize, Failed>
         requires { 0 < length piece.now }
         ensures some { IfOk result (λ n. (1 ≤ n) × (n ≤ length piece.now)) }
-        ensures told { Writes (Some self.old.bytes.items) (Some self.new.bytes.items) piece.now result }
+        ensures told { Writes (Some self.old.bytes.items)
+            (Some self.new.bytes.items) piece.now result }
         ensures cause { OnErr result (HasFailed self.old.faults self.new.faults) }
         ensures count { self.old.faults ≤ self.new.faults }
     {

@@ -17,7 +17,8 @@ pub(crate) fn words_of(alloc: Global, bytes: &[u8]) -> Result<Vec<String>, Alloc
 
 /// The pieces of a text between its blanks.
 fn pieces_of(alloc: Global, text: &str) -> Result<Vec<String>, AllocError>
-    ensures { IfOk result (λ words. map string_bytes words.items ≡ slice_split (λ b. b == 32) text.now) }
+    ensures { IfOk result (λ words. map string_bytes words.items ≡ slice_split
+        (λ b. b == 32) text.now) }
 {
     let pieces = slices_of(alloc, text)?;
     let mut words = Vec::new(alloc);
@@ -29,7 +30,8 @@ fn pieces_of(alloc: Global, text: &str) -> Result<Vec<String>, AllocError>
 
 /// The same, without copies.
 fn slices_of(alloc: Global, text: &str) -> Result<Vec<&str>, AllocError>
-    ensures { IfOk result (λ pieces. map (λ piece. piece.now) pieces.items ≡ slice_split (λ b. b == 32) text.now) }
+    ensures { IfOk result (λ pieces. map (λ piece. piece.now) pieces.items ≡ slice_split
+        (λ b. b == 32) text.now) }
 {
     text.split(' ').collect(alloc)
 }

@@ -1,4 +1,5 @@
--- The text of the faces, the cover lines and the uncovered intervals of a function, printed piece by piece.
+-- The text of the faces, the cover lines and the uncovered intervals of a function, printed piece
+-- by piece.
 use Rattle.std.proofs.Common.{◌≡◌, ℕ, ◌+◌, ◌<◌, ◌↔◌, List, [], ◌∷◌, ◌++◌, All, codes, flat_map, Option, None, Some, is_some, true, false, refl, sym, ap, subst, ◌∙◌, append_assoc, length, arith}
 use Rattle.std.specs.List.{range_with_len}
 use Rattle.std.proofs.lemmas.List.{append-nil, flat_map_more}

@@ -1,5 +1,5 @@
--- The text of the maximal additive faces and the covered intervals of a function (Light on the Infinite Group Relaxation I and II; the
--- form is own).
+-- The text of the maximal additive faces and the covered intervals of a function (Light on the
+-- Infinite Group Relaxation I and II; the form is own).
 use Rattle.std.specs.Prelude.{ℕ, ◌≡◌, Option, None, List, ◌++◌, codes, decimal, flat_map}
 use Rattle.std.specs.List.{range_with_len}
 use Rattle.gj_shape.specs.FunctionData.{FunctionData}
@@ -24,13 +24,15 @@ pub record ArePushed (component : List (Option ℕ)) (n : ℕ) (old new : List �
   pub picked : ArePicked (λ i. number_at component i ≡ None) (range_with_len 0 n) intervals
   pub pushed : new ≡ old ++ flat_map uncovered_line intervals
 
--- behind a text stand the lines of the maximal additive faces of the first n rows of squares, in walk order
+-- behind a text stand the lines of the maximal additive faces of the first n rows of squares, in
+-- walk order
 pub record AreRowsPushed (f : FunctionData) (n : ℕ) (old new : List ℕ) : Type 0 where
   pub faces : List Face
   pub picked : ArePicked (IsMaximalIn f) (flat_map (faces_of_row f.order) (range_with_len 0 n)) faces
   pub pushed : new ≡ old ++ flat_map (λ face. line (face_text face)) faces
 
--- the text lists the maximal additive faces in walk order, the cover lines, and the uncovered intervals, ascending
+-- the text lists the maximal additive faces in walk order, the cover lines, and the uncovered
+-- intervals, ascending
 pub record IsFacesText (f : FunctionData) (text : List ℕ) : Type 0 where
   pub listed : List Face
   pub maximal : AreMaximalFaces f listed

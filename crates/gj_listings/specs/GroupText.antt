@@ -5,7 +5,7 @@ use Rattle.gj_frac.specs.Fraction.{IsRatio}
 use Rattle.gj_shape.specs.FunctionData.{FunctionData}
 use Rattle.gj_function_lines.specs.FunctionLines.{line, order_line, place_line}
 use Rattle.gj_proof.specs.ProofText.{violation_line}
-use Rattle.gj_proof.specs.ExtremeTexts.{halves_text}
+use Rattle.gj_proof.specs.ProofText.{halves_text}
 use Rattle.gj_group.specs.declared.decision.GroupAnswer.{GroupAnswer}
 use Rattle.gj_group.specs.declared.decision.GroupAnswer.TheVariants.{NotMinimal, Extreme, NotExtreme}
 

@@ -15,7 +15,7 @@ use Rattle.gj_mixed.specs.MixedRows.{MixedCutHolds}
 use Rattle.gj_mixed.specs.Slopes.{AreSlopesAtZero}
 use Rattle.gj_mixed.specs.declared.cut.MixedCut.{MixedCut}
 use Rattle.gj_mixed.specs.declared.cut.MixedCut.TheVariants as mixed_cut
-use Rattle.gj_proof.specs.CutTexts.{row_text}
+use Rattle.gj_proof.specs.ProofText.{row_text}
 use Rattle.gj_proof.specs.ProofText.{AreSubjectLines, subject_of_rule}
 use Rattle.gj_proof.specs.declared.cut.CutLine.{CutLine}
 use Rattle.gj_proof.specs.declared.cut.CutLine.TheVariants.{Cut, Skip}
@@ -40,8 +40,8 @@ IsMixedCutBy (Table f) columns row cut =
     (up : Frac) × (down : Frac) × AreSlopesAtZero f up down × IsMixedCutOfKind (kind.Table f) up down (continuous_columns columns) row cut
 IsMixedCutBy Gmic columns row cut = IsGmicMixedCutOf (continuous_columns columns) row cut
 
--- the line of a row with this cut, with the names of its columns: the terms of whole columns, and the weights of continuous ones; or why
--- the row has no cut
+-- the line of a row with this cut, with the names of its columns: the terms of whole columns, and
+-- the weights of continuous ones; or why the row has no cut
 abbrev pub NamesMixedCut : List (List ℕ) → Row → MixedCut → CutLine → List CutTerm → Type 0
 NamesMixedCut columns row (mixed_cut.Cut terms weights) (Cut name right named) weighed =
     (name ≡ row.basic) × (right ≡ row.rhs) × AllZip (IsNamedTerm columns) terms named × AllZip (IsNamedTerm columns) weights weighed
@@ -70,7 +70,8 @@ MixedLineHolds m = LineHolds m.line m.weights
 abbrev pub weight_line : CutTerm → List ℕ
 weight_line t = line (codes "weight " ++ t.name ++ codes " " ++ fraction_text t.entry ++ codes " " ++ fraction_text t.cut)
 
--- the lines of a row: those of its whole columns as in a proof text, and a line for each continuous column
+-- the lines of a row: those of its whole columns as in a proof text, and a line for each continuous
+-- column
 abbrev pub mixed_row_text : MixedLine → List ℕ
 mixed_row_text m = row_text m.line ++ flat_map weight_line m.weights
 
@@ -79,7 +80,8 @@ abbrev pub MakesMixedCuts : CutRule → Type 0
 MakesMixedCuts Gmic = Unit {0}
 MakesMixedCuts (Table f) = IsMinimal f × IsContinuous f
 
--- the text has the lines of each row of the tableau, in their order; each cut holds at every solution of its row
+-- the text has the lines of each row of the tableau, in their order; each cut holds at every
+-- solution of its row
 pub record AreMixedCutsOf («rule» : CutRule) (tableau : Tableau) (text : List ℕ) : Type 0 where
   pub lines : List MixedLine
   pub lines_are : AllZip (IsMixedLineFor «rule» tableau.columns) tableau.rows lines

@@ -1,7 +1,7 @@
 //! The lines of faces, from pieces that are kept.
 //!
-//! There may be hundreds of thousands of lines, so the piece up to the row is put together once a row, and the piece
-//! behind it once a column.
+//! There may be hundreds of thousands of lines, so the piece up to the row is put together once a
+//! row, and the piece behind it once a column.
 ghost use Rattle.std.specs.Prelude.{◌≡◌, ◌+◌, ◌<◌, ◌≤◌, [], ◌++◌, All, codes, decimal, flat_map, length, IfOk, OnOk};
 ghost use Rattle.gj_function_lines.specs.FunctionLines.{line};
 ghost use Rattle.gj_function_lines.specs.FaceLines.{face_text, face_word};
@@ -12,21 +12,22 @@ use gj_shape::{Face, FaceKind};
 use itoa::Buffer;
 use std::alloc::{AllocError, Global};
 
-/// The room of a piece, in which a word of at most 10 bytes, a space, and a number of at most 10 digits fit. With its length a piece
-/// then has 32 bytes, so that it is found in a list by a shift.
+/// The room of a piece, in which a word of at most 10 bytes, a space, and a number of at most 10
+/// digits fit. With its length a piece then has 32 bytes, so that it is found in a list by a shift.
 const ROOM: usize = 28;
 
 /// A text of at most 28 bytes.
 ///
-/// All of its room is copied and what is behind the text cut off again, since a copy of so many bytes that are known
-/// beforehand is fast.
+/// All of its room is copied and what is behind the text cut off again, since a copy of so many
+/// bytes that are known beforehand is fast.
 #[derive(Clone, Copy)]
 pub(crate) struct Piece {
     bytes: [u8; ROOM],
     length: u32,
 }
 
-/// The beginnings of the lines of the faces of one row of squares: the word of the kind, a space and the row.
+/// The beginnings of the lines of the faces of one row of squares: the word of the kind, a space
+/// and the row.
 #[derive(Clone, Copy)]
 pub(crate) struct Starts {
     row: u32,
@@ -74,7 +75,8 @@ pub(crate) fn push_face_lines(
     requires starts { AreStarts starts.now }
     requires ends { AreEnds ends.now }
     requires faces { All (HasPieces starts.now ends.now) faces.now }
-    ensures { OnOk result (out.new.items ≡ out.old.items ++ flat_map (λ face. line (face_text face)) faces.now) }
+    ensures { OnOk result (out.new.items ≡ out.old.items ++ flat_map
+        (λ face. line (face_text face)) faces.now) }
 {
     for face in faces {
         push_face_line(out, starts, ends, *face)?;

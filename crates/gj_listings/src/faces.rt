@@ -12,7 +12,8 @@ use gj_lex::print_count;
 use gj_shape::Shape;
 use std::alloc::{AllocError, Global};
 
-/// The text of the maximal additive faces of a continuous function in walk order, its cover lines, and its uncovered intervals.
+/// The text of the maximal additive faces of a continuous function in walk order, its cover lines,
+/// and its uncovered intervals.
 ///
 /// The only error is want of memory.
 pub fn faces_text(alloc: Global, shape: &Shape) -> Result<Vec<u8>, AllocError>
@@ -30,7 +31,8 @@ pub fn faces_text(alloc: Global, shape: &Shape) -> Result<Vec<u8>, AllocError>
     Ok(text)
 }
 
-/// Appends the lines of the maximal additive faces. They are looked for row by row, so that no list of all is kept.
+/// Appends the lines of the maximal additive faces. They are looked for row by row, so that no list
+/// of all is kept.
 fn push_maximal_faces(
     alloc: Global,
     out: &mut Vec<u8>,

@@ -2,12 +2,12 @@
 //! continuous columns.
 //!
 //! [`faces_text`] prints the maximal additive faces in walk order, a line why each covered interval
-//! is covered, and the uncovered intervals (`specs/FacesText`). [`group_text`] prints the verdict on
-//! the table of a function's own order, with what shows it (`specs/GroupText`). [`mixed_text`]
+//! is covered, and the uncovered intervals (`specs/FacesText`). [`group_text`] prints the verdict
+//! on the table of a function's own order, with what shows it (`specs/GroupText`). [`mixed_text`]
 //! prints the cuts of the rows of a tableau of which some columns are continuous, those whose name
-//! begins with `c:` (`specs/MixedLines`): a group of lines a row, those of its whole columns as in a
-//! proof text, and a line `weight` for each continuous column. [`named_terms`] joins the terms of a
-//! cut with the names of their columns, for claims too.
+//! begins with `c:` (`specs/MixedLines`): a group of lines a row, those of its whole columns as in
+//! a proof text, and a line `weight` for each continuous column. [`named_terms`] joins the terms of
+//! a cut with the names of their columns, for claims too.
 #![tactic(auto)]
 
 mod columns;

@@ -14,8 +14,8 @@ use gj_proof::{CutRule, CutTerm, push_named, push_row, push_rule_lines};
 use gj_row::{Row, Tableau};
 use std::alloc::{AllocError, Global};
 
-/// The text of the mixed cuts of the rows of the tableau by the rule: `gj-mixed 1`, the lines of the rule, a group of lines a row in
-/// their order, and `end`.
+/// The text of the mixed cuts of the rows of the tableau by the rule: `gj-mixed 1`, the lines of
+/// the rule, a group of lines a row in their order, and `end`.
 ///
 /// A function is minimal and continuous. The only error is want of memory.
 pub fn mixed_text(alloc: Global, rule: &CutRule, tableau: &Tableau) -> Result<Vec<u8>, AllocError>
@@ -41,7 +41,8 @@ pub(crate) fn push_cut(
     cut: &MixedCut,
 ) -> Result<(), AllocError>
     requires { AreInColumns (length columns.now) cut.now }
-    ensures { OnOk result ((m : MixedLine) × NamesMixedCut columns.now row.now cut.now m.line m.weights
+    ensures { OnOk result ((m : MixedLine) ×
+        NamesMixedCut columns.now row.now cut.now m.line m.weights
         × (out.new.items ≡ out.old.items ++ mixed_row_text m)) }
 {
     let line = line_of(alloc, columns, row, cut)?;

@@ -32,8 +32,8 @@ pub struct MixedLine {
     pub weights: List<CutTerm>,
 }
 
-/// Appends the lines of each row of the tableau, in their order. The cut of a row is made and printed before that of the next, so
-/// that no more than one is kept.
+/// Appends the lines of each row of the tableau, in their order. The cut of a row is made and
+/// printed before that of the next, so that no more than one is kept.
 ///
 /// A function is minimal and continuous. The only error is want of memory.
 pub(crate) fn push_mixed_lines(
@@ -45,7 +45,8 @@ pub(crate) fn push_mixed_lines(
     requires bounded { IsBoundedRule rule.now }
     requires makes { MakesMixedCuts rule.now }
     requires tableau { IsTableau tableau.now }
-    ensures { OnOk result (AppendsLines rule.now tableau.now.columns tableau.now.rows out.old.items out.new.items) }
+    ensures { OnOk result (AppendsLines rule.now tableau.now.columns tableau.now.rows
+        out.old.items out.new.items) }
 {
     let columns = tableau.columns.as_slice();
     let rows = tableau.rows.as_slice();
@@ -85,7 +86,8 @@ fn push_function_lines(
     requires jumps_not { IsContinuous shape.now }
     requires bounds { IsWithinBounds shape.now }
     requires rows { All (IsRowWithinLimits (length columns.now)) rows.now }
-    ensures { OnOk result (AppendsLines (Table shape.now) columns.now rows.now out.old.items out.new.items) }
+    ensures { OnOk result (AppendsLines (Table shape.now) columns.now rows.now
+        out.old.items out.new.items) }
 {
     let kept = shape.copy(alloc)?;
     let at_zero = SlopesAtZero::of_function(shape);
@@ -126,7 +128,8 @@ fn push_lines_by<E: Evaluator, G: Evaluator>(
     requires weighs { Weighs G.can_answer G.answers at_zero.up at_zero.down weigh }
     requires slopes { AreSlopesAtZero shape at_zero.up at_zero.down }
     requires rows { All (IsRowWithinLimits (length columns.now)) rows.now }
-    ensures { OnOk result (AppendsLines (Table shape) columns.now rows.now out.old.items out.new.items) }
+    ensures { OnOk result (AppendsLines (Table shape) columns.now rows.now
+        out.old.items out.new.items) }
 {
     let rule = Rule::new(RuleKind::Table(shape), eval);
     let slopes = Slopes::new(at_zero.up, at_zero.down, weigh);

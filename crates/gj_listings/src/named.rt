@@ -12,7 +12,8 @@ use gj_row::Row;
 use gj_shape::List;
 use std::alloc::{AllocError, Global};
 
-/// The line of a row with this cut, with the names of its columns. The only error is want of memory.
+/// The line of a row with this cut, with the names of its columns. The only error is want of
+/// memory.
 pub(crate) fn line_of(
     alloc: Global,
     columns: &[Name],

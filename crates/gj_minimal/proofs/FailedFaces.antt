@@ -198,7 +198,8 @@ kinds_before f a b (suc (suc (suc (suc zero)))) below h =
     (tt, (h 0 (lit< tt), h 1 (lit< tt), h 2 (lit< tt), h 3 (lit< tt)))
 kinds_before f a b (suc (suc (suc (suc (suc i))))) below h = absurd (omega arith)
 
--- the first negative limit in the face of this kind fails first, where those of the kinds before it pass
+-- the first negative limit in the face of this kind fails first, where those of the kinds before it
+-- pass
 pub corner_fails : {f : FunctionData} {s : Square} {a b : ℕ} → IsReached f s a b → (i c : ℕ) → i < 5 →
     HoldsBelow (PassesKind f a b) i →
     IsFirstFailingIndex (IsNonnegativeIn s (kind_at i)) (length (corners_of (kind_at i) 0 0)) c →

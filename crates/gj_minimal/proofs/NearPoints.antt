@@ -1,4 +1,5 @@
--- Points near the ends of an open interval and near the corners of a face, on the coarsest grid that shows a failure.
+-- Points near the ends of an open interval and near the corners of a face, on the coarsest grid
+-- that shows a failure.
 use Rattle.std.proofs.Common.{◌≡◌, ℕ, ◌+◌, ◌-◌, ◌*◌, ◌<◌, ◌≤◌, ◌^◌, ℤ, pos, ◌+ℤ◌, ◌*ℤ◌, ◌<ℤ◌, ◌≤ℤ◌, refl, sym, ap, subst, ◌∙◌, arith}
 use Rattle.std.proofs.Math.Nat.{mul-le-mul}
 use Rattle.std.proofs.lemmas.Int.{ints}

@@ -13,9 +13,6 @@ natural_at numbers i = unsigned_abs (at numbers i)
 pub natural_is : (bound : ℕ) (numbers : List ℤ) (i : ℕ) → AreInRange (pos 0) bound numbers → pos (natural_at numbers i) ≡ at numbers i
 natural_is bound numbers i h = let low = (h i).0 in omega (arith, ints)
 
-pub natural_below : (bound : ℕ) (numbers : List ℤ) (i : ℕ) → AreInRange (pos 0) bound numbers → natural_at numbers i < bound
-natural_below bound numbers i h = let low = (h i).0 in let high = (h i).1 in omega (arith, ints)
-
 -- the range of lanes that begin at 0
 pub in_range_from_0 : {least : ℤ} {bound : ℕ} (numbers : List ℤ) → least ≡ pos 0 → AreInRange least bound numbers →
     AreInRange (pos 0) bound numbers
@@ -38,22 +35,22 @@ read_at {x = x} number natural i zero natural_of h most is =
 
 -- ---- of a function
 
--- the limits and values are from 0 to below the bound
-pub record AreAllBelow (bound : ℕ) (f : FunctionData) : Type 0 where
-  pub lefts : AreInRange (pos 0) bound f.left
-  pub values : AreInRange (pos 0) bound f.value
-  pub rights : AreInRange (pos 0) bound f.right
+-- the limits and values are in the range
+pub record AreAllInRange (least : ℤ) (bound : ℕ) (f : FunctionData) : Type 0 where
+  pub lefts : AreInRange least bound f.left
+  pub values : AreInRange least bound f.value
+  pub rights : AreInRange least bound f.right
 
--- if the tests of signs and of symmetry pass and the scale is below it
-pub all_below : (bound : ℕ) (f : FunctionData) → IsWithinBounds f → PassesSymmetry f → f.scale < bound →
-    AreAllBelow bound f
-all_below bound f limits h above =
+-- if the tests of signs and of symmetry pass, the range begins at 0 and the scale is in it
+pub all_in_range : {least : ℤ} (bound : ℕ) (f : FunctionData) → least ≡ pos 0 → IsWithinBounds f → PassesSymmetry f → f.scale < bound →
+    AreAllInRange least bound f
+all_in_range {least = least} bound f zero limits h above =
     let b = are_bounded f limits h in
     record {
-      lefts = λ i. up_to_scale (at f.left i) f.scale bound above (b.left_low i) (b.left_high i);
-      values = λ i. up_to_scale (at f.value i) f.scale bound above (b.value_low i) (b.value_high i);
-      rights = λ i. up_to_scale (at f.right i) f.scale bound above (b.right_low i) (b.right_high i);
+      lefts = λ i. up_to_scale least (at f.left i) f.scale bound zero above (b.left_low i) (b.left_high i);
+      values = λ i. up_to_scale least (at f.value i) f.scale bound zero above (b.value_low i) (b.value_high i);
+      rights = λ i. up_to_scale least (at f.right i) f.scale bound zero above (b.right_low i) (b.right_high i);
     }
   where
-    up_to_scale : (n : ℤ) (s bound : ℕ) → s < bound → pos 0 ≤ℤ n → n ≤ℤ pos s → (pos 0 ≤ℤ n) × (n <ℤ pos bound)
-    up_to_scale n s bound above low high = (low, omega (arith, ints))
+    up_to_scale : (least n : ℤ) (s bound : ℕ) → least ≡ pos 0 → s < bound → pos 0 ≤ℤ n → n ≤ℤ pos s → (least ≤ℤ n) × (n <ℤ pos bound)
+    up_to_scale least n s bound zero above low high = (omega (arith, ints), omega (arith, ints))

@@ -54,6 +54,7 @@ PassesRow f a = HoldsBelow (PassesSquare f a) f.order
 abbrev pub IsNonnegativeIn : Square → FaceKind → ℕ → Type 0
 IsNonnegativeIn s kind corner = pos 0 ≤ℤ get_or (limits_in s kind) corner (pos 0)
 
--- the points of the violation are multiples of 1/(order h) from 0 to below 1, and order h is at most 2^62
+-- the points of the violation are multiples of 1/(order h) from 0 to below 1, and order h is at
+-- most 2^62
 abbrev pub HasGridPoints : FunctionData → Violation → Type 0
 HasGridPoints f v = (h : ℕ) × (0 < h) × (f.order * h ≤ 2 ^ 62) × IsAtGridPoints f h v

@@ -15,8 +15,9 @@ pub(crate) fn grid_point(index: u64, order: u32, h: u64) -> Frac
     Frac::new(i128::from(index), i128::from(u64::from(order) * h)).unwrap()
 }
 
-/// On the grid of order h times the function's, the point with the weight 1/h at each other of n corners and the rest
-/// of the weight at the corner with this coordinate, in units of 1/order. The sum is that of all n coordinates.
+/// On the grid of order h times the function's, the point with the weight 1/h at each other of n
+/// corners and the rest of the weight at the corner with this coordinate, in units of 1/order. The
+/// sum is that of all n coordinates.
 pub(crate) fn point_near(order: u32, h: u64, n: u32, coordinate: u32, sum: u32) -> Frac
     requires some { 0 < n }
     requires corners { n ≤ h }
@@ -30,9 +31,11 @@ pub(crate) fn point_near(order: u32, h: u64, n: u32, coordinate: u32, sum: u32) 
     grid_point(index, order, h)
 }
 
-/// The least h, at least the number of corners n, at which (h - n) limit + total is negative, if the limit is.
+/// The least h, at least the number of corners n, at which (h - n) limit + total is negative, if
+/// the limit is.
 ///
-/// That is h times the number near the corner with this limit, if the total is the sum of the limits at all corners.
+/// That is h times the number near the corner with this limit, if the total is the sum of the
+/// limits at all corners.
 pub(crate) fn least_denominator(limit: i64, total: i64, n: u32) -> u64
     requires negative { limit <ℤ pos 0 }
     requires fits { unsigned_abs total < 2 ^ 62 }

@@ -17,16 +17,19 @@ use gj_shape::{Shape, Violation};
 
 /// The first violation of minimality, or None if there is none: then the function is minimal.
 ///
-/// The tests come in this order: the value at 0 is 0; no value at i/q is negative; on each open interval from i/q to
-/// (i + 1)/q the limit from the right at its start is not negative, nor the limit from the left at its end; the values
-/// at i/q and at f less i/q add up to 1; so do the values at x and f less x on each open interval; at each (a/q, b/q)
-/// the slack is not negative, for a from 0 and then for b from 0; and square by square in that order, on the faces in
-/// the order horizontal, vertical, diagonal, lower and upper, the limit of the slack at each corner is not negative.
+/// The tests come in this order: the value at 0 is 0; no value at i/q is negative; on each open
+/// interval from i/q to (i + 1)/q the limit from the right at its start is not negative, nor the
+/// limit from the left at its end; the values at i/q and at f less i/q add up to 1; so do the
+/// values at x and f less x on each open interval; at each (a/q, b/q) the slack is not negative,
+/// for a from 0 and then for b from 0; and square by square in that order, on the faces in the
+/// order horizontal, vertical, diagonal, lower and upper, the limit of the slack at each corner is
+/// not negative.
 ///
 /// A continuous function is minimal, and so gives None, if its table on its own grid is.
 ///
-/// If a limit fails, the violation is shown at a point near the end or the corner, at the multiples of 1/(q h) with
-/// the least h. All points shown are from 0 to below 1, and q h is at most 2^62. It takes no memory.
+/// If a limit fails, the violation is shown at a point near the end or the corner, at the multiples
+/// of 1/(q h) with the least h. All points shown are from 0 to below 1, and q h is at most 2^62. It
+/// takes no memory.
 ///
 /// ```text
 /// // order 5, f = 3/5, values 0, 1/10, 9/10, 1, 1/2: 1/10 + 1/10 is less than 9/10

@@ -63,8 +63,8 @@ fn point_before(shape: &Shape, i: u32) -> Frac
     point_near(order, h, 2, i + 1, 2 * i + 1)
 }
 
-/// The midpoint of the open interval from i/q to (i + 1)/q where the values there and at f less it do not add up to
-/// 1, and else the point at a quarter of it.
+/// The midpoint of the open interval from i/q to (i + 1)/q where the values there and at f less it
+/// do not add up to 1, and else the point at a quarter of it.
 fn point_between(shape: &Shape, i: u32) -> Frac
     requires within { i < shape.now.order }
     ensures shows { Shows shape.now (symmetric_between i) (Violation.Asymmetric result) }
@@ -78,13 +78,15 @@ fn point_between(shape: &Shape, i: u32) -> Frac
     }
 }
 
-/// The pair of points near a corner of the face where the slack is negative, as its limit at the corner is.
+/// The pair of points near a corner of the face where the slack is negative, as its limit at the
+/// corner is.
 fn pair_near(shape: &Shape, face: Face, at_corner: u32) -> (Frac, Frac)
     requires first { face.a < shape.now.order }
     requires second { face.b < shape.now.order }
     requires corner { at_corner < length (corners_of face.kind face.a face.b) }
     requires symmetry { PassesSymmetry shape.now }
-    requires negative { get_or (limits_of shape.now face.kind face.a face.b) at_corner (pos 0) <ℤ pos 0 }
+    requires negative { get_or (limits_of shape.now face.kind face.a face.b) at_corner
+        (pos 0) <ℤ pos 0 }
     ensures shows { ShowsNearCorner shape.now face.kind face.a face.b at_corner
         (Violation.Superadditive result.0 result.1) }
     ensures points { HasGridPoints shape.now (Violation.Superadditive result.0 result.1) }

@@ -7,7 +7,8 @@ ghost use Rattle.gj_minimal.specs.Failures.{FailsFirst};
 use crate::failures::Failure;
 use gj_shape::Shape;
 
-/// The first failed test of the values at grid points: at 0 the value is 0, and at i/q it is not negative.
+/// The first failed test of the values at grid points: at 0 the value is 0, and at i/q it is not
+/// negative.
 pub(crate) fn failed_value(shape: &Shape) -> Option<Failure>
     ensures found { IfSome result (FailsFirst shape.now) }
     ensures none { IfNone result (PassesValues shape.now) }
@@ -24,8 +25,8 @@ pub(crate) fn failed_value(shape: &Shape) -> Option<Failure>
     None
 }
 
-/// The first failed test of the signs on open intervals: the limits at both ends are not negative. Those of a continuous
-/// function are values, and need no test.
+/// The first failed test of the signs on open intervals: the limits at both ends are not negative.
+/// Those of a continuous function are values, and need no test.
 pub(crate) fn failed_interval_sign(shape: &Shape, is_continuous: bool) -> Option<Failure>
     requires values { PassesValues shape.now }
     requires continuous { IsTrue is_continuous → IsContinuous shape.now }

@@ -6,8 +6,8 @@ ghost use Rattle.gj_minimal.specs.Lanes.{AreLimits};
 use gj_lanes::UnsignedLane;
 use gj_shape::Shape;
 
-/// Whether no limit of the slack on the faces of the square (a, b) but its vertex is found to be negative, for each b
-/// from a to below q.
+/// Whether no limit of the slack on the faces of the square (a, b) but its vertex is found to be
+/// negative, for each b from a to below q.
 pub(crate) fn squares_pass<L: UnsignedLane>(
     lefts: &[L],
     values: &[L],
@@ -31,14 +31,14 @@ pub(crate) fn squares_pass<L: UnsignedLane>(
         let value = values[b];
         let right = rights[b];
         let left = lefts[b + 1];
-        let least = value.lesser(right);
-        let greatest = values[next].greater(rights[next]);
         let at_sum = above(
             rights[sum],
             right_first.plus(value),
             least_first.plus(right),
         );
+        let least = value.lesser(right);
         let before_next = above(lefts[next], left_first.plus(least), least_first.plus(left));
+        let greatest = values[next].greater(rights[next]);
         let at_next = above(greatest, left_first.plus(right), right_first.plus(left));
         let before_last = lefts[next + 1].excess_over(left_first.plus(left));
         excess = excess
@@ -52,7 +52,8 @@ pub(crate) fn squares_pass<L: UnsignedLane>(
 
 /// By how much the sum is above the lesser of two others, and 0 if it is not.
 fn above<L: UnsignedLane>(sum: L, first: L, second: L) -> L
-    ensures { L.natural result ≡ 0 → (L.natural sum ≤ L.natural first) × (L.natural sum ≤ L.natural second) }
+    ensures { L.natural result ≡ 0 → (L.natural sum ≤ L.natural first) ×
+        (L.natural sum ≤ L.natural second) }
 {
     sum.excess_over(first.lesser(second))
 }

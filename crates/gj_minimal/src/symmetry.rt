@@ -23,7 +23,8 @@ pub(crate) fn failed_mirror(shape: &Shape) -> Option<Failure>
     None
 }
 
-/// The first failed test of symmetry on open intervals. A continuous function that is symmetric at grid points needs no test.
+/// The first failed test of symmetry on open intervals. A continuous function that is symmetric at
+/// grid points needs no test.
 pub(crate) fn failed_interval_mirror(shape: &Shape, is_continuous: bool) -> Option<Failure>
     requires mirrors { PassesMirrors shape.now }
     requires continuous { IsTrue is_continuous → IsContinuous shape.now }

@@ -1,4 +1,5 @@
--- Continuous columns as whole columns with the entry 1 or -1 step on a grid that holds a solution, each used often.
+-- Continuous columns as whole columns with the entry 1 or -1 step on a grid that holds a solution,
+-- each used often.
 use Rattle.std.proofs.Common.{◌≡◌, ◌≢◌, ℕ, ◌-◌, ◌*◌, ◌<◌, ◌⊎◌, inl, inr, ⊎_elim, List, [], ◌∷◌, length, map, ℤ, pos, negsuc, neg_ℤ, ◌+ℤ◌, ◌*ℤ◌, ◌≤ℤ◌, ◌<ℤ◌, unsigned_abs, refl, sym, ap, subst₂, ◌∙◌, arith}
 use Rattle.std.specs.List.{AllZip}
 use Rattle.std.proofs.lemmas.Int.{ints}
@@ -47,7 +48,8 @@ weight_4 : (d e v t ud k wd g a : ℤ) →
     ((((d *ℤ e) *ℤ v) *ℤ t) *ℤ ud) *ℤ (k *ℤ wd *ℤ g *ℤ a) ≡ ((t *ℤ (k *ℤ a *ℤ v)) *ℤ (g *ℤ e)) *ℤ (wd *ℤ (ud *ℤ d))
 weight_4 d e v t ud k wd g a = by_ring (d ∷ e ∷ v ∷ t ∷ ud ∷ k ∷ wd ∷ g ∷ a ∷ []) (search ring depth 60 fits 2000) refl
 
--- its weight u/ud times k/d times the amount is the weight of so many steps of t/s, each u/ud over d e v
+-- its weight u/ud times k/d times the amount is the weight of so many steps of t/s, each u/ud over
+-- d e v
 weight_of_column : (y w wd g u ud k d t s a e v : ℤ) → unsigned_abs wd ≢ 0 → unsigned_abs ud ≢ 0 → unsigned_abs d ≢ 0 →
     y *ℤ wd ≡ w *ℤ g → w *ℤ (ud *ℤ d) ≡ (u *ℤ k) *ℤ wd → u *ℤ s ≡ (((d *ℤ e) *ℤ v) *ℤ t) *ℤ ud →
     (y *ℤ a) *ℤ s ≡ (t *ℤ (k *ℤ a *ℤ v)) *ℤ (g *ℤ e)

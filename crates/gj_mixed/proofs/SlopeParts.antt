@@ -1,4 +1,5 @@
--- Slopes as fractions over small bottoms, and their products with fractions that can stand in a row.
+-- Slopes as fractions over small bottoms, and their products with fractions that can stand in a
+-- row.
 use Rattle.std.proofs.Common.{◌≡◌, ℕ, ◌<◌, ◌≤◌, ◌^◌, ℤ, pos, neg_ℤ, ◌*ℤ◌, ◌<ℤ◌, ◌≤ℤ◌, unsigned_abs, sym, subst, subst₂, arith}
 use Rattle.std.proofs.lemmas.Int.{ints}
 use Rattle.std.proofs.lemmas.Nat.Gcd.{le_of_dvd}

@@ -1,4 +1,5 @@
--- The cut of a row with whole and continuous columns by a rule and slopes (Gomory and Johnson 1972).
+-- The cut of a row with whole and continuous columns by a rule and slopes (Gomory and Johnson
+-- 1972).
 use Rattle.std.specs.Prelude.{◌≡◌, Bool, false, not, List, map, filter, slice_index_or}
 use Rattle.std.specs.List.{AllZip}
 use Rattle.gj_frac.specs.declared.Frac.{Frac}
@@ -38,8 +39,8 @@ pub record IsWeightTermOf {G : Type 0} (answers : G → Frac → Frac → Type 0
   pub of_slopes : IsWeightTerm slopes.up slopes.down entry term
   pub answered : answers slopes.weigh entry.value term.cut
 
--- the cut of a row with terms of whole columns, of which P says which they are, and of continuous columns, of which Q does so, each in
--- the order of the row's entries, or why there is none
+-- the cut of a row with terms of whole columns, of which P says which they are, and of continuous
+-- columns, of which Q does so, each in the order of the row's entries, or why there is none
 abbrev pub IsMixedCutWith : (Entry → Term → Type 0) → (Entry → Term → Type 0) → RuleKind → List Bool → Row → MixedCut → Type 0
 IsMixedCutWith P Q kind continuous row (Cut terms weights) = (IsWhole row.rhs → ⊥) × HasPart kind row.rhs
     × AllZip P (whole_entries continuous row.entries) terms × AllZip Q (continuous_entries continuous row.entries) weights
@@ -55,7 +56,8 @@ IsMixedCutOf answers weighs rule slopes = IsMixedCutWith (IsTermOf answers rule)
 abbrev pub IsMixedCutOfKind : RuleKind → Frac → Frac → List Bool → Row → MixedCut → Type 0
 IsMixedCutOfKind kind up down = IsMixedCutWith (IsTermOfKind kind) (IsWeightTerm up down) kind
 
--- the mixed-integer cut of the row for the fractional part f of its right side, or the right side is whole
+-- the mixed-integer cut of the row for the fractional part f of its right side, or the right side
+-- is whole
 abbrev pub IsGmicMixedCutOf : List Bool → Row → MixedCut → Type 0
 IsGmicMixedCutOf continuous row (Cut terms weights) =
     (f : Frac) × (up : Frac) × (down : Frac) × AreGmicSlopes f up down × IsMixedCutOfKind (Gmic f) up down continuous row (Cut terms weights)

@@ -1,4 +1,5 @@
--- Slopes at 0, and the weights of continuous columns by them (Gomory and Johnson 1972; the limits are own).
+-- Slopes at 0, and the weights of continuous columns by them (Gomory and Johnson 1972; the limits
+-- are own).
 use Rattle.std.specs.Prelude.{pos, ◌-◌, ◌≤◌, ◌^◌, ◌-ℤ◌, ◌*ℤ◌, ◌<ℤ◌, ◌≤ℤ◌, unsigned_abs}
 use Rattle.gj_frac.specs.declared.Frac.{Frac}
 use Rattle.gj_frac.specs.Fraction.{SameValue, IsRatio, fraction_of, product_of, quotient_of, negation_of, numerator, denominator}
@@ -8,7 +9,8 @@ use Rattle.gj_shape.specs.Limits.{IsRowNumber}
 use Rattle.gj_rule.specs.declared.kind.RuleKind.{RuleKind}
 use Rattle.gj_rule.specs.declared.kind.RuleKind.TheVariants.{Gmic, Table}
 
--- w is the weight of a continuous column with the entry c: up c if c is at least 0, and down (-c) if it is below
+-- w is the weight of a continuous column with the entry c: up c if c is at least 0, and down (-c)
+-- if it is below
 pub record IsWeight (up down c w : Frac) : Type 0 where
   pub rises : pos 0 ≤ℤ numerator c → SameValue (fraction_of w) (product_of (fraction_of up) (fraction_of c))
   pub falls : numerator c <ℤ pos 0 → SameValue (fraction_of w) (product_of (fraction_of down) (negation_of (fraction_of c)))

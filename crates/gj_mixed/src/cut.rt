@@ -6,8 +6,8 @@ use gj_shape::List;
 #[derive(Debug, PartialEq, Eq, Drop)]
 pub enum MixedCut {
     /// The sum of all terms, each its coefficient times the variable of its column, is at least 1:
-    /// the terms of the whole columns, and those of the continuous columns, each with its weight for
-    /// a coefficient, both in the order of the columns.
+    /// the terms of the whole columns, and those of the continuous columns, each with its weight
+    /// for a coefficient, both in the order of the columns.
     Cut(List<Term>, List<Term>),
     /// The right side is whole.
     Integral,

@@ -19,13 +19,14 @@ use gj_rule::{Evaluator, Rule, RuleKind, gmic_value};
 use gj_shape::List;
 use std::alloc::{AllocError, Global};
 
-/// The cut of the row by the rule and the slopes: for each entry the column, the entry, and the rule's value at it or, in a
-/// continuous column, its weight by the slopes.
+/// The cut of the row by the rule and the slopes: for each entry the column, the entry, and the
+/// rule's value at it or, in a continuous column, its weight by the slopes.
 ///
-/// It is `Integral` exactly if the right side is whole, and `OtherFraction` exactly if it is not and its fractional
-/// part is not the rule's f. The right side and the entries are at most 2^31 in absolute value and have a common denominator of
-/// at most 2^31 - 1; `continuous` says of each column whether it is continuous. The slopes are those of the rule at 0, and a
-/// function is continuous. The only error is want of memory.
+/// It is `Integral` exactly if the right side is whole, and `OtherFraction` exactly if it is not
+/// and its fractional part is not the rule's f. The right side and the entries are at most 2^31 in
+/// absolute value and have a common denominator of at most 2^31 - 1; `continuous` says of each
+/// column whether it is continuous. The slopes are those of the rule at 0, and a function is
+/// continuous. The only error is want of memory.
 pub fn cut_mixed<E: Evaluator, G: Evaluator>(
     alloc: Global,
     rule: &Rule<E>,
@@ -36,7 +37,8 @@ pub fn cut_mixed<E: Evaluator, G: Evaluator>(
     requires limits { AreWithinLimits (numbers_of row.now) }
     requires columns { All (λ entry. entry.column < length continuous.now) row.now.entries }
     requires slopes { AreSlopesOfKind rule.now.kind slopes.now.up slopes.now.down }
-    ensures cut { IfOk result (IsMixedCutOf E.answers G.answers rule.now slopes.now continuous.now row.now) }
+    ensures cut { IfOk result
+        (IsMixedCutOf E.answers G.answers rule.now slopes.now continuous.now row.now) }
     ensures holds { IfOk result (λ cut. IsMinimalKind rule.now.kind → MixedHoldsFor row.now cut) }
 {
     if row.rhs.den() == 1 {
@@ -57,8 +59,8 @@ pub fn cut_mixed<E: Evaluator, G: Evaluator>(
 
 /// The mixed-integer cut of the row, for f the fractional part of its right side.
 ///
-/// It is `Integral` exactly if the right side is whole, and never `OtherFraction`. The limits are those of
-/// [`cut_mixed`], and the only error is want of memory.
+/// It is `Integral` exactly if the right side is whole, and never `OtherFraction`. The limits are
+/// those of [`cut_mixed`], and the only error is want of memory.
 pub fn gmic_cut_mixed(alloc: Global, row: &Row, continuous: &[bool]) -> Result<MixedCut, AllocError>
     requires limits { AreWithinLimits (numbers_of row.now) }
     requires columns { All (λ entry. entry.column < length continuous.now) row.now.entries }
@@ -81,7 +83,8 @@ pub fn gmic_cut_mixed(alloc: Global, row: &Row, continuous: &[bool]) -> Result<M
     )
 }
 
-/// The cut of the row by the rule of this kind with this evaluator, and by these slopes with this one.
+/// The cut of the row by the rule of this kind with this evaluator, and by these slopes with this
+/// one.
 pub(crate) fn cut_mixed_by<E: Evaluator, G: Evaluator>(
     alloc: Global,
     kind: RuleKind,
@@ -99,7 +102,8 @@ pub(crate) fn cut_mixed_by<E: Evaluator, G: Evaluator>(
     requires slopes { AreSlopesOfKind kind at_zero.up at_zero.down }
     requires limits { AreWithinLimits (numbers_of row.now) }
     requires columns { All (λ entry. entry.column < length continuous.now) row.now.entries }
-    ensures cut { IfOk result (IsMixedCutOfKind kind at_zero.up at_zero.down continuous.now row.now) }
+    ensures cut { IfOk result
+        (IsMixedCutOfKind kind at_zero.up at_zero.down continuous.now row.now) }
     ensures holds { IfOk result (λ cut. IsMinimalKind kind → MixedHoldsFor row.now cut) }
 {
     let rule = Rule::new(kind, eval);
@@ -123,7 +127,8 @@ fn terms_of<E: Evaluator, G: Evaluator>(
 ) -> Result<Terms, AllocError>
     requires range { All (λ entry. IsRowNumber entry.value) entries.now }
     requires columns { All (λ entry. entry.column < length continuous.now) entries.now }
-    ensures terms { IfOk result (λ made. AllZip (IsTermOf E.answers rule.now) (whole_entries continuous.now entries.now) made.terms.items) }
+    ensures terms { IfOk result (λ made. AllZip (IsTermOf E.answers rule.now)
+        (whole_entries continuous.now entries.now) made.terms.items) }
     ensures weights { IfOk result (λ made.
         AllZip (IsWeightTermOf G.answers slopes.now) (continuous_entries continuous.now entries.now) made.weights.items) }
 {
@@ -141,7 +146,8 @@ fn terms_of<E: Evaluator, G: Evaluator>(
     Ok(Terms { terms, weights })
 }
 
-/// The term of an entry: by the rule or, in a continuous column, by the slopes, with the weight for a coefficient.
+/// The term of an entry: by the rule or, in a continuous column, by the slopes, with the weight for
+/// a coefficient.
 ///
 /// The entry is at most 2^31 in absolute value and has a denominator of at most 2^31 - 1.
 pub fn mixed_term<E: Evaluator, G: Evaluator>(

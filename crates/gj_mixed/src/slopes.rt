@@ -38,8 +38,9 @@ impl SlopesAtZero {
         }
     }
 
-    /// Those of a minimal function with values V[i] at i/q: q (V[1] - V[0]) and q (V[q-1] - V[0]). For a continuous
-    /// function these are the slope of its first interval, and that of its last with its sign turned.
+    /// Those of a minimal function with values V[i] at i/q: q (V[1] - V[0]) and q (V[q-1] - V[0]).
+    /// For a continuous function these are the slope of its first interval, and that of its last
+    /// with its sign turned.
     pub fn of_function(shape: &Shape) -> SlopesAtZero
         requires { IsMinimal shape.now }
         ensures slopes { AreSlopesAtZero shape.now result.up result.down }
@@ -53,11 +54,11 @@ impl SlopesAtZero {
         }
     }
 
-    /// The weight of a continuous column with the entry c: `up` times c if c is at least 0, and `down` times -c if it is
-    /// below.
+    /// The weight of a continuous column with the entry c: `up` times c if c is at least 0, and
+    /// `down` times -c if it is below.
     ///
-    /// The slopes are at least 0 with parts of at most 2^41; c is of denominator at most 2^31 - 1 and at most 2^31 in
-    /// absolute value.
+    /// The slopes are at least 0 with parts of at most 2^41; c is of denominator at most 2^31 - 1
+    /// and at most 2^31 in absolute value.
     pub fn weight(self, c: Frac) -> Frac
         requires up { IsSlope self.up }
         requires down { IsSlope self.down }
@@ -76,7 +77,8 @@ impl SlopesAtZero {
 fn slope_to(shape: &Shape, i: u32) -> Frac
     requires minimal { IsMinimal shape.now }
     requires within { i < shape.now.order }
-    ensures value { IsRatio result (pos shape.now.order *ℤ (at shape.now.value i -ℤ at shape.now.value 0)) (pos shape.now.scale) }
+    ensures value { IsRatio result (pos shape.now.order *ℤ
+        (at shape.now.value i -ℤ at shape.now.value 0)) (pos shape.now.scale) }
     ensures slope { IsSlope result }
 {
     let scale = shape.common_denominator();

@@ -11,22 +11,30 @@ ghost use Rattle.gj_frac.specs.Floor.{HasFractionalPart};
 ghost use Rattle.gj_mixed.specs.MixedRows.{MixedCutHolds, IsNonnegativeAmount, AreAmountsOver};
 ghost use Rattle.gj_mixed.specs.Slopes.{IsWeight, AreSlopesAtZero, AreGmicSlopes};
 
-/// The mixed cut of a row holds whose right side has the fractional part f: by a continuous minimal function with its slopes at 0,
-/// and by the mixed-integer cut for f with its own. Without continuous columns it is the cut of whole columns.
+/// The mixed cut of a row holds whose right side has the fractional part f: by a continuous minimal
+/// function with its slopes at 0, and by the mixed-integer cut for f with its own. Without
+/// continuous columns it is the cut of whole columns.
 pub fn mixed_cut()
-    ensures by_function { (f : FunctionData) (up down : Frac) (entries columns : List Frac) (right : Frac) (coefficients weights : List Frac) →
+    ensures by_function { (f : FunctionData) (up down : Frac) (entries columns : List Frac)
+        (right : Frac) (coefficients weights : List Frac) →
         IsWithinBounds f → IsContinuous f → IsMinimal f → AreSlopesAtZero f up down →
-        HasFractionalPart right (pos f.place) (pos f.order) → AllZip (IsValueOf f) entries coefficients →
-        AllZip (IsWeight up down) columns weights → MixedCutHolds entries columns right coefficients weights }
-    ensures by_gmic { (f up down : Frac) (entries columns : List Frac) (right : Frac) (coefficients weights : List Frac) →
-        IsInside f → AreGmicSlopes f up down → HasFractionalPart right (numerator f) (denominator f) →
+        HasFractionalPart right (pos f.place) (pos f.order) →
+        AllZip (IsValueOf f) entries coefficients →
+        AllZip (IsWeight up down) columns weights →
+        MixedCutHolds entries columns right coefficients weights }
+    ensures by_gmic { (f up down : Frac) (entries columns : List Frac) (right : Frac)
+        (coefficients weights : List Frac) →
+        IsInside f → AreGmicSlopes f up down → HasFractionalPart right
+        (numerator f) (denominator f) →
         AllZip (IsGmicValue f) entries coefficients → AllZip (IsWeight up down) columns weights →
         MixedCutHolds entries columns right coefficients weights }
     ensures without_columns { (entries : List Frac) (right : Frac) (coefficients : List Frac) →
         MixedCutHolds entries [] right coefficients [] ↔ CutHolds entries right coefficients }
 {}
 
-/// Fractions that are at least 0 are amounts over one denominator, so solutions with such amounts are all solutions.
+/// Fractions that are at least 0 are amounts over one denominator, so solutions with such amounts
+/// are all solutions.
 pub fn fractions_over_one_denominator()
-    ensures { (zs : List Fraction) → All IsNonnegativeAmount zs → (e : ℕ) × (amounts : List ℕ) × (0 < e) × AreAmountsOver e zs amounts }
+    ensures { (zs : List Fraction) → All IsNonnegativeAmount zs → (e : ℕ) × (amounts : List ℕ) ×
+        (0 < e) × AreAmountsOver e zs amounts }
 {}

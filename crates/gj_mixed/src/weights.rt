@@ -7,11 +7,11 @@ use gj_frac::Frac;
 use gj_rule::Evaluator;
 use std::marker::Model;
 
-/// Two slopes, and an evaluator that answers the weight of a continuous column at each entry of the range: of denominator
-/// at most 2^31 - 1 and at most 2^31 in absolute value.
+/// Two slopes, and an evaluator that answers the weight of a continuous column at each entry of the
+/// range: of denominator at most 2^31 - 1 and at most 2^31 in absolute value.
 ///
-/// The weight of c is `up` times c if c is at least 0, and `down` times -c if it is below. The slopes are at least 0 with
-/// parts of at most 2^41.
+/// The weight of c is `up` times c if c is at least 0, and `down` times -c if it is below. The
+/// slopes are at least 0 with parts of at most 2^41.
 ///
 /// # Example
 ///
@@ -36,7 +36,8 @@ impl<G: Evaluator> Model for Slopes<G> {
 
     ghost view = { λ s. record { up = s.up; down = s.down; weigh = s.weigh } };
 
-    ghost invariant = { λ s. IsSlope s.up × IsSlope s.down × Weighs G.can_answer G.answers s.up s.down s.weigh };
+    ghost invariant = { λ s. IsSlope s.up × IsSlope s.down ×
+        Weighs G.can_answer G.answers s.up s.down s.weigh };
 }
 
 impl<G: Evaluator> Slopes<G> {

@@ -27,7 +27,8 @@ map_same g h n e =
     fill_by_all h (map g (range_with_len 0 n)) n (pos 0) (length-map-range_with_len g 0 n)
     (λ i below. get_or-map-range_with_len g 0 n i i (pos 0) below (omega arith) ∙ e i below)
 
--- what the halves are made from: the greatest size, the table over two periods, and its least positive slack
+-- what the halves are made from: the greatest size, the table over two periods, and its least
+-- positive slack
 pub record AreParts (f : FunctionData) (p : Perturbation) (size : ℕ) (x : ℤ) (values xs : List ℤ) : Type 0 where
   pub within : IsWithinBounds f
   pub minimal : IsMinimal f

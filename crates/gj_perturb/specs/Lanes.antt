@@ -17,7 +17,8 @@ pub record HoldValues (f : FunctionData) (lanes : List ℕ) : Type 0 where
   pub periods : ArePeriods (λ n. pos n) (pos 0) (2 ^ 31) lanes f.value
   pub count : length f.value ≡ f.order
 
--- two periods of n lanes below 2^31, of which no two add up to less than that at the sum of their indices
+-- two periods of n lanes below 2^31, of which no two add up to less than that at the sum of their
+-- indices
 pub record AreSubadditive (lanes : List ℕ) (n : ℕ) : Type 0 where
   pub room : 2 * n ≤ length lanes
   pub small : (i : ℕ) → i < 2 * n → get_or lanes i 0 < 2 ^ 31
@@ -44,8 +45,8 @@ pub record IsBesideZero (lanes : List ℕ) (n x : ℕ) : Type 0 where
   pub tight : Contains (triangle lanes a b) 0
   pub here : Contains (triangle lanes a b) x
 
--- the lane of the least positive slack at a corner of the chosen triangles, and that of the least one in such a triangle that
--- has the slack 0 at a corner as well
+-- the lane of the least positive slack at a corner of the chosen triangles, and that of the least
+-- one in such a triangle that has the slack 0 at a corner as well
 pub record AreLeast (lanes : List ℕ) (n : ℕ) (IsChosen : ℕ → ℕ → Type 0) (any beside_zero : ℕ) : Type 0 where
   pub any_met : (any ≡ no_slack) ⊎ IsAtCorner lanes n (any + 1)
   pub beside_met : (beside_zero ≡ no_slack) ⊎ IsBesideZero lanes n (beside_zero + 1)

@@ -8,8 +8,8 @@ use Rattle.gj_theory.specs.Halves.{IsPerturbation}
 use Rattle.gj_frac.specs.Fraction.{Fits}
 use Rattle.gj_perturb.specs.declared.tables.Perturbation.{Perturbation}
 
--- a perturbation of the function's table on a grid of order up to 4 q, with entries of at most 2^127 - 1 in absolute value
--- that are not all 0
+-- a perturbation of the function's table on a grid of order up to 4 q, with entries of at most
+-- 2^127 - 1 in absolute value that are not all 0
 pub record CanSplit (f : FunctionData) (p : Perturbation) : Type 0 where
   pub times_low : 1 ≤ p.times
   pub times_high : p.times ≤ 4

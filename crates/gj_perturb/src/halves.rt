@@ -16,9 +16,10 @@ use crate::tables::Perturbation;
 use gj_shape::{GREATEST_HALVES_SCALE, Halves, List, Shape};
 use std::alloc::{AllocError, Global};
 
-/// The halves of a perturbation of a minimal continuous function: with the least positive slack u of the function's table on the
-/// perturbation's grid and the greatest absolute value P of the perturbation, the table plus and minus u/(3 P) times the
-/// perturbation. `Wide` exactly if the scale 3 P D `times` passes 2^124, D being the common denominator of the function.
+/// The halves of a perturbation of a minimal continuous function: with the least positive slack u
+/// of the function's table on the perturbation's grid and the greatest absolute value P of the
+/// perturbation, the table plus and minus u/(3 P) times the perturbation. `Wide` exactly if the
+/// scale 3 P D `times` passes 2^124, D being the common denominator of the function.
 pub fn split(alloc: Global, shape: &Shape, p: &Perturbation) -> Result<Halves, SplitFault>
     requires minimal { IsMinimal shape.now }
     requires continuous { IsContinuous shape.now }
@@ -70,7 +71,8 @@ fn greatest_size(values: &[i128]) -> u128
 fn scale_of_halves(shape: &Shape, times: u32, size: u128) -> Option<i128>
     requires { times ≤ 4 }
     ensures { MatchOption result (greatest_halves_scale < 3 * size * (shape.now.scale * times))
-        (λ s. (s ≡ pos (3 * size * (shape.now.scale * times))) × (3 * size * (shape.now.scale * times) ≤ greatest_halves_scale)) }
+        (λ s. (s ≡ pos (3 * size * (shape.now.scale * times))) ×
+        (3 * size * (shape.now.scale * times) ≤ greatest_halves_scale)) }
 {
     let unit = 3 * (shape.common_denominator() as u128 * u128::from(times));
     match size.checked_mul(unit) {
@@ -79,7 +81,8 @@ fn scale_of_halves(shape: &Shape, times: u32, size: u128) -> Option<i128>
     }
 }
 
-/// The entries of a table times a factor, each moved by so many times the entry of the perturbation.
+/// The entries of a table times a factor, each moved by so many times the entry of the
+/// perturbation.
 fn moved(
     alloc: Global,
     table: &[i64],
@@ -88,7 +91,8 @@ fn moved(
     step: i128,
 ) -> Result<Vec<i128>, AllocError>
     requires length { length values.now ≤ length table.now }
-    requires small { (i : ℕ) → i < length values.now → IsSmallMove table.now factor values.now step i }
+    requires small { (i : ℕ) → i < length values.now →
+        IsSmallMove table.now factor values.now step i }
     ensures { IfOk result (λ v. v.items ≡
         map (moved_at table.now factor values.now step) (range_with_len 0 (length values.now))) }
 {

@@ -1,9 +1,10 @@
-//! The slacks at the corners of the complex, over lanes of 32 bits, so that the processor finds several at once.
+//! The slacks at the corners of the complex, over lanes of 32 bits, so that the processor finds
+//! several at once.
 ghost use Rattle.std.specs.Prelude.{ℕ, ◌≡◌, ◌≢◌, ◌⊎◌, ◌+◌, ◌*◌, ◌<◌, ◌≤◌, min};
 ghost use Rattle.gj_perturb.specs.Lanes.{AreSubadditive, AreLeast, IsLeastAt, IsInRow, IsInRows, no_slack};
 
-/// The least positive slack at the corners (i, j) with i and j below n, less 1, of a table over two periods of n lanes each;
-/// `u32::MAX` if none is positive.
+/// The least positive slack at the corners (i, j) with i and j below n, less 1, of a table over two
+/// periods of n lanes each; `u32::MAX` if none is positive.
 pub(crate) fn least_at_corners(lanes: &[u32], n: usize) -> u32
     requires { AreSubadditive lanes.now n }
     ensures { IsLeastAt lanes.now n (IsInRows n n) result }
@@ -25,13 +26,15 @@ fn least_in_row_of_corners(lanes: &[u32], n: usize, i: usize) -> u32
     let mut least = u32::MAX;
     for j in i..n {
         let slack = first + lanes[j] - lanes[i + j];
-        // One below a slack of 0 is the greatest lane, so the least lane is that of a positive slack.
+        // One below a slack of 0 is the greatest lane, so the least lane is that of a positive
+        // slack.
         least = least.min(slack.wrapping_sub(1));
     }
     least
 }
 
-/// The least positive slacks at the corners of lower triangles, each less 1; `u32::MAX` if none is positive.
+/// The least positive slacks at the corners of lower triangles, each less 1; `u32::MAX` if none is
+/// positive.
 #[derive(Clone, Copy)]
 pub(crate) struct LeastSlacks {
     /// At any corner.
@@ -40,8 +43,8 @@ pub(crate) struct LeastSlacks {
     pub(crate) beside_zero: u32,
 }
 
-/// The least positive slacks of a table over two periods of n lanes each. The slack is symmetric: of each two squares that are
-/// mirrored one is read.
+/// The least positive slacks of a table over two periods of n lanes each. The slack is symmetric:
+/// of each two squares that are mirrored one is read.
 pub(crate) fn least_slacks(lanes: &[u32], n: usize) -> LeastSlacks
     requires { AreSubadditive lanes.now n }
     ensures { AreLeast lanes.now n (IsInRows n n) result.any result.beside_zero }
@@ -70,7 +73,8 @@ fn least_in_row(lanes: &[u32], n: usize, i: usize) -> LeastSlacks
         let corner = first + lanes[j] - lanes[i + j];
         let across = second + lanes[j] - lanes[i + 1 + j];
         let along = first + lanes[j + 1] - lanes[i + (j + 1)];
-        // One below a slack of 0 is the greatest lane, so the least lane is that of a positive slack.
+        // One below a slack of 0 is the greatest lane, so the least lane is that of a positive
+        // slack.
         let x = corner.wrapping_sub(1);
         let y = across.wrapping_sub(1);
         let z = along.wrapping_sub(1);
@@ -99,7 +103,8 @@ pub(crate) fn least_on_grid(least: LeastSlacks, times: u32) -> u64
     requires { times ≤ 4 }
     ensures corners { result ≤ times * (least.any + 1) }
     ensures beside { least.beside_zero < no_slack → result ≤ least.beside_zero + 1 }
-    ensures met { (result ≡ times * (least.any + 1)) ⊎ ((least.beside_zero < no_slack) × (result ≡ least.beside_zero + 1)) }
+    ensures met { (result ≡ times * (least.any + 1)) ⊎ ((least.beside_zero < no_slack) ×
+        (result ≡ least.beside_zero + 1)) }
 {
     let at_corners = u64::from(times) * (u64::from(least.any) + 1);
     if least.beside_zero == u32::MAX {

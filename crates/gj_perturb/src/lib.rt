@@ -1,8 +1,9 @@
 //! Perturbations of a minimal continuous function, and the two functions that they give.
 //!
-//! [`zigzag`] makes the perturbation of a class of uncovered intervals, [`from_slopes`] that of slopes of components.
-//! [`split`] adds a small multiple of a perturbation to the function's table and takes it away: two different minimal
-//! tables that average to the function's, so that the function is not extreme.
+//! [`zigzag`] makes the perturbation of a class of uncovered intervals, [`from_slopes`] that of
+//! slopes of components. [`split`] adds a small multiple of a perturbation to the function's table
+//! and takes it away: two different minimal tables that average to the function's, so that the
+//! function is not extreme.
 #![tactic(auto)]
 
 mod faults;

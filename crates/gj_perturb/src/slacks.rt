@@ -10,8 +10,9 @@ use gj_lanes::write_periods;
 use gj_shape::Shape;
 use std::alloc::{AllocError, Global};
 
-/// The least positive slack of the function's table on the grid of order `times` q. The slack is affine on each face, so those at
-/// the corners give it; on the grid of order q the corners are all there is.
+/// The least positive slack of the function's table on the grid of order `times` q. The slack is
+/// affine on each face, so those at the corners give it; on the grid of order q the corners are all
+/// there is.
 pub(crate) fn least_slack(alloc: Global, shape: &Shape, times: u32) -> Result<u64, AllocError>
     requires minimal { IsMinimal shape.now }
     requires continuous { IsContinuous shape.now }

@@ -25,18 +25,21 @@ pub struct Perturbation {
     pub values: List<i128>,
 }
 
-/// The zigzag of a class of intervals on the grid of order 4 `q`: 1 at the first quarter point of each interval of the class, -1
-/// at the third, and 0 elsewhere. It is 0 at the multiples of 1/`q`. If no interval of the class is covered for a minimal
-/// continuous function of order `q`, and each that is joined to one of them is in it, it is a perturbation of that function's
-/// table of order 4 `q`.
+/// The zigzag of a class of intervals on the grid of order 4 `q`: 1 at the first quarter point of
+/// each interval of the class, -1 at the third, and 0 elsewhere. It is 0 at the multiples of 1/`q`.
+/// If no interval of the class is covered for a minimal continuous function of order `q`, and each
+/// that is joined to one of them is in it, it is a perturbation of that function's table of order 4
+/// `q`.
 pub fn zigzag(alloc: Global, q: u32, class: &[u32]) -> Result<Perturbation, AllocError>
     requires low { 2 ≤ q }
     requires high { q ≤ greatest_order }
     requires within { All (λ a. a < q) class.now }
     ensures times { IfOk result (λ p. p.times ≡ 4) }
-    ensures values { IfOk result (λ p. p.values ≡ map (zigzag_at q class.now) (range_with_len 0 (q * 4))) }
+    ensures values { IfOk result (λ p. p.values ≡ map (zigzag_at q class.now)
+        (range_with_len 0 (q * 4))) }
 
-    ensures perturbation { (f : FunctionData) → f.order ≡ q → IsWithinBounds f → IsContinuous f → IsMinimal f →
+    ensures perturbation { (f : FunctionData) → f.order ≡ q → IsWithinBounds f →
+        IsContinuous f → IsMinimal f →
         AreUncoveredClasses q (IsTight f) class.now →
         IfOk result (λ p. IsPerturbation (table f 4) (q * 4) (f.place * 4) (at p.values)) }
     ensures zero { IfOk result (λ p. (a : ℕ) → at p.values (a * 4) ≡ pos 0) }
@@ -56,7 +59,8 @@ pub fn zigzag(alloc: Global, q: u32, class: &[u32]) -> Result<Perturbation, Allo
 /// Whether each interval is in the class.
 fn chosen_intervals(alloc: Global, q: u32, class: &[u32]) -> Result<Vec<bool>, AllocError>
     requires { All (λ a. a < q) class.now }
-    ensures { IfOk result (λ v. v.items ≡ map (λ i. list_any (λ a. a == i) class.now) (range_with_len 0 q)) }
+    ensures { IfOk result (λ v. v.items ≡ map (λ i. list_any (λ a. a == i) class.now)
+        (range_with_len 0 q)) }
 {
     let mut chosen = vec![in alloc; false; q as usize]?;
     for a in class {
@@ -81,8 +85,9 @@ fn zigzag_value(chosen: bool, r: usize) -> i128
     0
 }
 
-/// The perturbation at 0, 1/q, .., (q - 1)/q, with the slope of its component on each of the q intervals: the sums of the slopes
-/// of the intervals before. No intervals give no values. `Wide` exactly if one of these sums passes 2^127 - 1 in absolute value.
+/// The perturbation at 0, 1/q, .., (q - 1)/q, with the slope of its component on each of the q
+/// intervals: the sums of the slopes of the intervals before. No intervals give no values. `Wide`
+/// exactly if one of these sums passes 2^127 - 1 in absolute value.
 pub fn from_slopes(
     alloc: Global,
     component: &[u32],
@@ -92,7 +97,8 @@ pub fn from_slopes(
 
     ensures times { IfOk result (λ p. p.times ≡ 1) }
     ensures values { IfOk result (λ p.
-        p.values ≡ map (slope_sum component.now slopes.now) (range_with_len 0 (length component.now))) }
+        p.values ≡ map (slope_sum component.now slopes.now) (range_with_len 0
+        (length component.now))) }
 
     ensures narrow { IfOk result (λ p. All Fits p.values) }
     ensures wide { IsErrOf result SplitFault.Wide → IsWideSum component.now slopes.now }

@@ -1,8 +1,8 @@
 -- What a sink over memory is.
 use Rattle.std.specs.Prelude.{ℕ, List, [], ◌∷◌}
 
--- the bytes taken, how many more there is room for, how many a write takes at most, the numbers of the writes that fail, and how
--- many writes were made and failed
+-- the bytes taken, how many more there is room for, how many a write takes at most, the numbers of
+-- the writes that fail, and how many writes were made and failed
 pub record MemorySink : Type 0 where
   pub written : List ℕ
   pub room : ℕ

@@ -1,8 +1,8 @@
 -- What a source over memory is.
 use Rattle.std.specs.Prelude.{ℕ, Bool, true, false, List, [], ◌∷◌}
 
--- the bytes still to come, how many a read gives at most, the numbers of the reads that fail, and how many reads were made and
--- failed
+-- the bytes still to come, how many a read gives at most, the numbers of the reads that fail, and
+-- how many reads were made and failed
 pub record MemorySource : Type 0 where
   pub left : List ℕ
   pub step : ℕ

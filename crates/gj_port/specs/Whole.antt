@@ -9,8 +9,8 @@ use Rattle.gj_port.specs.declared.fault.ReadError.TheVariants.{ReadFault, TooLon
 abbrev pub TakesUpTo : ℕ → List ℕ → Option (List ℕ) → Type 0
 TakesUpTo limit left after = (n : ℕ) × (n ≤ limit) × (n ≤ length left) × (after ≡ Some (drop n left))
 
--- what reading to the end did to the bytes to come, if the source tells them: with Ok all were taken;
--- with TooLong the limit and one more; with another error no more than the limit
+-- what reading to the end did to the bytes to come, if the source tells them: with Ok all were
+-- taken; with TooLong the limit and one more; with another error no more than the limit
 abbrev pub TakesAll : ℕ → List ℕ → Option (List ℕ) → Result (Vec ℕ Global) ReadError → Type 0
 TakesAll limit left after (Ok bytes) = (bytes.items ≡ left) × (after ≡ Some [])
 TakesAll limit left after (Err TooLong) =
@@ -18,8 +18,8 @@ TakesAll limit left after (Err TooLong) =
 TakesAll limit left after (Err ReadFault) = TakesUpTo limit left after
 TakesAll limit left after (Err (Memory e)) = TakesUpTo limit left after
 
--- what writing these bytes did to the bytes taken, if the sink tells them: with Ok they grew by all;
--- with Err by some from the front, not all
+-- what writing these bytes did to the bytes taken, if the sink tells them: with Ok they grew by
+-- all; with Err by some from the front, not all
 abbrev pub WritesAll : {E : Type 0} → List ℕ → Option (List ℕ) → List ℕ → Result (Unit {0}) E → Type 0
 WritesAll before after bytes (Ok done) = after ≡ Some (before ++ bytes)
 WritesAll before after bytes (Err e) =

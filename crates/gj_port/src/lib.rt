@@ -1,9 +1,11 @@
-//! Where bytes come from and go to: a source and a sink as traits, over memory and over standard input and output.
+//! Where bytes come from and go to: a source and a sink as traits, over memory and over standard
+//! input and output.
 //!
-//! `read_all` takes all bytes up to a limit, `write_all` hands all bytes over. What a source still has and what a sink has
-//! taken are seen by contracts if they are told; an error comes only if the object's count of faults rose, and
-//! never if the source is steady or the sink was sure of so many bytes. `MemSource` and `MemSink` tell everything and
-//! fail exactly at the calls that they are told; `StdSource` and `StdSink` are the trusted edge.
+//! `read_all` takes all bytes up to a limit, `write_all` hands all bytes over. What a source still
+//! has and what a sink has taken are seen by contracts if they are told; an error comes only if the
+//! object's count of faults rose, and never if the source is steady or the sink was sure of so many
+//! bytes. `MemSource` and `MemSink` tell everything and fail exactly at the calls that they are
+//! told; `StdSource` and `StdSink` are the trusted edge.
 #![tactic(auto)]
 
 mod fault;

@@ -38,8 +38,9 @@ impl Model for MemSink {
 }
 
 impl MemSink {
-    /// A sink with room for so many bytes, whose memory is taken here, as many a write as there is room for. A write fails exactly
-    /// if its number, counted from 1 and staying at 2^64 - 1 once that is reached, stands in `fail`, or if no room is left.
+    /// A sink with room for so many bytes, whose memory is taken here, as many a write as there is
+    /// room for. A write fails exactly if its number, counted from 1 and staying at 2^64 - 1 once
+    /// that is reached, stands in `fail`, or if no room is left.
     pub fn new(alloc: Global, room: usize, fail: &[u64]) -> Result<MemSink, AllocError>
         ensures { IfOk result (λ sink. sink ≡
             record { written = []; room = room; step = 2 ^ 64 - 1; fail = fail.now; calls = 0; faults = 0 }) }
@@ -102,7 +103,8 @@ impl Sink for MemSink {
         }) }
 
         // It takes as many bytes as there is room for and the step allows.
-        ensures taken { IfOk result (λ n. n ≡ min (min (length piece.now) self.old.room) self.old.step) }
+        ensures taken { IfOk result (λ n. n ≡ min
+            (min (length piece.now) self.old.room) self.old.step) }
         ensures goes_on { IfOk result (λ n. self.new ≡ record self.old {
           calls = one_more self.old.calls;
           written = self.old.written ++ take n piece.now;

@@ -37,8 +37,8 @@ impl Model for MemSource {
 }
 
 impl MemSource {
-    /// A source that gives these bytes, as many a read as fit. A read fails exactly if its number, counted from 1 and
-    /// staying at 2^64 - 1 once that is reached, stands in `fail`.
+    /// A source that gives these bytes, as many a read as fit. A read fails exactly if its number,
+    /// counted from 1 and staying at 2^64 - 1 once that is reached, stands in `fail`.
     pub fn new(alloc: Global, bytes: &[u8], fail: &[u64]) -> Result<MemSource, AllocError>
         ensures { IfOk result (λ source. source ≡
             record { left = bytes.now; step = 2 ^ 64 - 1; fail = fail.now; calls = 0; faults = 0 }) }
@@ -99,7 +99,8 @@ impl Source for MemSource {
         }) }
 
         // It gives as many bytes as fit and the step allows.
-        ensures given { IfOk result (λ n. n ≡ min (min (length buf.old) (length self.old.left)) self.old.step) }
+        ensures given { IfOk result (λ n. n ≡ min (min (length buf.old)
+            (length self.old.left)) self.old.step) }
         ensures goes_on { IfOk result (λ n. self.new ≡ record self.old {
           calls = one_more self.old.calls;
           left = drop n self.old.left;

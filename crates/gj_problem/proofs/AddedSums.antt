@@ -134,9 +134,9 @@ inequality_added d now s old new factor right now_is sum_is =
 pub nothing_added : (d f : Rational) → d ≡ d +ℚ f *ℚ whole (pos 0)
 nothing_added d f = by_ring_q (d ∷ f ∷ []) (search ring_q depth 30) refl
 
-pub all_added : (d now s : Rational) (point : List Rational) (es : List Entry) (i : ℕ) (f : Rational) → length es ≤ i →
+pub all_added : (d now : Rational) (point : List Rational) (es : List Entry) (i : ℕ) (f : Rational) → length es ≤ i →
     now ≡ d +ℚ f *ℚ sum_at point (take i es) → now ≡ d +ℚ f *ℚ sum_at point es
-all_added d now s point es i f end is = is ∙ ap (λ xs. d +ℚ f *ℚ sum_at point xs) (take_all i es end)
+all_added d now point es i f end is = is ∙ ap (λ xs. d +ℚ f *ℚ sum_at point xs) (take_all i es end)
 
 pub add_zero_q : (d : Rational) → d ≡ d +ℚ whole (pos 0)
 add_zero_q d = sym (add_comm_q d (whole (pos 0)) ∙ zero_add_q d)

@@ -1,12 +1,13 @@
 -- Numbers on a grid.
-use Rattle.std.proofs.Common.{◌≡◌, ◌<◌, ℕ, ℤ, pos, sym, ap, subst, subst₂, ◌∙◌, arith}
+use Rattle.std.proofs.Common.{◌≡◌, ◌<◌, ℕ, ℤ, pos, sym, ap, subst, subst₂, ◌∙◌, arith, ap₂, refl, [], ◌∷◌, ◌+ℤ◌, ◌-ℤ◌, ◌≤ℤ◌}
 use Rattle.std.proofs.lemmas.Int.{ints}
 use Rattle.gj_frac.specs.declared.Frac.{Frac}
 use Rattle.gj_frac.specs.Floor.{IsFloor}
 use Rattle.gj_frac.specs.Fraction.{IsRatio, IsWhole}
-use Rattle.gj_rational.specs.Rational.{Rational, whole, rational, ◌*ℚ◌, ◌≤ℚ◌, IsWholeNumber}
-use Rattle.gj_rational.proofs.RationalLaws.{equal_q, product_is, mul_comm_q, whole_bottom}
-use Rattle.gj_rational.proofs.RationalOrder.{at_most_whole, at_most_scaled, at_most_cancel}
+use Rattle.gj_rational.specs.Rational.{Rational, whole, rational, ◌*ℚ◌, ◌≤ℚ◌, IsWholeNumber, ◌+ℚ◌, ◌-ℚ◌}
+use Rattle.gj_rational.proofs.RationalLaws.{whole_add, whole_sub, equal_q, product_is, mul_comm_q, whole_bottom}
+use Rattle.gj_rational.proofs.RationalOrder.{IsNonnegativeQ, whole_nonnegative, difference_nonnegative, at_most_whole, at_most_scaled, at_most_cancel}
+use Rattle.gj_rational.proofs.RationalRing.{by_ring_q, ring_q}
 use Rattle.gj_problem.proofs.HeldInequalities.{whole_frac}
 use Rattle.gj_problem.proofs.Numerators.{ratio_whole}
 use Rattle.gj_problem.proofs.TurnedColumns.{below_floor}
@@ -47,3 +48,20 @@ on_grid_if_whole n x s s_is h = subst IsWholeNumber s_is (whole_frac s h)
 
 pub whole_if_on_grid : (n : ℕ) (x s : Frac) → rational s ≡ whole (pos n) *ℚ rational x → IsOnGrid n (rational x) → IsWhole s
 whole_if_on_grid n x s s_is on = ap (λ (q : Rational). q.bottom) (s_is ∙ on.1) ∙ whole_bottom on.0
+
+-- ---- the next number on the grid
+
+times_next : (n y z : Rational) → n *ℚ z ≡ n *ℚ y +ℚ n *ℚ (z -ℚ y)
+times_next n y z = by_ring_q (n ∷ y ∷ z ∷ []) (search ring_q depth 40) refl
+
+-- what is 1/n above y is above x
+pub near_below : (n : ℕ) (x y z : Rational) → IsBelowOnGrid n x y → whole (pos n) *ℚ (z -ℚ y) ≡ whole (pos 1) → z ≤ℚ x → ⊥
+near_below n x y z h step below =
+    let (k, k_is) = h.on_grid in
+    let z_is : whole (pos n) *ℚ z ≡ whole (k +ℤ pos 1) =
+    times_next (whole (pos n)) y z ∙ ap₂ (λ a b. a +ℚ b) k_is step ∙ sym (whole_add k (pos 1)) in
+    let scaled : whole (k +ℤ pos 1) ≤ℚ whole k =
+    subst₂ (λ a b. a ≤ℚ b) z_is k_is (at_most_scaled n z y (h.greatest z (k +ℤ pos 1, z_is) below)) in
+    let low : pos 0 ≤ℤ (k -ℤ (k +ℤ pos 1)) =
+    whole_nonnegative _ (subst IsNonnegativeQ (sym (whole_sub k (k +ℤ pos 1))) (difference_nonnegative _ _ scaled)) in
+    absurd (omega (arith, ints))

@@ -1,4 +1,5 @@
--- Inequalities that hold at all feasible points: multiples of constraints, bounds, and what is rounded.
+-- Inequalities that hold at all feasible points: multiples of constraints, bounds, and what is
+-- rounded.
 use Rattle.std.proofs.Common.{◌≡◌, ℕ, zero, suc, ◌<◌, ◌⊎◌, ⊎_elim, List, [], ◌∷◌, length, get_or, All, Some, Option, IfSome, ℤ, pos, negsuc, neg_ℤ, ◌+ℤ◌, ◌*ℤ◌, refl, sym, ap, ap₂, subst, ◌∙◌, arith}
 use Rattle.std.specs.List.{AllZip}
 use Rattle.std.proofs.lemmas.Int.{ints}

@@ -1,5 +1,6 @@
--- The row of a problem by multipliers: the constraints, each times its multiplier, are added up; their slacks, and the columns turned to
--- their bounds, are the columns of the row (Gomory 1960; Cook, Dash, Fukasawa and Goycoolea 2009).
+-- The row of a problem by multipliers: the constraints, each times its multiplier, are added up;
+-- their slacks, and the columns turned to their bounds, are the columns of the row (Gomory 1960;
+-- Cook, Dash, Fukasawa and Goycoolea 2009).
 use Rattle.std.specs.Prelude.{◌≡◌, ◌⊎◌, ◌↔◌, ℕ, ◌+◌, ℤ, pos, ◌-ℤ◌, ◌*ℤ◌, neg_ℤ, ◌≤ℤ◌, ◌<ℤ◌, Bool, true, false, Option, Some, None, List, [], ◌∷◌, ◌++◌, length, map, All, IsTrue}
 use Rattle.gj_frac.specs.declared.Frac.{Frac}
 use Rattle.gj_frac.specs.Floor.{IsFloor}
@@ -63,13 +64,15 @@ pub record IsAggregate (p : Problem) (ws : List Weighted) (coefficients : List F
 abbrev pub HasWholeColumns : Problem → Constraint → Type 0
 HasWholeColumns p c = All (λ e. IsWholeColumn p e.column) c.entries
 
--- the slack is above 0 where the sum is below the right side of "at most", or above that of "at least"
+-- the slack is above 0 where the sum is below the right side of "at most", or above that of "at
+-- least"
 abbrev pub signed : Sense → ℕ → ℤ
 signed AtMost n = neg_ℤ (pos n)
 signed AtLeast n = pos n
 signed Equal n = pos n
 
--- M, by which a slack is scaled: the least common denominator of the numbers if all columns are whole, so that the slack is whole too, else 1
+-- M, by which a slack is scaled: the least common denominator of the numbers if all columns are
+-- whole, so that the slack is whole too, else 1
 abbrev pub IsScale : Frac → List Entry → Bool → ℕ → Type 0
 IsScale right entries true n = IsLeastCommonDenominator (right ∷ map (λ e. e.value) entries) n
 IsScale right entries false n = n ≡ 1
@@ -197,7 +200,8 @@ AddsUpAt point pieces right = (z : ℤ) × (pieces_at point pieces +ℚ whole z 
 
 -- ---- turning back
 
--- at all feasible points the coefficients, each times the surplus of its piece, add up to at least 1
+-- at all feasible points the coefficients, each times the surplus of its piece, add up to at least
+-- 1
 abbrev pub IsCutOver : Problem → List Piece → List Frac → Type 0
 IsCutOver p pieces coefficients =
     (point : List Rational) → IsFeasible p point → whole (pos 1) ≤ℚ combined_at point coefficients pieces

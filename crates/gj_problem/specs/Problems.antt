@@ -1,5 +1,5 @@
--- Mixed-integer programs, the points that are feasible, and the inequalities that hold at all of them
--- (Cook, Dash, Fukasawa and Goycoolea 2009).
+-- Mixed-integer programs, the points that are feasible, and the inequalities that hold at all of
+-- them (Cook, Dash, Fukasawa and Goycoolea 2009).
 use Rattle.std.specs.Prelude.{◌≡◌, ℕ, ◌<◌, pos, List, [], ◌∷◌, length, All, IfSome, IsTrue, slice_index_or}
 use Rattle.std.specs.List.{AllZip}
 use Rattle.gj_rational.specs.Rational.{Rational, whole, rational, ◌+ℚ◌, ◌*ℚ◌, ◌-ℚ◌, ◌≤ℚ◌, IsWholeNumber}

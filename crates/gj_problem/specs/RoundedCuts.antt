@@ -27,8 +27,9 @@ lower_of p j = slice_index_or (map (λ c. c.lower) p.columns) j None
 abbrev pub upper_of : Problem → ℕ → Option Frac
 upper_of p j = slice_index_or (map (λ c. c.upper) p.columns) j None
 
--- y is x rounded: to the least k/n that is at least x if there is a lower bound, to the greatest that is at most x if there is only an
--- upper one, and x is on the grid if there is none; the shift is the change times the bound
+-- y is x rounded: to the least k/n that is at least x if there is a lower bound, to the greatest
+-- that is at most x if there is only an upper one, and x is on the grid if there is none; the shift
+-- is the change times the bound
 abbrev pub IsMoved : ℕ → Option Frac → Option Frac → Rational → Rational → Rational → Type 0
 IsMoved n (Some l) upper x y shift = IsBelowOnGrid n (neg_ℚ x) (neg_ℚ y) × (shift ≡ (y -ℚ x) *ℚ rational l)
 IsMoved n None (Some u) x y shift = IsBelowOnGrid n x y × (shift ≡ (y -ℚ x) *ℚ rational u)

@@ -24,7 +24,8 @@ HasWholeSurplus p q = (point : List Rational) → IsFeasible p point → IsWhole
 
 -- ---- inequalities that hold
 
--- the surplus is m times what the constraint's sum has above its right side; m has the sign that the sense asks for
+-- the surplus is m times what the constraint's sum has above its right side; m has the sign that
+-- the sense asks for
 abbrev pub IsSignFor : Sense → ℤ → Type 0
 IsSignFor AtMost m = m ≤ℤ pos 0
 IsSignFor AtLeast m = pos 0 ≤ℤ m
@@ -45,8 +46,8 @@ pub record IsKept (e e' : Entry) (shift : Rational) : Type 0 where
   pub same : rational e'.value ≡ rational e.value
   pub shift_is : shift ≡ whole (pos 0)
 
--- the second entry is the first with a greater value, in a column with the lower bound l, or with a lesser one, in a column with the upper bound
--- u; the shift is the change times the bound
+-- the second entry is the first with a greater value, in a column with the lower bound l, or with a
+-- lesser one, in a column with the upper bound u; the shift is the change times the bound
 pub record IsRaised (p : Problem) (e e' : Entry) (shift : Rational) : Type 0 where
   pub column : Column
   pub is : IsColumn p e.column column

@@ -1,4 +1,5 @@
--- What one step adds to the pieces of a row, where columns are turned, and when a number does not fit (own).
+-- What one step adds to the pieces of a row, where columns are turned, and when a number does not
+-- fit (own).
 use Rattle.std.specs.Prelude.{◌≡◌, ◌≤◌, ◌⊎◌, List, [], ◌∷◌, ◌++◌, length, slice_index_or}
 use Rattle.gj_frac.specs.declared.Frac.{Frac}
 use Rattle.gj_frac.specs.Fraction.{SameValue, fraction_of, product_of}
@@ -32,7 +33,8 @@ abbrev pub IsWideAt : Frac → Frac → Frac → Type 0
 IsWideAt x factor value = (FitsProduct factor value → ⊥)
     ⊎ ((z : Frac) × SameValue (fraction_of z) (product_of (fraction_of factor) (fraction_of value)) × (FitsSum x z → ⊥))
 
--- the column of the entry has no coefficient, or its coefficient with the multiple of the entry added does not fit
+-- the column of the entry has no coefficient, or its coefficient with the multiple of the entry
+-- added does not fit
 abbrev pub IsWideEntry : List Frac → Frac → Entry → Type 0
 IsWideEntry coefficients factor e = (length coefficients ≤ e.column)
     ⊎ ((x : Frac) × (slice_index_or coefficients e.column x ≡ x) × IsWideAt x factor e.value)

@@ -40,7 +40,8 @@ pub(crate) fn turned_columns(
 ) -> Result<Turned, Fault>
     requires coefficients { length coefficients.now ≡ length columns.now }
     requires at_upper { length at_upper.now ≡ length columns.now }
-    ensures { IfOk result (AreTurnedOrFree (held 0 columns.now coefficients.now at_upper.now) right) }
+    ensures { IfOk result (AreTurnedOrFree
+        (held 0 columns.now coefficients.now at_upper.now) right) }
 {
     let mut bounds = Bounds {
         pieces: Vec::new(alloc),
@@ -73,7 +74,8 @@ fn turn(
     coefficient: Frac,
     at_upper: bool,
 ) -> Result<bool, Fault>
-    ensures right { IfOk result (λ done. IsTrue done → rational bounds.new.right -ℚ pieces_at [] bounds.new.pieces.items
+    ensures right { IfOk result (λ done. IsTrue done →
+        rational bounds.new.right -ℚ pieces_at [] bounds.new.pieces.items
         ≡ rational bounds.old.right -ℚ pieces_at [] bounds.old.pieces.items) }
     ensures next { IfOk result (λ done. IsTrue done →
         let h : Held = record { index = index; column = column.now; coefficient = coefficient; at_upper = at_upper } in
@@ -109,7 +111,8 @@ fn to_bound(
     coefficient: Frac,
     at_upper: bool,
 ) -> Result<Option<Piece>, Fault>
-    ensures { IfOk result (λ made. MatchOption made ((column.now.lower ≡ None) × (column.now.upper ≡ None))
+    ensures { IfOk result (λ made. MatchOption made ((column.now.lower ≡ None) ×
+        (column.now.upper ≡ None))
         (IsTurned (record { index = index; column = column.now; coefficient = coefficient; at_upper = at_upper }))) }
 {
     match (column.lower, column.upper) {

@@ -26,9 +26,9 @@ pub enum RoundedCut {
 /// feasible point if the given one does.
 ///
 /// A coefficient goes up where its column has a lower bound, and down where it has only an upper
-/// one; the right side changes by the bound times the change, and goes down. `Free` exactly if a
-/// coefficient is off the grid in a column without bounds; `Wide` only where a number of this does
-/// not fit. The only error is want of memory.
+/// one; the right side changes by the bound times the change, and goes down. `Wide` where a number
+/// of this does not fit; that it comes nowhere else no clause says. Else `Free` exactly if a
+/// coefficient is off the grid in a column without bounds. The only error is want of memory.
 pub fn rounded(
     alloc: Global,
     problem: &Problem,
@@ -126,7 +126,8 @@ fn upper_bound(problem: &Problem, column: u32) -> Option<Frac>
 /// The coefficient x rounded to this value, in a column with this bound.
 fn moved_to(x: Frac, value: Frac, bound: Frac) -> Result<Moved, Wide>
     ensures value { IfOk result (λ m. m.value ≡ value) }
-    ensures shift { IfOk result (λ m. rational m.shift ≡ (rational value -ℚ rational x) *ℚ rational bound) }
+    ensures shift { IfOk result (λ m. rational m.shift ≡
+        (rational value -ℚ rational x) *ℚ rational bound) }
 {
     let change = value.checked_add(-x)?;
     let shift = change.checked_mul(bound)?;
@@ -136,7 +137,8 @@ fn moved_to(x: Frac, value: Frac, bound: Frac) -> Result<Moved, Wide>
 /// The coefficient x if it is on the grid.
 fn kept(x: Frac, grid: u64) -> Result<Option<Moved>, Wide>
     ensures { IfOk result (λ made. MatchOption made (IsOnGrid grid (rational x) → ⊥)
-        (λ m. IsOnGrid grid (rational x) × (rational m.value ≡ rational x) × (rational m.shift ≡ whole (pos 0)))) }
+        (λ m. IsOnGrid grid (rational x) × (rational m.value ≡ rational x) ×
+        (rational m.shift ≡ whole (pos 0)))) }
 {
     if scaled(x, grid)?.den() == 1 {
         Ok(Some(Moved {

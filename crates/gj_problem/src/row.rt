@@ -32,8 +32,9 @@ pub enum MadeRow {
 
 /// The row that the multipliers make.
 ///
-/// `Memory` only for want of memory, and `Wide` only where a number of the sum, of a slack or of a
-/// bound does not fit, an entry has no column, or there are more than 2^32 columns.
+/// `Memory` is for want of memory, and `Wide` where a number of the sum, of a slack or of a bound
+/// does not fit, an entry has no column, or there are more than 2^32 columns. That they come
+/// nowhere else no clause says.
 pub fn row_of(
     alloc: Global,
     problem: &Problem,

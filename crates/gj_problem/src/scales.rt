@@ -10,10 +10,11 @@ ghost use Rattle.gj_problem.specs.Aggregates.{IsScale, signed};
 use crate::problem::{Entry, Sense};
 use gj_frac::{Frac, Wide, gcd};
 
-/// The quotient. Wide exactly if the divisor is 0 or the quotient does not fit in lowest terms.
+/// The quotient. Wide only if the divisor is 0 or the quotient does not fit in lowest terms.
 pub fn divided(x: Frac, y: Frac) -> Result<Frac, Wide>
     ensures wide { OnErr result (¬ FitsQuotient x y) }
-    ensures value { IfOk result (λ z. SameValue (fraction_of z) (quotient_of (fraction_of x) (fraction_of y))) }
+    ensures value { IfOk result (λ z. SameValue (fraction_of z)
+        (quotient_of (fraction_of x) (fraction_of y))) }
 {
     match x.checked_div(y) {
         Ok(quotient) => Ok(quotient),
@@ -24,7 +25,8 @@ pub fn divided(x: Frac, y: Frac) -> Result<Frac, Wide>
 /// The number by which the slack of a constraint is multiplied: its least common denominator if its
 /// columns are whole, else 1.
 pub(crate) fn scale(right: Frac, entries: &[Entry], is_whole: bool) -> Result<Frac, Wide>
-    ensures { IfOk result (λ m. (n : ℕ) × IsScale right entries.now is_whole n × (rational m ≡ whole (pos n))) }
+    ensures { IfOk result (λ m. (n : ℕ) × IsScale right entries.now is_whole n ×
+        (rational m ≡ whole (pos n))) }
 {
     if is_whole {
         whole_number(common_denominator(right, entries)?)

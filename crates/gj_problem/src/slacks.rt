@@ -57,11 +57,14 @@ fn add_weighted(
     constraint: &Constraint,
     multiplier: Frac,
 ) -> Result<(), Fault>
-    ensures count { IfOk result (λ _. length made.new.sum.coefficients.items ≡ length made.old.sum.coefficients.items) }
-    ensures sum { IfOk result (λ _. (point : List Rational) → dot made.new.sum.coefficients.items point -ℚ rational made.new.sum.right
+    ensures count { IfOk result
+        (λ _. length made.new.sum.coefficients.items ≡ length made.old.sum.coefficients.items) }
+    ensures sum { IfOk result (λ _. (point : List Rational) →
+        dot made.new.sum.coefficients.items point -ℚ rational made.new.sum.right
         ≡ (dot made.old.sum.coefficients.items point -ℚ rational made.old.sum.right)
         +ℚ rational multiplier *ℚ (sum_at point constraint.now.entries -ℚ rational constraint.now.right)) }
-    ensures slack { IfOk result (λ _. let w : Weighted = record { multiplier = multiplier; constraint = constraint.now } in
+    ensures slack { IfOk result
+        (λ _. let w : Weighted = record { multiplier = multiplier; constraint = constraint.now } in
         IsMadeNext (HasNoSlack w) (IsSlack problem.now w) made.old.slacks.items made.new.slacks.items) }
 {
     if multiplier.num() == 0 {
@@ -93,7 +96,8 @@ fn slack(
     constraint: &Constraint,
     multiplier: Frac,
 ) -> Result<Piece, Fault>
-    ensures { IfOk result (IsSlack problem.now (record { multiplier = multiplier; constraint = constraint.now })) }
+    ensures { IfOk result (IsSlack problem.now
+        (record { multiplier = multiplier; constraint = constraint.now })) }
 {
     let entries = constraint.entries.as_slice();
     let is_whole = have_whole_columns(problem, entries);

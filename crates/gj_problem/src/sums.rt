@@ -23,7 +23,8 @@ impl Sum {
     pub fn of_none(alloc: Global, columns: usize, right: Frac) -> Result<Sum, AllocError>
         ensures right { IfOk result (λ sum. sum.right ≡ right) }
         ensures count { IfOk result (λ sum. length sum.coefficients.items ≡ columns) }
-        ensures none { IfOk result (λ sum. (point : List Rational) → dot sum.coefficients.items point ≡ whole (pos 0)) }
+        ensures none { IfOk result (λ sum. (point : List Rational) →
+            dot sum.coefficients.items point ≡ whole (pos 0)) }
     {
         let coefficients = vec![in alloc; Frac::ratio(0, 1); columns]?;
         Ok(Sum {
@@ -36,8 +37,10 @@ impl Sum {
     fn add_entry(&mut self, factor: Frac, entry: Entry) -> Result<(), Wide>
         ensures right { self.new.right ≡ self.old.right }
         ensures count { length self.new.coefficients.items ≡ length self.old.coefficients.items }
-        ensures added { IfOk result (λ _. (point : List Rational) → dot self.new.coefficients.items point
-            ≡ dot self.old.coefficients.items point +ℚ rational factor *ℚ (rational entry.value *ℚ value_at point entry.column)) }
+        ensures added { IfOk result (λ _. (point : List Rational) →
+            dot self.new.coefficients.items point
+            ≡ dot self.old.coefficients.items point +ℚ rational factor *ℚ
+            (rational entry.value *ℚ value_at point entry.column)) }
         ensures wide { OnErr result (IsWideEntry self.old.coefficients.items factor entry) }
     {
         let column = entry.column as usize;
@@ -48,30 +51,46 @@ impl Sum {
         Ok(())
     }
 
+    /// The sum with this multiple of each entry added.
+    fn add_entries(&mut self, factor: Frac, entries: &[Entry]) -> Result<(), Wide>
+        ensures right { self.new.right ≡ self.old.right }
+        ensures count { length self.new.coefficients.items ≡ length self.old.coefficients.items }
+        ensures added { IfOk result (λ _. (point : List Rational) →
+            dot self.new.coefficients.items point
+            ≡ dot self.old.coefficients.items point +ℚ rational factor *ℚ sum_at
+            point entries.now) }
+        ensures wide { OnErr result (IsWideWithin self.old.coefficients.items factor entries.now) }
+    {
+        for entry in entries {
+            self.add_entry(factor, *entry)?;
+        }
+        Ok(())
+    }
+
     /// The sum with this multiple of an inequality added.
     ///
-    /// Wide exactly if at one of the entries, or at the right side, a product or a sum does not fit,
+    /// Wide only if at one of the entries, or at the right side, a product or a sum does not fit,
     /// or an entry has no column. Then a part of the entries has been added.
     pub fn add(&mut self, factor: Frac, entries: &[Entry], right: Frac) -> Result<(), Wide>
         ensures count { length self.new.coefficients.items ≡ length self.old.coefficients.items }
-        ensures added { IfOk result (λ _. (point : List Rational) → dot self.new.coefficients.items point -ℚ rational self.new.right
+        ensures added { IfOk result (λ _. (point : List Rational) →
+            dot self.new.coefficients.items point -ℚ rational self.new.right
             ≡ (dot self.old.coefficients.items point -ℚ rational self.old.right)
             +ℚ rational factor *ℚ (sum_at point entries.now -ℚ rational right)) }
         ensures wide { OnErr result (IsWideWithin self.old.coefficients.items factor entries.now
             ⊎ IsWideAt self.old.right factor right) }
     {
-        for entry in entries {
-            self.add_entry(factor, *entry)?;
-        }
+        self.add_entries(factor, entries)?;
         self.right = with_multiple(self.right, factor, right)?;
         Ok(())
     }
 
-    /// The inequality of the coefficients that are not 0; none exactly if there are more than 2^32
+    /// The inequality of the coefficients that are not 0; none only if there are more than 2^32
     /// columns. The only error is want of memory.
     pub fn inequality(self, alloc: Global) -> Result<Option<Inequality>, AllocError>
         ensures none { IfOk result (λ made. IsNone made → 2 ^ 32 < length self.coefficients.items) }
-        ensures surplus { IfOk result (λ made. IfSome made (λ q. (point : List Rational) → surplus_at point q
+        ensures surplus { IfOk result (λ made. IfSome made (λ q. (point : List Rational) →
+            surplus_at point q
             ≡ dot self.coefficients.items point -ℚ rational self.right)) }
     {
         let mut entries = Vec::new(alloc);
@@ -96,7 +115,8 @@ impl Sum {
 
 /// x with this multiple of a value added.
 fn with_multiple(x: Frac, factor: Frac, value: Frac) -> Result<Frac, Wide>
-    ensures value { IfOk result (λ z. rational z ≡ rational x +ℚ rational factor *ℚ rational value) }
+    ensures value { IfOk result
+        (λ z. rational z ≡ rational x +ℚ rational factor *ℚ rational value) }
     ensures wide { OnErr result (IsWideAt x factor value) }
 {
     x.checked_add(factor.checked_mul(value)?)

@@ -12,9 +12,8 @@ use Rattle.gj_forms.specs.ListParts.{IsPrinted}
 use Rattle.gj_forms.proofs.PlainWords.{apart}
 use Rattle.gj_forms.proofs.LineLaws.{part_is_exact, line_is_printed, begins_so, begins_not}
 use Rattle.gj_forms.proofs.ListLaws.{while_part_is_exact, until_part_is_exact, while_is_printed, until_is_printed, then_is_printed}
-use Rattle.gj_proof.specs.ProofText.{HasNames, row_line, term_line, terms_of}
+use Rattle.gj_proof.specs.ProofText.{HasNames, row_line, term_line, terms_of, row_text}
 use Rattle.gj_proof.specs.ProofGrammar.{head_form, term_form, form_part, terms_part, behind_head, row_part, rows_part}
-use Rattle.gj_proof.specs.CutTexts.{row_text}
 use Rattle.gj_proof.specs.declared.cut.CutLine.{CutLine}
 use Rattle.gj_proof.specs.declared.cut.CutLine.TheVariants as cuts
 use Rattle.gj_proof.specs.declared.cut.CutTerm.{CutTerm}

@@ -1,6 +1,7 @@
--- The lines of an extreme function and those of halves: their names differ, and each has one line feed, at its end.
+-- The lines of an extreme function and those of halves: their names differ, and each has one line
+-- feed, at its end.
 use Rattle.std.proofs.Common.{◌≡◌, ◌≢◌, ℕ, ℤ, ◌+◌, ◌<◌, ◌≤◌, List, [], ◌∷◌, ◌++◌, All, flat_map, zip, refl, sym, ap, subst, ◌∙◌, arith}
-use Rattle.std.proofs.lemmas.List.{append_assoc, map-append}
+use Rattle.std.proofs.lemmas.List.{append_assoc, append-nil, map-append}
 use Rattle.std.proofs.lemmas.List.Elements.{All-nil, All-cons, All-head, All-tail, All-append, All-weaker}
 use Rattle.gj_frac.specs.Fraction.{Fits}
 use Rattle.gj_shape.specs.Perturbation.{AreHalvesInBounds}
@@ -8,9 +9,8 @@ use Rattle.gj_shape.specs.declared.extremality.CoverLine.{CoverLine}
 use Rattle.gj_shape.specs.declared.extremality.Halves.{Halves}
 use Rattle.gj_function_lines.specs.FaceLines.{cover_line}
 use Rattle.gj_forms.proofs.LineFeeds.{one_feed}
-use Rattle.gj_proof.specs.ProofText.{ProofLine, OwnLine, group_line, reduction_line, pivot_line, covered_lines, reduction_lines, group_lines, modulus_line, modulus_lines, extreme_lines, halves_line, pair_line, pair_lines, IsCoverLineBelow, IsPivotRowBelow}
+use Rattle.gj_proof.specs.ProofText.{ProofLine, OwnLine, group_line, reduction_line, pivot_line, covered_lines, reduction_lines, group_lines, modulus_line, modulus_lines, extreme_lines, halves_line, pair_line, pair_lines, IsCoverLineBelow, IsPivotRowBelow, group_text, halves_text, modulus_text, extreme_text}
 use Rattle.gj_proof.specs.ProofGrammar.{cover_form, row_name_form, modulus_form, halves_form, pair_form}
-use Rattle.gj_proof.specs.ExtremeTexts.{group_text, halves_text}
 use Rattle.gj_proof.specs.declared.numbers.Numbers.{Numbers}
 use Rattle.gj_proof.specs.declared.numbers.Numbers.TheVariants.{Whole, Residues}
 use Rattle.gj_proof.specs.declared.pivot.PivotRow.{PivotRow}
@@ -41,13 +41,17 @@ group_bytes g (row ∷ rows) =
     regroup : (a b c d : List ℕ) → a ++ (b ++ (c ++ d)) ≡ (a ++ b ++ c) ++ d
     regroup a b c d = simp append_assoc
 
+modulus_bytes : (n : Numbers) → bytes (modulus_lines n) ≡ modulus_text n
+modulus_bytes Whole = refl
+modulus_bytes Residues = append-nil modulus_line
+
 pub extreme_bytes : (n : Numbers) (lines : List CoverLine) (rows : List PivotRow) →
-    bytes (extreme_lines n lines rows) ≡ flat_map cover_line lines ++ (bytes (modulus_lines n) ++ flat_map group_text rows)
+    bytes (extreme_lines n lines rows) ≡ extreme_text n lines rows
 extreme_bytes n lines rows =
     let more = modulus_lines n ++ group_lines 0 rows in
     bytes_append (covered_lines 0 lines) more ∙ ap (λ t. t ++ bytes more) (covered_bytes 0 lines)
     ∙ ap (λ t. flat_map cover_line lines ++ t)
-    (bytes_append (modulus_lines n) (group_lines 0 rows) ∙ ap (λ t. bytes (modulus_lines n) ++ t) (group_bytes 0 rows))
+    (bytes_append (modulus_lines n) (group_lines 0 rows) ∙ (λ i. modulus_bytes n i ++ group_bytes 0 rows i))
 
 pub pair_bytes : (i : ℕ) (pairs : List (ℤ × ℤ)) → bytes (pair_lines i pairs) ≡ flat_map pair_line pairs
 pair_bytes i [] = refl

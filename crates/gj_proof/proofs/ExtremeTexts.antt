@@ -1,6 +1,6 @@
 -- The lines of extremality are read as what they spell.
 use Rattle.std.proofs.Common.{◌≡◌, ◌≢◌, ℕ, ◌<◌, ◌≤◌, ℤ, List, [], ◌∷◌, ◌++◌, All, length, flat_map, map, zip, codes, refl, sym, ap, subst, ◌∙◌, arith, length-append}
-use Rattle.std.proofs.lemmas.List.{append_assoc, append-nil, length-map}
+use Rattle.std.proofs.lemmas.List.{append_assoc, length-map}
 use Rattle.std.proofs.lemmas.List.Elements.{All-nil, All-cons, All-head, All-tail}
 use Rattle.gj_frac.specs.Fraction.{Fits}
 use Rattle.gj_lex.specs.declared.spelling.Spelling.TheVariants.{Strict}
@@ -18,16 +18,14 @@ use Rattle.gj_shape.specs.declared.extremality.Halves.{Halves}
 use Rattle.gj_shape.specs.declared.extremality.RowName.{RowName}
 use Rattle.gj_shape.specs.declared.extremality.RowName.TheVariants.{Period, F, Pair}
 use Rattle.gj_function_lines.specs.FaceLines.{cover_line}
-use Rattle.gj_proof.specs.ProofText.{IsCoverLineBelow, IsRowNameBelow, group_line, reduction_line, pivot_line, modulus_line, modulus_lines, pair_line, IsPivotRowBelow}
+use Rattle.gj_proof.specs.ProofText.{IsCoverLineBelow, IsRowNameBelow, group_line, reduction_line, pivot_line, pair_line, IsPivotRowBelow, group_text, halves_text, modulus_text}
 use Rattle.gj_proof.specs.ProofGrammar.{cover_form, row_name_form, column_form, modulus_form, halves_form, pair_form, form_part, covered_part, modulus_part, steps_part, group_part, groups_part, pairs_part, halves_part}
-use Rattle.gj_proof.specs.ExtremeTexts.{group_text, halves_text}
 use Rattle.gj_proof.specs.declared.halves.HalvesHead.{HalvesHead}
 use Rattle.gj_proof.specs.declared.numbers.Numbers.{Numbers}
 use Rattle.gj_proof.specs.declared.numbers.Numbers.TheVariants.{Whole, Residues}
 use Rattle.gj_proof.specs.declared.pivot.PivotRow.{PivotRow}
 use Rattle.gj_proof.proofs.ClearLines.{cover_is_clear, row_name_is_clear, column_is_clear, modulus_is_clear, halves_is_clear, pair_is_clear}
 use Rattle.gj_proof.proofs.CutTexts.{BeginsEnd}
-use Rattle.gj_proof.proofs.LineLists.{bytes}
 use Rattle.gj_proof.proofs.ListRead.{printed_as}
 
 abbrev pub BeginsStep : List ℕ → Type 0
@@ -110,15 +108,9 @@ pub covered_is_printed : (q : ℕ) → q ≤ 1000 →
 covered_is_printed q small =
     times_is_printed (form_part (cover_form q)) cover_line (IsCoverLineBelow q) (line_is_printed (cover_form q) (cover_is_clear q small)) q
 
-pub modulus_is_printed : (n : Numbers) →
-    IsPrinted (modulus_part n) (λ rest. Unit {0}) (λ t. bytes (modulus_lines n)) (λ t. Unit {0})
+pub modulus_is_printed : (n : Numbers) → IsPrinted (modulus_part n) (λ rest. Unit {0}) (λ t. modulus_text n) (λ t. Unit {0})
 modulus_is_printed Whole = record { reads = λ t rest h f. (refl, refl); found = λ text rest t h. (h.1, tt) }
-modulus_is_printed Residues =
-    let line = line_is_printed modulus_form modulus_is_clear in
-    let same : bytes (modulus_lines Residues) ≡ modulus_line = append-nil modulus_line in record {
-      reads = λ t rest h f. subst (λ b. (form_part modulus_form).Reads (b ++ rest) tt rest) (sym same) (line.reads tt rest tt tt);
-      found = λ text rest t h. ((line.found text rest t h).0 ∙ ap (λ b. b ++ rest) (sym same), tt);
-    }
+modulus_is_printed Residues = line_is_printed modulus_form modulus_is_clear
 
 -- ---- groups
 

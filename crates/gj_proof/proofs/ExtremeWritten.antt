@@ -11,12 +11,9 @@ use Rattle.gj_frac.specs.declared.Frac.{Frac}
 use Rattle.gj_lex.specs.NumberText.{fraction_text}
 use Rattle.gj_shape.specs.declared.extremality.CoverLine.{CoverLine}
 use Rattle.gj_function_lines.specs.FaceLines.{cover_line}
-use Rattle.gj_proof.specs.ProofText.{modulus_lines, extreme_lines, pair_line}
-use Rattle.gj_proof.specs.ExtremeTexts.{group_text}
+use Rattle.gj_proof.specs.ProofText.{pair_line, group_text, modulus_text, extreme_text}
 use Rattle.gj_proof.specs.declared.numbers.Numbers.{Numbers}
 use Rattle.gj_proof.specs.declared.pivot.PivotRow.{PivotRow}
-use Rattle.gj_proof.proofs.ExtremeLines.{extreme_bytes}
-use Rattle.gj_proof.proofs.LineLists.{bytes}
 use Rattle.gj_forms.proofs.WholeNumbers.{text_of_ratio}
 
 -- a whole number, printed as the fraction over 1
@@ -53,14 +50,12 @@ pairs_pushed first second n start new n_is new_is =
 
 -- the lines of an extreme function, one part after another
 pub extreme_pushed : {E : Type 0} (r : Result (Unit {0}) E) (n : Numbers) (cover : List CoverLine) (rows : List PivotRow)
-    (start first second new : List ℕ) → first ≡ start ++ flat_map cover_line cover → second ≡ first ++ bytes (modulus_lines n) →
-    OnOk r (new ≡ second ++ flat_map group_text rows) → OnOk r (new ≡ start ++ bytes (extreme_lines n cover rows))
+    (start first second new : List ℕ) → first ≡ start ++ flat_map cover_line cover → second ≡ first ++ modulus_text n →
+    OnOk r (new ≡ second ++ flat_map group_text rows) → OnOk r (new ≡ start ++ extreme_text n cover rows)
 extreme_pushed r n cover rows start first second new first_is second_is =
-    let modulus = bytes (modulus_lines n) in
     on_ok_weaker r (λ e. e
-    ∙ ap (λ t. t ++ flat_map group_text rows) (second_is ∙ ap (λ t. t ++ modulus) first_is)
-    ∙ regroup start (flat_map cover_line cover) modulus (flat_map group_text rows)
-    ∙ ap (λ t. start ++ t) (sym (extreme_bytes n cover rows)))
+    ∙ ap (λ t. t ++ flat_map group_text rows) (second_is ∙ ap (λ t. t ++ modulus_text n) first_is)
+    ∙ regroup start (flat_map cover_line cover) (modulus_text n) (flat_map group_text rows))
   where
     regroup : (a b c d : List ℕ) → a ++ b ++ c ++ d ≡ a ++ (b ++ (c ++ d))
     regroup a b c d = simp append_assoc

@@ -26,7 +26,7 @@ use Rattle.gj_proof.specs.declared.claim.Claim.TheVariants.{Minimal, NotMinimal,
 use Rattle.gj_proof.specs.declared.numbers.Numbers.{Numbers}
 use Rattle.gj_proof.specs.declared.numbers.Numbers.TheVariants.{Whole, Residues}
 use Rattle.gj_proof.proofs.LineLists.{title_line, claim_line, names, bytes, bytes_append, Differ, differs_from_those_before, HasOneFeed, feeds_of_own}
-use Rattle.gj_proof.proofs.OwnLines.{own_lines_differ, IsOwn, own_lines_are_own, own_lines_have_one_feed}
+use Rattle.gj_proof.proofs.OwnLines.{own_lines_differ, IsOwn, own_lines_are_own, own_lines_have_one_feed, own_bytes}
 
 -- ---- one number
 
@@ -63,7 +63,8 @@ no_own_in_subject (function f) l own =
 no_own_in_subject gmic l own =
     All-cons (λ k. k ≢ l) rule_named [] (λ e. subst IsOwn (sym e) own) (All-nil (λ k. k ≢ l))
 
--- one of the claim's own lines stands behind the two first, those of the subject and those of its own before it
+-- one of the claim's own lines stands behind the two first, those of the subject and those of its
+-- own before it
 pub number_of_own : (c : Claim) (a b : List OwnLine) (l : OwnLine) → own_lines c ≡ a ++ l ∷ b →
     HasNumber c l.name (length (subject_lines (subject_of c)) + length a + 3)
 number_of_own c a b l is =
@@ -137,7 +138,8 @@ feeds_of_subject gmic text b l = ap line_feeds l
 
 -- ---- the line with a number
 
--- behind these bytes the text goes on with these, and this is the number of the line that begins there
+-- behind these bytes the text goes on with these, and this is the number of the line that begins
+-- there
 abbrev pub StandsAt : List ℕ → List ℕ → ℕ → Type 0
 StandsAt text bytes n = (before rest : List ℕ) × (text ≡ before ++ (bytes ++ rest)) × (n ≡ line_feeds before + 1)
 
@@ -145,11 +147,17 @@ feeds_of_title : (n : Numbers) → line_feeds (title_line n) ≡ 1
 feeds_of_title Whole = refl
 feeds_of_title Residues = refl
 
+-- the text by its lines
+by_lines : (c : Claim) (text : List ℕ) → (p : IsProofText c text) →
+    text ≡ title_line (numbers_of c) ++ claim_line c ++ p.subject ++ bytes (own_lines c) ++ line (codes "end")
+by_lines c text p =
+    p.spelled ∙ ap (λ t. title_line (numbers_of c) ++ claim_line c ++ p.subject ++ t ++ line (codes "end")) (sym (own_bytes c))
+
 claim_at : (c : Claim) (text : List ℕ) → IsProofText c text → StandsAt text (claim_line c) 2
 claim_at c text p = (
   title_line (numbers_of c),
   p.subject ++ flat_map (λ l. l.bytes) (own_lines c) ++ line (codes "end"),
-  p.spelled
+  by_lines c text p
       ∙ regroup (title_line (numbers_of c)) (claim_line c) p.subject
       (flat_map (λ l. l.bytes) (own_lines c)) (line (codes "end")),
   ap (λ k. k + 1) (sym (feeds_of_title (numbers_of c))),
@@ -190,7 +198,7 @@ own_at c text a b l within p is =
     let z = line_feeds_append (title_bytes ++ claim_bytes ++ p.subject) (bytes a) in (
       front,
       bytes b ++ line (codes "end"),
-      p.spelled ∙ ap (λ ls. title_bytes ++ claim_bytes ++ p.subject ++ bytes ls ++ line (codes "end")) is
+      by_lines c text p ∙ ap (λ ls. title_bytes ++ claim_bytes ++ p.subject ++ bytes ls ++ line (codes "end")) is
           ∙ ap (λ t. title_bytes ++ claim_bytes ++ p.subject ++ t ++ line (codes "end")) (bytes_append a (l ∷ b))
           ∙ regroup (title_bytes ++ claim_bytes ++ p.subject) (bytes a) l.bytes (bytes b) (line (codes "end")),
       omega arith,

@@ -46,7 +46,8 @@ module _ {A : Type 0} (p : Part A) where
 
   -- ---- so many times
 
-  -- so many are left behind these: what they read of the rest, all read of the text, and so their faults
+  -- so many are left behind these: what they read of the rest, all read of the text, and so their
+  -- faults
   pub record LeavesTimes (n i : ℕ) (text rest : List ℕ) (items : List A) : Type 0 where
     pub reads : (all : List A) (end : List ℕ) → (times_part p (n - i) items).Reads rest all end → (times_part p n []).Reads text all end
     pub faults : (e : PartFault) → IsFaultOf (times_part p (n - i) items) rest e → IsFaultOf (times_part p n []) text e

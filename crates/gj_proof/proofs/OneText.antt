@@ -1,10 +1,10 @@
 -- A text is that of one claim and has one first fault or none, and a claim has one text.
-use Rattle.std.proofs.Common.{◌≡◌, ℕ, List, [], ◌++◌, flat_map, codes, sym, ap, ◌∙◌}
+use Rattle.std.proofs.Common.{◌≡◌, ℕ, List, [], ◌++◌, codes, sym, ap, ◌∙◌}
 use Rattle.gj_lex.specs.declared.reason.Reason.{Reason}
 use Rattle.gj_lex.proofs.LineNumbers as numbers
 use Rattle.gj_function_lines.specs.FunctionLines.{line}
 use Rattle.gj_function_lines.proofs.OneTextOfLines.{one_text_of_lines}
-use Rattle.gj_proof.specs.ProofText.{IsBounded, subject_of, numbers_of, AreSubjectLines, own_lines, IsProofText}
+use Rattle.gj_proof.specs.ProofText.{IsBounded, subject_of, numbers_of, AreSubjectLines, IsProofText, own_text}
 use Rattle.gj_proof.specs.ProofGrammar.{proof_text}
 use Rattle.gj_proof.specs.FirstFault.{IsFirstFaultOfProof}
 use Rattle.gj_proof.specs.declared.claim.Claim.{Claim}
@@ -32,7 +32,7 @@ one_text c s t b p q =
     let same = one_subject c p.subject q.subject b p.are_subject_lines q.are_subject_lines in
     p.spelled
     ∙ ap (λ u. title_line (numbers_of c) ++ claim_line c ++ u
-    ++ flat_map (λ l. l.bytes) (own_lines c) ++ line (codes "end")) same
+    ++ own_text c ++ line (codes "end")) same
     ∙ sym q.spelled
 
 -- the text of a claim has no fault

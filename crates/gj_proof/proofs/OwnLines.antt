@@ -1,14 +1,13 @@
 -- The lines of a claim's own: their names differ, and each has one line feed, at its end.
 use Rattle.std.proofs.Common.{◌≡◌, ◌≢◌, ℕ, suc, ◌+◌, ◌≤◌, List, [], ◌∷◌, ◌++◌, All, length, flat_map, zip, refl, sym, ap, subst, ◌∙◌, arith}
-use Rattle.std.proofs.lemmas.List.{append_assoc, map-append}
+use Rattle.std.proofs.lemmas.List.{append_assoc, append-nil, map-append}
 use Rattle.std.proofs.lemmas.List.Elements.{All-nil, All-cons, All-head, All-tail, All-append, All-weaker}
 use Rattle.gj_lex.specs.Name.{IsName}
 use Rattle.gj_lex.specs.TextLines.{line_feeds}
 use Rattle.gj_shape.specs.declared.extremality.CoverLine.{CoverLine}
 use Rattle.gj_forms.proofs.LineFeeds.{one_feed}
-use Rattle.gj_proof.specs.ProofText.{ProofLine, OwnLine, IsBounded, HasNames, HasText, own_lines, violation_line, row_line, term_line, terms_of, term_lines, row_lines, covered_lines, extreme_lines, pair_lines}
+use Rattle.gj_proof.specs.ProofText.{ProofLine, OwnLine, IsBounded, HasNames, HasText, own_lines, violation_line, row_line, term_line, terms_of, term_lines, row_lines, covered_lines, extreme_lines, pair_lines, row_text, own_text}
 use Rattle.gj_proof.specs.ProofGrammar.{violation_form, head_form, term_form}
-use Rattle.gj_proof.specs.CutTexts.{row_text}
 use Rattle.gj_proof.specs.declared.claim.Claim.{Claim}
 use Rattle.gj_proof.specs.declared.claim.Claim.TheVariants.{Minimal, NotMinimal, Cut, Extreme, ExtremeByResidues, NotExtreme}
 use Rattle.gj_proof.specs.declared.numbers.Numbers.{Numbers}
@@ -20,7 +19,7 @@ use Rattle.gj_proof.specs.declared.cut.CutTerm.{CutTerm}
 use Rattle.gj_proof.proofs.ClearLines.{violation_is_clear, head_is_clear, term_is_clear}
 use Rattle.gj_proof.proofs.CutTexts.{head_of}
 use Rattle.gj_proof.proofs.LineLists.{names, bytes, bytes_append, Differ, differ_append, HasOneFeed}
-use Rattle.gj_proof.proofs.ExtremeLines.{IsCoveredFrom, covered_are, IsBehindCover, behind_cover, behind_are, IsPairFrom, pairs_are, extreme_lines_differ, halves_lines_differ, extreme_have_one_feed, halves_have_one_feed}
+use Rattle.gj_proof.proofs.ExtremeLines.{IsCoveredFrom, covered_are, IsBehindCover, behind_cover, behind_are, IsPairFrom, pairs_are, extreme_lines_differ, halves_lines_differ, extreme_have_one_feed, halves_have_one_feed, extreme_bytes, halves_bytes}
 
 -- ---- the bytes of the lines of cuts
 
@@ -28,13 +27,22 @@ term_bytes : (i j : ℕ) (terms : List CutTerm) → bytes (term_lines i j terms)
 term_bytes i j [] = refl
 term_bytes i j (t ∷ terms) = ap (λ u. term_line t ++ u) (term_bytes i (j + 1) terms)
 
-pub row_bytes : (i : ℕ) (rows : List CutLine) → bytes (row_lines i rows) ≡ flat_map row_text rows
+row_bytes : (i : ℕ) (rows : List CutLine) → bytes (row_lines i rows) ≡ flat_map row_text rows
 row_bytes i [] = refl
 row_bytes i (l ∷ rows) =
     ap (λ t. row_line l ++ t) (bytes_append (term_lines i 0 (terms_of l)) (row_lines (i + 1) rows))
     ∙ sym (append_assoc (row_line l) (bytes (term_lines i 0 (terms_of l))) (bytes (row_lines (i + 1) rows)))
     ∙ ap (λ t. row_line l ++ t ++ bytes (row_lines (i + 1) rows)) (term_bytes i 0 (terms_of l))
     ∙ ap (λ t. row_text l ++ t) (row_bytes (i + 1) rows)
+
+-- the bytes of all lines of a claim's own are their text
+pub own_bytes : (c : Claim) → bytes (own_lines c) ≡ own_text c
+own_bytes (Minimal f) = refl
+own_bytes (NotMinimal f v) = append-nil (violation_line v)
+own_bytes (Cut rule rows) = row_bytes 0 rows
+own_bytes (Extreme f lines rows) = extreme_bytes Whole lines rows
+own_bytes (ExtremeByResidues f lines rows) = extreme_bytes Residues lines rows
+own_bytes (NotExtreme f h) = halves_bytes h
 
 -- ---- parts of them
 

@@ -1,44 +1,21 @@
 -- The text of a claim, written one part after another.
-use Rattle.std.proofs.Common.{◌≡◌, ℕ, Result, OnOk, List, [], ◌∷◌, ◌++◌, flat_map, codes, sym, ap, subst, ◌∙◌}
+use Rattle.std.proofs.Common.{◌≡◌, ℕ, List, [], ◌∷◌, ◌++◌, codes, sym, ap, subst, ◌∙◌}
 use Rattle.std.proofs.lemmas.List.{append_assoc}
 use Rattle.gj_frac.specs.declared.Frac.{Frac}
 use Rattle.gj_lex.specs.NumberText.{fraction_text}
 use Rattle.gj_shape.specs.declared.violations.Violation.{Violation}
 use Rattle.gj_shape.specs.declared.violations.Violation.TheVariants as violation
-use Rattle.std.proofs.lemmas.Result.{on_ok_weaker}
-use Rattle.gj_shape.specs.FunctionData.{FunctionData}
-use Rattle.gj_shape.specs.declared.extremality.Halves.{Halves}
 use Rattle.gj_function_lines.specs.FunctionLines.{line}
-use Rattle.gj_proof.specs.ProofText.{subject_of, numbers_of, violation_line, own_lines, AreSubjectLines, HasText, IsProofText}
-use Rattle.gj_proof.specs.CutTexts.{row_text}
-use Rattle.gj_proof.specs.ExtremeTexts.{halves_text}
+use Rattle.gj_proof.specs.ProofText.{subject_of, numbers_of, violation_line, AreSubjectLines, HasText, IsProofText, own_text}
 use Rattle.gj_proof.specs.declared.claim.Claim.{Claim}
-use Rattle.gj_proof.specs.declared.claim.Claim.TheVariants.{Cut, NotExtreme}
-use Rattle.gj_proof.specs.declared.cut.CutLine.{CutLine}
-use Rattle.gj_proof.specs.declared.cut.CutRule.{CutRule}
-use Rattle.gj_proof.proofs.ExtremeLines.{halves_bytes}
-use Rattle.gj_proof.proofs.LineLists.{title_line, claim_line, bytes}
-use Rattle.gj_proof.proofs.OwnLines.{row_bytes}
-
--- the lines of rows, as those of their claim's own
-pub rows_pushed : {E : Type 0} (r : Result (Unit {0}) E) (c : Claim) (rule : CutRule) (rows slice : List CutLine) (old new : List ℕ) →
-    c ≡ Cut rule rows → slice ≡ rows → OnOk r (new ≡ old ++ flat_map row_text slice) → OnOk r (new ≡ old ++ bytes (own_lines c))
-rows_pushed r c rule rows slice old new c_is same =
-    on_ok_weaker r (λ e. e ∙ ap (λ ls. old ++ flat_map row_text ls) same ∙ ap (λ t. old ++ t) (sym (row_bytes 0 rows))
-    ∙ ap (λ d. old ++ bytes (own_lines d)) (sym c_is))
-
--- those of halves
-pub halves_pushed : {E : Type 0} (r : Result (Unit {0}) E) (c : Claim) (f : FunctionData) (h : Halves) (old new : List ℕ) →
-    c ≡ NotExtreme f h → OnOk r (new ≡ old ++ halves_text h) → OnOk r (new ≡ old ++ bytes (own_lines c))
-halves_pushed r c f h old new c_is =
-    on_ok_weaker r (λ e. e ∙ ap (λ t. old ++ t) (sym (halves_bytes h)) ∙ ap (λ d. old ++ bytes (own_lines d)) (sym c_is))
+use Rattle.gj_proof.proofs.LineLists.{title_line, claim_line}
 
 -- the parts of a text
 
 pub proof_written : (c d : Claim) (first second third text : List ℕ) → c ≡ d → HasText d →
     first ≡ title_line (numbers_of c) ++ claim_line c →
     (lines : List ℕ) × AreSubjectLines (subject_of c) lines × (second ≡ first ++ lines) →
-    third ≡ second ++ bytes (own_lines c) → text ≡ third ++ codes "end\n" → IsProofText d text
+    third ≡ second ++ own_text c → text ≡ third ++ codes "end\n" → IsProofText d text
 proof_written c d first second third text same has first_is (lines, are, second_is) third_is text_is =
     subst (λ k. IsProofText k text) same
     (record {
@@ -47,7 +24,7 @@ proof_written c d first second third text same has first_is (lines, are, second_
       are_subject_lines = are;
       spelled = text_is
           ∙ ap (λ t. t ++ line (codes "end"))
-          (third_is ∙ ap (λ t. t ++ bytes (own_lines c)) (second_is ∙ ap (λ t. t ++ lines) first_is));
+          (third_is ∙ ap (λ t. t ++ own_text c) (second_is ∙ ap (λ t. t ++ lines) first_is));
     })
 
 -- the line of two points

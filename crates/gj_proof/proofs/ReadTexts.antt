@@ -21,10 +21,8 @@ use Rattle.gj_forms.specs.LineForms.{line_of}
 use Rattle.gj_forms.proofs.SpelledLaws.{spelled_words}
 use Rattle.gj_function_lines.specs.FunctionLines.{order_form}
 use Rattle.gj_forms.proofs.LineLaws.{part_is_exact, line_is_read, only_line}
-use Rattle.gj_proof.specs.ProofText.{IfFunction, IsBounded, subject_of_rule, extreme_claim, modulus_lines, AreSubjectLines, violation_line, IsProofText}
+use Rattle.gj_proof.specs.ProofText.{IfFunction, IsBounded, subject_of_rule, extreme_claim, AreSubjectLines, violation_line, IsProofText, row_text, group_text, halves_text, modulus_text}
 use Rattle.gj_proof.specs.ProofGrammar.{title_form, numbers_of_word, claim_form, violation_form, form_part, rule_part, rows_part, covered_part, modulus_part, groups_part, halves_part, claim_part, proof_text}
-use Rattle.gj_proof.specs.CutTexts.{row_text}
-use Rattle.gj_proof.specs.ExtremeTexts.{group_text, halves_text}
 use Rattle.gj_lex.specs.Parts.{BeginsWithLine}
 use Rattle.gj_proof.specs.declared.claim.Claim.{Claim}
 use Rattle.gj_proof.specs.declared.claim.Claim.TheVariants as claims
@@ -41,11 +39,9 @@ use Rattle.gj_lex.proofs.WhereLaws.{other_line, begins_so}
 use Rattle.gj_proof.proofs.ClearLines.{title_is_clear, claim_is_clear, violation_is_clear}
 use Rattle.gj_proof.proofs.CutRead.{gmic_words, rule_part_is_exact, gmic_read, table_read}
 use Rattle.gj_proof.proofs.CutTexts.{BeginsEnd, rows_are_exact, rows_are_printed}
-use Rattle.gj_proof.proofs.ExtremeLines.{extreme_bytes, halves_bytes}
-use Rattle.gj_proof.proofs.ExtremeClaims.{IsExtremeText, extreme_text, of_extreme_text, extreme_is_bounded}
-use Rattle.gj_proof.proofs.LineLists.{title_line, bytes}
+use Rattle.gj_proof.proofs.ExtremeClaims.{IsExtremeText, extreme_is_text, of_extreme_text, extreme_is_bounded}
+use Rattle.gj_proof.proofs.LineLists.{title_line}
 use Rattle.gj_proof.proofs.ExtremeTexts.{covered_is_exact, modulus_is_exact, groups_are_exact, halves_are_exact, covered_is_printed, modulus_is_printed, groups_are_printed, halves_are_printed}
-use Rattle.gj_proof.proofs.OwnLines.{row_bytes}
 
 -- ---- the parts of a proof text
 
@@ -74,8 +70,8 @@ after_title n = then_part (named_claim n) after_claim
 
 -- ---- each is exact
 
--- what follows the line of the modulus of a claim that a function is extreme, what follows the lines of covered intervals, and
--- what follows the function
+-- what follows the line of the modulus of a claim that a function is extreme, what follows the
+-- lines of covered intervals, and what follows the function
 abbrev pub makes_extreme : Numbers → FunctionData → List CoverLine → List PivotRow → Claim → Type 0
 makes_extreme n f lines rows c = c ≡ extreme_claim n f lines rows
 
@@ -197,7 +193,7 @@ extreme_is_read : (n : Numbers) (f : FunctionData) (lines : List CoverLine) (row
     IsExtremeText n f lines rows text → proof_text.Reads text (extreme_claim n f lines rows) []
 extreme_is_read n f lines rows text b p =
     let groups = flat_map group_text rows ++ last_line in
-    let modulus = bytes (modulus_lines n) in
+    let modulus = modulus_text n in
     let behind = flat_map cover_line lines ++ (modulus ++ groups) in
     let covered = (covered_is_printed f.order b.order_high).reads lines (modulus ++ groups) (p.has_text.0, p.has_text.1) tt in
     whole_reads (Extreme n) (extreme_claim n f lines rows) (p.subject ++ behind) text (
@@ -216,7 +212,7 @@ extreme_is_read n f lines rows text b p =
         ),
       ),
     )
-    (p.spelled ∙ ap (λ t. title_line n ++ word_line (Extreme n) ++ p.subject ++ t ++ last_line) (extreme_bytes n lines rows)
+    (p.spelled
     ∙ regroup (title_line n) (word_line (Extreme n)) p.subject (flat_map cover_line lines) modulus (flat_map group_text rows) last_line)
   where
     regroup : (a b c d m e g : List ℕ) → a ++ b ++ c ++ (d ++ (m ++ e)) ++ g ≡ a ++ (b ++ (c ++ (d ++ (m ++ (e ++ g)))))
@@ -239,13 +235,13 @@ text_is_read (claims.NotMinimal f v) text b p =
     )
     (p.spelled ∙ regroup (title_line Whole) (word_line NotMinimal) p.subject (violation_line v) last_line)
   where
-    regroup : (a b c d e : List ℕ) → a ++ b ++ c ++ (d ++ []) ++ e ≡ a ++ (b ++ (c ++ (d ++ e)))
-    regroup a b c d e = simp (append-nil, append_assoc)
+    regroup : (a b c d e : List ℕ) → a ++ b ++ c ++ d ++ e ≡ a ++ (b ++ (c ++ (d ++ e)))
+    regroup a b c d e = simp append_assoc
 text_is_read (claims.Cut rule rows) text b p =
     let behind = flat_map row_text rows ++ last_line in
     whole_reads Cut (claims.Cut rule rows) (p.subject ++ behind) text
     (rule, behind, rule_reads rule p.subject behind b.0 p.are_subject_lines, (rows, rows_are_printed.reads rows last_line b.1 end_begins, refl))
-    (p.spelled ∙ ap (λ t. title_line Whole ++ word_line Cut ++ p.subject ++ t ++ last_line) (row_bytes 0 rows)
+    (p.spelled
     ∙ regroup (title_line Whole) (word_line Cut) p.subject (flat_map row_text rows) last_line)
   where
     regroup : (a b c d e : List ℕ) → a ++ b ++ c ++ d ++ e ≡ a ++ (b ++ (c ++ (d ++ e)))
@@ -261,7 +257,7 @@ text_is_read (claims.NotExtreme f h) text b p =
       canonical_lines_are_read Strict f p.subject behind b p.are_subject_lines,
       (h, halves_are_printed.reads h last_line p.has_text tt, refl),
     )
-    (p.spelled ∙ ap (λ t. title_line Whole ++ word_line NotExtreme ++ p.subject ++ t ++ last_line) (halves_bytes h)
+    (p.spelled
     ∙ regroup (title_line Whole) (word_line NotExtreme) p.subject (halves_text h) last_line)
   where
     regroup : (a b c d e : List ℕ) → a ++ b ++ c ++ d ++ e ≡ a ++ (b ++ (c ++ (d ++ e)))
@@ -332,8 +328,8 @@ claim_found NotMinimal c text inner rest (f, middle, reads, (v, shown, c_is)) is
       },
     )
   where
-    regroup : (a b c d e : List ℕ) → a ++ (b ++ (c ++ (d ++ e))) ≡ a ++ b ++ c ++ (d ++ []) ++ e
-    regroup a b c d e = simp (append-nil, append_assoc)
+    regroup : (a b c d e : List ℕ) → a ++ (b ++ (c ++ (d ++ e))) ≡ a ++ b ++ c ++ d ++ e
+    regroup a b c d e = simp append_assoc
 claim_found Cut c text inner rest (rule, middle, reads, (rows, more, c_is)) is rest_is =
     let subject = rule_found inner middle rule reads in
     let found = rows_are_printed.found middle rest rows more in
@@ -347,8 +343,7 @@ claim_found Cut c text inner rest (rule, middle, reads, (rows, more, c_is)) is r
         are_subject_lines = subject.are_lines;
         spelled = is
             ∙ ap (λ t. title_line Whole ++ (word_line Cut ++ t)) (subject.spelled ∙ ap (λ t. subject.lines ++ t) own)
-            ∙ regroup (title_line Whole) (word_line Cut) subject.lines (flat_map row_text rows) last_line
-            ∙ ap (λ t. title_line Whole ++ word_line Cut ++ subject.lines ++ t ++ last_line) (sym (row_bytes 0 rows));
+            ∙ regroup (title_line Whole) (word_line Cut) subject.lines (flat_map row_text rows) last_line;
       },
     )
   where
@@ -358,7 +353,7 @@ claim_found (Extreme n) c text inner rest (f, middle, reads, (lines, behind, cov
     let (within, function, subject, inner_is) = function_found inner f middle reads in
     let small = within.order_high in
     let cover = (covered_is_printed f.order small).found middle behind lines covered in
-    let modulus = bytes (modulus_lines n) in
+    let modulus = modulus_text n in
     let found = (groups_are_printed f.order small).found groups rest rows more in
     let P : Claim → Type 0 = λ d. IsBounded d × IsProofText d text in
     let groups_are : groups ≡ flat_map group_text rows ++ last_line = found.0 ∙ ap (λ t. flat_map group_text rows ++ t) rest_is in
@@ -371,10 +366,9 @@ claim_found (Extreme n) c text inner rest (f, middle, reads, (lines, behind, cov
       are_subject_lines = subject;
       spelled = is
           ∙ ap (λ t. title_line n ++ (word_line (Extreme n) ++ t)) (inner_is ∙ ap (λ t. function ++ t) own)
-          ∙ regroup (title_line n) (word_line (Extreme n)) function (flat_map cover_line lines) modulus (flat_map group_text rows) last_line
-          ∙ ap (λ t. title_line n ++ word_line (Extreme n) ++ function ++ t ++ last_line) (sym (extreme_bytes n lines rows));
+          ∙ regroup (title_line n) (word_line (Extreme n)) function (flat_map cover_line lines) modulus (flat_map group_text rows) last_line;
     } in
-    subst P (sym c_is) (extreme_is_bounded f lines rows n within, extreme_text f lines rows n text whole)
+    subst P (sym c_is) (extreme_is_bounded f lines rows n within, extreme_is_text f lines rows n text whole)
   where
     regroup : (a b c d m e g : List ℕ) → a ++ (b ++ (c ++ (d ++ (m ++ (e ++ g))))) ≡ a ++ b ++ c ++ (d ++ (m ++ e)) ++ g
     regroup a b c d m e g = simp append_assoc
@@ -391,8 +385,7 @@ claim_found NotExtreme c text inner rest (f, middle, reads, (h, shown, c_is)) is
         spelled = is
             ∙ ap (λ t. title_line Whole ++ (word_line NotExtreme ++ t))
             (inner_is ∙ ap (λ t. bytes ++ t) (found.0 ∙ ap (λ t. halves_text h ++ t) rest_is))
-            ∙ regroup (title_line Whole) (word_line NotExtreme) bytes (halves_text h) last_line
-            ∙ ap (λ t. title_line Whole ++ word_line NotExtreme ++ bytes ++ t ++ last_line) (sym (halves_bytes h));
+            ∙ regroup (title_line Whole) (word_line NotExtreme) bytes (halves_text h) last_line;
       },
     )
   where

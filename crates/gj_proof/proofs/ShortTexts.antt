@@ -24,16 +24,14 @@ use Rattle.gj_forms.specs.LineForms.{Field, bytes_of}
 use Rattle.gj_forms.specs.LineForms.Field.{word, count}
 use Rattle.gj_function_lines.specs.FunctionLines.{line}
 use Rattle.gj_function_lines.proofs.StrictFunctions.{function_lines_are_short}
-use Rattle.gj_proof.specs.ProofText.{IsBounded, IsShort, own_lines, modulus_line, modulus_lines, extreme_lines, violation_line, group_line, reduction_line, pivot_line, halves_line, pair_line, IsCoverLineBelow, IsRowNameBelow, IsPivotRowBelow, HaveFewSteps, IsProofText}
-use Rattle.gj_proof.specs.ExtremeTexts.{group_text, halves_text}
+use Rattle.gj_proof.specs.ProofText.{IsBounded, IsShort, violation_line, group_line, reduction_line, pivot_line, halves_line, pair_line, IsCoverLineBelow, IsRowNameBelow, IsPivotRowBelow, HaveFewSteps, IsProofText, group_text, halves_text, modulus_text, extreme_text}
 use Rattle.gj_proof.specs.declared.claim.Claim.{Claim}
 use Rattle.gj_proof.specs.declared.claim.Claim.TheVariants.{Minimal, NotMinimal, Cut, Extreme, ExtremeByResidues, NotExtreme}
 use Rattle.gj_proof.specs.declared.numbers.Numbers.{Numbers}
 use Rattle.gj_proof.specs.declared.numbers.Numbers.TheVariants.{Whole, Residues}
 use Rattle.gj_proof.specs.declared.pivot.PivotRow.{PivotRow}
-use Rattle.gj_proof.proofs.LineLists.{title_line, bytes}
+use Rattle.gj_proof.proofs.LineLists.{title_line}
 use Rattle.gj_proof.proofs.ExtremeClaims.{IsExtremeText, of_extreme_text}
-use Rattle.gj_proof.proofs.ExtremeLines.{extreme_bytes, halves_bytes}
 use Rattle.gj_forms.proofs.WholeNumbers.{whole_is_short}
 
 violation_is_short : (v : Violation) → length (violation_line v) ≤ 176
@@ -107,8 +105,7 @@ text_is_short (NotMinimal f v) text few b p =
     omega (
       arith,
       ap length p.spelled,
-      text_is_long (line (codes "gj-proof 1")) (line (codes "claim not-minimal")) p.subject (violation_line v ++ []) (line (codes "end")),
-      length-append (violation_line v) [],
+      text_is_long (line (codes "gj-proof 1")) (line (codes "claim not-minimal")) p.subject (violation_line v) (line (codes "end")),
       function_lines_are_short f p.subject b p.are_subject_lines,
       violation_is_short v,
     )
@@ -119,8 +116,7 @@ text_is_short (NotExtreme f h) text few b p =
     omega (
       arith,
       ap length p.spelled,
-      ap length (halves_bytes h),
-      text_is_long (line (codes "gj-proof 1")) (line (codes "claim not-extreme")) p.subject (bytes (own_lines (NotExtreme f h)))
+      text_is_long (line (codes "gj-proof 1")) (line (codes "claim not-extreme")) p.subject (halves_text h)
           (line (codes "end")),
       function_lines_are_short f p.subject b p.are_subject_lines,
       halves_are_short h p.has_text,
@@ -225,12 +221,11 @@ title_is_short : (n : Numbers) → length (title_line n) ≤ 11
 title_is_short Whole = omega arith
 title_is_short Residues = omega arith
 
-modulus_is_short : (n : Numbers) → length (bytes (modulus_lines n)) ≤ 28
+modulus_is_short : (n : Numbers) → length (modulus_text n) ≤ 28
 modulus_is_short Whole = omega arith
 modulus_is_short Residues =
     omega (
       arith,
-      length-append modulus_line [],
       length-append (decimal modulus) (10 ∷ []),
       length-decimal-le_wide 19 modulus (omega arith) (omega arith) (lit< tt),
     )
@@ -244,11 +239,10 @@ extreme_text_is_short_by n f lines rows text b few p =
     omega (
       arith,
       ap length p.spelled,
-      ap length (extreme_bytes n lines rows),
-      text_is_long (title_line n) (line (codes "claim extreme")) p.subject (bytes (extreme_lines n lines rows))
+      text_is_long (title_line n) (line (codes "claim extreme")) p.subject (extreme_text n lines rows)
           (line (codes "end")),
-      length-append (flat_map cover_line lines) (bytes (modulus_lines n) ++ flat_map group_text rows),
-      length-append (bytes (modulus_lines n)) (flat_map group_text rows),
+      length-append (flat_map cover_line lines) (modulus_text n ++ flat_map group_text rows),
+      length-append (modulus_text n) (flat_map group_text rows),
       title_is_short n,
       modulus_is_short n,
       function_lines_are_short f p.subject b p.are_subject_lines,

@@ -2,8 +2,6 @@ pub mod PresentRows
 pub mod ProofText
 pub mod ProofGrammar
 pub mod LineFaults
-pub mod CutTexts
-pub mod ExtremeTexts
 pub mod FirstFault
 pub mod Rules
 pub mod Meaning

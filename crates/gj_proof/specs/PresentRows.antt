@@ -35,7 +35,8 @@ abbrev pub entries_or_none : Option (List ℤ) → List ℤ
 entries_or_none None = []
 entries_or_none (Some entries) = entries
 
--- the row that a group keeps behind these: its row after its steps, as the arithmetic keeps it at the pivot
+-- the row that a group keeps behind these: its row after its steps, as the arithmetic keeps it at
+-- the pivot
 abbrev pub row_kept_by : Arithmetic → FunctionData → (ℕ → ℕ) → ℕ → List KeptRow → PivotRow → KeptRow
 row_kept_by by f component n kept group = record {
   number = length kept;

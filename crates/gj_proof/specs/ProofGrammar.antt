@@ -180,8 +180,8 @@ halves_part =
 
 -- ---- the whole text
 
--- of a claim that a function is extreme, by rows of these numbers: the lines of the function, of covered intervals, of the modulus
--- and of groups
+-- of a claim that a function is extreme, by rows of these numbers: the lines of the function, of
+-- covered intervals, of the modulus and of groups
 abbrev pub extreme_part : Numbers → Part Claim
 extreme_part numbers =
     then_part (function_part Strict) (λ f.

@@ -63,7 +63,8 @@ HasNames (cuts.Skip name right reason) = IsName name
 abbrev pub IsBoundedRule : CutRule → Type 0
 IsBoundedRule rule = IfFunction (subject_of_rule rule) IsWithinBounds
 
--- what the types of a claim promise: a function that it is about is within the limits, and names are names
+-- what the types of a claim promise: a function that it is about is within the limits, and names
+-- are names
 abbrev pub IsBounded : Claim → Type 0
 IsBounded (Minimal f) = IsWithinBounds f
 IsBounded (NotMinimal f v) = IsWithinBounds f
@@ -115,39 +116,7 @@ claim_word (NotExtreme f halves) = codes "not-extreme"
 abbrev pub claim_fields : List ℕ → List Field
 claim_fields w = word (codes "claim") ∷ word w ∷ []
 
--- a line of a proof text, by its place in the form: of a claim about cuts, the line of the i-th row, and that of the j-th term of
--- the i-th row; of an extreme function, the line of the i-th covered interval, that of the modulus, the first line of the g-th
--- group, its r-th step and its pivot; of one that is not extreme, the line of its halves, and that of their i-th values; all from 0
-pub data ProofLine : Type 0 where
-  title : ProofLine
-  claim : ProofLine
-  order : ProofLine
-  place : ProofLine
-  point : ℕ → ProofLine
-  rule_named : ProofLine
-  violation_shown : ProofLine
-  cut : ℕ → ProofLine
-  term : ℕ → ℕ → ProofLine
-  covered : ℕ → ProofLine
-  modulus_named : ProofLine
-  group : ℕ → ProofLine
-  reduction : ℕ → ℕ → ProofLine
-  group_pivot : ℕ → ProofLine
-  halves : ProofLine
-  pair : ℕ → ProofLine
-  last : ProofLine
-
--- a line between the subject and `end`: which one it is, and its bytes
-pub record OwnLine : Type 0 where
-  pub name : ProofLine
-  pub bytes : List ℕ
-
 -- the lines of a subject
-abbrev pub subject_lines : Subject → List ProofLine
-subject_lines (function f) = order ∷ place ∷ map point (range_with_len 0 f.order)
-subject_lines gmic = rule_named ∷ []
-
--- their bytes
 abbrev pub AreSubjectLines : Subject → List ℕ → Type 0
 AreSubjectLines (function f) bytes = AreFunctionLines f bytes
 AreSubjectLines gmic bytes = bytes ≡ line (codes "rule gmic")
@@ -189,15 +158,9 @@ abbrev pub terms_of : CutLine → List CutTerm
 terms_of (cuts.Cut name right terms) = terms
 terms_of (cuts.Skip name right reason) = []
 
--- the lines of terms of the i-th row, from the j-th on
-abbrev pub term_lines : ℕ → ℕ → List CutTerm → List OwnLine
-term_lines i j [] = []
-term_lines i j (t ∷ terms) = record { name = term i j; bytes = term_line t } ∷ term_lines i (j + 1) terms
-
--- the lines of rows, each with those of its terms, from the i-th on
-abbrev pub row_lines : ℕ → List CutLine → List OwnLine
-row_lines i [] = []
-row_lines i (l ∷ more) = record { name = cut i; bytes = row_line l } ∷ term_lines i 0 (terms_of l) ++ row_lines (i + 1) more
+-- its line and those of its terms
+abbrev pub row_text : CutLine → List ℕ
+row_text l = row_line l ++ flat_map term_line (terms_of l)
 
 -- ---- the lines of an extreme function
 
@@ -220,22 +183,9 @@ reduction_line c = bytes_of (column_fields (codes "reduce") c)
 abbrev pub pivot_line : ℕ → List ℕ
 pivot_line c = bytes_of (column_fields (codes "pivot") c)
 
--- the lines of covered intervals, from the i-th on
-abbrev pub covered_lines : ℕ → List CoverLine → List OwnLine
-covered_lines i [] = []
-covered_lines i (l ∷ more) = record { name = covered i; bytes = cover_line l } ∷ covered_lines (i + 1) more
-
--- the lines of the steps of the g-th group, from the r-th on
-abbrev pub reduction_lines : ℕ → ℕ → List ℕ → List OwnLine
-reduction_lines g r [] = []
-reduction_lines g r (c ∷ more) = record { name = reduction g r; bytes = reduction_line c } ∷ reduction_lines g (r + 1) more
-
--- the lines of groups, from the g-th on
-abbrev pub group_lines : ℕ → List PivotRow → List OwnLine
-group_lines g [] = []
-group_lines g (row ∷ more) =
-    record { name = group g; bytes = group_line row.name } ∷ reduction_lines g 0 row.reduce
-    ++ record { name = group_pivot g; bytes = pivot_line row.pivot } ∷ group_lines (g + 1) more
+-- the line of its row, those of its steps, and that of its pivot
+abbrev pub group_text : PivotRow → List ℕ
+group_text row = group_line row.name ++ flat_map reduction_line row.reduce ++ pivot_line row.pivot
 
 -- `modulus M`
 abbrev pub modulus_fields : List Field
@@ -245,13 +195,13 @@ abbrev pub modulus_line : List ℕ
 modulus_line = bytes_of modulus_fields
 
 -- by residues, this line
-abbrev pub modulus_lines : Numbers → List OwnLine
-modulus_lines Whole = []
-modulus_lines Residues = record { name = modulus_named; bytes = modulus_line } ∷ []
+abbrev pub modulus_text : Numbers → List ℕ
+modulus_text Whole = []
+modulus_text Residues = modulus_line
 
 -- the lines of covered intervals, that of the modulus, and those of the groups
-abbrev pub extreme_lines : Numbers → List CoverLine → List PivotRow → List OwnLine
-extreme_lines numbers lines rows = covered_lines 0 lines ++ (modulus_lines numbers ++ group_lines 0 rows)
+abbrev pub extreme_text : Numbers → List CoverLine → List PivotRow → List ℕ
+extreme_text numbers lines rows = flat_map cover_line lines ++ (modulus_text numbers ++ flat_map group_text rows)
 
 -- ---- the lines of halves
 
@@ -269,42 +219,23 @@ pair_fields p = word (codes "pair") ∷ whole p.0 ∷ whole p.1 ∷ []
 abbrev pub pair_line : ℤ × ℤ → List ℕ
 pair_line p = bytes_of (pair_fields p)
 
--- the lines of the halves' values, from the i-th on
-abbrev pub pair_lines : ℕ → List (ℤ × ℤ) → List OwnLine
-pair_lines i [] = []
-pair_lines i (p ∷ more) = record { name = pair i; bytes = pair_line p } ∷ pair_lines (i + 1) more
-
--- ---- the claim's own lines
-
--- the lines of the claim's own, as many as it has, in their order
-abbrev pub own_lines : Claim → List OwnLine
-own_lines (Minimal f) = []
-own_lines (NotMinimal f v) = record { name = violation_shown; bytes = violation_line v } ∷ []
-own_lines (Cut rule rows) = row_lines 0 rows
-own_lines (Extreme f lines rows) = extreme_lines Whole lines rows
-own_lines (ExtremeByResidues f lines rows) = extreme_lines Residues lines rows
-own_lines (NotExtreme f h) = record { name = halves; bytes = halves_line h } ∷ pair_lines 0 (zip h.first h.second)
-
--- all lines of the text of a claim
-abbrev pub proof_lines_of : Claim → List ProofLine
-proof_lines_of c = title ∷ claim ∷ [] ++ subject_lines (subject_of c) ++ map (λ l. l.name) (own_lines c) ++ last ∷ []
-
--- the bytes of the line of a claim's word, and of its own lines
-abbrev pub HasBytes : Claim → ProofLine → List ℕ → Type 0
-HasBytes c l bytes =
-    ((l ≡ claim) × (bytes ≡ bytes_of (claim_fields (claim_word c)))) ⊎ Contains (own_lines c) (record { name = l; bytes = bytes })
-
--- the line is the n-th of the text, counted from 1, and none before it
-pub record HasNumber (c : Claim) (l : ProofLine) (n : ℕ) : Type 0 where
-  pub before : List ProofLine
-  pub after : List ProofLine
-  pub place : proof_lines_of c ≡ before ++ l ∷ after
-  pub first : All (λ k. k ≢ l) before
-  pub number : n ≡ length before + 1
+-- their line and those of their values
+abbrev pub halves_text : Halves → List ℕ
+halves_text h = halves_line h ++ flat_map pair_line (zip h.first h.second)
 
 -- ---- the text of a claim
 
--- the intervals and the square of a line of a covered interval are below the order, and its face is no vertex
+-- the lines of the claim's own, as many as it has, in their order
+abbrev pub own_text : Claim → List ℕ
+own_text (Minimal f) = []
+own_text (NotMinimal f v) = violation_line v
+own_text (Cut rule rows) = flat_map row_text rows
+own_text (Extreme f lines rows) = extreme_text Whole lines rows
+own_text (ExtremeByResidues f lines rows) = extreme_text Residues lines rows
+own_text (NotExtreme f h) = halves_text h
+
+-- the intervals and the square of a line of a covered interval are below the order, and its face is
+-- no vertex
 pub record IsCoverLineBelow (q : ℕ) (l : CoverLine) : Type 0 where
   pub interval : l.interval < q
   pub from : l.from < q
@@ -348,5 +279,108 @@ pub record IsProofText (c : Claim) (text : List ℕ) : Type 0 where
   pub has_text : HasText c
   pub subject : List ℕ
   pub are_subject_lines : AreSubjectLines (subject_of c) subject
-  pub spelled : text ≡ bytes_of (title_fields (numbers_of c)) ++ bytes_of (claim_fields (claim_word c)) ++ subject
-      ++ flat_map (λ l. l.bytes) (own_lines c) ++ line (codes "end")
+  pub spelled : text ≡ bytes_of (title_fields (numbers_of c)) ++ bytes_of (claim_fields (claim_word c)) ++ subject ++ own_text c
+      ++ line (codes "end")
+
+-- ---- the lines by name
+
+-- a line of a proof text, by its place in the form: of a claim about cuts, the line of the i-th
+-- row, and that of the j-th term of the i-th row; of an extreme function, the line of the i-th
+-- covered interval, that of the modulus, the first line of the g-th group, its r-th step and its
+-- pivot; of one that is not extreme, the line of its halves, and that of their i-th values; all
+-- from 0
+pub data ProofLine : Type 0 where
+  title : ProofLine
+  claim : ProofLine
+  order : ProofLine
+  place : ProofLine
+  point : ℕ → ProofLine
+  rule_named : ProofLine
+  violation_shown : ProofLine
+  cut : ℕ → ProofLine
+  term : ℕ → ℕ → ProofLine
+  covered : ℕ → ProofLine
+  modulus_named : ProofLine
+  group : ℕ → ProofLine
+  reduction : ℕ → ℕ → ProofLine
+  group_pivot : ℕ → ProofLine
+  halves : ProofLine
+  pair : ℕ → ProofLine
+  last : ProofLine
+
+-- a line between the subject and `end`: which one it is, and its bytes
+pub record OwnLine : Type 0 where
+  pub name : ProofLine
+  pub bytes : List ℕ
+
+-- the lines of a subject
+abbrev pub subject_lines : Subject → List ProofLine
+subject_lines (function f) = order ∷ place ∷ map point (range_with_len 0 f.order)
+subject_lines gmic = rule_named ∷ []
+
+-- the lines of terms of the i-th row, from the j-th on
+abbrev pub term_lines : ℕ → ℕ → List CutTerm → List OwnLine
+term_lines i j [] = []
+term_lines i j (t ∷ terms) = record { name = term i j; bytes = term_line t } ∷ term_lines i (j + 1) terms
+
+-- the lines of rows, each with those of its terms, from the i-th on
+abbrev pub row_lines : ℕ → List CutLine → List OwnLine
+row_lines i [] = []
+row_lines i (l ∷ more) = record { name = cut i; bytes = row_line l } ∷ term_lines i 0 (terms_of l) ++ row_lines (i + 1) more
+
+-- the lines of covered intervals, from the i-th on
+abbrev pub covered_lines : ℕ → List CoverLine → List OwnLine
+covered_lines i [] = []
+covered_lines i (l ∷ more) = record { name = covered i; bytes = cover_line l } ∷ covered_lines (i + 1) more
+
+-- the lines of the steps of the g-th group, from the r-th on
+abbrev pub reduction_lines : ℕ → ℕ → List ℕ → List OwnLine
+reduction_lines g r [] = []
+reduction_lines g r (c ∷ more) = record { name = reduction g r; bytes = reduction_line c } ∷ reduction_lines g (r + 1) more
+
+-- the lines of groups, from the g-th on
+abbrev pub group_lines : ℕ → List PivotRow → List OwnLine
+group_lines g [] = []
+group_lines g (row ∷ more) =
+    record { name = group g; bytes = group_line row.name } ∷ reduction_lines g 0 row.reduce
+    ++ record { name = group_pivot g; bytes = pivot_line row.pivot } ∷ group_lines (g + 1) more
+
+-- by residues, this line
+abbrev pub modulus_lines : Numbers → List OwnLine
+modulus_lines Whole = []
+modulus_lines Residues = record { name = modulus_named; bytes = modulus_line } ∷ []
+
+-- the lines of covered intervals, that of the modulus, and those of the groups
+abbrev pub extreme_lines : Numbers → List CoverLine → List PivotRow → List OwnLine
+extreme_lines numbers lines rows = covered_lines 0 lines ++ (modulus_lines numbers ++ group_lines 0 rows)
+
+-- the lines of the halves' values, from the i-th on
+abbrev pub pair_lines : ℕ → List (ℤ × ℤ) → List OwnLine
+pair_lines i [] = []
+pair_lines i (p ∷ more) = record { name = pair i; bytes = pair_line p } ∷ pair_lines (i + 1) more
+
+-- the lines of the claim's own, as many as it has, in their order
+abbrev pub own_lines : Claim → List OwnLine
+own_lines (Minimal f) = []
+own_lines (NotMinimal f v) = record { name = violation_shown; bytes = violation_line v } ∷ []
+own_lines (Cut rule rows) = row_lines 0 rows
+own_lines (Extreme f lines rows) = extreme_lines Whole lines rows
+own_lines (ExtremeByResidues f lines rows) = extreme_lines Residues lines rows
+own_lines (NotExtreme f h) = record { name = halves; bytes = halves_line h } ∷ pair_lines 0 (zip h.first h.second)
+
+-- all lines of the text of a claim
+abbrev pub proof_lines_of : Claim → List ProofLine
+proof_lines_of c = title ∷ claim ∷ [] ++ subject_lines (subject_of c) ++ map (λ l. l.name) (own_lines c) ++ last ∷ []
+
+-- the bytes of the line of a claim's word, and of its own lines
+abbrev pub HasBytes : Claim → ProofLine → List ℕ → Type 0
+HasBytes c l bytes =
+    ((l ≡ claim) × (bytes ≡ bytes_of (claim_fields (claim_word c)))) ⊎ Contains (own_lines c) (record { name = l; bytes = bytes })
+
+-- the line is the n-th of the text, counted from 1, and none before it
+pub record HasNumber (c : Claim) (l : ProofLine) (n : ℕ) : Type 0 where
+  pub before : List ProofLine
+  pub after : List ProofLine
+  pub place : proof_lines_of c ≡ before ++ l ∷ after
+  pub first : All (λ k. k ≢ l) before
+  pub number : n ≡ length before + 1

@@ -56,7 +56,8 @@ pub record IsCoordinate (x : Frac) : Type 0 where
 abbrev pub HasFineDenominator : List Frac → Type 0
 HasFineDenominator xs = (d : ℕ) × (1 ≤ d) × (d ≤ 2 ^ 62) × IsCommonDenominator xs d
 
--- the rule `point`: the violation's points are coordinates with such a denominator, and it is shown there
+-- the rule `point`: the violation's points are coordinates with such a denominator, and it is shown
+-- there
 pub record MeetsPoint (f : FunctionData) (v : Violation) : Type 0 where
   pub coordinates : All IsCoordinate (coordinates_of v)
   pub common : HasFineDenominator (coordinates_of v)
@@ -64,9 +65,9 @@ pub record MeetsPoint (f : FunctionData) (v : Violation) : Type 0 where
 
 -- ---- the rules of cuts
 
--- the rule `fraction`: a row with a cut has a right side with the fractional part f, and by the rule of the mixed-integer cut
--- one that is not whole; a row that is passed over has a whole one, or, by a function, one that is not whole and has another
--- fractional part
+-- the rule `fraction`: a row with a cut has a right side with the fractional part f, and by the
+-- rule of the mixed-integer cut one that is not whole; a row that is passed over has a whole one,
+-- or, by a function, one that is not whole and has another fractional part
 abbrev pub MeetsFraction : CutRule → CutLine → Type 0
 MeetsFraction (Table f) (cuts.Cut name right terms) = HasFractionalPart right (pos f.place) (pos f.order)
 MeetsFraction Gmic (cuts.Cut name right terms) = IsWhole right → ⊥
@@ -74,8 +75,8 @@ MeetsFraction rule (cuts.Skip name right Integral) = IsWhole right
 MeetsFraction (Table f) (cuts.Skip name right Other) = (IsWhole right → ⊥) × (HasFractionalPart right (pos f.place) (pos f.order) → ⊥)
 MeetsFraction Gmic (cuts.Skip name right Other) = ⊥
 
--- the rule `limit`: x is at most 2^31 in absolute value, and has a common denominator of at most 2^31 - 1 with the fractions of
--- its row that stand before it
+-- the rule `limit`: x is at most 2^31 in absolute value, and has a common denominator of at most
+-- 2^31 - 1 with the fractions of its row that stand before it
 pub record MeetsLimit (before : List Frac) (x : Frac) : Type 0 where
   pub small : IsSmallNumber x
   pub common : HasCommonDenominator (before ++ x ∷ [])
@@ -85,7 +86,8 @@ pub record MeetsName (basic : List ℕ) (before : List CutTerm) (t : CutTerm) : 
   pub not_basic : t.name ≢ basic
   pub new : All (λ u. u.name ≢ t.name) before
 
--- x is the coefficient of the mixed-integer cut at the entry: its value there for the fractional part f of the right side
+-- x is the coefficient of the mixed-integer cut at the entry: its value there for the fractional
+-- part f of the right side
 abbrev pub IsGmicCoefficient : Frac → Frac → Frac → Type 0
 IsGmicCoefficient right entry x = (f : Frac) → HasFractionalPart right (numerator f) (denominator f) → IsGmicValue f entry x
 
@@ -102,7 +104,8 @@ MeetsRow f Period = Unit {0}
 MeetsRow f F = Unit {0}
 MeetsRow f (Pair a b) = IsTight f a b
 
--- the rule `reduce`: an earlier group has its pivot at the column, and the present row is not 0 there
+-- the rule `reduce`: an earlier group has its pivot at the column, and the present row is not 0
+-- there
 pub record MeetsReduce (kept : List KeptRow) (row : List ℤ) (c : ℕ) : Type 0 where
   pub pivot : Any (λ k. k.pivot ≡ c) kept
   pub not_zero : at_column row c ≢ pos 0
@@ -111,21 +114,24 @@ pub record MeetsReduce (kept : List KeptRow) (row : List ℤ) (c : ℕ) : Type 0
 abbrev pub MeetsSize : List KeptRow → List ℤ → ℕ → Type 0
 MeetsSize kept row c = Passes (marked_in_step (entries_of (row_with_pivot kept c)) row c) → ⊥
 
--- the rule `pivot`: the column is one of n, no earlier group has its pivot there, and the present row is 0 before it and not 0 there
+-- the rule `pivot`: the column is one of n, no earlier group has its pivot there, and the present
+-- row is 0 before it and not 0 there
 pub record MeetsPivot (n : ℕ) (kept : List KeptRow) (row : List ℤ) (c : ℕ) : Type 0 where
   pub column : c < n
   pub new : All (λ k. k.pivot ≢ c) kept
   pub zero_before : (j : ℕ) → j < c → at_column row j ≡ pos 0
   pub not_zero : at_column row c ≢ pos 0
 
--- of residues it asks in addition that the greatest common divisor of the entry there with the modulus is 1
+-- of residues it asks in addition that the greatest common divisor of the entry there with the
+-- modulus is 1
 abbrev pub MeetsPivotBy : Numbers → ℕ → List KeptRow → List ℤ → ℕ → Type 0
 MeetsPivotBy Whole n kept row c = MeetsPivot n kept row c
 MeetsPivotBy Residues n kept row c = MeetsPivot n kept row c × (gcd_of (unsigned_abs (at_column row c)) modulus ≡ 1)
 
 -- ---- the rules of halves
 
--- the rule `scale`: the order is m times the function's for some m, and the scale a multiple of m times the function's
+-- the rule `scale`: the order is m times the function's for some m, and the scale a multiple of m
+-- times the function's
 abbrev pub MeetsScale : FunctionData → Halves → Type 0
 MeetsScale f h = (m : ℕ) × (c : ℕ) × (h.order ≡ f.order * m) × (h.scale ≡ pos (c * (f.scale * m)))
 
@@ -141,7 +147,8 @@ abbrev pub MeetsAverage : FunctionData → Halves → ℕ → Type 0
 MeetsAverage f h i = (m c : ℕ) → h.order ≡ f.order * m → h.scale ≡ pos (c * (f.scale * m)) →
     at h.first i +ℤ at h.second i ≡ pos (2 * c) *ℤ table f m i
 
--- the rules `first` and `second`: the table of these values is minimal, with the function's place of f
+-- the rules `first` and `second`: the table of these values is minimal, with the function's place
+-- of f
 abbrev pub IsMinimalHalf : FunctionData → Halves → List ℤ → Type 0
 IsMinimalHalf f h values = (m : ℕ) → h.order ≡ f.order * m →
     IsMinimalTable (at values) h.order (f.place * m) (unsigned_abs h.scale)
@@ -162,7 +169,8 @@ pub data Demand : Type 0 where
   fraction : ℕ → Demand
   -- the right side of the i-th row is within the limits
   limit : ℕ → Demand
-  -- the entry of the j-th term of the i-th row is within the limits, its name is new, and its coefficient is the rule's value
+  -- the entry of the j-th term of the i-th row is within the limits, its name is new, and its
+  -- coefficient is the rule's value
   term_limit : ℕ → ℕ → Demand
   term_name : ℕ → ℕ → Demand
   term_value : ℕ → ℕ → Demand
@@ -301,7 +309,8 @@ abbrev pub IfCut : CutLine → (List ℕ → Frac → List CutTerm → Type 0) �
 IfCut (cuts.Cut name right terms) P = P name right terms
 IfCut (cuts.Skip name right reason) P = Unit {0}
 
--- the j-th term of the i-th row has a property by the rule, for the basic variable, the right side and the terms before it
+-- the j-th term of the i-th row has a property by the rule, for the basic variable, the right side
+-- and the terms before it
 abbrev pub IfTerm : Claim → ℕ → ℕ → (CutRule → List ℕ → Frac → List CutTerm → CutTerm → Type 0) → Type 0
 IfTerm c i j P = IfRow c i (λ rule l. IfCut l (λ name right terms. AtIndex terms j (λ before t. P rule name right before t)))
 
@@ -314,16 +323,18 @@ IfExtreme (Extreme f lines rows) P = P f lines rows
 IfExtreme (ExtremeByResidues f lines rows) P = P f lines rows
 IfExtreme (NotExtreme f h) P = Unit {0}
 
--- the g-th group has a property: of the number of components, the rows that the groups before it keep, and the row that it begins
--- with, by any numbers of the components of all intervals. If there are no such numbers it demands nothing; but there are, if the
--- claim has a text and its lines meet the rule `cover`, since then each interval has a line
+-- the g-th group has a property: of the number of components, the rows that the groups before it
+-- keep, and the row that it begins with, by any numbers of the components of all intervals. If
+-- there are no such numbers it demands nothing; but there are, if the claim has a text and its
+-- lines meet the rule `cover`, since then each interval has a line
 abbrev pub IfGroup : Claim → ℕ → (ℕ → List KeptRow → List ℤ → PivotRow → Type 0) → Type 0
 IfGroup c g P = IfExtreme c (λ f lines rows. AtIndex rows g (λ before one.
     (component : ℕ → ℕ) → AreNumbersOf f lines component →
     P (components_in lines) (rows_before_by (arithmetic_of (numbers_of c)) f component (components_in lines) before)
     (begun_row (arithmetic_of (numbers_of c)) f component (components_in lines) one.name) one))
 
--- the r-th step of the g-th group has a property: of the rows kept before, the row before the step, and the column
+-- the r-th step of the g-th group has a property: of the rows kept before, the row before the step,
+-- and the column
 abbrev pub IfStep : Claim → ℕ → ℕ → (List KeptRow → List ℤ → ℕ → Type 0) → Type 0
 IfStep c g r P = IfGroup c g (λ n kept begun one. AtIndex one.reduce r (λ before column.
     P kept (present_row_by (arithmetic_of (numbers_of c)) kept begun before) column))

@@ -59,7 +59,8 @@ pub(crate) fn is_row_name_below(order: u32, name: RowName) -> bool
     }
 }
 
-/// Whether the order, the scale and the values of halves are within the limits, and there are as many values as the order says.
+/// Whether the order, the scale and the values of halves are within the limits, and there are as
+/// many values as the order says.
 pub(crate) fn are_halves_in_bounds(halves: &Halves) -> bool
     ensures { IsTrue result ↔ AreHalvesInBounds halves.now }
 {

@@ -19,7 +19,8 @@ pub enum Claim {
     NotMinimal(Shape, Violation),
     /// Each cut that is made by the rule holds at every solution of its row.
     Cut(CutRule, List<CutLine>),
-    /// The function is extreme: the lines tell why each interval is covered, and the rows leave no other slopes than 0.
+    /// The function is extreme: the lines tell why each interval is covered, and the rows leave no
+    /// other slopes than 0.
     Extreme(Shape, List<CoverLine>, List<PivotRow>),
     /// The same, by rows of residues modulo `MODULUS`.
     ExtremeByResidues(Shape, List<CoverLine>, List<PivotRow>),
@@ -45,7 +46,8 @@ impl Claim {
         word.word()
     }
 
-    /// The numbers of the rows of the claim: residues, if it says so, and else whole numbers. It takes no memory.
+    /// The numbers of the rows of the claim: residues, if it says so, and else whole numbers. It
+    /// takes no memory.
     pub fn numbers(&self) -> Numbers
         ensures { result ≡ numbers_of self.now }
     {
@@ -126,8 +128,8 @@ impl Model for Proof {
 impl Proof {
     ghost use Rattle.gj_proof.specs.ProofText.{HasText};
 
-    /// The proof of a claim. None exactly if the claim has no text: if a range or a count is not that of the form.
-    /// It takes no memory.
+    /// The proof of a claim. None exactly if the claim has no text: if a range or a count is not
+    /// that of the form. It takes no memory.
     pub fn new(claim: Claim) -> Option<Proof>
         ensures some { IsSome result ↔ HasText claim }
         ensures claim { IfSome result (λ p. p ≡ claim) }

@@ -71,9 +71,11 @@ fn cover_line_at(text: &[u8], order: u32) -> Result<(CoverLine, &[u8]), PartFaul
     }
 }
 
-/// The line of a covered interval that the text begins with as it is printed, and what follows it. It is read in one pass.
+/// The line of a covered interval that the text begins with as it is printed, and what follows it.
+/// It is read in one pass.
 fn printed_cover_line(text: &[u8], order: u32) -> Option<(CoverLine, &[u8])>
-    ensures { IfSome result (λ r. (text.now ≡ cover_line r.0 ++ r.1.now) × IsCoverLineBelow order r.0) }
+    ensures { IfSome result (λ r. (text.now ≡ cover_line r.0 ++ r.1.now) ×
+        IsCoverLineBelow order r.0) }
 {
     let words = behind_text(text, b"cover ")?;
     let (interval, words) = split_at_byte(words, b' ')?;
@@ -142,7 +144,8 @@ fn cover_words(line: &[u8]) -> Option<CoverWords<'_>>
 /// The kind of face, no vertex, that the word names.
 fn face_kind(word: &[u8]) -> Option<FaceKind>
     ensures found { IfSome result (λ kind. (word.now ≡ face_word kind) × (kind ≢ Vertex)) }
-    ensures none { IfNone result ((kind : FaceKind) → word.now ≡ face_word kind → kind ≢ Vertex → ⊥) }
+    ensures none { IfNone result ((kind : FaceKind) → word.now ≡ face_word kind →
+        kind ≢ Vertex → ⊥) }
 {
     for kind in EDGES_AND_TRIANGLES {
         if word == face_word(kind) {

@@ -63,7 +63,8 @@ pub(crate) enum LineFault {
 
 // ---- the rule
 
-/// The rule that the next lines tell, and what follows them: the line `rule gmic`, or the lines of a function.
+/// The rule that the next lines tell, and what follows them: the line `rule gmic`, or the lines of
+/// a function.
 pub(crate) fn rule_at(alloc: Global, text: &[u8]) -> Result<(CutRule, &[u8]), PartFault>
     ensures found { IfOk result (λ r. rule_part.Reads text.now r.0 r.1.now) }
     ensures fault { IfErr result (IsFaultOf rule_part text.now) }
@@ -142,7 +143,8 @@ fn head_in(alloc: Global, line: &[u8]) -> Result<RowHead, LineFault>
 
 /// The words of the line, if they are of the first line of a row.
 fn head_words(line: &[u8]) -> Option<HeadWords<'_>>
-    ensures found { IfSome result (λ w. word_texts line.now ≡ texts_of_head w.kind w.name.now w.right.now) }
+    ensures found { IfSome result
+        (λ w. word_texts line.now ≡ texts_of_head w.kind w.name.now w.right.now) }
     ensures none { IfNone result (AreOfForm head_form (word_texts line.now) → ⊥) }
 {
     if let Some((name, right)) = two_fields_of(line, b"cut") {
@@ -192,9 +194,12 @@ fn terms_at(alloc: Global, text: &[u8]) -> Result<(Vec<CutTerm>, &[u8]), PartFau
 
 /// The term in the next line, and what follows that line; none if it does not begin with `term`.
 fn next_term(alloc: Global, text: &[u8]) -> Result<Option<(CutTerm, &[u8])>, PartFault>
-    ensures found { IfOk result (λ next. IfSome next (λ r. (form_part term_form).Reads text.now r.0 r.1.now)) }
-    ensures begins { IfOk result (λ next. OnSome next (BeginsWithWord Strict (codes "term") text.now)) }
-    ensures none { IfOk result (λ next. IfNone next (BeginsWithWord Strict (codes "term") text.now → ⊥)) }
+    ensures found { IfOk result (λ next. IfSome next
+        (λ r. (form_part term_form).Reads text.now r.0 r.1.now)) }
+    ensures begins { IfOk result (λ next. OnSome next (BeginsWithWord Strict
+        (codes "term") text.now)) }
+    ensures none { IfOk result (λ next. IfNone next (BeginsWithWord Strict
+        (codes "term") text.now → ⊥)) }
     ensures fault { IfErr result (λ e. BeginsWithWord Strict (codes "term") text.now
         × IsFaultOf (form_part term_form) text.now e) }
 {
@@ -207,8 +212,8 @@ fn next_term(alloc: Global, text: &[u8]) -> Result<Option<(CutTerm, &[u8])>, Par
     }
 }
 
-/// The term that the text begins with as it is printed, and what follows its line. It is read in one pass; none also if there
-/// is no memory for its name.
+/// The term that the text begins with as it is printed, and what follows its line. It is read in
+/// one pass; none also if there is no memory for its name.
 fn printed_term(alloc: Global, text: &[u8]) -> Option<(CutTerm, &[u8])>
     ensures { IfSome result (λ r. (text.now ≡ term_line r.0 ++ r.1.now) × IsName r.0.name) }
 {
@@ -256,8 +261,10 @@ fn term_in(alloc: Global, line: &[u8]) -> Result<CutTerm, LineFault>
 
 /// The two fractions that the words spell.
 fn numbers_of(first: &[u8], second: &[u8]) -> Result<(Frac, Frac), Reason>
-    ensures found { IfOk result (λ r. (first.now ≡ fraction_text r.0) × (second.now ≡ fraction_text r.1)) }
-    ensures fault { IfErr result (λ e. (e ≡ Number) × ((x y : Frac) → first.now ≡ fraction_text x → second.now ≡ fraction_text y → ⊥)) }
+    ensures found { IfOk result (λ r. (first.now ≡ fraction_text r.0) ×
+        (second.now ≡ fraction_text r.1)) }
+    ensures fault { IfErr result (λ e. (e ≡ Number) × ((x y : Frac) → first.now ≡ fraction_text x →
+        second.now ≡ fraction_text y → ⊥)) }
 {
     let x = number_of(first)?;
     let y = number_of(second)?;

@@ -19,7 +19,8 @@ pub(crate) fn three_fields_of<'a>(
     line: &'a [u8],
     name: &[u8],
 ) -> Option<(&'a [u8], &'a [u8], &'a [u8])>
-    ensures found { IfSome result (λ r. word_texts line.now ≡ name.now ∷ r.0.now ∷ r.1.now ∷ r.2.now ∷ []) }
+    ensures found { IfSome result
+        (λ r. word_texts line.now ≡ name.now ∷ r.0.now ∷ r.1.now ∷ r.2.now ∷ []) }
     ensures none { IfNone result ((first second third : List ℕ) →
         word_texts line.now ≡ name.now ∷ first ∷ second ∷ third ∷ [] → ⊥) }
 {
@@ -57,7 +58,8 @@ fn first_such(bytes: &[u8], mark: u8) -> Option<usize>
 /// The fraction that the word spells.
 pub(crate) fn number_of(word: &[u8]) -> Result<Frac, Reason>
     ensures found { IfOk result (λ x. word.now ≡ fraction_text x) }
-    ensures fault { IfErr result (λ e. (e ≡ Number) × ((x : Frac) → word.now ≡ fraction_text x → ⊥)) }
+    ensures fault { IfErr result (λ e. (e ≡ Number) × ((x : Frac) →
+        word.now ≡ fraction_text x → ⊥)) }
 {
     match fraction_of(Spelling::Strict, word) {
         Some(x) => Ok(x),
@@ -86,7 +88,8 @@ pub(crate) fn five_fields_of<'a>(
 /// The count below the limit that the word spells.
 pub(crate) fn count_below(word: &[u8], limit: u32) -> Result<u32, Reason>
     ensures found { IfOk result (λ n. (word.now ≡ decimal n) × (n < limit)) }
-    ensures fault { IfErr result (λ e. (e ≡ Number) × ((n : ℕ) → n < limit → word.now ≡ decimal n → ⊥)) }
+    ensures fault { IfErr result (λ e. (e ≡ Number) × ((n : ℕ) → n < limit →
+        word.now ≡ decimal n → ⊥)) }
 {
     let Some(n) = read_count(word) else {
         return Err(Reason::Number);
@@ -97,7 +100,8 @@ pub(crate) fn count_below(word: &[u8], limit: u32) -> Result<u32, Reason>
     Ok(n)
 }
 
-/// The whole number, at most 2^127 - 1 in absolute value, that the word spells. A count of few digits is read as such.
+/// The whole number, at most 2^127 - 1 in absolute value, that the word spells. A count of few
+/// digits is read as such.
 pub(crate) fn whole_of(word: &[u8]) -> Option<i128>
     ensures found { IfSome result (λ n. (word.now ≡ signed_decimal n) × Fits n) }
     ensures none { IfNone result ((n : ℤ) → word.now ≡ signed_decimal n → Fits n → ⊥) }

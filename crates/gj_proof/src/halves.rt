@@ -66,8 +66,10 @@ fn halves_head_in(line: &[u8]) -> Result<HalvesHead, Reason>
 
 /// The order and the scale that the two words spell.
 fn head_of(first: &[u8], second: &[u8]) -> Option<HalvesHead>
-    ensures found { IfSome result (λ h. (first.now ≡ decimal h.order) × (second.now ≡ signed_decimal h.scale) × IsHeadInBounds h) }
-    ensures none { IfNone result ((h : HalvesHead) → first.now ≡ decimal h.order → second.now ≡ signed_decimal h.scale →
+    ensures found { IfSome result (λ h. (first.now ≡ decimal h.order) ×
+        (second.now ≡ signed_decimal h.scale) × IsHeadInBounds h) }
+    ensures none { IfNone result ((h : HalvesHead) → first.now ≡ decimal h.order →
+        second.now ≡ signed_decimal h.scale →
         IsHeadInBounds h → ⊥) }
 {
     let order = count_of(Spelling::Strict, first)?;
@@ -78,13 +80,15 @@ fn head_of(first: &[u8], second: &[u8]) -> Option<HalvesHead>
     Some(HalvesHead { order, scale })
 }
 
-/// So many pairs of values in the next lines, the first ones and the second ones, and what follows the lines.
+/// So many pairs of values in the next lines, the first ones and the second ones, and what follows
+/// the lines.
 fn pairs_at(
     alloc: Global,
     text: &[u8],
     count: u32,
 ) -> Result<((Vec<i128>, Vec<i128>), &[u8]), PartFault>
-    ensures found { IfOk result (λ r. (pairs : List (ℤ × ℤ)) × (pairs_part count).Reads text.now pairs r.1.now
+    ensures found { IfOk result (λ r. (pairs : List (ℤ × ℤ)) ×
+        (pairs_part count).Reads text.now pairs r.1.now
         × (r.0.0.items ≡ map (λ p. p.0) pairs) × (r.0.1.items ≡ map (λ p. p.1) pairs)) }
     ensures fault { IfErr result (IsFaultOf (pairs_part count) text.now) }
 {
@@ -115,7 +119,8 @@ fn pair_at(text: &[u8]) -> Result<((i128, i128), &[u8]), PartFault>
     }
 }
 
-/// The pair of values that the text begins with as it is printed, and what follows its line. It is read in one pass.
+/// The pair of values that the text begins with as it is printed, and what follows its line. It is
+/// read in one pass.
 fn printed_pair(text: &[u8]) -> Option<((i128, i128), &[u8])>
     ensures { IfSome result (λ r. (text.now ≡ pair_line r.0 ++ r.1.now) × Fits r.0.0 × Fits r.0.1) }
 {
@@ -142,9 +147,11 @@ fn pair_in(line: &[u8]) -> Result<(i128, i128), Reason>
 
 /// The two whole numbers that the words spell.
 fn wholes_of(first: &[u8], second: &[u8]) -> Option<(i128, i128)>
-    ensures found { IfSome result (λ p. (first.now ≡ signed_decimal p.0) × (second.now ≡ signed_decimal p.1)
+    ensures found { IfSome result (λ p. (first.now ≡ signed_decimal p.0) ×
+        (second.now ≡ signed_decimal p.1)
         × Fits p.0 × Fits p.1) }
-    ensures none { IfNone result ((x y : ℤ) → first.now ≡ signed_decimal x → second.now ≡ signed_decimal y →
+    ensures none { IfNone result ((x y : ℤ) → first.now ≡ signed_decimal x →
+        second.now ≡ signed_decimal y →
         Fits x → Fits y → ⊥) }
 {
     let x = whole_of(first)?;

@@ -12,10 +12,11 @@ ghost use Rattle.gj_proof.specs.ProofText.{ProofLine, extreme_claim, IsBounded, 
 ghost use Rattle.gj_proof.specs.ProofGrammar.{proof_text};
 ghost use Rattle.gj_proof.specs.FirstFault.{IsFirstFaultOfProof};
 
-/// The texts that read as a claim, from their title to their end, are the texts of that claim; its function is then
-/// within the limits.
+/// The texts that read as a claim, from their title to their end, are the texts of that claim; its
+/// function is then within the limits.
 pub fn proof_texts_are_read()
-    ensures { (c : Claim) (text : List ℕ) → proof_text.Reads text c [] ↔ (IsBounded c × IsProofText c text) }
+    ensures { (c : Claim) (text : List ℕ) → proof_text.Reads text c [] ↔
+        (IsBounded c × IsProofText c text) }
 {}
 
 /// A claim has one text, and a text is that of one claim: what was read is written as the same
@@ -39,22 +40,29 @@ pub fn one_first_fault()
         IsFirstFaultOfProof text n e → IsFirstFaultOfProof text m d → (n ≡ m) × (e ≡ d) }
 {}
 
-/// A line has one number at most, and in the text of a claim the line with that number is that line.
+/// A line has one number at most, and in the text of a claim the line with that number is that
+/// line.
 pub fn numbers_of_lines()
-    ensures one { (c : Claim) (l : ProofLine) (n m : ℕ) → HasNumber c l n → HasNumber c l m → n ≡ m }
-    ensures line { (c : Claim) (text bytes : List ℕ) (l : ProofLine) (n : ℕ) → IsBounded c → IsProofText c text →
+    ensures one { (c : Claim) (l : ProofLine) (n m : ℕ) → HasNumber c l n →
+        HasNumber c l m → n ≡ m }
+    ensures line { (c : Claim) (text bytes : List ℕ) (l : ProofLine) (n : ℕ) → IsBounded c →
+        IsProofText c text →
         HasBytes c l bytes → HasNumber c l n →
         (before rest : List ℕ) × (text ≡ before ++ (bytes ++ rest)) × (n ≡ line_feeds before + 1) }
 {}
 
-/// The text of a claim is at most 1,000,000 bytes long, unless it has any number of lines of its own.
+/// The text of a claim is at most 1,000,000 bytes long, unless it has any number of lines of its
+/// own.
 pub fn proof_text_is_short()
-    ensures { (c : Claim) (text : List ℕ) → IsShort c → IsBounded c → IsProofText c text → length text ≤ 1_000_000 }
+    ensures { (c : Claim) (text : List ℕ) → IsShort c → IsBounded c → IsProofText c text →
+        length text ≤ 1_000_000 }
 {}
 
-/// The text of a claim that a function is extreme is at most 12,000,000 bytes long if it has at most 1,000 groups of at most
-/// 1,000 steps each.
+/// The text of a claim that a function is extreme is at most 12,000,000 bytes long if it has at
+/// most 1,000 groups of at most 1,000 steps each.
 pub fn extreme_proof_text_is_short()
-    ensures { (numbers : Numbers) (f : FunctionData) (lines : List CoverLine) (rows : List PivotRow) (text : List ℕ) →
-        IsWithinBounds f → HaveFewSteps rows → IsProofText (extreme_claim numbers f lines rows) text → length text ≤ 12_000_000 }
+    ensures { (numbers : Numbers) (f : FunctionData) (lines : List CoverLine)
+        (rows : List PivotRow) (text : List ℕ) →
+        IsWithinBounds f → HaveFewSteps rows →
+        IsProofText (extreme_claim numbers f lines rows) text → length text ≤ 12_000_000 }
 {}

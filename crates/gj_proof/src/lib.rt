@@ -1,8 +1,9 @@
 //! Proof texts: claims about a function or about cuts, read and printed in their one spelling.
 //!
-//! A claim has a subject, lines of its own and demands that the checker makes (`specs/ProofText.antt`, `specs/Rules.antt`), and it says
-//! something of its subject (`specs/Meaning.antt`). `read_proof` and `write_proof` are inverse to each other: a claim has one text,
-//! and a text is that of one claim.
+//! A claim has a subject, lines of its own and demands that the checker makes
+//! (`specs/ProofText.antt`, `specs/Rules.antt`), and it says something of its subject
+//! (`specs/Meaning.antt`). `read_proof` and `write_proof` are inverse to each other: a claim has
+//! one text, and a text is that of one claim.
 #![tactic(auto)]
 
 mod bounds;

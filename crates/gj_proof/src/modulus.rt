@@ -9,8 +9,8 @@ use crate::fields::whole_of;
 use crate::numbers::{MODULUS, Numbers};
 use gj_lex::{PartFault, Reason, Spelling, field_of, line_at};
 
-/// What follows the line of the modulus in a text by residues; the text itself in one by whole numbers, which has none.
-/// It takes no memory.
+/// What follows the line of the modulus in a text by residues; the text itself in one by whole
+/// numbers, which has none. It takes no memory.
 pub(crate) fn modulus_at(text: &[u8], numbers: Numbers) -> Result<&[u8], PartFault>
     ensures found { IfOk result (λ rest. (modulus_part numbers).Reads text.now tt rest.now) }
     ensures fault { IfErr result (IsFaultOf (modulus_part numbers) text.now) }

@@ -71,7 +71,8 @@ fn steps_at(alloc: Global, text: &[u8]) -> Result<(Vec<u32>, &[u8]), PartFault>
 
 /// The column in the next line, behind the word, and what follows the line. It takes no memory.
 fn column_at<'a>(text: &'a [u8], word: &[u8]) -> Result<(u32, &'a [u8]), PartFault>
-    ensures found { IfOk result (λ r. (form_part (column_form word.now)).Reads text.now r.0 r.1.now) }
+    ensures found { IfOk result
+        (λ r. (form_part (column_form word.now)).Reads text.now r.0 r.1.now) }
     ensures fault { IfErr result (IsFaultOf (form_part (column_form word.now)) text.now) }
 {
     let line = line_at(Spelling::Strict, text)?;
@@ -94,7 +95,8 @@ fn column_in(line: &[u8], word: &[u8]) -> Result<u32, Reason>
 
 /// The name of the row in the next line, and what follows the line. It takes no memory.
 fn row_name_at(text: &[u8], order: u32) -> Result<(RowName, &[u8]), PartFault>
-    ensures found { IfOk result (λ r. (form_part (row_name_form order)).Reads text.now r.0 r.1.now) }
+    ensures found { IfOk result
+        (λ r. (form_part (row_name_form order)).Reads text.now r.0 r.1.now) }
     ensures fault { IfErr result (IsFaultOf (form_part (row_name_form order)) text.now) }
 {
     let line = line_at(Spelling::Strict, text)?;

@@ -143,7 +143,8 @@ fn minimal_at(alloc: Global, text: &[u8]) -> Result<(Claim, &[u8]), PartFault>
     Ok((Claim::Minimal(shape), rest))
 }
 
-/// The claim that the function of the next lines is not minimal, as the violation behind it shows, and what follows.
+/// The claim that the function of the next lines is not minimal, as the violation behind it shows,
+/// and what follows.
 fn not_minimal_at(alloc: Global, text: &[u8]) -> Result<(Claim, &[u8]), PartFault>
     ensures found { IfOk result (λ r. (claim_part NotMinimal).Reads text.now r.0 r.1.now) }
     ensures fault { IfErr result (IsFaultOf (claim_part NotMinimal) text.now) }
@@ -163,8 +164,8 @@ fn cut_at(alloc: Global, text: &[u8]) -> Result<(Claim, &[u8]), PartFault>
     Ok((Claim::Cut(rule, List::of(rows)), rest))
 }
 
-/// The claim that the function of the next lines is extreme, as the lines and the groups behind it show by these numbers, and what
-/// follows.
+/// The claim that the function of the next lines is extreme, as the lines and the groups behind it
+/// show by these numbers, and what follows.
 fn extreme_at(alloc: Global, text: &[u8], numbers: Numbers) -> Result<(Claim, &[u8]), PartFault>
     ensures found { IfOk result (λ r. (extreme_part numbers).Reads text.now r.0 r.1.now) }
     ensures fault { IfErr result (IsFaultOf (extreme_part numbers) text.now) }
@@ -194,7 +195,8 @@ fn extreme_claim(
     }
 }
 
-/// The claim that the function of the next lines is not extreme, as the halves behind it show, and what follows.
+/// The claim that the function of the next lines is not extreme, as the halves behind it show, and
+/// what follows.
 fn not_extreme_at(alloc: Global, text: &[u8]) -> Result<(Claim, &[u8]), PartFault>
     ensures found { IfOk result (λ r. (claim_part NotExtreme).Reads text.now r.0 r.1.now) }
     ensures fault { IfErr result (IsFaultOf (claim_part NotExtreme) text.now) }

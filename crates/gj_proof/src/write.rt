@@ -1,8 +1,8 @@
 //! Proof texts, printed.
 
-ghost use Rattle.std.specs.Prelude.{◌≡◌, ◌++◌, ℕ, List, flat_map, IfOk, OnOk};
+ghost use Rattle.std.specs.Prelude.{◌≡◌, ◌++◌, ℕ, List, IfOk, OnOk};
 ghost use Rattle.gj_forms.specs.LineForms.{bytes_of};
-ghost use Rattle.gj_proof.specs.ProofText.{subject_of, numbers_of, AreSubjectLines, title_fields, claim_fields, claim_word, violation_line, own_lines, HasText, IsProofText};
+ghost use Rattle.gj_proof.specs.ProofText.{subject_of, numbers_of, AreSubjectLines, title_fields, claim_fields, claim_word, violation_line, own_text, HasText, IsProofText};
 
 use crate::claim::{Claim, Proof};
 use crate::numbers::Numbers;
@@ -28,7 +28,8 @@ pub fn write_proof(alloc: Global, proof: &Proof) -> Result<Vec<u8>, AllocError>
 /// The first two lines of a proof text: its title and the word of its claim.
 fn start_text(alloc: Global, claim: &Claim) -> Result<Vec<u8>, AllocError>
     ensures { IfOk result (λ text. text.items
-        ≡ bytes_of (title_fields (numbers_of claim.now)) ++ bytes_of (claim_fields (claim_word claim.now))) }
+        ≡ bytes_of (title_fields (numbers_of claim.now)) ++ bytes_of
+        (claim_fields (claim_word claim.now))) }
 {
     let mut text = Vec::new(alloc);
     text.extend_from_slice(title(claim.numbers()))?;
@@ -56,7 +57,7 @@ fn push_subject(alloc: Global, out: &mut Vec<u8>, claim: &Claim) -> Result<(), A
 /// Appends the lines of a claim's own, between those of its subject and the last.
 fn push_own_lines(alloc: Global, out: &mut Vec<u8>, claim: &Claim) -> Result<(), AllocError>
     requires { HasText claim.now }
-    ensures { OnOk result (out.new.items ≡ out.old.items ++ flat_map (λ l. l.bytes) (own_lines claim.now)) }
+    ensures { OnOk result (out.new.items ≡ out.old.items ++ own_text claim.now) }
 {
     match claim {
         Claim::Minimal(_) => Ok(()),
@@ -90,7 +91,8 @@ fn title(numbers: Numbers) -> &'static [u8]
     }
 }
 
-/// Appends the line of a violation. An error says that memory ran out; `out` may then have a part of it.
+/// Appends the line of a violation. An error says that memory ran out; `out` may then have a part
+/// of it.
 pub fn push_violation_line(
     alloc: Global,
     out: &mut Vec<u8>,

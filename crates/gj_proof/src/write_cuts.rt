@@ -1,8 +1,7 @@
 //! The lines of cuts, printed.
 ghost use Rattle.std.specs.Prelude.{◌≡◌, ◌++◌, ℕ, List, codes, flat_map, OnOk};
 ghost use Rattle.gj_lex.specs.NumberText.{fraction_text};
-ghost use Rattle.gj_proof.specs.ProofText.{AreSubjectLines, subject_of_rule, row_line, term_line, terms_of};
-ghost use Rattle.gj_proof.specs.CutTexts.{row_text};
+ghost use Rattle.gj_proof.specs.ProofText.{AreSubjectLines, subject_of_rule, row_line, term_line, terms_of, row_text};
 
 use crate::cut::{CutLine, CutRule, CutTerm};
 use gj_frac::Frac;
@@ -10,8 +9,8 @@ use gj_function_lines::push_function_lines;
 use gj_lex::{Name, print_frac};
 use std::alloc::{AllocError, Global};
 
-/// Appends the lines of a rule: `rule gmic`, or those of its function. An error says that memory ran out; `out` may then have a
-/// part of them.
+/// Appends the lines of a rule: `rule gmic`, or those of its function. An error says that memory
+/// ran out; `out` may then have a part of them.
 pub fn push_rule_lines(alloc: Global, out: &mut Vec<u8>, rule: &CutRule) -> Result<(), AllocError>
     ensures { OnOk result ((lines : List ℕ) × AreSubjectLines (subject_of_rule rule.now) lines
         × (out.new.items ≡ out.old.items ++ lines)) }
@@ -36,7 +35,8 @@ pub(crate) fn push_rows(
     Ok(())
 }
 
-/// Appends the lines of a row. An error says that memory ran out; `out` may then have a part of them.
+/// Appends the lines of a row. An error says that memory ran out; `out` may then have a part of
+/// them.
 pub fn push_row(alloc: Global, out: &mut Vec<u8>, row: &CutLine) -> Result<(), AllocError>
     ensures { OnOk result (out.new.items ≡ out.old.items ++ row_text row.now) }
 {
@@ -80,7 +80,8 @@ fn push_term(alloc: Global, out: &mut Vec<u8>, term: &CutTerm) -> Result<(), All
     Ok(())
 }
 
-/// Appends a word, a name, a space and a fraction. An error says that memory ran out; `out` may then have a part of it.
+/// Appends a word, a name, a space and a fraction. An error says that memory ran out; `out` may
+/// then have a part of it.
 pub fn push_named(
     alloc: Global,
     out: &mut Vec<u8>,
@@ -88,7 +89,8 @@ pub fn push_named(
     name: &Name,
     x: Frac,
 ) -> Result<(), AllocError>
-    ensures { OnOk result (out.new.items ≡ out.old.items ++ (word.now ++ name.now ++ codes " " ++ fraction_text x)) }
+    ensures { OnOk result (out.new.items ≡ out.old.items ++
+        (word.now ++ name.now ++ codes " " ++ fraction_text x)) }
 {
     out.extend_from_slice(word)?;
     out.extend_from_slice(name.bytes())?;

@@ -4,8 +4,7 @@ ghost use Rattle.std.specs.Fmt.{signed_decimal};
 ghost use Rattle.gj_frac.specs.Fraction.{Fits};
 ghost use Rattle.gj_shape.specs.Perturbation.{AreHalvesInBounds};
 ghost use Rattle.gj_function_lines.specs.FunctionLines.{line};
-ghost use Rattle.gj_proof.specs.ProofText.{group_line, reduction_line, modulus_lines, extreme_lines, halves_line, pair_line};
-ghost use Rattle.gj_proof.specs.ExtremeTexts.{group_text, halves_text};
+ghost use Rattle.gj_proof.specs.ProofText.{group_line, reduction_line, modulus_text, extreme_text, halves_line, pair_line, group_text, halves_text};
 
 use crate::numbers::{MODULUS, Numbers};
 use crate::pivot::PivotRow;
@@ -15,8 +14,8 @@ use gj_lex::{print_count, print_frac};
 use gj_shape::{CoverLine, Halves, RowName};
 use std::alloc::{AllocError, Global};
 
-/// Appends the lines of a proof that a function is extreme by rows of these numbers: those of the covered intervals, that of
-/// the modulus, and those of the groups.
+/// Appends the lines of a proof that a function is extreme by rows of these numbers: those of the
+/// covered intervals, that of the modulus, and those of the groups.
 pub(crate) fn push_extreme_lines(
     alloc: Global,
     out: &mut Vec<u8>,
@@ -24,7 +23,8 @@ pub(crate) fn push_extreme_lines(
     lines: &[CoverLine],
     rows: &[PivotRow],
 ) -> Result<(), AllocError>
-    ensures { OnOk result (out.new.items ≡ out.old.items ++ flat_map (λ l. l.bytes) (extreme_lines numbers lines.now rows.now)) }
+    ensures { OnOk result (out.new.items ≡ out.old.items ++ extreme_text numbers
+        lines.now rows.now) }
 {
     push_cover_lines(out, lines)?;
     push_modulus(alloc, out, numbers)?;
@@ -33,7 +33,7 @@ pub(crate) fn push_extreme_lines(
 
 /// Appends the line of the modulus, by residues.
 fn push_modulus(alloc: Global, out: &mut Vec<u8>, numbers: Numbers) -> Result<(), AllocError>
-    ensures { OnOk result (out.new.items ≡ out.old.items ++ flat_map (λ l. l.bytes) (modulus_lines numbers)) }
+    ensures { OnOk result (out.new.items ≡ out.old.items ++ modulus_text numbers) }
 {
     match numbers {
         Numbers::Whole => Ok(()),
@@ -98,8 +98,8 @@ fn push_column(out: &mut Vec<u8>, word: &[u8], column: u32) -> Result<(), AllocE
     Ok(())
 }
 
-/// Appends the lines of halves: `halves N S`, and a line `pair A B` for the values of both at each index. An error says that memory ran
-/// out; `out` may then have a part of them.
+/// Appends the lines of halves: `halves N S`, and a line `pair A B` for the values of both at each
+/// index. An error says that memory ran out; `out` may then have a part of them.
 pub fn push_halves(alloc: Global, out: &mut Vec<u8>, halves: &Halves) -> Result<(), AllocError>
     requires { AreHalvesInBounds halves.now }
     ensures { OnOk result (out.new.items ≡ out.old.items ++ halves_text halves.now) }
@@ -113,8 +113,8 @@ pub fn push_halves(alloc: Global, out: &mut Vec<u8>, halves: &Halves) -> Result<
     )
 }
 
-/// Appends the line `halves N S`, with the order and the scale of halves. An error says that memory ran out; `out` may then have a
-/// part of it.
+/// Appends the line `halves N S`, with the order and the scale of halves. An error says that memory
+/// ran out; `out` may then have a part of it.
 pub fn push_halves_line(alloc: Global, out: &mut Vec<u8>, halves: &Halves) -> Result<(), AllocError>
     requires { AreHalvesInBounds halves.now }
     ensures { OnOk result (out.new.items ≡ out.old.items ++ halves_line halves.now) }
@@ -133,7 +133,8 @@ fn push_pairs(
 ) -> Result<(), AllocError>
     requires first { All Fits first.now }
     requires second { All Fits second.now }
-    ensures { OnOk result (out.new.items ≡ out.old.items ++ flat_map pair_line (zip first.now second.now)) }
+    ensures { OnOk result (out.new.items ≡ out.old.items ++ flat_map pair_line
+        (zip first.now second.now)) }
 {
     for (x, y) in first.iter().zip(second) {
         push_pair(alloc, out, *x, *y)?;

@@ -1,7 +1,7 @@
--- Identities between sums and products of rational numbers, by the normal form of identities between whole numbers.
--- An identity over the atoms x, y and z, each a variable or any other term, is one line:
---     by_ring_q (x ∷ y ∷ z ∷ []) (search ring_q depth 40) refl
--- The two sides may have +, -, *, signs and whole numerals.
+-- Identities between sums and products of rational numbers, by the normal form of identities
+-- between whole numbers. An identity over the atoms x, y and z, each a variable or any other term,
+-- is one line: by_ring_q (x ∷ y ∷ z ∷ []) (search ring_q depth 40) refl The two sides may have +,
+-- -, *, signs and whole numerals.
 use Rattle.std.proofs.Common.{◌≡◌, ℕ, zero, suc, true, false, eqb, leb, List, [], ◌∷◌, ℤ, pos, negsuc, ◌+ℤ◌, ◌*ℤ◌, refl, sym, ap, ap₂, ◌∙◌}
 use Rattle.gj_lemmas.proofs.Choices.{by_test}
 use Rattle.gj_lemmas.proofs.Ring.{Expr, var, num, add, mul, neg, Poly, none, plus, Order, before, same, after, with_atom, joined, order, plus_some, with_term, sum_of, times_term, times, opposite, normal, order_same}

@@ -1,4 +1,5 @@
--- Rational numbers without bound: a top over a bottom above 0 in lowest terms, so that equal values are one number (the usual ones).
+-- Rational numbers without bound: a top over a bottom above 0 in lowest terms, so that equal values
+-- are one number (the usual ones).
 use Rattle.std.proofs.Common.{◌≡◌, ◌<◌, inr, ℤ, pos, negsuc, ◌+ℤ◌, ◌*ℤ◌, ◌<ℤ◌, ◌≤ℤ◌, unsigned_abs, int_div, sym, ap, ◌∙◌, arith}
 use Rattle.std.proofs.lemmas.Int.{ints}
 use Rattle.std.proofs.lemmas.Nat.Gcd.{IsGcd-swap}

@@ -17,8 +17,8 @@ pub fn values_at_fractions<K: Reals>()
         (K.field.inverse (number K.field (f.scale * m))) }
 {}
 
-/// A function is minimal exactly if it is 0 at 0, nowhere negative, subadditive and symmetric at all
-/// real numbers.
+/// A function is minimal exactly if it is 0 at 0, nowhere negative, subadditive and symmetric at
+/// all real numbers.
 pub fn minimal_functions_have_rules_at_reals<K: Reals>()
     ensures { (f : FunctionData) → IsWithinBounds f →
         (IsMinimal f

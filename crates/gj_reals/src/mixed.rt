@@ -9,9 +9,9 @@ ghost use Rattle.gj_reals.specs.RealFunctions.{real_function, real_place, slope_
 
 use gj_fields::reals::Reals;
 
-/// By a continuous minimal function and its slopes at 0: if points, each as often as it is used, and
-/// the entries of continuous columns times their variables, real numbers not below 0, add up to f
-/// modulo 1, the values at the points and the weights times the variables add up to 1 or more.
+/// By a continuous minimal function and its slopes at 0: if points, each as often as it is used,
+/// and the entries of continuous columns times their variables, real numbers not below 0, add up to
+/// f modulo 1, the values at the points and the weights times the variables add up to 1 or more.
 pub fn mixed_cuts_at_reals<K: Reals>()
     ensures { (f : FunctionData) → IsWithinBounds f → IsContinuous f → IsMinimal f →
         (points : List K.Number) (columns : List (Column K.field)) →

@@ -15,7 +15,8 @@ use Rattle.gj_residue.specs.Source.{Gives}
 abbrev onward : Arithmetic → BasisData → List (List ℤ) → Elimination
 onward by b left = elimination_from_by by b.columns b.kept b.inserted left
 
--- the elimination of all rows has come this far: none of its numbers passed, and these rows are to come
+-- the elimination of all rows has come this far: none of its numbers passed, and these rows are to
+-- come
 pub record AreToCome (by : Arithmetic) (n : ℕ) (all : List (List ℤ)) (b : BasisData) (left : List (List ℤ)) : Type 0 where
   pub columns : b.columns ≡ n
   pub kept : (elimination_by by n all).kept ≡ (onward by b left).kept

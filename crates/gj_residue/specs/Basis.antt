@@ -9,7 +9,8 @@ use Rattle.gj_residue.specs.declared.basis.ResidueBasis.TheInside.{Inside}
 abbrev pub data_of : Inside → BasisData
 data_of b = record { columns = b.columns; inserted = b.inserted; kept = kept_residues b.log.items b.rows.items }
 
--- the log has a line for each row, the rows are triangular, and the row that is reduced has its length
+-- the log has a line for each row, the rows are triangular, and the row that is reduced has its
+-- length
 pub record IsResidueBasis (b : Inside) : Type 0 where
   pub lines : length b.log.items ≡ length b.rows.items
   pub triangular : AreTriangularResidues b.columns (kept_residues b.log.items b.rows.items)

@@ -40,7 +40,8 @@ pub record IsByResidues (n : ℕ) (rows : List (List ℤ)) (log : List LogRow) :
   pub full : length (elimination_by (modulo modulus) n rows).kept ≡ n
   pub log_is : log ≡ map log_row (elimination_by (modulo modulus) n rows).kept
 
--- no insertion passes, fewer rows are kept than there are columns, and no number of the kernel passes
+-- no insertion passes, fewer rows are kept than there are columns, and no number of the kernel
+-- passes
 pub record IsKernel (n : ℕ) (rows : List (List ℤ)) (numbers : List ℤ) : Type 0 where
   pub narrow : Passes (elimination n rows).marked → ⊥
   pub fewer : length (elimination n rows).kept < n
@@ -54,8 +55,8 @@ IsSettled n rows (Plain log) = IsPlain n rows log
 IsSettled n rows (Residues log) = IsByResidues n rows log
 IsSettled n rows (Kernel numbers) = IsKernel n rows numbers
 
--- an insertion passes and over residues fewer rows are kept than there are columns, or no insertion passes and a number of the
--- kernel does
+-- an insertion passes and over residues fewer rows are kept than there are columns, or no insertion
+-- passes and a number of the kernel does
 pub data AreRowsTooWide (n : ℕ) (rows : List (List ℤ)) : Type 0 where
   insertion_passes : Passes (elimination n rows).marked → length (elimination_by (modulo modulus) n rows).kept < n → AreRowsTooWide n rows
   kernel_passes : (Passes (elimination n rows).marked → ⊥) → (s : Solution) → kernel n (elimination n rows).kept ≡ Some s →
@@ -63,7 +64,8 @@ pub data AreRowsTooWide (n : ℕ) (rows : List (List ℤ)) : Type 0 where
 
 -- ---- of rows that are kept
 
--- as many are kept as there are columns, or the numbers are those of the kernel, none of which passes
+-- as many are kept as there are columns, or the numbers are those of the kernel, none of which
+-- passes
 pub record IsKernelOf (n : ℕ) (kept : List KeptRow) (numbers : List ℤ) : Type 0 where
   pub solution : Solution
   pub solves : kernel n kept ≡ Some solution

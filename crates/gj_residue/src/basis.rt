@@ -16,8 +16,8 @@ use gj_shape::List;
 use std::alloc::{AllocError, Global};
 use std::marker::Model;
 
-/// Rows of whole numbers, read modulo 2^61 - 1, of which elimination keeps those that it can. Contracts see how many columns they
-/// have, how many rows were inserted, and the kept rows.
+/// Rows of whole numbers, read modulo 2^61 - 1, of which elimination keeps those that it can.
+/// Contracts see how many columns they have, how many rows were inserted, and the kept rows.
 #[derive(Drop)]
 pub struct ResidueBasis {
     alloc: Global,
@@ -61,18 +61,21 @@ impl ResidueBasis {
         })
     }
 
-    /// Inserts a row: its residues are reduced by the kept rows, and what is left is kept if its first entry that is not 0 has an
-    /// inverse. The answer is `Nothing` exactly if the row is not kept. After an error the basis is as it was.
+    /// Inserts a row: its residues are reduced by the kept rows, and what is left is kept if its
+    /// first entry that is not 0 has an inverse. The answer is `Nothing` exactly if the row is not
+    /// kept. After an error the basis is as it was.
     pub fn insert(&mut self, row: &[i128]) -> Result<Inserted, AllocError>
         requires columns { length row.now ≡ self.old.columns }
         requires count { self.old.inserted + 1 < 2 ^ 64 }
 
         ensures kept { OnOk result (self.new ≡ behind_by (modulo modulus) self.old row.now) }
         ensures answer { IfOk result (λ a. a
-            ≡ answer_of (inserted_by (modulo modulus) self.old.columns self.old.kept row.now).kept) }
+            ≡ answer_of (inserted_by (modulo modulus) self.old.columns
+            self.old.kept row.now).kept) }
         ensures unchanged { OnErr result (self.new ≡ self.old) }
 
-        ensures solved { OnOk result ((w : List ℤ) → SolvesKeptModulo modulus w self.old.kept → SolvesModulo modulus w row.now →
+        ensures solved { OnOk result ((w : List ℤ) → SolvesKeptModulo modulus w self.old.kept →
+            SolvesModulo modulus w row.now →
             SolvesKeptModulo modulus w self.new.kept) }
         ensures triangular { OnOk result (AreTriangularResidues self.new.columns self.new.kept) }
     {

@@ -10,7 +10,8 @@ use gj_elim::LogRow;
 use gj_shape::List;
 use std::alloc::{AllocError, Global};
 
-/// Keeps the row times the factor, and writes to the log how it came to be kept. After an error nothing is changed.
+/// Keeps the row times the factor, and writes to the log how it came to be kept. After an error
+/// nothing is changed.
 pub(crate) fn keep(
     alloc: Global,
     log: &mut Vec<LogRow>,
@@ -24,7 +25,8 @@ pub(crate) fn keep(
     ensures line { OnOk result (log.new.items
         ≡ log.old.items ++ record { number = number; reduce = reduce.now; pivot = pivot } ∷ []) }
     ensures entries { OnOk result (map numbers_of rows.new.items
-        ≡ map numbers_of rows.old.items ++ residues modulus (scaled (pos factor) (numbers_of row.now)) ∷ []) }
+        ≡ map numbers_of rows.old.items ++ residues modulus (scaled (pos factor)
+        (numbers_of row.now)) ∷ []) }
     ensures same_log { OnErr result (log.new.items ≡ log.old.items) }
     ensures same_rows { OnErr result (rows.new.items ≡ rows.old.items) }
 {

@@ -13,8 +13,9 @@ use gj_elim::{LogRow, place_of};
 use gj_shape::List;
 use std::alloc::AllocError;
 
-/// Takes a row through all columns, and adds to `reduce` the columns at which it is reduced. The answer is the column at which
-/// something is left of the row. After an error the row and the columns are no longer used.
+/// Takes a row through all columns, and adds to `reduce` the columns at which it is reduced. The
+/// answer is the column at which something is left of the row. After an error the row and the
+/// columns are no longer used.
 pub(crate) fn reduce_row(
     log: &[LogRow],
     rows: &[List<u64>],

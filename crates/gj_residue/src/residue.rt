@@ -31,7 +31,8 @@ pub(crate) fn less_product(x: u64, u: u64, e: u64) -> u64
     (x + (MODULUS - product(u, e))) % MODULUS
 }
 
-/// The inverse of a residue, if it has one: by Euclid's algorithm, with each remainder as a multiple of x.
+/// The inverse of a residue, if it has one: by Euclid's algorithm, with each remainder as a
+/// multiple of x.
 pub(crate) fn inverse_of(x: u64) -> Option<u64>
     requires { x < modulus }
     ensures { result ≡ inverse modulus (pos x) }

@@ -59,9 +59,10 @@ impl From<AllocError> for SettleFault {
     }
 }
 
-/// What solves all rows of the source. `Plain` and `Kernel` come exactly if plain elimination marks no number that passes 2^127 - 1 in
-/// absolute value, `Residues` exactly if it does and residues keep as many rows as there are columns; `Wide` exactly if it does and
-/// they keep fewer, or if a number of the kernel passes.
+/// What solves all rows of the source. `Plain` and `Kernel` come exactly if plain elimination marks
+/// no number that passes 2^127 - 1 in absolute value, `Residues` exactly if it does and residues
+/// keep as many rows as there are columns; `Wide` exactly if it does and they keep fewer, or if a
+/// number of the kernel passes.
 pub fn settle<R: RowSource>(
     alloc: Global,
     columns: u32,
@@ -95,7 +96,8 @@ fn insert_all<R: RowSource>(alloc: Global, columns: u32, rows: &mut R) -> Result
     ensures columns { IfOk result (λ b. b.columns ≡ columns) }
     ensures kept { IfOk result (λ b. b.kept ≡ (elimination columns (R.left rows.old)).kept) }
     ensures narrow { OnOk result (¬ Passes (elimination columns (R.left rows.old)).marked) }
-    ensures wide { IsErrOf result ElimFault.Wide → Passes (elimination columns (R.left rows.old)).marked }
+    ensures wide { IsErrOf result ElimFault.Wide →
+        Passes (elimination columns (R.left rows.old)).marked }
     ensures rows { R.all rows.new ≡ R.all rows.old }
 {
     let mut basis = Basis::new(alloc, columns)?;
@@ -111,7 +113,8 @@ fn insert_all<R: RowSource>(alloc: Global, columns: u32, rows: &mut R) -> Result
 /// What solves the rows that a basis keeps.
 fn settled_by(basis: Basis) -> Result<Settled, ElimFault>
     ensures settled { IfOk result (IsSettledBy basis.columns basis.kept) }
-    ensures wide { IsErrOf result ElimFault.Wide → Passes (marked_in (kernel basis.columns basis.kept)) }
+    ensures wide { IsErrOf result ElimFault.Wide →
+        Passes (marked_in (kernel basis.columns basis.kept)) }
 {
     match basis.kernel()? {
         None => Ok(Settled::Plain(List::of(basis.into_log()))),
@@ -127,7 +130,8 @@ fn settled_by_residues<R: RowSource>(
 ) -> Result<Settled, SettleFault>
     requires lengths { All (λ row. length row ≡ columns) (R.left rows.old) }
     requires count { length (R.left rows.old) < 2 ^ 63 }
-    ensures settled { IfOk result (IsSettledByResidues columns (elimination_by (modulo modulus) columns (R.left rows.old)).kept) }
+    ensures settled { IfOk result (IsSettledByResidues columns
+        (elimination_by (modulo modulus) columns (R.left rows.old)).kept) }
     ensures wide { IsErrOf result SettleFault.Wide →
         length (elimination_by (modulo modulus) columns (R.left rows.old)).kept < columns }
     ensures rows { R.all rows.new ≡ R.all rows.old }
@@ -148,7 +152,8 @@ fn insert_residues<R: RowSource>(
     requires lengths { All (λ row. length row ≡ columns) (R.left rows.old) }
     requires count { length (R.left rows.old) < 2 ^ 63 }
     ensures columns { IfOk result (λ b. b.columns ≡ columns) }
-    ensures kept { IfOk result (λ b. b.kept ≡ (elimination_by (modulo modulus) columns (R.left rows.old)).kept) }
+    ensures kept { IfOk result (λ b. b.kept ≡ (elimination_by (modulo modulus) columns
+        (R.left rows.old)).kept) }
     ensures rows { R.all rows.new ≡ R.all rows.old }
 {
     let mut basis = ResidueBasis::new(alloc, columns)?;

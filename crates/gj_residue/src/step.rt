@@ -23,7 +23,8 @@ pub(crate) fn reduce_by(kept: &[u64], row: &mut [u64], column: usize)
     requires columns { length kept.now ≡ length row.old }
     requires within { column < length row.old }
     requires below { AreResidues row.old }
-    ensures value { numbers_of row.new ≡ reduced_modulo modulus (numbers_of kept.now) (numbers_of row.old) column }
+    ensures value { numbers_of row.new ≡ reduced_modulo modulus (numbers_of kept.now)
+        (numbers_of row.old) column }
     ensures below { AreResidues row.new }
 {
     let entry = row[column];
@@ -34,7 +35,8 @@ pub(crate) fn reduce_by(kept: &[u64], row: &mut [u64], column: usize)
 
 /// Multiplies a row.
 pub(crate) fn multiply(factor: u64, row: &mut [u64])
-    ensures value { numbers_of row.new ≡ residues modulus (scaled (pos factor) (numbers_of row.old)) }
+    ensures value { numbers_of row.new ≡ residues modulus (scaled (pos factor)
+        (numbers_of row.old)) }
 {
     for i in 0..row.len() {
         row[i] = product(factor, row[i]);

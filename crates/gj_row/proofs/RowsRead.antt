@@ -25,7 +25,8 @@ Words = List (List (List ℕ))
 abbrev pub words_of : Words → Words
 words_of fields = map (map word_of) fields
 
--- records that spell the tableau of these columns and rows have been read, with these names and so many entries that are not 0
+-- records that spell the tableau of these columns and rows have been read, with these names and so
+-- many entries that are not 0
 pub record RowsRead (text : List ℕ) (it : Reader (Bor (List ℕ))) (names columns : List (List ℕ)) (rows : List Row)
     (used : ℕ) : Type 0 where
   pub before : Words

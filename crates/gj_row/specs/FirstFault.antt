@@ -50,8 +50,9 @@ abbrev pub row_entries : List Frac → List Entry
 row_entries [] = []
 row_entries (right ∷ values) = entries_from 0 values
 
--- why the word cannot follow these numbers of a row, which follows rows with `used` entries that are not 0: it spells no number, or
--- else one above 2^31 in absolute value, or else one that leaves no common denominator up to 2^31 - 1, or else one entry too many
+-- why the word cannot follow these numbers of a row, which follows rows with `used` entries that
+-- are not 0: it spells no number, or else one above 2^31 in absolute value, or else one that leaves
+-- no common denominator up to 2^31 - 1, or else one entry too many
 abbrev pub BreaksNumber : ℕ → List Frac → List ℕ → RowReason → Type 0
 BreaksNumber used xs word Number = (x : Frac) → SpellsNext xs word x → ⊥
 BreaksNumber used xs word Large = (x : Frac) × SpellsNext xs word x × (IsSmallNumber x → ⊥)
@@ -103,7 +104,8 @@ pub data HasHeaderFault (words : List (List (List ℕ))) (reason : RowReason) : 
   name : (columns : List (List ℕ)) (rows : List (List (List ℕ))) → words ≡ header_of columns ∷ rows → length columns ≤ most_columns →
       HasNameFault columns reason → HasHeaderFault words reason
 
--- the words of a record may be a row behind this tableau: as many as in record 1, and there are fewer than 10,000 rows
+-- the words of a record may be a row behind this tableau: as many as in record 1, and there are
+-- fewer than 10,000 rows
 pub record MayFollow (t : Tableau) (words : List (List ℕ)) : Type 0 where
   pub count : length words ≡ length t.columns + 2
   pub room : length t.rows < most_rows

@@ -96,7 +96,8 @@ StopsEntry P scale count Rows = ⊥
 StopsEntry P scale count Name = ⊥
 StopsEntry P scale count Twice = ⊥
 
--- numbers within the limits, whose least common denominator is `scale`, have been read from the words, with these entries that are not 0
+-- numbers within the limits, whose least common denominator is `scale`, have been read from the
+-- words, with these entries that are not 0
 pub record HasRead (used : ℕ) (words : List (List ℕ)) (right : Frac) (scale : ℕ) (entries : List Entry) : Type 0 where
   pub values : List Frac
   pub begins : BeginRow used words (right ∷ values)
@@ -137,7 +138,8 @@ pub record StandsBehind (text : List ℕ) (before : List (List (List ℕ))) (rea
   pub source : source_of bytes_left reader ≡ Some rest
   pub reached : Reached default_config state.StartRecord (strip_bom text) before (reader_state reader) rest
 
--- the next record is the one behind record 1 of the text, which names these columns; the names so far are theirs
+-- the next record is the one behind record 1 of the text, which names these columns; the names so
+-- far are theirs
 pub record StandsBehindHeader (text : List ℕ) (columns names : List (List ℕ)) (reader : Reader (Bor (List ℕ))) : Type 0 where
   pub header : List (List ℕ)
   pub stands : StandsBehind text (header ∷ []) reader

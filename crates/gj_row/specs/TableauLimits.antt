@@ -27,8 +27,8 @@ AreWithinLimits numbers = AreWithin greatest_number numbers
 abbrev pub numbers_of : Row → List Frac
 numbers_of row = row.rhs ∷ map (λ e. e.value) row.entries
 
--- a row of a tableau with so many columns: its numbers are within the limits, and its entries are those that are not 0, in the
--- order of their columns
+-- a row of a tableau with so many columns: its numbers are within the limits, and its entries are
+-- those that are not 0, in the order of their columns
 pub record IsRowWithinLimits (columns : ℕ) (row : Row) : Type 0 where
   pub numbers : AreWithinLimits (numbers_of row)
   pub no_zero : All (λ e. numerator e.value ≢ pos 0) row.entries
@@ -48,7 +48,8 @@ pub record AreNames (names : List (List ℕ)) : Type 0 where
   pub valid : All IsName names
   pub differ : AllPairs (λ a b. a ≢ b) names
 
--- at most 10,000 columns, 10,000 rows and 100,000 entries that are not 0; all names differ; each row is within its limits
+-- at most 10,000 columns, 10,000 rows and 100,000 entries that are not 0; all names differ; each
+-- row is within its limits
 pub record IsTableau (t : Tableau) : Type 0 where
   pub few_columns : length t.columns ≤ most_columns
   pub few_rows : length t.rows ≤ most_rows

@@ -22,8 +22,9 @@ without_blanks_before field = drop (position_or_len (λ b. not (is_blank b)) fie
 abbrev pub word_of : List ℕ → List ℕ
 word_of field = reverse (without_blanks_before (reverse (without_blanks_before field)))
 
--- the words in the fields of each record, as `csv` reads it with its defaults: fields end at a comma, and may stand in double quotes.
--- It takes a byte order mark off the text, and blank lines are no records.
+-- the words in the fields of each record, as `csv` reads it with its defaults: fields end at a
+-- comma, and may stand in double quotes. It takes a byte order mark off the text, and blank lines
+-- are no records.
 abbrev pub records_of : List ℕ → List (List (List ℕ))
 records_of text = map (map word_of) (records default_config (strip_bom text))
 
@@ -33,7 +34,8 @@ records_of text = map (map word_of) (records default_config (strip_bom text))
 abbrev pub SpellsEntry : List ℕ → Frac → Type 0
 SpellsEntry word x = ((word ≡ []) × IsRatio x (pos 0) (pos 1)) ⊎ IsFractionWord Lenient word x
 
--- the word spells the number that stands behind these numbers of the row: the right side if there are none, and else an entry
+-- the word spells the number that stands behind these numbers of the row: the right side if there
+-- are none, and else an entry
 abbrev pub SpellsNext : List Frac → List ℕ → Frac → Type 0
 SpellsNext [] word x = IsFractionWord Lenient word x
 SpellsNext (right ∷ values) word x = SpellsEntry word x
@@ -59,7 +61,8 @@ entries_from column (x ∷ values) = entry_at column x ++ entries_from (column +
 
 -- ---- the tableau
 
--- the words of a record spell a row of so many columns: the basic variable's name, the right side, an entry for each column
+-- the words of a record spell a row of so many columns: the basic variable's name, the right side,
+-- an entry for each column
 pub record SpellsRow (columns : ℕ) (words : List (List ℕ)) (row : Row) : Type 0 where
   pub number_words : List (List ℕ)
   pub values : List Frac

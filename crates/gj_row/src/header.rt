@@ -53,7 +53,8 @@ pub(crate) fn header_in(alloc: Global, fields: &ByteRecord) -> Result<Header, Re
 
 /// Whether the record begins with `basic` and `rhs`.
 fn begins_header(fields: &ByteRecord) -> bool
-    ensures { IsTrue result ↔ ((columns : List (List ℕ)) × (words_in fields.now ≡ header_of columns)) }
+    ensures { IsTrue result ↔ ((columns : List (List ℕ)) ×
+        (words_in fields.now ≡ header_of columns)) }
 {
     has_word(fields, 0, b"basic") && has_word(fields, 1, b"rhs")
 }
@@ -75,7 +76,8 @@ pub(crate) fn new_name(
 ) -> Result<Name, RecordFault>
     ensures name { IfOk result (λ name. name ≡ word.now) }
     ensures new { OnOk result (IsNewName (bytes_of names.old.keys) word.now) }
-    ensures kept { OnOk result (bytes_of names.new.keys ≡ bytes_of names.old.keys ++ word.now ∷ []) }
+    ensures kept { OnOk result
+        (bytes_of names.new.keys ≡ bytes_of names.old.keys ++ word.now ∷ []) }
     ensures refused { IfErr result (NamesReason (BreaksName (bytes_of names.old.keys) word.now)) }
 {
     let name = match Name::new(alloc, word) {

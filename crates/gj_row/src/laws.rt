@@ -7,12 +7,14 @@ ghost use Rattle.gj_row.specs.declared.faults.RowReason.{RowReason};
 
 /// A text spells one tableau at most.
 pub fn one_tableau_for_a_text()
-    ensures { (text : List ℕ) (t s : Tableau) → IsTableauText text t → IsTableauText text s → t ≡ s }
+    ensures { (text : List ℕ) (t s : Tableau) → IsTableauText text t →
+        IsTableauText text s → t ≡ s }
 {}
 
 /// A text that is refused spells no tableau.
 pub fn no_fault_in_a_tableau_text()
-    ensures { (text : List ℕ) (t : Tableau) (number : ℕ) (reason : RowReason) → IsTableauText text t →
+    ensures { (text : List ℕ) (t : Tableau) (number : ℕ) (reason : RowReason) →
+        IsTableauText text t →
         IsFirstFaultOfTableau text number reason → ⊥ }
 {}
 

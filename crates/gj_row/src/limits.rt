@@ -8,10 +8,11 @@ use crate::faults::RowReason;
 use gj_frac::{Frac, lcm};
 use gj_shape::{GREATEST_DENOMINATOR, GREATEST_NUMBER, small_denominator};
 
-/// The number that was read, behind numbers with the least common denominator `scale`, and the least common denominator with it.
+/// The number that was read, behind numbers with the least common denominator `scale`, and the
+/// least common denominator with it.
 ///
-/// The reason is `Number` if none was read, `Large` if it is above 2^31 in absolute value, and `Fine` if the common
-/// denominator passes 2^31 - 1.
+/// The reason is `Number` if none was read, `Large` if it is above 2^31 in absolute value, and
+/// `Fine` if the common denominator passes 2^31 - 1.
 pub(crate) fn within(scale: u32, number: Option<Frac>) -> Result<(Frac, u32), RowReason>
     requires { 0 < scale }
     ensures read { IfOk result (λ r. number ≡ Some r.0) }

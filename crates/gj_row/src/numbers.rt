@@ -35,7 +35,8 @@ pub(crate) struct Numbers {
     pub(crate) entries: Vec<Entry>,
 }
 
-/// The numbers that stand in the record behind the name, if the rows before it have `used` entries that are not 0.
+/// The numbers that stand in the record behind the name, if the rows before it have `used` entries
+/// that are not 0.
 pub(crate) fn numbers_in(
     alloc: Global,
     fields: &ByteRecord,
@@ -44,8 +45,10 @@ pub(crate) fn numbers_in(
     requires wide { 2 ≤ length (fields_of fields.now) }
     requires narrow { length (fields_of fields.now) ≤ 10002 }
     requires few { used ≤ most_entries }
-    ensures found { IfOk result (λ n. HasRead used (drop 1 (words_in fields.now)) n.rhs n.scale n.entries.items) }
-    ensures refused { IfErr result (NamesReason (HasNumberFault used (drop 1 (words_in fields.now)))) }
+    ensures found { IfOk result (λ n. HasRead used
+        (drop 1 (words_in fields.now)) n.rhs n.scale n.entries.items) }
+    ensures refused { IfErr result (NamesReason (HasNumberFault used
+        (drop 1 (words_in fields.now)))) }
 {
     let (rhs, right_scale) = match right_side(word_at(fields, 1)) {
         Ok(right) => right,
@@ -67,15 +70,17 @@ pub(crate) fn numbers_in(
     })
 }
 
-/// How many entries of a record to make room for: as many as there are columns, but no more than its bytes would spell by eight
-/// each, so that a row whose fields are mostly empty takes no room for all columns.
+/// How many entries of a record to make room for: as many as there are columns, but no more than
+/// its bytes would spell by eight each, so that a row whose fields are mostly empty takes no room
+/// for all columns.
 fn likely_entries(fields: &ByteRecord) -> usize
     requires { 2 ≤ length (fields_of fields.now) }
 {
     (fields.len() - 2).min(fields.as_slice().len() / 8)
 }
 
-/// Adds the entry that the word spells for the column, unless it is 0, and gives the least common denominator with it.
+/// Adds the entry that the word spells for the column, unless it is 0, and gives the least common
+/// denominator with it.
 fn with_entry(
     entries: &mut Vec<Entry>,
     scale: u32,
@@ -86,9 +91,12 @@ fn with_entry(
     requires low { 0 < scale }
     requires high { scale < denominator_bound }
     requires few { used + length entries.old.items ≤ most_entries }
-    ensures found { IfOk result (λ m. (x : Frac) × SpellsEntry word.now x × Extends greatest_number scale x m
-        × (entries.new.items ≡ entries.old.items ++ entry_at column x) × (used + length entries.new.items ≤ most_entries)) }
-    ensures refused { IfErr result (NamesReason (StopsEntry (SpellsEntry word.now) scale (used + length entries.old.items))) }
+    ensures found { IfOk result (λ m. (x : Frac) × SpellsEntry word.now x ×
+        Extends greatest_number scale x m
+        × (entries.new.items ≡ entries.old.items ++ entry_at column x) ×
+        (used + length entries.new.items ≤ most_entries)) }
+    ensures refused { IfErr result (NamesReason (StopsEntry (SpellsEntry word.now) scale
+        (used + length entries.old.items))) }
 {
     if word.is_empty() {
         return Ok(scale);
@@ -116,16 +124,19 @@ fn is_zero(x: Frac) -> bool
 
 /// The right side that the word spells, and its denominator.
 fn right_side(word: &[u8]) -> Result<(Frac, u32), RowReason>
-    ensures found { IfOk result (λ r. IsFractionWord Spelling.Lenient word.now r.0 × Extends greatest_number 1 r.0 r.1) }
+    ensures found { IfOk result (λ r. IsFractionWord Spelling.Lenient word.now r.0 ×
+        Extends greatest_number 1 r.0 r.1) }
     ensures refused { IfErr result (StopsNumber (IsFractionWord Spelling.Lenient word.now) 1) }
 {
     within(1, fraction_of(Spelling::Lenient, word))
 }
 
-/// The entry that the word spells behind numbers with the least common denominator `scale`, and the least common denominator with it.
+/// The entry that the word spells behind numbers with the least common denominator `scale`, and the
+/// least common denominator with it.
 fn entry(scale: u32, word: &[u8]) -> Result<(Frac, u32), RowReason>
     requires { 0 < scale }
-    ensures found { IfOk result (λ r. SpellsEntry word.now r.0 × Extends greatest_number scale r.0 r.1) }
+    ensures found { IfOk result (λ r. SpellsEntry word.now r.0 ×
+        Extends greatest_number scale r.0 r.1) }
     ensures refused { IfErr result (StopsNumber (SpellsEntry word.now) scale) }
 {
     within(scale, entry_number(word))

@@ -21,18 +21,22 @@ use std::alloc::{AllocError, Global};
 const MOST_ROWS: usize = 10_000;
 
 impl Tableau {
-    /// The tableau that the text spells: records of comma-separated values, of which the first is `basic`, `rhs` and the names of
-    /// the columns, and each other one the name of a basic variable, its right side and an entry for each column.
+    /// The tableau that the text spells: records of comma-separated values, of which the first is
+    /// `basic`, `rhs` and the names of the columns, and each other one the name of a basic
+    /// variable, its right side and an entry for each column.
     ///
-    /// A field may stand in double quotes; spaces and tabs at both its ends are dropped. Numbers are in lenient form, as `8/5`,
-    /// `-0.2` or `+3`; an empty entry is 0. Names are 1 to 255 visible ASCII bytes other than `"`, and all differ. A byte order mark
-    /// at the start is dropped, and blank lines are no records.
+    /// A field may stand in double quotes; spaces and tabs at both its ends are dropped. Numbers
+    /// are in lenient form, as `8/5`, `-0.2` or `+3`; an empty entry is 0. Names are 1 to 255
+    /// visible ASCII bytes other than `"`, and all differ. A byte order mark at the start is
+    /// dropped, and blank lines are no records.
     ///
-    /// A refusal names the first record at fault, counted from 1, and its first reason: `Header`, there is no record, or record 1
-    /// does not begin with `basic` and `rhs`; `Fields`, it has another number of fields than record 1; `Columns` or `Rows`, there
-    /// are more than 10,000; and then for each field from left to right `Name` or `Twice`, it is no name or stands already, or
-    /// `Number`, it is no number, `Large`, above 2^31 in absolute value, `Fine`, with it the common denominator of the row so far
-    /// passes 2^31 - 1, or `Entries`, it is the entry 100,001 that is not 0.
+    /// A refusal names the first record at fault, counted from 1, and its first reason: `Header`,
+    /// there is no record, or record 1 does not begin with `basic` and `rhs`; `Fields`, it has
+    /// another number of fields than record 1; `Columns` or `Rows`, there are more than 10,000; and
+    /// then for each field from left to right `Name` or `Twice`, it is no name or stands already,
+    /// or `Number`, it is no number, `Large`, above 2^31 in absolute value, `Fine`, with it the
+    /// common denominator of the row so far passes 2^31 - 1, or `Entries`, it is the entry 100,001
+    /// that is not 0.
     ///
     /// `Memory` says that there was no memory. An error of the crate `csv` is answered so too: it
     /// can want nothing else here, though its contract leaves open that reading from a slice fails
@@ -49,7 +53,8 @@ impl Tableau {
         ensures found { IfOk result (IsTableauText bytes.now) }
         ensures valid { IfOk result IsTableau }
         // What is spelled so is read, unless there is no memory.
-        ensures only { (t : Tableau) → IsTableauText bytes.now t → MatchResult result (λ read. read ≡ t) IsMemoryFault }
+        ensures only { (t : Tableau) → IsTableauText bytes.now t →
+            MatchResult result (λ read. read ≡ t) IsMemoryFault }
         // A refusal names the first fault.
         ensures refused { IfErr result (NamesRecord (IsFirstFaultOfTableau bytes.now)) }
     {
@@ -69,7 +74,8 @@ fn tableau_in(alloc: Global, bytes: &[u8]) -> Result<Tableau, RowFault>
 /// The tableau that all records spell, or the first fault among them.
 fn tableau_from(alloc: Global, records: &mut Reader<&[u8]>) -> Result<Tableau, RowFault>
     ensures found { IfOk result (λ t. HoldsOfText records.old (λ text. IsTableauText text t)) }
-    ensures refused { IfErr result (NamesRecord (λ n e. HoldsOfText records.old (λ text. IsFirstFaultOfTableau text n e))) }
+    ensures refused { IfErr result (NamesRecord (λ n e. HoldsOfText records.old
+        (λ text. IsFirstFaultOfTableau text n e))) }
 {
     let mut fields = ByteRecord::new(alloc);
     if !next_record(records, &mut fields)? {
@@ -88,7 +94,8 @@ fn tableau_from(alloc: Global, records: &mut Reader<&[u8]>) -> Result<Tableau, R
     })
 }
 
-/// The rows in the records that are left, behind a header with these columns, or the first fault among them.
+/// The rows in the records that are left, behind a header with these columns, or the first fault
+/// among them.
 fn rows_in(
     alloc: Global,
     records: &mut Reader<&[u8]>,
@@ -97,9 +104,11 @@ fn rows_in(
     names: &mut IndexSet<Vec<u8>>,
 ) -> Result<Vec<Row>, RowFault>
     requires { length columns.now ≤ most_columns }
-    ensures found { IfOk result (λ rows. HoldsBehindHeader columns.now (bytes_of names.old.keys) records.old
+    ensures found { IfOk result (λ rows. HoldsBehindHeader columns.now
+        (bytes_of names.old.keys) records.old
         (λ text. IsTableauText text (tableau_of columns.now rows.items))) }
-    ensures refused { IfErr result (NamesRecord (λ n e. HoldsBehindHeader columns.now (bytes_of names.old.keys) records.old
+    ensures refused { IfErr result (NamesRecord (λ n e. HoldsBehindHeader columns.now
+        (bytes_of names.old.keys) records.old
         (λ text. IsFirstFaultOfTableau text n e))) }
 {
     let mut rows = Vec::new(alloc);
@@ -131,7 +140,8 @@ fn records_of(alloc: Global, bytes: &[u8]) -> Reader<&[u8]>
 /// Each error of `csv` is answered as want of memory: that reading from a slice fails in another
 /// way is left open by its contract, and never comes.
 fn next_record(records: &mut Reader<&[u8]>, fields: &mut ByteRecord) -> Result<bool, AllocError>
-    ensures some { IfOk result (λ found. found ≡ true → StepsOver records.old fields.new records.new) }
+    ensures some { IfOk result (λ found. found ≡ true →
+        StepsOver records.old fields.new records.new) }
     ensures end { IfOk result (λ found. found ≡ false → IsAtEnd records.old) }
 {
     let Ok(found) = records.read_byte_record(fields) else {
@@ -140,7 +150,8 @@ fn next_record(records: &mut Reader<&[u8]>, fields: &mut ByteRecord) -> Result<b
     Ok(found)
 }
 
-/// The row in the record, behind so many rows, with `used` entries that are not 0, of a tableau with so many columns and these names.
+/// The row in the record, behind so many rows, with `used` entries that are not 0, of a tableau
+/// with so many columns and these names.
 fn next_row(
     alloc: Global,
     fields: &ByteRecord,
@@ -154,9 +165,12 @@ fn next_row(
     ensures room { OnOk result (rows < most_rows) }
     ensures row { IfOk result (ReadsRow columns used (words_in fields.now)) }
     ensures new { IfOk result (λ row. IsNewName (bytes_of names.old.keys) row.basic) }
-    ensures kept { IfOk result (λ row. bytes_of names.new.keys ≡ bytes_of names.old.keys ++ row.basic ∷ []) }
-    ensures refused { IfErr result (NamesReason (λ e. (t : Tableau) → length t.columns ≡ columns → length t.rows ≡ rows →
-        names_of t ≡ bytes_of names.old.keys → entry_count t ≡ used → HasRowFault t (words_in fields.now) e)) }
+    ensures kept { IfOk result
+        (λ row. bytes_of names.new.keys ≡ bytes_of names.old.keys ++ row.basic ∷ []) }
+    ensures refused { IfErr result (NamesReason (λ e. (t : Tableau) → length t.columns ≡ columns →
+        length t.rows ≡ rows →
+        names_of t ≡ bytes_of names.old.keys → entry_count t ≡ used →
+        HasRowFault t (words_in fields.now) e)) }
 {
     if fields.len() != columns + 2 {
         return Err(RecordFault::Refused(RowReason::Fields));

@@ -29,7 +29,8 @@ pub fn gmic_value(f: Frac, x: Frac) -> Frac
     ratio(one - part, one - place)
 }
 
-/// Whether x can stand in a row: its denominator is at most 2^31 - 1, and it is at most 2^31 in absolute value.
+/// Whether x can stand in a row: its denominator is at most 2^31 - 1, and it is at most 2^31 in
+/// absolute value.
 pub fn is_in_range(x: Frac) -> bool
     ensures { IsTrue result ↔ IsRowNumber x }
 {

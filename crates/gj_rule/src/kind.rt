@@ -16,8 +16,8 @@ pub enum RuleKind {
 impl RuleKind {
     ghost use Rattle.gj_rule.specs.Kind.{IsKind};
 
-    /// Whether a rule may have this kind: the f of a mixed-integer cut is between 0 and 1, both excluded, and has a
-    /// denominator of at most 2^31 - 1.
+    /// Whether a rule may have this kind: the f of a mixed-integer cut is between 0 and 1, both
+    /// excluded, and has a denominator of at most 2^31 - 1.
     pub fn is_valid(&self) -> bool
         ensures { IsTrue result ↔ IsKind self.now }
     {

@@ -9,10 +9,11 @@ use crate::kind::RuleKind;
 use gj_frac::Frac;
 use std::marker::Model;
 
-/// A kind, and an evaluator that answers the kind's value at each fraction of the range: of denominator at most
-/// 2^31 - 1 and at most 2^31 in absolute value.
+/// A kind, and an evaluator that answers the kind's value at each fraction of the range: of
+/// denominator at most 2^31 - 1 and at most 2^31 in absolute value.
 ///
-/// A rule is made in a function that is generic over its evaluator, and the closure is passed to that function.
+/// A rule is made in a function that is generic over its evaluator, and the closure is passed to
+/// that function.
 ///
 /// # Example
 ///

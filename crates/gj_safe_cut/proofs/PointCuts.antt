@@ -1,5 +1,5 @@
--- At a feasible point the pieces of a row, whole and continuous, are a solution of a row with whole and continuous columns. So its cut
--- holds there.
+-- At a feasible point the pieces of a row, whole and continuous, are a solution of a row with whole
+-- and continuous columns. So its cut holds there.
 use Rattle.std.proofs.Common.{◌≡◌, ℕ, suc, ◌*◌, ◌<◌, inr, Bool, true, false, List, [], ◌∷◌, ◌++◌, length, map, All, IsTrue, unsigned_abs, ℤ, pos, ◌+ℤ◌, ◌-ℤ◌, ◌*ℤ◌, ◌<ℤ◌, ◌≤ℤ◌, refl, sym, ap, ap₂, subst, ◌∙◌, arith, rules, append_assoc, append-nil}
 use Rattle.std.specs.List.{AllZip}
 use Rattle.std.proofs.Math.Nat.{mul_comm, mul-pos, one-dvd}
@@ -113,7 +113,8 @@ amounts_at point (s ∷ ps) h =
 abbrev pub over : List Frac → List ℕ → Rational
 over xs ns = dot xs (map (λ n. whole (pos n)) ns)
 
--- the whole and the continuous columns of a row and their coefficients, with the amounts of the latter over e
+-- the whole and the continuous columns of a row and their coefficients, with the amounts of the
+-- latter over e
 pub record IsSplit (IsValue : Frac → Frac → Type 0) (up down : Frac) (e : ℕ) (row cut : Rational) : Type 0 where
   pub entries : List Frac
   pub columns : List Frac

@@ -17,7 +17,8 @@ use Rattle.gj_problem.specs.Aggregates.{IsRow, IsFirstFree, IsTurnedBack}
 use Rattle.gj_safe_cut.specs.declared.cut.SafeCut.{SafeCut}
 use Rattle.gj_safe_cut.specs.declared.cut.SafeCut.TheVariants.{Cut, Integral, OtherFraction, Free, Wide}
 
--- the coefficient of a piece: the value at its entry or, if its surplus need not be whole, the weight by the slopes
+-- the coefficient of a piece: the value at its entry or, if its surplus need not be whole, the
+-- weight by the slopes
 pub record IsCoefficient (IsValue : Frac → Frac → Type 0) (up down : Frac) (s : Piece) (k : Frac) : Type 0 where
   pub whole : s.is_whole ≡ true → IsValue s.entry k
   pub continuous : s.is_whole ≡ false → IsWeight up down s.entry k
@@ -36,7 +37,8 @@ IsCutOfRow kind up down pieces right OtherFraction = (IsWhole right → ⊥) × 
 IsCutOfRow kind up down pieces right (Free j) = ⊥
 IsCutOfRow kind up down pieces right Wide = ⊥
 
--- what the row of the multipliers gives, or its first free column; of numbers that do not fit it says nothing
+-- what the row of the multipliers gives, or its first free column; of numbers that do not fit it
+-- says nothing
 abbrev pub IsOfProblem : (List Piece → Frac → SafeCut → Type 0) → Problem → List Frac → List Bool → SafeCut → Type 0
 IsOfProblem IsOfRow p multipliers at_upper (Free j) = IsFirstFree p multipliers at_upper j
 IsOfProblem IsOfRow p multipliers at_upper Wide = Unit {0}
@@ -47,7 +49,8 @@ IsOfProblem IsOfRow p multipliers at_upper cut =
 abbrev pub IsSafeCutOf : RuleKind → Frac → Frac → Problem → List Frac → List Bool → SafeCut → Type 0
 IsSafeCutOf kind up down = IsOfProblem (IsCutOfRow kind up down)
 
--- the mixed-integer cut of a row for the fractional part f of its right side, or the right side is whole
+-- the mixed-integer cut of a row for the fractional part f of its right side, or the right side is
+-- whole
 abbrev pub IsGmicCutOfRow : List Piece → Frac → SafeCut → Type 0
 IsGmicCutOfRow pieces right (Cut q) =
     (f : Frac) × (up : Frac) × (down : Frac) × AreGmicSlopes f up down × IsCutOfRow (Gmic f) up down pieces right (Cut q)

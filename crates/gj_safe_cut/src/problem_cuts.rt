@@ -19,10 +19,11 @@ use std::alloc::{AllocError, Global};
 /// The mixed-integer cut of the row that the multipliers make of the problem, in its columns.
 ///
 /// There is a multiplier for each constraint, and nothing is asked of it. `at_upper` says of each
-/// column whether its upper bound is preferred. It is `Integral` exactly if the right side of the
-/// row is whole, `Free` exactly at the first column that has no bound and cannot be left out, and
-/// never `OtherFraction`. It is `Wide` only where a number of the row, a coefficient, or a number
-/// of the cut does not fit. The only error is want of memory.
+/// column whether its upper bound is preferred. It is `Wide` where a number of the row, a
+/// coefficient, or a number of the cut does not fit; that it is so nowhere else no clause says.
+/// Else it is `Integral` exactly if the right side of the row is whole, `Free` exactly at the first
+/// column that has no bound and cannot be left out, and never `OtherFraction`. The only error is
+/// want of memory.
 pub fn gmic_safe_cut(
     alloc: Global,
     problem: &Problem,
@@ -44,9 +45,9 @@ pub fn gmic_safe_cut(
 /// The cut of the row that the multipliers make of the problem by the rule and the slopes, in its
 /// columns.
 ///
-/// It is `OtherFraction` exactly if the right side of the row is not whole and its fractional part
-/// is not the rule's f, and `Wide` also where the rule is asked for its value at an entry that cannot
-/// stand in a row. For the rest see [`gmic_safe_cut`].
+/// It is `Wide` also where the rule is asked for its value at an entry that cannot stand in a row.
+/// Where it is not, it is `OtherFraction` exactly if the right side of the row is not whole and its
+/// fractional part is not the rule's f. For the rest see [`gmic_safe_cut`].
 pub fn safe_cut<E: Evaluator, G: Evaluator>(
     alloc: Global,
     rule: &Rule<E>,
@@ -58,7 +59,8 @@ pub fn safe_cut<E: Evaluator, G: Evaluator>(
     requires slopes { AreSlopesOfKind rule.now.kind slopes.now.up slopes.now.down }
     requires multipliers { length multipliers.now ≡ length problem.now.constraints }
     requires at_upper { length at_upper.now ≡ length problem.now.columns }
-    ensures is { IfOk result (IsSafeCutOf rule.now.kind slopes.now.up slopes.now.down problem.now multipliers.now at_upper.now) }
+    ensures is { IfOk result (IsSafeCutOf rule.now.kind slopes.now.up slopes.now.down problem.now
+        multipliers.now at_upper.now) }
     ensures holds { IfOk result (λ cut. IsMinimalKind rule.now.kind → HoldsFor problem.now cut) }
 {
     match rule_cut(alloc, rule, slopes, problem, multipliers, at_upper) {
@@ -87,7 +89,8 @@ fn gmic_cut(
 
 /// The mixed-integer cut of a row.
 fn gmic_cut_of_row(alloc: Global, columns: usize, row: &Row) -> Result<SafeCut, Fault>
-    ensures { IfOk result (IsGmicCutOfRow (row.now.slacks.items ++ row.now.bounds.items) row.now.right) }
+    ensures { IfOk result (IsGmicCutOfRow
+        (row.now.slacks.items ++ row.now.bounds.items) row.now.right) }
 {
     if row.right.den() == 1 {
         return Ok(SafeCut::Integral);
@@ -109,8 +112,10 @@ fn rule_cut<E: Evaluator, G: Evaluator>(
 ) -> Result<SafeCut, Fault>
     requires multipliers { length multipliers.now ≡ length problem.now.constraints }
     requires at_upper { length at_upper.now ≡ length problem.now.columns }
-    ensures is { IfOk result (IsSafeCutOf rule.now.kind slopes.now.up slopes.now.down problem.now multipliers.now at_upper.now) }
-    ensures limits { IfOk result (λ cut. (q : Inequality) → cut ≡ Cut q → IsKindWithinBounds rule.now.kind) }
+    ensures is { IfOk result (IsSafeCutOf rule.now.kind slopes.now.up slopes.now.down problem.now
+        multipliers.now at_upper.now) }
+    ensures limits { IfOk result (λ cut. (q : Inequality) → cut ≡ Cut q →
+        IsKindWithinBounds rule.now.kind) }
 {
     match row_of(alloc, problem, multipliers, at_upper)? {
         MadeRow::Row(row) => {
@@ -128,7 +133,8 @@ fn rule_cut_of_row<E: Evaluator, G: Evaluator>(
     columns: usize,
     row: &Row,
 ) -> Result<SafeCut, Fault>
-    ensures limits { IfOk result (λ cut. (q : Inequality) → cut ≡ Cut q → IsKindWithinBounds rule.now.kind) }
+    ensures limits { IfOk result (λ cut. (q : Inequality) → cut ≡ Cut q →
+        IsKindWithinBounds rule.now.kind) }
     ensures is { IfOk result
         (IsCutOfRow rule.now.kind slopes.now.up slopes.now.down (row.now.slacks.items ++ row.now.bounds.items) row.now.right) }
 {

@@ -17,7 +17,8 @@ pub(crate) fn turned_back<V: Values>(
     values: &V,
     slopes: SlopesAtZero,
 ) -> Result<Inequality, Fault>
-    ensures { IfOk result (IsCutOfPieces (V.has_value values.now) slopes.up slopes.down (row.now.slacks.items ++ row.now.bounds.items)) }
+    ensures { IfOk result (IsCutOfPieces (V.has_value values.now) slopes.up slopes.down
+        (row.now.slacks.items ++ row.now.bounds.items)) }
 {
     let mut sum = Sum::of_none(alloc, columns, Frac::ratio(1, 1))?;
     add_terms(&mut sum, row.slacks.as_slice(), values, slopes)?;
@@ -35,7 +36,8 @@ fn add_terms<V: Values>(
     values: &V,
     slopes: SlopesAtZero,
 ) -> Result<(), Wide>
-    ensures { IfOk result (λ _. AreAdded (IsCoefficient (V.has_value values.now) slopes.up slopes.down) pieces.now sum.old sum.new) }
+    ensures { IfOk result (λ _. AreAdded (IsCoefficient
+        (V.has_value values.now) slopes.up slopes.down) pieces.now sum.old sum.new) }
 {
     for piece in pieces {
         let coefficient = coefficient_of(piece, values, slopes)?;

@@ -87,7 +87,8 @@ fn is_below(x: Frac, y: Frac) -> bool
 
 /// 1 divided by x, if x is not 0.
 fn inverse(x: Frac) -> Result<Frac, Wide>
-    ensures { IfOk result (λ y. SameValue (fraction_of y) (quotient_of (record { top = pos 1; bottom = pos 1 }) (fraction_of x))) }
+    ensures { IfOk result (λ y. SameValue (fraction_of y) (quotient_of
+        (record { top = pos 1; bottom = pos 1 }) (fraction_of x))) }
 {
     divided(Frac::ratio(1, 1), x)
 }

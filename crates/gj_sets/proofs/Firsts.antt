@@ -9,7 +9,8 @@ use Rattle.gj_sets.specs.declared.index_set.IndexSet.{IndexSet}
 use Rattle.gj_sets.proofs.Bits.{bit, bit_of_past}
 use Rattle.gj_sets.proofs.Shifts.{bit-shr, bit-shl, bit-shl_low}
 
--- the word at the place, without its bits before the start; the words before it have none from the start on
+-- the word at the place, without its bits before the start; the words before it have none from the
+-- start on
 pub record IsRest (words : List ℕ) (start place word : ℕ) : Type 0 where
   pub within : place < length words
   pub fits : word < 2 ^ 64

@@ -14,7 +14,8 @@ impl IndexSet {
 
     /// The least index in the set that is not below `from`.
     pub fn first_from(&self, from: usize) -> Option<usize>
-        ensures { MatchOption result ((k : ℕ) → from ≤ k → has self.now k ≡ false) (IsFirst self.now from) }
+        ensures { MatchOption result ((k : ℕ) → from ≤ k → has self.now k ≡ false)
+            (IsFirst self.now from) }
     {
         if from >= LIMIT {
             return None;

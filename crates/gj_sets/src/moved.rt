@@ -22,25 +22,29 @@ impl IndexSet {
     /// Each index and s. Those that are not below the limit are left out.
     pub fn up(&self, s: usize) -> IndexSet
         requires { s ≤ LIMIT }
-        ensures { (i : ℕ) → has result i ≡ (nat_lt i LIMIT && (nat_le s i && has self.now (i - s))) }
+        ensures { (i : ℕ) → has result i ≡ (nat_lt i LIMIT &&
+            (nat_le s i && has self.now (i - s))) }
     {
         let mut wide = [0u64; 33];
         u64x16::from_array(self.words).copy_to_slice(&mut wide[16..32]);
         window(&wide, LIMIT - s)
     }
 
-    /// Each index below n and s, modulo n: those that reach n begin at 0 again. No other indices are in it.
+    /// Each index below n and s, modulo n: those that reach n begin at 0 again. No other indices
+    /// are in it.
     pub fn turned(&self, s: usize, n: usize) -> IndexSet
         requires step { s ≤ n }
         requires period { n ≤ LIMIT }
-        ensures { (j : ℕ) → has result j ≡ (nat_lt j n && has self.now (if nat_le s j then j - s else j + (n - s))) }
+        ensures { (j : ℕ) → has result j ≡ (nat_lt j n && has self.now
+            (if nat_le s j then j - s else j + (n - s))) }
     {
         let within = IndexSet::below(n);
         let kept = self.and(&within);
         kept.up(s).or(&kept.down(n - s)).and(&within)
     }
 
-    /// Each index less 1, where 0 becomes n - 1. Indices from n on go down by 1 too, but n itself is left out.
+    /// Each index less 1, where 0 becomes n - 1. Indices from n on go down by 1 too, but n itself
+    /// is left out.
     pub fn turned_down(&self, n: usize) -> IndexSet
         requires some { 1 ≤ n }
         requires period { n ≤ LIMIT }
@@ -55,7 +59,8 @@ impl IndexSet {
     pub fn turned_up(&self, n: usize) -> IndexSet
         requires some { 1 ≤ n }
         requires period { n ≤ LIMIT }
-        ensures { (j : ℕ) → has result j ≡ (nat_lt j LIMIT && has self.now (if j == 0 then n - 1 else j - 1)) }
+        ensures { (j : ℕ) → has result j ≡ (nat_lt j LIMIT && has self.now
+            (if j == 0 then n - 1 else j - 1)) }
     {
         let mut set = self.up(1);
         set.put(0, self.contains(n - 1));

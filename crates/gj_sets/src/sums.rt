@@ -18,7 +18,8 @@ impl IndexSet {
         requires first_in_range { IsInRange L.least L.bound (L.number first) }
         requires sums_in_range { AreLanesInRange L.number L.least L.bound sums.now n }
         ensures { (b : ℕ) (e : L) → IsTrue (has result b) ↔ (b < n)
-            × (L.number (slice_index_or values.now b e) +ℤ L.number first ≡ L.number (slice_index_or sums.now b e)) }
+            × (L.number (slice_index_or values.now b e) +ℤ L.number first ≡ L.number
+            (slice_index_or sums.now b e)) }
     {
         let mut set = IndexSet::empty();
         for place in 0..n.div_ceil(64) {

@@ -36,7 +36,8 @@ lcm_exists a b some =
     let (c, from) = cofactor g a is.0 in
     (c * b, lcm_from_gcd a b g c is (from ∙ mul_comm g c) (gcd_positive a b g is (inl some)))
 
--- the denominator of each further breakpoint divides the order of all, and so do those of f and of the breakpoints before it
+-- the denominator of each further breakpoint divides the order of all, and so do those of f and of
+-- the breakpoints before it
 order_divides : (whole s : BreakList) (b : Break) (back : List Break) → AreBreaks whole → AreBreaks s → s.place ≡ whole.place →
     whole.breaks ≡ s.breaks ++ b ∷ back → (s.order ∣ whole.order) × Divides whole.order b.x
 order_divides whole s b back all are place split =

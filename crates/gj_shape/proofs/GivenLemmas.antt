@@ -1,4 +1,5 @@
--- The function of an order, a place and three lists of fractions over their least common denominator.
+-- The function of an order, a place and three lists of fractions over their least common
+-- denominator.
 use Rattle.std.proofs.Common.{◌≡◌, ℕ, ◌*◌, ◌/◌, ◌<◌, ℤ, pos, ◌*ℤ◌, List, ◌++◌, length, take, drop, map, get_or, All, unsigned_abs, refl, sym, subst, ◌∙◌}
 use Rattle.std.proofs.Math.Nat.{one-dvd, one-mul, mul-div_cancel', mul_right_comm, mul-dvd-mul_right, dvd_of_mul-dvd-mul_right, pos_of_dvd_of_pos, dvd-mul_left}
 use Rattle.std.proofs.lemmas.Nat.Gcd.{IsGcd-swap, dvd_antisymm}

@@ -1,4 +1,5 @@
--- A function that is given by three lists of fractions: their lengths and sizes, and that they have no fault.
+-- A function that is given by three lists of fractions: their lengths and sizes, and that they have
+-- no fault.
 use Rattle.std.proofs.Common.{◌≡◌, ℕ, List, length, All, sym, ap, ◌∙◌}
 use Rattle.std.proofs.lemmas.List.{length-map}
 use Rattle.gj_frac.specs.declared.Frac.{Frac}

@@ -143,7 +143,8 @@ no_fault_follows points p more e within fault = by_fault e fault
     by_fault Fine refused = not_refused (all_fractions points) (fractions_of p) refusal.Fine up_to refused
     by_fault (Memory m) refused = tt
 
--- a fraction that is too large and one that leaves no common denominator are not both the first that fails
+-- a fraction that is too large and one that leaves no common denominator are not both the first
+-- that fails
 pub not_large_and_fine : (points : List Point) (p : Point) → IsPointFault points p Large →
     IsPointFault points p Fine → ⊥
 not_large_and_fine points p (a, x, at_x, large) (b, y, at_y, small) =

@@ -48,7 +48,8 @@ each_behind_more P (w ∷ xs) y each last (z ∷ front) x back e =
     (each_behind_more (λ us v. P (w ∷ us) v) xs y
     (λ us v vs split. each (w ∷ us) v vs (ap (λ l. w ∷ l) split)) last front x back rest)
 
--- what holds of the first element, and of each further one if it holds of the one before, holds of each
+-- what holds of the first element, and of each further one if it holds of the one before, holds of
+-- each
 pub along_behind : {A : Type 0} (P : A → Type 0) (xs : List A) →
     ((x : A) (back : List A) → xs ≡ x ∷ back → P x) →
     ((front : List A) (y x : A) (back : List A) → xs ≡ front ++ y ∷ x ∷ back → P y → P x) → EachBehind (λ front x. P x) xs

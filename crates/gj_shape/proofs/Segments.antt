@@ -1,4 +1,5 @@
--- Where the values and limits of a function are on a line over some multiples of 1/order, it goes along that line.
+-- Where the values and limits of a function are on a line over some multiples of 1/order, it goes
+-- along that line.
 use Rattle.std.proofs.Common.{◌≡◌, ℕ, ◌+◌, ◌-◌, ◌*◌, ◌/◌, ◌%◌, ◌<◌, ◌≤◌, ⊎_elim, ℤ, pos, ◌+ℤ◌, ◌*ℤ◌, [], ◌∷◌, refl, sym, ap, ap₂, subst, ◌∙◌, arith}
 use Rattle.std.proofs.Math.Nat.{mod-lt, div-add-mod', lt_of_mul-lt-mul_right, eq-zero-or-pos}
 use Rattle.gj_frac.specs.declared.Frac.{Frac}
@@ -42,7 +43,8 @@ between_z a b x y d s u r t i e g = left ∙ ap₂ (λ p q. (u *ℤ p +ℤ r *�
         ≡ (x *ℤ (t *ℤ (u +ℤ r) +ℤ u) +ℤ y *ℤ (i *ℤ (u +ℤ r) +ℤ r)) *ℤ (s *ℤ (u +ℤ r))
     right = by_ring (x ∷ y ∷ s ∷ u ∷ r ∷ t ∷ i ∷ []) (search ring depth 60 fits 4000) refl
 
--- a value on the line is on the line of m times as many steps, and so is what lies between two neighbouring ones
+-- a value on the line is on the line of m times as many steps, and so is what lies between two
+-- neighbouring ones
 fine_point : (scale m n i : ℕ) (u w : Frac) (v : ℤ) → i ≤ n → IsOnLine scale u w n i v →
     IsOnLine (scale * m) u w (n * m) (i * m) (pos m *ℤ v)
 fine_point scale m n i u w v within is = subst P (sym n_is) at_sum

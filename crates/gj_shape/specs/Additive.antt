@@ -1,4 +1,5 @@
--- Tight pairs and additive faces of a continuous function (Light on the Infinite Group Relaxation I).
+-- Tight pairs and additive faces of a continuous function (Light on the Infinite Group Relaxation
+-- I).
 use Rattle.std.specs.Prelude.{ℕ, ◌≡◌, ◌+◌, ◌*◌, ◌%◌, ◌≤◌, ◌+ℤ◌, List, [], ◌∷◌, ◌++◌, map, All}
 use Rattle.gj_shape.specs.FunctionData.{FunctionData, at}
 use Rattle.gj_shape.specs.Table.{table}
@@ -14,7 +15,8 @@ IsTight f a b = at f.value a +ℤ at f.value b ≡ at f.value (a + b)
 abbrev pub IsTightOnGrid : FunctionData → ℕ → ℕ → ℕ → Type 0
 IsTightOnGrid f m i j = table f m i +ℤ table f m j ≡ table f m (i + j)
 
--- each corner of the face is one of these pairs; the face of the function f is additive if each is a tight pair of f
+-- each corner of the face is one of these pairs; the face of the function f is additive if each is
+-- a tight pair of f
 abbrev pub IsAdditive : (ℕ → ℕ → Type 0) → FaceKind → ℕ → ℕ → Type 0
 IsAdditive Tight kind a b = All (λ corner. Tight corner.0 corner.1) (corners_of kind a b)
 
@@ -54,7 +56,8 @@ pub record IsSameFace (q : ℕ) (first second : FaceKind × ℕ × ℕ) : Type 0
   pub first_index : first.1 % q ≡ second.1 % q
   pub second_index : first.2 % q ≡ second.2 % q
 
--- the face of the complex of order q is additive, and lies in the closure of no additive face of higher dimension
+-- the face of the complex of order q is additive, and lies in the closure of no additive face of
+-- higher dimension
 pub record IsMaximalFace (q : ℕ) (Tight : ℕ → ℕ → Type 0) (kind : FaceKind) (a b : ℕ) : Type 0 where
   pub additive : IsAdditive Tight kind a b
   pub maximal : (other : FaceKind) (c d : ℕ) → IsAdditive Tight other c d →

@@ -1,4 +1,5 @@
--- Functions by their breakpoints, at any fractions (Light on the Infinite Group Relaxation I; the limits are own).
+-- Functions by their breakpoints, at any fractions (Light on the Infinite Group Relaxation I; the
+-- limits are own).
 use Rattle.std.specs.Prelude.{ℕ, pos, ◌≡◌, ◌+◌, ◌-◌, ◌*◌, ◌<◌, ◌≤◌, ◌+ℤ◌, ◌*ℤ◌, List, [], ◌∷◌, ◌++◌, length, map, slice_index_or, unsigned_abs}
 use Rattle.gj_lemmas.specs.Divisors.{IsLcm}
 use Rattle.gj_frac.specs.declared.Frac.{Frac}
@@ -25,7 +26,8 @@ points_at breaks = map point_at breaks
 
 -- ---- which breakpoints
 
--- x can stand behind the breakpoints: the first x is 0, and each further one greater than the one before and below 1
+-- x can stand behind the breakpoints: the first x is 0, and each further one greater than the one
+-- before and below 1
 pub record IsNextBreak (breaks : List Break) (x : Frac) : Type 0 where
   pub first : breaks ≡ [] → numerator x ≡ pos 0
   pub further : (front : List Break) (b : Break) → breaks ≡ front ++ b ∷ [] →
@@ -49,15 +51,15 @@ on_line u w n r = record {
   bottom = denominator u *ℤ denominator w *ℤ pos n;
 }
 
--- from p/order to n/order behind it the function goes along the line from u to w: at each fraction strictly between the two
--- its value is that of the line
+-- from p/order to n/order behind it the function goes along the line from u to w: at each fraction
+-- strictly between the two its value is that of the line
 abbrev pub IsAffineBetween : FunctionData → ℕ → ℕ → Frac → Frac → Type 0
 IsAffineBetween f p n u w = (m r : ℕ) → 0 < m → 0 < r → r < n * m →
     SameValue (record { top = table f m (p * m + r); bottom = pos (f.scale * m) }) (on_line u w (n * m) r)
 
--- the function has the breakpoints: at each of them its limits and its value; between neighbouring ones it goes along the
--- line from the limit from the right of the one to the limit from the left of the next, and behind the last one to the
--- limit from the left of the first one, a period on
+-- the function has the breakpoints: at each of them its limits and its value; between neighbouring
+-- ones it goes along the line from the limit from the right of the one to the limit from the left
+-- of the next, and behind the last one to the limit from the left of the first one, a period on
 pub record HasBreaks (f : FunctionData) (breaks : List Break) : Type 0 where
   pub at_breaks : (front : List Break) (b : Break) (back : List Break) → breaks ≡ front ++ b ∷ back →
       (p : ℕ) × (p < f.order) × IsRatio b.x (pos p) (pos f.order) × IsPointAt f p (point_at b)
@@ -77,14 +79,15 @@ pub record IsStraightLine (u w : Frac) (n : ℕ) (between : List Frac) : Type 0 
   pub count : length between + 1 ≡ n
   pub on : (i : ℕ) (x : Frac) → i < length between → SameValue (fraction_of (slice_index_or between i x)) (on_line u w n (i + 1))
 
--- the points of the grid from a breakpoint on, up to where the line from its limit from the right arrives, n steps on, at w:
--- its own, and those on the line
+-- the points of the grid from a breakpoint on, up to where the line from its limit from the right
+-- arrives, n steps on, at w: its own, and those on the line
 pub record IsPiece (b : Break) (w : Frac) (n : ℕ) (points : List Point) : Type 0 where
   pub between : List Frac
   pub line : IsStraightLine b.right w n between
   pub points_are : points ≡ point_at b ∷ map even between
 
--- the points of the grid of order q from the first breakpoint on; behind the last one the function goes to w at 1
+-- the points of the grid of order q from the first breakpoint on; behind the last one the function
+-- goes to w at 1
 pub data AreLaid (q : ℕ) (w : Frac) : List Break → List Point → Type 0 where
   last : (b : Break) (p n : ℕ) (points : List Point) → IsRatio b.x (pos p) (pos q) → p + n ≡ q → IsPiece b w n points →
       AreLaid q w (b ∷ []) points

@@ -1,5 +1,6 @@
--- Covered intervals and their components (Light on the Infinite Group Relaxation I and II; the order of the lines is own).
--- The interval a is that from a/q to (a + 1)/q. Nothing here looks at a function but by the order q and its tight pairs.
+-- Covered intervals and their components (Light on the Infinite Group Relaxation I and II; the
+-- order of the lines is own). The interval a is that from a/q to (a + 1)/q. Nothing here looks at a
+-- function but by the order q and its tight pairs.
 use Rattle.std.specs.Prelude.{ℕ, ◌≡◌, ◌≢◌, ◌⊎◌, ◌+◌, ◌%◌, ◌<◌, ◌==◌, List, [], ◌∷◌, ◌++◌, All, Any, count_by}
 use Rattle.gj_lemmas.specs.FirstThatFails.{IsFirstFailing}
 use Rattle.gj_shape.specs.Additive.{IsAdditive}
@@ -81,7 +82,8 @@ pub record JoinsLines (q : ℕ) (Tight : ℕ → ℕ → Type 0) (lines : List C
   pub line : HasCoverLine lines j
   pub joined : AreJoined q Tight i j
 
--- the line joins the least such interval to the least such, by the first face in walk order that joins the two
+-- the line joins the least such interval to the least such, by the first face in walk order that
+-- joins the two
 pub record IsJoiningLine (q : ℕ) (Tight : ℕ → ℕ → Type 0) (lines : List CoverLine) (l : CoverLine) : Type 0 where
   pub interval : IsLeastFrom 0 (λ i. (j : ℕ) × JoinsLines q Tight lines i j) l.interval
   pub from : IsLeastFrom 0 (λ j. JoinsLines q Tight lines l.interval j) l.from
@@ -93,7 +95,8 @@ pub record IsOpen (q : ℕ) (Tight : ℕ → ℕ → Type 0) (lines : List Cover
   pub no_line : HasCoverLine lines i → ⊥
   pub covered : IsDirectlyCovered q Tight i
 
--- no line joins; the line opens a component with the least such interval, by the first triangle that covers it
+-- no line joins; the line opens a component with the least such interval, by the first triangle
+-- that covers it
 pub record IsOpeningLine (q : ℕ) (Tight : ℕ → ℕ → Type 0) (lines : List CoverLine) (l : CoverLine) : Type 0 where
   pub none_joins : (i j : ℕ) → JoinsLines q Tight lines i j → ⊥
   pub interval : IsLeastFrom 0 (IsOpen q Tight lines) l.interval
@@ -113,7 +116,8 @@ pub record AreCoverLines (q : ℕ) (Tight : ℕ → ℕ → Type 0) (lines : Lis
 abbrev pub components_in : List CoverLine → ℕ
 components_in lines = count_by (λ l. l.from == l.interval) lines
 
--- the number of the interval's component: of the lines that open one, from 0, the one from which lines lead to it
+-- the number of the interval's component: of the lines that open one, from 0, the one from which
+-- lines lead to it
 pub data HasComponent (lines : List CoverLine) (number : ℕ) : ℕ → Type 0 where
   opened : (before : List CoverLine) (l : CoverLine) (after : List CoverLine) → lines ≡ before ++ l ∷ after →
       l.from ≡ l.interval → number ≡ components_in before → HasComponent lines number l.interval

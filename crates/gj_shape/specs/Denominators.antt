@@ -12,7 +12,8 @@ use Rattle.gj_shape.specs.declared.faults.ShapeFault.TheVariants as fault
 use Rattle.gj_shape.specs.declared.faults.FractionFault.{FractionFault}
 use Rattle.gj_shape.specs.declared.faults.FractionFault.TheVariants as refusal
 
--- all fractions are at most this number in absolute value, and m is their least common denominator, from 1 to 2^31 - 1
+-- all fractions are at most this number in absolute value, and m is their least common denominator,
+-- from 1 to 2^31 - 1
 pub record AreWithinOver (limit : ℕ) (xs : List Frac) (m : ℕ) : Type 0 where
   pub small : All (IsAtMost limit) xs
   pub low : 1 ≤ m
@@ -23,12 +24,13 @@ pub record AreWithinOver (limit : ℕ) (xs : List Frac) (m : ℕ) : Type 0 where
 abbrev pub AreWithinBoundsOver : List Frac → ℕ → Type 0
 AreWithinBoundsOver xs m = AreWithinOver greatest_value xs m
 
--- fractions with the least common denominator `scale` have no common denominator from 1 to 2^31 - 1 with x
+-- fractions with the least common denominator `scale` have no common denominator from 1 to 2^31 - 1
+-- with x
 abbrev pub HasNoCommonWith : ℕ → Frac → Type 0
 HasNoCommonWith scale x = (m : ℕ) → 1 ≤ m → m < denominator_bound → scale ∣ m → unsigned_abs (denominator x) ∣ m → ⊥
 
--- x is at most this number in absolute value, and m is the least common denominator of fractions with the least common
--- denominator `scale` and of x
+-- x is at most this number in absolute value, and m is the least common denominator of fractions
+-- with the least common denominator `scale` and of x
 pub record Extends (limit scale : ℕ) (x : Frac) (m : ℕ) : Type 0 where
   pub small : IsAtMost limit x
   pub least : IsLcm scale (unsigned_abs (denominator x)) m
@@ -43,12 +45,13 @@ abbrev pub IsFractionRefused : ℕ → Frac → FractionFault → Type 0
 IsFractionRefused scale x refusal.Large = IsSmall x → ⊥
 IsFractionRefused scale x refusal.Fine = IsSmall x × HasNoCommonWith scale x
 
--- x is the first of the fractions ys that fails a test behind the fractions xs, and `passed` stands before it
+-- x is the first of the fractions ys that fails a test behind the fractions xs, and `passed` stands
+-- before it
 abbrev pub IsFirstRefused : List Frac → List Frac → List Frac → Frac → Type 0
 IsFirstRefused xs ys passed x = IsFirstFailing (λ zs. AreWithinBounds (xs ++ zs)) ys passed x
 
--- why the fractions ys cannot follow xs: the first that fails a test is too large, or it is not, and leaves no common
--- denominator from 1 to 2^31 - 1
+-- why the fractions ys cannot follow xs: the first that fails a test is too large, or it is not,
+-- and leaves no common denominator from 1 to 2^31 - 1
 abbrev pub IsFractionRefusal : List Frac → List Frac → FractionFault → Type 0
 IsFractionRefusal xs ys refusal.Large = (passed : List Frac) × (x : Frac) × IsFirstRefused xs ys passed x × (IsSmall x → ⊥)
 IsFractionRefusal xs ys refusal.Fine = (passed : List Frac) × (x : Frac) × IsFirstRefused xs ys passed x × IsSmall x

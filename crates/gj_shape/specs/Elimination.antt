@@ -1,5 +1,6 @@
--- Elimination over an arithmetic, and plain elimination: that over whole numbers without bound, with the numbers that must not
--- pass 2^127 - 1 (own). It decides the bytes of a proof and when numbers are too wide, never what a claim means.
+-- Elimination over an arithmetic, and plain elimination: that over whole numbers without bound,
+-- with the numbers that must not pass 2^127 - 1 (own). It decides the bytes of a proof and when
+-- numbers are too wide, never what a claim means.
 use Rattle.std.specs.Prelude.{ℕ, zero, suc, ℤ, pos, neg_ℤ, ◌+◌, ◌==◌, ◌≤◌, nat_le, ◌^◌, ◌+ℤ◌, ◌-ℤ◌, ◌*ℤ◌, int_div, int_lt, not, if◌then◌else◌, Option, None, Some, List, [], ◌∷◌, ◌++◌, Any, map, zip, drop, length, get_or, slice_set, unsigned_abs}
 use Rattle.std.specs.List.{range_with_len, find, list_any}
 use Rattle.std.specs.Ordering.{int_eq}
@@ -27,8 +28,8 @@ differences xs ys = map (λ p. p.0 -ℤ p.1) (zip xs ys)
 
 -- ---- one step
 
--- at a column where the row has v and the kept row e, with the greatest common divisor g: the factors e/g of the row and
--- v/g of the kept row
+-- at a column where the row has v and the kept row e, with the greatest common divisor g: the
+-- factors e/g of the row and v/g of the kept row
 abbrev pub row_factor : List ℤ → List ℤ → ℕ → ℤ
 row_factor kept row c =
     int_div (at_column kept c) (pos (gcd_of (unsigned_abs (at_column row c)) (unsigned_abs (at_column kept c))))
@@ -52,8 +53,8 @@ marked_in_step kept row c =
 
 -- ---- one row
 
--- a row that is kept: its number among the rows that were inserted, from 0, the columns at which it was reduced, the column
--- of its pivot, and its entries
+-- a row that is kept: its number among the rows that were inserted, from 0, the columns at which it
+-- was reduced, the column of its pivot, and its entries
 pub record KeptRow : Type 0 where
   pub number : ℕ
   pub reduce : List ℕ
@@ -68,8 +69,8 @@ row_with_pivot kept c = find (λ k. k.pivot == c) kept
 unfoldable pub kept_entries : List ℤ → ℕ → List ℤ
 kept_entries row c = if int_lt (at_column row c) (pos 0) then map neg_ℤ (divided row) else divided row
 
--- what becomes of a row: the columns at which it is reduced, the pivot and the entries with which it is kept, if
--- anything is left of it, and the marked numbers
+-- what becomes of a row: the columns at which it is reduced, the pivot and the entries with which
+-- it is kept, if anything is left of it, and the marked numbers
 pub record Insertion : Type 0 where
   pub reduce : List ℕ
   pub kept : Option (ℕ × List ℤ)
@@ -79,8 +80,8 @@ pub record Insertion : Type 0 where
 abbrev pub behind_step : ℕ → List ℤ → Insertion → Insertion
 behind_step c first i = record { reduce = c ∷ i.reduce; kept = i.kept; marked = first ++ i.marked }
 
--- what elimination asks of its numbers: how a row is read, the step by a kept row at a column, the numbers that the step marks,
--- and the entries with which a row is kept at a column, if it can be
+-- what elimination asks of its numbers: how a row is read, the step by a kept row at a column, the
+-- numbers that the step marks, and the entries with which a row is kept at a column, if it can be
 pub record Arithmetic : Type 0 where
   pub read : List ℤ → List ℤ
   -- of the kept row, the row and the column
@@ -102,8 +103,8 @@ abbrev pub with_pivot : ℕ → Option (List ℤ) → Option (ℕ × List ℤ)
 with_pivot c None = None
 with_pivot c (Some entries) = Some (c, entries)
 
--- at a column where the row is not 0: if a kept row has this pivot, the row is reduced by it and goes on; if not, it is kept
--- if it can be
+-- at a column where the row is not 0: if a kept row has this pivot, the row is reduced by it and
+-- goes on; if not, it is kept if it can be
 unfoldable pub inserted_at_by : Arithmetic → Option KeptRow → ℕ → List ℤ → (List ℤ → Insertion) → Insertion
 inserted_at_by by (Some k) c row onward = behind_step c (by.marked k.entries row c) (onward (by.step k.entries row c))
 inserted_at_by by None c row onward = record { reduce = []; kept = with_pivot c (by.keep row c); marked = [] }

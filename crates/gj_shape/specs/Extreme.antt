@@ -7,7 +7,8 @@ use Rattle.gj_shape.specs.Table.{table, IsMinimalTable}
 abbrev pub AverageTo : ℕ → (ℕ → ℤ) → (ℕ → ℤ) → (ℕ → ℤ) → Type 0
 AverageTo c a b t = (i : ℕ) → a i +ℤ b i ≡ pos (2 * c) *ℤ t i
 
--- a minimal table of period n over the scale s, with f at the place k, that is no average of two different minimal tables
+-- a minimal table of period n over the scale s, with f at the place k, that is no average of two
+-- different minimal tables
 pub record IsExtremeTable (t : ℕ → ℤ) (n k s : ℕ) : Type 0 where
   pub minimal : IsMinimalTable t n k s
   pub no_average : (c : ℕ) (a b : ℕ → ℤ) → 0 < c → IsMinimalTable a n k (c * s) → IsMinimalTable b n k (c * s) →

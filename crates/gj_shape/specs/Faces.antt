@@ -1,5 +1,5 @@
--- The faces into which the lines x = i/q, y = j/q and x + y = k/q cut the plane, and the limits of the
--- subadditivity slack at their corners (Light on the Infinite Group Relaxation I).
+-- The faces into which the lines x = i/q, y = j/q and x + y = k/q cut the plane, and the limits of
+-- the subadditivity slack at their corners (Light on the Infinite Group Relaxation I).
 use Rattle.std.specs.Prelude.{ℕ, ℤ, ◌+◌, ◌+ℤ◌, ◌-ℤ◌, List, [], ◌∷◌}
 use Rattle.gj_shape.specs.FunctionData.{FunctionData, at}
 use Rattle.gj_shape.specs.declared.faces.FaceKind.{FaceKind}

@@ -16,11 +16,13 @@ use Rattle.gj_shape.specs.declared.violations.Violation.TheVariants as violation
 pub data Test : Type 0 where
   -- the value at 0 is 0
   zero_at_zero : Test
-  -- no value at i/q, and no value near i/q to the right or near (i + 1)/q to the left, is less than 0
+  -- no value at i/q, and no value near i/q to the right or near (i + 1)/q to the left, is less than
+  -- 0
   nonnegative_at : ℕ → Test
   nonnegative_after : ℕ → Test
   nonnegative_before : ℕ → Test
-  -- the values at x and f - x add up to 1 at x = i/q, and on the open interval from i/q to (i + 1)/q
+  -- the values at x and f - x add up to 1 at x = i/q, and on the open interval from i/q to (i +
+  -- 1)/q
   symmetric_at : ℕ → Test
   symmetric_between : ℕ → Test
   -- the limit of the slack at this corner of this face of the square (a, b) is not less than 0
@@ -46,7 +48,8 @@ tests_of_face kind a b = map (subadditive_at kind a b) (range_with_len 0 (length
 abbrev pub over_squares : ℕ → (ℕ → ℕ → List Test) → List Test
 over_squares q tests = flat_map (λ a. flat_map (λ b. tests a b) (range_with_len 0 q)) (range_with_len 0 q)
 
--- all tests in their order: grid points come before open intervals, and vertices before all other faces
+-- all tests in their order: grid points come before open intervals, and vertices before all other
+-- faces
 abbrev pub tests_of : FunctionData → List Test
 tests_of f =
     zero_at_zero ∷ []
@@ -80,8 +83,8 @@ IsNegativeOnGrid f h n = table f h n <ℤ pos 0
 abbrev pub IsSuperadditiveOnGrid : FunctionData → ℕ → ℕ → ℕ → Type 0
 IsSuperadditiveOnGrid f h i j = (table f h i +ℤ table f h j) <ℤ table f h (i + j)
 
--- on the grid of order h times the function's, the coordinate of the point with the weight 1/h at each corner but c,
--- and the weight that is left at c
+-- on the grid of order h times the function's, the coordinate of the point with the weight 1/h at
+-- each corner but c, and the weight that is left at c
 abbrev pub near : ℕ → ℕ → List ℕ → ℕ
 near h c coordinates = (h - length coordinates) * get_or coordinates c 0 + sum coordinates
 

@@ -1,4 +1,5 @@
--- Piecewise linear functions of period 1 as data (Light on the Infinite Group Relaxation I; the limits are own).
+-- Piecewise linear functions of period 1 as data (Light on the Infinite Group Relaxation I; the
+-- limits are own).
 use Rattle.std.specs.Prelude.{ℕ, ℤ, pos, ◌≡◌, ◌≢◌, ◌⊎◌, ◌<◌, ◌≤◌, ◌*◌, ◌%◌, List, ◌++◌, length, get_or, All, unsigned_abs}
 use Rattle.std.specs.Int.{◌∣◌}
 use Rattle.gj_shape.specs.Limits.{greatest_order, greatest_value, denominator_bound}

@@ -9,7 +9,8 @@ use Rattle.gj_shape.specs.FunctionData.{FunctionData, IsWithinBounds}
 use Rattle.gj_shape.specs.declared.faults.ShapeFault.{ShapeFault}
 use Rattle.gj_shape.specs.declared.faults.ShapeFault.TheVariants as fault
 
--- all fractions in the order in which they are tested: at each index the left limit, the value, the right limit
+-- all fractions in the order in which they are tested: at each index the left limit, the value, the
+-- right limit
 abbrev pub in_order : List Frac → List Frac → List Frac → List Frac
 in_order (l ∷ ls) (v ∷ vs) (r ∷ rs) = l ∷ v ∷ r ∷ in_order ls vs rs
 in_order ls vs rs = []
@@ -50,7 +51,8 @@ abbrev pub IsTooLarge : List Frac → List Frac → List Frac → ℕ → Type 0
 IsTooLarge left value right i =
     (before : List Frac) × (x : Frac) × IsFirstFractionAtFault left value right i before x × (IsSmall x → ⊥)
 
--- the first fraction that fails a test is not, and so leaves no common denominator from 1 to 2^31 - 1
+-- the first fraction that fails a test is not, and so leaves no common denominator from 1 to 2^31 -
+-- 1
 abbrev pub IsTooFine : List Frac → List Frac → List Frac → ℕ → Type 0
 IsTooFine left value right i =
     (before : List Frac) × (x : Frac) × IsFirstFractionAtFault left value right i before x × IsSmall x
@@ -93,7 +95,8 @@ pub record IsGivenBy (q k : ℕ) (left value right : List Frac) (f : FunctionDat
 abbrev pub AreOver : (ℕ → ℤ) → ℕ → List Frac → Type 0
 AreOver t s xs = (i : ℕ) (x : Frac) → i < length xs → IsRatio (slice_index_or xs i x) (t i) (pos s)
 
--- the lists of which P holds leave no common denominator up to 2^31 - 1 first at i, or there was no memory
+-- the lists of which P holds leave no common denominator up to 2^31 - 1 first at i, or there was no
+-- memory
 abbrev pub IsTooFineOf : (List Frac → List Frac → List Frac → Type 0) → ShapeFault → Type 0
 IsTooFineOf P (fault.TooFine i) = (left : List Frac) × (value : List Frac) × (right : List Frac)
     × P left value right × IsTooFine left value right i

@@ -15,11 +15,13 @@ greatest_value = 2 ^ 20
 abbrev pub greatest_number : ℕ
 greatest_number = 2 ^ 31
 
--- what each common denominator is below, of the values and limits of a function and of the numbers in a row
+-- what each common denominator is below, of the values and limits of a function and of the numbers
+-- in a row
 abbrev pub denominator_bound : ℕ
 denominator_bound = 2 ^ 31
 
--- a value or limit of a function times the common denominator: at most 2^20 times one below 2^31 in absolute value
+-- a value or limit of a function times the common denominator: at most 2^20 times one below 2^31 in
+-- absolute value
 abbrev pub IsNumerator : ℤ → Type 0
 IsNumerator n = unsigned_abs n < 2 ^ 51
 

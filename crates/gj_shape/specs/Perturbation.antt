@@ -1,4 +1,5 @@
--- Perturbations of a minimal function, and the two functions that they give (Equivariant Perturbation I; the halves' numbers are own).
+-- Perturbations of a minimal function, and the two functions that they give (Equivariant
+-- Perturbation I; the halves' numbers are own).
 use Rattle.std.specs.Prelude.{ℕ, ℤ, pos, ◌≡◌, ◌+◌, ◌*◌, ◌/◌, ◌%◌, ◌==◌, ◌≤◌, ◌+ℤ◌, ◌-ℤ◌, ◌*ℤ◌, ◌<ℤ◌, ◌≤ℤ◌, if◌then◌else◌, List, length, map, All, unsigned_abs}
 use Rattle.std.specs.List.{range_with_len, list_any}
 use Rattle.gj_frac.specs.Fraction.{Fits}
@@ -8,7 +9,8 @@ use Rattle.gj_shape.specs.Table.{table}
 use Rattle.gj_shape.specs.SlopeRows.{total}
 use Rattle.gj_shape.specs.declared.extremality.Halves.{Halves}
 
--- the zigzag of a class of intervals on the grid of order 4 q: 1 at the first quarter point of each, -1 at the third, else 0
+-- the zigzag of a class of intervals on the grid of order 4 q: 1 at the first quarter point of
+-- each, -1 at the third, else 0
 abbrev pub zigzag : ℕ → List ℕ → ℕ → ℤ
 zigzag q class i =
     if list_any (λ a. a == (i / 4) % q) class
@@ -49,8 +51,8 @@ pub record AreHalvesOf (f : FunctionData) (m : ℕ) (perturbation : ℕ → ℤ)
   pub second : h.second ≡
       map (λ i. pos (3 * p) *ℤ table f m i -ℤ pos u *ℤ perturbation i) (range_with_len 0 (f.order * m))
 
--- the order, the scale and the values of halves are within the limits of a proof text, and there are as many values as the order
--- says
+-- the order, the scale and the values of halves are within the limits of a proof text, and there
+-- are as many values as the order says
 pub record AreHalvesInBounds (h : Halves) : Type 0 where
   pub order_low : 2 ≤ h.order
   pub order_high : h.order ≤ greatest_halves_order

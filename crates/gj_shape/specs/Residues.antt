@@ -1,5 +1,5 @@
--- Elimination modulo a number (own): insertion over residues, as `gj_residue` and `gj_check_groups` compute it. Rows stay lists of
--- whole numbers, and those that it keeps have 1 at their pivots.
+-- Elimination modulo a number (own): insertion over residues, as `gj_residue` and `gj_check_groups`
+-- compute it. Rows stay lists of whole numbers, and those that it keeps have 1 at their pivots.
 use Rattle.std.specs.Prelude.{ℕ, ℤ, pos, ◌≡◌, ◌-ℤ◌, ◌*ℤ◌, Option, None, Some, List, [], map}
 use Rattle.std.specs.Int.{int_rem_euclid}
 use Rattle.std.specs.List.{range_with_len, find}
@@ -29,7 +29,8 @@ abbrev pub times_inverse : ℕ → List ℤ → Option ℕ → Option (List ℤ)
 times_inverse m row None = None
 times_inverse m row (Some w) = Some (residues m (scaled (pos w) row))
 
--- over residues modulo m: a row is kept at a column if its entry there has an inverse, and no step marks numbers
+-- over residues modulo m: a row is kept at a column if its entry there has an inverse, and no step
+-- marks numbers
 abbrev pub modulo : ℕ → Arithmetic
 modulo m = record {
   read = residues m;

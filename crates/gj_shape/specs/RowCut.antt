@@ -4,7 +4,8 @@ use Rattle.gj_frac.specs.declared.Frac.{Frac}
 use Rattle.gj_shape.specs.Given.{IsLeastCommonDenominator, numerator_over}
 use Rattle.gj_shape.specs.SlopeRows.{sum_of_products}
 
--- the basic variable, a whole number, and the others, whole numbers not below 0, solve `basic + sum entries others = right`
+-- the basic variable, a whole number, and the others, whole numbers not below 0, solve `basic + sum
+-- entries others = right`
 pub record IsRowSolution (entries : List Frac) (right : Frac) (basic : ℤ) (others : List ℕ) : Type 0 where
   pub count : length others ≡ length entries
   pub c : ℕ

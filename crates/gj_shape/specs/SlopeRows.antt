@@ -1,4 +1,5 @@
--- The linear system for the slopes of a perturbation, one slope for each component (Equivariant Perturbation I).
+-- The linear system for the slopes of a perturbation, one slope for each component (Equivariant
+-- Perturbation I).
 use Rattle.std.specs.Prelude.{ℕ, ℤ, pos, ◌≡◌, ◌+◌, ◌-◌, ◌%◌, ◌==◌, ◌+ℤ◌, ◌-ℤ◌, ◌*ℤ◌, Bool, List, [], ◌∷◌, map, flat_map, filter, count_by, get_or, zip, All}
 use Rattle.std.specs.List.{range_with_len}
 use Rattle.std.specs.Ordering.{int_eq}
@@ -29,7 +30,8 @@ row_of component n q k name = map (row_entry component q k name) (range_with_len
 abbrev pub is_tight : FunctionData → ℕ → ℕ → Bool
 is_tight f a b = int_eq (at f.value a +ℤ at f.value b) (at f.value (a + b))
 
--- the rows in their order: the period, f, and the tight pairs (a, b) with 1 ≤ a ≤ b < order, a ascending, inside it b
+-- the rows in their order: the period, f, and the tight pairs (a, b) with 1 ≤ a ≤ b < order, a
+-- ascending, inside it b
 abbrev pub row_names : FunctionData → List RowName
 row_names f =
     Period ∷ F

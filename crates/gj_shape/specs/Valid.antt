@@ -1,4 +1,5 @@
--- Valid tables, and what minimal and extreme mean among them (Gomory and Johnson 1972; lists of places in place of counts and "dominated" are own).
+-- Valid tables, and what minimal and extreme mean among them (Gomory and Johnson 1972; lists of
+-- places in place of counts and "dominated" are own).
 use Rattle.std.specs.Prelude.{ℕ, ℤ, pos, ◌≡◌, ◌+◌, ◌*◌, ◌%◌, ◌<◌, ◌*ℤ◌, ◌≤ℤ◌, ◌<ℤ◌, List, map, sum}
 use Rattle.gj_shape.specs.Extreme.{AverageTo}
 use Rattle.gj_shape.specs.SlopeRows.{total}
@@ -11,7 +12,8 @@ IsSolution n k places = sum places % n ≡ k % n
 abbrev pub weight : (ℕ → ℤ) → List ℕ → ℤ
 weight t places = total (map t places)
 
--- a valid table of period n over the scale s, with f at the place k: its entries at the places of each solution add up to s or more
+-- a valid table of period n over the scale s, with f at the place k: its entries at the places of
+-- each solution add up to s or more
 pub record IsValidTable (t : ℕ → ℤ) (n k s : ℕ) : Type 0 where
   pub has_period : (i : ℕ) → t (i + n) ≡ t i
   pub nonnegative : (i : ℕ) → pos 0 ≤ℤ t i

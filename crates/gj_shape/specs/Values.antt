@@ -1,4 +1,5 @@
--- The value of a function at a fraction (own: tables of every order in place of a piecewise function).
+-- The value of a function at a fraction (own: tables of every order in place of a piecewise
+-- function).
 use Rattle.std.specs.Prelude.{ℕ, ℤ, pos, ◌≡◌, ◌*◌, ◌+ℤ◌, ◌*ℤ◌}
 use Rattle.gj_frac.specs.declared.Frac.{Frac}
 use Rattle.gj_frac.specs.Fraction.{IsRatio}

@@ -1,4 +1,5 @@
--- What a violation shows of a function (Gomory and Johnson 1972; Light on the Infinite Group Relaxation I).
+-- What a violation shows of a function (Gomory and Johnson 1972; Light on the Infinite Group
+-- Relaxation I).
 use Rattle.std.specs.Prelude.{ℕ, ℤ, pos, ◌≡◌, ◌≢◌, ◌+◌, ◌*◌, ◌%◌, ◌<◌, ◌+ℤ◌, ◌<ℤ◌}
 use Rattle.gj_frac.specs.declared.Frac.{Frac}
 use Rattle.gj_frac.specs.Fraction.{numerator, denominator}
@@ -22,7 +23,8 @@ pub record IsNegativeAt (f : FunctionData) (x : Frac) (n d : ℕ) : Type 0 where
   pub point : IsPoint x n d
   pub below : value_of f n d <ℤ pos 0
 
--- the values at x and at f - x do not add up to 1; j is the index of f - x on the grid of order d times the function's
+-- the values at x and at f - x do not add up to 1; j is the index of f - x on the grid of order d
+-- times the function's
 pub record IsAsymmetricAt (f : FunctionData) (x : Frac) (n d j : ℕ) : Type 0 where
   pub point : IsPoint x n d
   pub opposite : (n * f.order + j) % (f.order * d) ≡ (f.place * d) % (f.order * d)
@@ -34,7 +36,8 @@ pub record IsSuperadditiveAt (f : FunctionData) (x y : Frac) (n d m e : ℕ) : T
   pub second : IsPoint y m e
   pub below : (value_of f (n * e) (d * e) +ℤ value_of f (m * d) (d * e)) <ℤ value_of f (n * e + m * d) (d * e)
 
--- the violation shows that a minimal function's property fails: at 0, at a point, or at a pair of points
+-- the violation shows that a minimal function's property fails: at 0, at a point, or at a pair of
+-- points
 abbrev pub ShowsViolation : FunctionData → Violation → Type 0
 ShowsViolation f violation.Zero = value_of f 0 1 ≢ pos 0
 ShowsViolation f (violation.Negative x) = (n d : ℕ) × IsNegativeAt f x n d

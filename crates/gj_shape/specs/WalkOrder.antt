@@ -22,6 +22,7 @@ faces_in kinds a b = map (λ kind. record { kind = kind; a = a; b = b }) kinds
 abbrev pub faces_of_square : ℕ → ℕ → List Face
 faces_of_square a b = faces_in (Vertex ∷ Horizontal ∷ Vertical ∷ Diagonal ∷ Lower ∷ Upper ∷ []) a b
 
--- all faces in walk order: a from 0, inside it b from 0, and inside that the six faces of the square (a, b)
+-- all faces in walk order: a from 0, inside it b from 0, and inside that the six faces of the
+-- square (a, b)
 abbrev pub faces_of : ℕ → List Face
 faces_of q = flat_map (λ a. flat_map (faces_of_square a) (range_with_len 0 q)) (range_with_len 0 q)

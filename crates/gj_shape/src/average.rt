@@ -12,9 +12,11 @@ use gj_frac::Frac;
 use std::alloc::{AllocError, Global};
 
 impl Shape {
-    /// In each list half the sum of this function and the other, which has the same order and place.
+    /// In each list half the sum of this function and the other, which has the same order and
+    /// place.
     ///
-    /// The error is `TooFine` at the first index at which these have no common denominator up to 2^31 - 1.
+    /// The error is `TooFine` at the first index at which these have no common denominator up to
+    /// 2^31 - 1.
     pub fn average(&self, alloc: Global, other: &Shape) -> Result<Shape, ShapeFault>
         requires order { self.now.order ≡ other.now.order }
         requires place { self.now.place ≡ other.now.place }

@@ -42,7 +42,8 @@ pub enum BreakFault {
     /// The first is not at 0, or a further one is not behind the one before, or not below 1.
     #[error("the breakpoint is not in its place")]
     Break,
-    /// The least common multiple of the denominators of f and of all breakpoints so far passes 1,000.
+    /// The least common multiple of the denominators of f and of all breakpoints so far passes
+    /// 1,000.
     #[error("the order passes 1000")]
     Pieces,
     /// A limit or the value is above 2^20 in absolute value.
@@ -97,7 +98,8 @@ fn order_with(order: u32, x: Frac) -> Option<u32>
     requires { 0 < order }
     ensures few { IfSome result (λ m. m ≤ greatest_order) }
     ensures least { IfSome result (λ m. IsLcm order (unsigned_abs (denominator x)) m) }
-    ensures none { IfNone result ((m : ℕ) → m ≤ greatest_order → IsLcm order (unsigned_abs (denominator x)) m → ⊥) }
+    ensures none { IfNone result ((m : ℕ) → m ≤ greatest_order →
+        IsLcm order (unsigned_abs (denominator x)) m → ⊥) }
 {
     let multiple = lcm(order, small_denominator(x)?);
     if multiple > u64::from(GREATEST_ORDER) {
@@ -106,8 +108,8 @@ fn order_with(order: u32, x: Frac) -> Option<u32>
     Some(multiple as u32)
 }
 
-/// f and breakpoints that pass all tests. Contracts see them as a `BreakList`: f, the breakpoints, and the least common
-/// multiple of their denominators.
+/// f and breakpoints that pass all tests. Contracts see them as a `BreakList`: f, the breakpoints,
+/// and the least common multiple of their denominators.
 #[derive(Drop)]
 pub struct Breaks {
     place: Frac,
@@ -130,7 +132,8 @@ impl Model for Breaks {
 }
 
 impl Breaks {
-    /// No breakpoints, and f, which lies between 0 and 1, both excluded, and has a denominator of at most 1,000.
+    /// No breakpoints, and f, which lies between 0 and 1, both excluded, and has a denominator of
+    /// at most 1,000.
     pub fn new(alloc: Global, place: Frac) -> Breaks
         requires inside { IsInside place }
         requires few { unsigned_abs (denominator place) ≤ greatest_order }
@@ -146,11 +149,12 @@ impl Breaks {
 
     /// Adds a breakpoint behind the others.
     ///
-    /// The tests come in this order, and the first that fails is the error: the first breakpoint is at 0, and each further
-    /// one behind the one before and below 1 (`Break`); the least common multiple of the denominators of f and of all
-    /// breakpoints is at most 1,000 (`Pieces`); the limit from the left, the value and the limit from the right are each
-    /// at most 2^20 in absolute value (`Large`), and then have a common denominator of at most 2^31 - 1 with all before
-    /// (`Fine`). After an error the breakpoints are as they were.
+    /// The tests come in this order, and the first that fails is the error: the first breakpoint is
+    /// at 0, and each further one behind the one before and below 1 (`Break`); the least common
+    /// multiple of the denominators of f and of all breakpoints is at most 1,000 (`Pieces`); the
+    /// limit from the left, the value and the limit from the right are each at most 2^20 in
+    /// absolute value (`Large`), and then have a common denominator of at most 2^31 - 1 with all
+    /// before (`Fine`). After an error the breakpoints are as they were.
     pub fn push(&mut self, point: Break) -> Result<(), BreakFault>
         ensures ok { OnOk result (Follows self.old point self.new) }
         ensures err { OnErr result (self.new ≡ self.old) }
@@ -185,15 +189,17 @@ impl Breaks {
         self.breaks.is_empty()
     }
 
-    /// The function that the breakpoints tell, of order the least common multiple of all denominators.
+    /// The function that the breakpoints tell, of order the least common multiple of all
+    /// denominators.
     ///
-    /// The error is `TooFine` at the first multiple of 1/q, q the order, at which the limits and values there have no
-    /// common denominator up to 2^31 - 1 with those before, or `Memory`.
+    /// The error is `TooFine` at the first multiple of 1/q, q the order, at which the limits and
+    /// values there have no common denominator up to 2^31 - 1 with those before, or `Memory`.
     pub fn shape(&self, alloc: Global) -> Result<Shape, ShapeFault>
         requires some { self.now.breaks ≢ [] }
         ensures given { IfOk result (IsOfBreaks self.now) }
         ensures value { IfOk result (λ f. HasBreaks f self.now.breaks) }
-        ensures fault { IfErr result (IsTooFineOf (AreListsOfBreaks self.now.order self.now.breaks)) }
+        ensures fault { IfErr result (IsTooFineOf
+            (AreListsOfBreaks self.now.order self.now.breaks)) }
     {
         let k = numerator_over(self.place, self.order) as u32;
         Shape::from_breaks(alloc, self.order, k, self.breaks.as_slice())
@@ -201,14 +207,16 @@ impl Breaks {
 }
 
 impl Shape {
-    /// The function of order `q` with f = `k/q` that has these breakpoints: affine between neighbouring ones, from the
-    /// limit from the right of the one to the limit from the left of the next; behind the last one it goes to the limit
-    /// from the left of the first, at 1.
+    /// The function of order `q` with f = `k/q` that has these breakpoints: affine between
+    /// neighbouring ones, from the limit from the right of the one to the limit from the left of
+    /// the next; behind the last one it goes to the limit from the left of the first, at 1.
     ///
-    /// The first breakpoint is at 0; they ascend, lie below 1, and are multiples of 1/q. Their limits and values are at
-    /// most 2^20 in absolute value, with a common denominator of at most 2^31 - 1.
+    /// The first breakpoint is at 0; they ascend, lie below 1, and are multiples of 1/q. Their
+    /// limits and values are at most 2^20 in absolute value, with a common denominator of at most
+    /// 2^31 - 1.
     ///
-    /// The error is `TooFine` as for [`Shape::new`] over the limits and values at all multiples of 1/q, or `Memory`.
+    /// The error is `TooFine` as for [`Shape::new`] over the limits and values at all multiples of
+    /// 1/q, or `Memory`.
     pub fn from_breaks(alloc: Global, q: u32, k: u32, points: &[Break]) -> Result<Shape, ShapeFault>
         requires order { IsOrder q }
         requires place { IsPlace q k }

@@ -21,7 +21,8 @@ fn is_small(x: Frac) -> bool
 
 /// The denominator of the fraction, if it is at most 2^31 - 1.
 pub fn small_denominator(x: Frac) -> Option<u32>
-    ensures { SomeIff result (HasDenominatorBelow denominator_bound x) (unsigned_abs (denominator x)) }
+    ensures { SomeIff result (HasDenominatorBelow denominator_bound x)
+        (unsigned_abs (denominator x)) }
 {
     u32::try_from(x.den())
         .ok()
@@ -49,8 +50,8 @@ fn extended(scale: u32, x: Frac) -> Result<u32, FractionFault>
 
 /// The least common denominator of the fractions so far, `scale`, with those of one more point.
 ///
-/// The error is that of its first fraction, of the limit from the left, the value and the limit from the right, that
-/// is too large or leaves no common denominator up to 2^31 - 1.
+/// The error is that of its first fraction, of the limit from the left, the value and the limit
+/// from the right, that is too large or leaves no common denominator up to 2^31 - 1.
 pub(crate) fn with_point(scale: u32, point: Point) -> Result<u32, FractionFault>
     requires { 0 < scale }
     ensures least { IfOk result (ExtendsBy scale (fractions_of point)) }
@@ -63,7 +64,8 @@ pub(crate) fn with_point(scale: u32, point: Point) -> Result<u32, FractionFault>
 
 /// The least common denominator of all fractions of three lists of one length.
 ///
-/// The error is the first fraction that is too large or leaves no common denominator up to 2^31 - 1.
+/// The error is the first fraction that is too large or leaves no common denominator up to 2^31 -
+/// 1.
 pub(crate) fn common_denominator(
     left: &[Frac],
     value: &[Frac],

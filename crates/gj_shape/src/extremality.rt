@@ -2,8 +2,8 @@
 use crate::faces::Face;
 use crate::list::List;
 
-/// Why an interval is covered: a face that joins it to another interval, or, if `from` is the interval itself, an
-/// additive triangle of which it is a projection.
+/// Why an interval is covered: a face that joins it to another interval, or, if `from` is the
+/// interval itself, an additive triangle of which it is a projection.
 #[derive(Clone, Copy, Debug, PartialEq, Eq)]
 pub struct CoverLine {
     /// The interval that is covered.

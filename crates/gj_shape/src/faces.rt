@@ -1,7 +1,8 @@
 //! The faces of the complex of a function.
 ghost use Rattle.std.specs.Prelude.{◌≡◌, ◌<◌};
 
-/// A kind of face of a square of the complex: one point, three kinds of edges, two kinds of triangles.
+/// A kind of face of a square of the complex: one point, three kinds of edges, two kinds of
+/// triangles.
 #[derive(Clone, Copy, Debug, PartialEq, Eq)]
 pub enum FaceKind {
     /// The corner (a/q, b/q).

@@ -22,7 +22,8 @@ pub enum ShapeFault {
     /// A fraction at this index is greater than 2^20 in absolute value.
     #[error("a fraction at {0} is greater than 2^20 in absolute value")]
     TooLarge(u32),
-    /// With a fraction at this index the fractions so far have no common denominator up to 2^31 - 1.
+    /// With a fraction at this index the fractions so far have no common denominator up to 2^31 -
+    /// 1.
     #[error("with a fraction at {0} there is no common denominator up to 2^31 - 1")]
     TooFine(u32),
     /// There was no memory.

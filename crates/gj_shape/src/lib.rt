@@ -1,13 +1,14 @@
 //! Piecewise linear functions of period 1 as data with exact values.
 //!
-//! A [`Shape`] is such a function: affine between neighbouring multiples of 1/q, with a value and two limits at each
-//! of them. `Shape::new` makes one of three lists of fractions, and [`Points`] of points that come one after another;
-//! both test the bounds on the fractions in one way, and keep whole numbers over the least common denominator. [`Breaks`]
-//! are breakpoints at any fractions, of which `Shape::from_breaks` makes the function on the grid that holds them all.
+//! A [`Shape`] is such a function: affine between neighbouring multiples of 1/q, with a value and
+//! two limits at each of them. `Shape::new` makes one of three lists of fractions, and [`Points`]
+//! of points that come one after another; both test the bounds on the fractions in one way, and
+//! keep whole numbers over the least common denominator. [`Breaks`] are breakpoints at any
+//! fractions, of which `Shape::from_breaks` makes the function on the grid that holds them all.
 //!
-//! The definitions of the subject stand in `specs/`: tables on grids and minimal functions (`Table`), faces and the
-//! limits of the slack on them (`Faces`), violations (`Violation`) and the order in which minimality is tested
-//! (`FirstViolation`).
+//! The definitions of the subject stand in `specs/`: tables on grids and minimal functions
+//! (`Table`), faces and the limits of the slack on them (`Faces`), violations (`Violation`) and the
+//! order in which minimality is tested (`FirstViolation`).
 #![tactic(auto)]
 
 mod average;

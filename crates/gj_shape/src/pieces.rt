@@ -82,8 +82,10 @@ pub(crate) fn with_points(
     k: u32,
     points: &[Point],
 ) -> Result<Shape, ShapeFault>
-    ensures given { IfOk result (IsGivenBy q k (lefts points.now) (values points.now) (rights points.now)) }
-    ensures fault { IfErr result (HasFault q k (lefts points.now) (values points.now) (rights points.now)) }
+    ensures given { IfOk result (IsGivenBy q k (lefts points.now) (values points.now)
+        (rights points.now)) }
+    ensures fault { IfErr result (HasFault q k (lefts points.now) (values points.now)
+        (rights points.now)) }
 {
     let mut left = Vec::with_capacity(alloc, points.len())?;
     let mut value = Vec::with_capacity(alloc, points.len())?;

@@ -96,9 +96,10 @@ impl Points {
         }
     }
 
-    /// Adds a point behind the others. Its limit from the left, its value and its limit from the right are tested in
-    /// this order, each for `Large` and then for `Fine`. With it all fractions are at most 2^20 in absolute value, and
-    /// have a common denominator of at most 2^31 - 1. After an error the points are as they were.
+    /// Adds a point behind the others. Its limit from the left, its value and its limit from the
+    /// right are tested in this order, each for `Large` and then for `Fine`. With it all fractions
+    /// are at most 2^20 in absolute value, and have a common denominator of at most 2^31 - 1. After
+    /// an error the points are as they were.
     pub fn push(&mut self, point: Point) -> Result<(), PointFault>
         ensures ok { OnOk result (self.new ≡ self.old ++ point ∷ []) }
         ensures small { OnOk result (All IsSmall (all_fractions self.new)) }
@@ -122,7 +123,8 @@ impl Points {
         requires order_fits { IsOrder order }
         requires place_fits { IsPlace order place }
         requires count { length self.now ≡ order }
-        ensures { IfOk result (IsGivenBy order place (lefts self.now) (values self.now) (rights self.now)) }
+        ensures { IfOk result (IsGivenBy order place (lefts self.now) (values self.now)
+            (rights self.now)) }
     {
         Shape::over(
             alloc,

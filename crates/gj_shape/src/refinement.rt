@@ -14,12 +14,15 @@ use std::alloc::{AllocError, Global};
 impl Shape {
     /// The same function at order q `times`, for the order q.
     ///
-    /// The error is `Order` exactly if `times` is 0 or the new order is above 1,000. It is `TooFine` at the first
-    /// index at which the new limits and values have no common denominator up to 2^31 - 1.
+    /// The error is `Order` exactly if `times` is 0 or the new order is above 1,000. It is
+    /// `TooFine` at the first index at which the new limits and values have no common denominator
+    /// up to 2^31 - 1.
     pub fn refine(&self, alloc: Global, times: u32) -> Result<Shape, ShapeFault>
         ensures refined { IfOk result (IsRefinement self.now times) }
-        ensures order { (result ≡ Err ShapeFault.Order) ↔ ((times ≡ 0) ⊎ (greatest_order < self.now.order * times)) }
-        ensures fault { IfErr result (λ e. e ≢ ShapeFault.Order → IsTooFineOf (AreRefined self.now times) e) }
+        ensures order { (result ≡ Err ShapeFault.Order) ↔ ((times ≡ 0) ⊎
+            (greatest_order < self.now.order * times)) }
+        ensures fault { IfErr result (λ e. e ≢ ShapeFault.Order →
+            IsTooFineOf (AreRefined self.now times) e) }
     {
         if times == 0 || times > GREATEST_ORDER / self.order() {
             return Err(ShapeFault::Order);
@@ -37,7 +40,8 @@ impl Shape {
         )
     }
 
-    /// The fractions that the entries of a list become on the grid of order `times` times the function's.
+    /// The fractions that the entries of a list become on the grid of order `times` times the
+    /// function's.
     fn refined_list(
         &self,
         alloc: Global,

@@ -14,8 +14,8 @@ use gj_frac::Frac;
 use std::alloc::{AllocError, Global};
 use std::marker::Model;
 
-/// A function of period 1 that is affine between neighbouring multiples of 1/q, with its limits from the left
-/// and from the right at each of them, and the place k of f = k/q.
+/// A function of period 1 that is affine between neighbouring multiples of 1/q, with its limits
+/// from the left and from the right at each of them, and the place k of f = k/q.
 ///
 /// It keeps whole numbers over the least common denominator of all values and limits.
 ///
@@ -54,13 +54,13 @@ impl Model for Shape {
 impl Shape {
     ghost use Rattle.gj_shape.specs.Given.{HasFault, IsGivenBy};
 
-    /// The function of order `q` with f = `k/q` and, at i/q, the limit `left[i]` from the left, the value
-    /// `value[i]` and the limit `right[i]` from the right.
+    /// The function of order `q` with f = `k/q` and, at i/q, the limit `left[i]` from the left, the
+    /// value `value[i]` and the limit `right[i]` from the right.
     ///
-    /// The tests come in this order, and the first that fails is the error: `q` from 2 to 1,000; `k` from 1 to
-    /// `q - 1`; each list of length `q`; then for each index the limit from the left, the value and the limit from
-    /// the right, each at most 2^20 in absolute value, and then with a common denominator of all so far that is at
-    /// most 2^31 - 1.
+    /// The tests come in this order, and the first that fails is the error: `q` from 2 to 1,000;
+    /// `k` from 1 to `q - 1`; each list of length `q`; then for each index the limit from the left,
+    /// the value and the limit from the right, each at most 2^20 in absolute value, and then with a
+    /// common denominator of all so far that is at most 2^31 - 1.
     pub fn new(
         alloc: Global,
         q: u32,
@@ -86,8 +86,8 @@ impl Shape {
         Ok(Shape::over(alloc, q, k, scale, left, value, right)?)
     }
 
-    /// The function of order `q` with f = `k/q` and these limits and values, which are tested already; `scale` is their
-    /// least common denominator.
+    /// The function of order `q` with f = `k/q` and these limits and values, which are tested
+    /// already; `scale` is their least common denominator.
     pub(crate) fn over(
         alloc: Global,
         q: u32,
@@ -113,9 +113,9 @@ impl Shape {
         })
     }
 
-    /// The function of order `order` with f = `place/order` and, at i/order, the limit `left[i]/scale` from the left, the value
-    /// `value[i]/scale` and the limit `right[i]/scale` from the right. All are within the bounds, and no smaller denominator than
-    /// `scale` serves.
+    /// The function of order `order` with f = `place/order` and, at i/order, the limit
+    /// `left[i]/scale` from the left, the value `value[i]/scale` and the limit `right[i]/scale`
+    /// from the right. All are within the bounds, and no smaller denominator than `scale` serves.
     pub fn from_numerators(
         order: u32,
         place: u32,
@@ -124,7 +124,8 @@ impl Shape {
         value: Vec<i64>,
         right: Vec<i64>,
     ) -> Shape
-        requires { IsWithinBounds (function_over order place scale left.items value.items right.items) }
+        requires { IsWithinBounds
+            (function_over order place scale left.items value.items right.items) }
         ensures { result ≡ function_over order place scale left.items value.items right.items }
     {
         Shape {

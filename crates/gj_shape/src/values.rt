@@ -13,8 +13,9 @@ use gj_frac::Frac;
 impl Shape {
     /// The value of the function at z/q, for the order q.
     ///
-    /// z has a denominator of at most 2^62. It may be negative and of any size, since the function has period 1.
-    /// If a point x of a violation has a denominator of at most 2^62, so have q x and k - q x.
+    /// z has a denominator of at most 2^62. It may be negative and of any size, since the function
+    /// has period 1. If a point x of a violation has a denominator of at most 2^62, so have q x and
+    /// k - q x.
     pub fn value_scaled(&self, z: Frac) -> Frac
         requires { unsigned_abs (denominator z) ≤ 2 ^ 62 }
         ensures { IsValueAt self.now (numerator z) (unsigned_abs (denominator z)) result }
@@ -24,13 +25,14 @@ impl Shape {
 
     /// The value of the function at x.
     ///
-    /// x has a denominator of at most 2^62 and is at most 2^31 in absolute value. Each point of a violation that
-    /// `find_violation` answers or that passes the rule `point` is so: it is from 0 up to, not including, 1 and has a
-    /// denominator of at most 2^62.
+    /// x has a denominator of at most 2^62 and is at most 2^31 in absolute value. Each point of a
+    /// violation that `find_violation` answers or that passes the rule `point` is so: it is from 0
+    /// up to, not including, 1 and has a denominator of at most 2^62.
     pub fn value_at(&self, x: Frac) -> Frac
         requires fine { unsigned_abs (denominator x) ≤ 2 ^ 62 }
         requires size { IsSmallNumber x }
-        ensures value { IsValueAt self.now (numerator x *ℤ pos self.now.order) (unsigned_abs (denominator x)) result }
+        ensures value { IsValueAt self.now (numerator x *ℤ pos self.now.order)
+            (unsigned_abs (denominator x)) result }
         ensures not_negative { (n d : ℕ) → IsPoint x n d →
             IsRatio result (value_of self.now n d) (pos (self.now.scale * d)) }
     {
@@ -51,8 +53,8 @@ impl Shape {
         fraction(numerator, self.common_denominator() * i128::from(steps))
     }
 
-    /// `steps` times what stands at index/q + remainder/(q steps), for the order q: the entry of the list if the
-    /// remainder is 0, and else the value between the limits.
+    /// `steps` times what stands at index/q + remainder/(q steps), for the order q: the entry of
+    /// the list if the remainder is 0, and else the value between the limits.
     pub(crate) fn entry_or_value(
         &self,
         entries: &[i64],

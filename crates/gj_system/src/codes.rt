@@ -42,8 +42,8 @@ fn push_codes(codes: &mut Vec<u64>, points: &[List<u32>]) -> Result<(), AllocErr
     Ok(())
 }
 
-/// The codes of the counts before each grid point below 1, twice over, so that the code of a sum of two points stands at the
-/// sum; none if there are too many columns, or if the order is too great.
+/// The codes of the counts before each grid point below 1, twice over, so that the code of a sum of
+/// two points stands at the sum; none if there are too many columns, or if the order is too great.
 pub(crate) fn codes_of(
     alloc: Global,
     counts: &[List<u32>],
@@ -54,7 +54,8 @@ pub(crate) fn codes_of(
     requires columns { All (λ row. length row ≡ columns) counts.now }
     requires order { All (All (λ x. x ≤ order)) counts.now }
     ensures packable { IfOk result (λ codes. 0 < length codes.items → ArePackable columns order) }
-    ensures codes { IfOk result (λ codes. 0 < length codes.items → codes.items ≡ codes_twice order counts.now) }
+    ensures codes { IfOk result (λ codes. 0 < length codes.items →
+        codes.items ≡ codes_twice order counts.now) }
 {
     if columns > MOST_COLUMNS || order > GREATEST_CODED_ORDER {
         return Ok(Vec::new(alloc));

@@ -10,8 +10,8 @@ use gj_shape::{List, RowName};
 use std::alloc::{AllocError, Global};
 use std::marker::Model;
 
-/// All rows of the system for a function of order q. Contracts see the component of each of the q intervals, and how many
-/// components there are.
+/// All rows of the system for a function of order q. Contracts see the component of each of the q
+/// intervals, and how many components there are.
 #[derive(Drop)]
 pub struct SlopeRows {
     component: Vec<u32>,
@@ -66,8 +66,9 @@ impl SlopeRows {
         self.columns
     }
 
-    /// Writes the row with this name, for a function with f at the place: at each component the rise up to 1, up to f, or up
-    /// to both points of the pair less that up to their sum. It takes no memory.
+    /// Writes the row with this name, for a function with f at the place: at each component the
+    /// rise up to 1, up to f, or up to both points of the pair less that up to their sum. It takes
+    /// no memory.
     pub fn write_row(&self, place: u32, name: RowName, row: &mut [i128])
         requires columns { length row.old ≡ self.now.columns }
         requires place_within { place < length self.now.component }
@@ -98,7 +99,8 @@ impl SlopeRows {
         requires second { (c < length self.now.component) × (d < length self.now.component) }
         ensures { (place : ℕ) → IsTrue result ↔ (
             row_entries (component_in self.now.component) self.now.columns (length self.now.component) place (Pair a b)
-            ≡ row_entries (component_in self.now.component) self.now.columns (length self.now.component) place (Pair c d)) }
+            ≡ row_entries (component_in self.now.component) self.now.columns
+            (length self.now.component) place (Pair c d)) }
     {
         let codes = self.codes.as_slice();
         if codes.is_empty() {
@@ -115,7 +117,8 @@ impl SlopeRows {
         requires second { (c < length self.now.component) × (d < length self.now.component) }
         ensures { (place : ℕ) → IsTrue result ↔ (
             row_entries (component_in self.now.component) self.now.columns (length self.now.component) place (Pair a b)
-            ≡ row_entries (component_in self.now.component) self.now.columns (length self.now.component) place (Pair c d)) }
+            ≡ row_entries (component_in self.now.component) self.now.columns
+            (length self.now.component) place (Pair c d)) }
     {
         let order = self.component.len();
         let first_sum = sum_below(a, b, order);
@@ -144,7 +147,8 @@ fn counts_of(alloc: Global, component: &[u32], columns: u32) -> Result<Vec<List<
     requires components { All (λ c. c < columns) component.now }
     requires count { length component.now < 2 ^ 31 }
     ensures { IfOk result (λ counts. counts.items
-        ≡ map (rises_at (component_in component.now) columns) (range_with_len 0 (length component.now + 1))) }
+        ≡ map (rises_at (component_in component.now) columns)
+        (range_with_len 0 (length component.now + 1))) }
 {
     let mut count = vec![in alloc; 0; columns as usize]?;
     let mut counts = Vec::with_capacity(alloc, component.len() + 1)?;
@@ -197,7 +201,8 @@ fn are_same_slacks(
 /// Writes the counts.
 fn write_counts(counts: &[u32], row: &mut [i128])
     requires { length counts.now ≡ length row.old }
-    ensures { (c : ℕ) → c < length row.old → get_or row.new c (pos 0) ≡ pos (get_or counts.now c 0) }
+    ensures { (c : ℕ) → c < length row.old → get_or row.new c (pos 0) ≡ pos
+        (get_or counts.now c 0) }
 {
     for c in 0..row.len() {
         row[c] = i128::from(counts[c]);

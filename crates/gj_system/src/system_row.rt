@@ -13,7 +13,8 @@ fn fill(row: &mut [i128], component: &[u32], place: u32, name: RowName)
     requires place_within { place < length component.now }
     requires name_within { IsNameBelow name (length component.now) }
     requires zeros { All (λ x. x ≡ pos 0) row.old }
-    ensures { row.new ≡ row_entries (component_in component.now) (length row.old) (length component.now) place name }
+    ensures { row.new ≡ row_entries (component_in component.now) (length row.old)
+        (length component.now) place name }
 {
     let order = component.len();
     match name {
@@ -28,9 +29,9 @@ fn fill(row: &mut [i128], component: &[u32], place: u32, name: RowName)
     }
 }
 
-/// The row with this name over `count` components, for a function with f at the place: at each component the rise up to 1, up
-/// to f, or up to both points of the pair less that up to their sum. `component` has the component of each interval, and its
-/// length is the order.
+/// The row with this name over `count` components, for a function with f at the place: at each
+/// component the rise up to 1, up to f, or up to both points of the pair less that up to their sum.
+/// `component` has the component of each interval, and its length is the order.
 pub fn row_of(
     alloc: Global,
     component: &[u32],
@@ -42,7 +43,8 @@ pub fn row_of(
     requires place_within { place < length component.now }
     requires name_within { IsNameBelow name (length component.now) }
     ensures { IfOk result (λ v.
-        v.items ≡ row_entries (component_in component.now) count (length component.now) place name) }
+        v.items ≡ row_entries (component_in component.now) count
+        (length component.now) place name) }
 {
     let mut row = vec![in alloc; 0; count as usize]?;
     fill(row.as_mut_slice(), component, place, name);

@@ -1,4 +1,5 @@
--- Where two minimal tables average to a minimal table, the first less its part of it is additive at each tight pair.
+-- Where two minimal tables average to a minimal table, the first less its part of it is additive at
+-- each tight pair.
 use Rattle.std.proofs.Common.{◌≡◌, ℕ, ◌+◌, ◌*◌, ◌%◌, ℤ, pos, ◌+ℤ◌, ◌-ℤ◌, ◌*ℤ◌, ap, ap₂, sym, ◌∙◌, arith}
 use Rattle.std.proofs.Math.Nat.{add-zero, mul-zero}
 use Rattle.std.proofs.lemmas.Int.{ints}

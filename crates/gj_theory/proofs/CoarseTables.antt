@@ -1,4 +1,5 @@
--- The table on a coarser grid is minimal, and so a continuous function is minimal if its table on any grid is.
+-- The table on a coarser grid is minimal, and so a continuous function is minimal if its table on
+-- any grid is.
 use Rattle.std.proofs.Common.{◌≡◌, ℕ, ◌+◌, ◌*◌, ◌%◌, ◌<◌, ℤ, pos, ◌+ℤ◌, ◌*ℤ◌, sym, subst, ap, ◌∙◌, arith}
 use Rattle.std.proofs.lemmas.Int.{ints}
 use Rattle.std.proofs.Math.Nat.{one-mul}

@@ -1,4 +1,5 @@
--- The slacks on a finer grid are at least what the slacks at the corners allow, and some of them are just that.
+-- The slacks on a finer grid are at least what the slacks at the corners allow, and some of them
+-- are just that.
 use Rattle.std.proofs.Common.{◌≡◌, ℕ, zero, suc, ◌⊎◌, inl, inr, ◌+◌, ◌-◌, ◌*◌, ◌%◌, ◌<◌, ◌≤◌, ℤ, pos, ◌+ℤ◌, ◌*ℤ◌, ◌<ℤ◌, ◌≤ℤ◌, List, [], ◌∷◌, length, get_or, map, All, refl, sym, ap, ap₂, subst, ◌∙◌, arith}
 use Rattle.std.specs.List.{Contains}
 use Rattle.std.proofs.Math.Nat.{add_comm, add-mod, mod-lt, mod-mod}

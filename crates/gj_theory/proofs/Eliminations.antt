@@ -64,7 +64,8 @@ present_row_solved law n kept row w columns all len k solved = present_solved la
 
 -- ---- all rows
 
--- the kept rows at the end are triangular, and have the solutions of the kept rows before and of all rows
+-- the kept rows at the end are triangular, and have the solutions of the kept rows before and of
+-- all rows
 pub record HasSolutions (law : SoundArithmetic) (n : ℕ) (before after : List KeptRow) (rows : List (List ℤ)) : Type 0 where
   pub triangular : AreTriangularBy law.is_pivot n after
   pub same : (w : List ℤ) → Carries (law.back × (length w ≡ n)) (SolvesKeptBy law w before × All (law.solves w) rows) (SolvesKeptBy law w after)

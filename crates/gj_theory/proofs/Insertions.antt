@@ -18,7 +18,8 @@ IsZeroBefore row a = (j : ℕ) → j < a → at_column row j ≡ pos 0
 pub zero_before_next : (row : List ℤ) (a : ℕ) → IsZeroBefore row a → at_column row a ≡ pos 0 → IsZeroBefore row (a + 1)
 zero_before_next row a h here = below_more _ a h here
 
--- behind what an insertion leaves, the kept rows are triangular, and have the solutions of those before and of the row
+-- behind what an insertion leaves, the kept rows are triangular, and have the solutions of those
+-- before and of the row
 pub record Leaves (law : SoundArithmetic) (n : ℕ) (kept : List KeptRow) (row : List ℤ) (o : Option (ℕ × List ℤ)) : Type 0 where
   pub triangular : (number : ℕ) (reduce : List ℕ) → AreTriangularBy law.is_pivot n (kept_behind kept number reduce o)
   pub solutions : (number : ℕ) (reduce : List ℕ) (w : List ℤ) →

@@ -255,7 +255,8 @@ solved_row row j w h in_row in_w =
 
 -- ---- all rows from a pivot on
 
--- the numbers are behind the free column 0 and at it positive, and solve the rows with a pivot from j on
+-- the numbers are behind the free column 0 and at it positive, and solve the rows with a pivot from
+-- j on
 pub record AreSolvedFrom (n : ℕ) (kept : List KeptRow) (c j : ℕ) (w : List ℤ) : Type 0 where
   pub columns : length w ≡ n
   pub behind : (i : ℕ) → c < i → at_column w i ≡ pos 0

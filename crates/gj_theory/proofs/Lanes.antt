@@ -1,8 +1,8 @@
--- Values and limits as lanes: once the tests of signs and of symmetry pass they are naturals up to the scale, and the
--- limits of the slack in a square are sums of such naturals.
-use Rattle.std.proofs.Common.{◌≡◌, ◌↔◌, ℕ, zero, suc, ◌+◌, ◌-◌, ◌%◌, ◌^◌, ◌<◌, ◌≤◌, min, max, ℤ, pos, ◌+ℤ◌, ◌≤ℤ◌, ◌<ℤ◌, unsigned_abs, List, length, get_or, map, lit<, refl, sym, ap, subst, ◌∙◌, below_none, below_more, Fits, w32, w64, to_z, of_z, arith}
+-- Values and limits as lanes: once the tests of signs and of symmetry pass they are naturals up to
+-- the scale, and the limits of the slack in a square are sums of such naturals.
+use Rattle.std.proofs.Common.{◌≡◌, ◌↔◌, ℕ, zero, suc, ◌+◌, ◌-◌, ◌%◌, ◌<◌, ◌≤◌, min, max, ℤ, pos, ◌+ℤ◌, ◌≤ℤ◌, List, length, get_or, map, lit<, refl, sym, ap, subst, ◌∙◌, below_none, below_more, arith}
 use Rattle.std.proofs.Math.Nat.{add_comm, add-mod, mod-lt}
-use Rattle.std.proofs.lemmas.Int.{ints, to_z-of_z}
+use Rattle.std.proofs.lemmas.Int.{ints}
 use Rattle.std.proofs.lemmas.List.{get_or-map}
 use Rattle.gj_shape.specs.FunctionData.{FunctionData, IsWithinBounds, IsContinuous, at}
 use Rattle.gj_shape.specs.Faces.{corners_of, limits_of, slack_from}
@@ -14,8 +14,6 @@ use Rattle.gj_shape.proofs.AtLemmas.{at_plus_length, at_wrapped}
 use Rattle.gj_shape.proofs.TableLemmas.{slack_at, limits_are_slacks}
 use Rattle.gj_theory.specs.EarlierTests.{PassesSymmetry}
 use Rattle.gj_theory.proofs.Everywhere.{everywhere}
-use lib.Dec.{T}
-use lib.Signed.{non_neg}
 
 -- ---- from 0 to the scale
 
@@ -64,39 +62,9 @@ are_bounded f l h =
           (λ i below. at_most _ _ f.scale (h.between i below).0 (lefts (f.place + (f.order - i))));
     }
 
--- ---- numbers in lanes of 32 bits
-
--- a number from 0 to below 2^31
-abbrev pub IsLane : ℤ → Type 0
-IsLane n = (pos 0 ≤ℤ n) × (n <ℤ pos (2 ^ 31))
-
--- such a number, as the code has it and puts it into a lane
-pub lane_cast : (n m : ℤ) → n ≡ m → IsLane m →
-    T (non_neg (to_z w64 (of_z w64 n))) × Fits w32 (unsigned_abs (to_z w64 (of_z w64 n)))
-lane_cast n m e h =
-    let low = h.0 in
-    let high = h.1 in
-    let read = to_z-of_z w64 n (omega (arith, ints)) in
-    rw read (omega (arith, ints), omega (arith, ints))
-
-pub lane_read : (n m : ℤ) → n ≡ m → IsLane m →
-    (pos (unsigned_abs (to_z w64 (of_z w64 n))) ≡ m) × (unsigned_abs (to_z w64 (of_z w64 n)) < 2 ^ 31)
-lane_read n m e h =
-    let low = h.0 in
-    let high = h.1 in
-    let read = to_z-of_z w64 n (omega (arith, ints)) in
-    rw read (omega (arith, ints), omega (arith, ints))
-
--- the sum of two fits 32 bits
-pub lane_sum : (x y : ℕ) → x < 2 ^ 31 → y < 2 ^ 31 → Fits w32 (x + y)
-lane_sum x y h k = omega arith
-
--- a maximum and a difference that are 0
+-- a maximum that is 0
 pub max_zero : (x y m : ℕ) → m ≡ max x y → (m ≡ 0) ↔ ((x ≡ 0) × (y ≡ 0))
 max_zero x y m e = (λ h. (omega arith, omega arith), λ h. omega arith)
-
-pub no_excess : (s t m : ℕ) → m ≡ s - t → (m ≡ 0) ↔ (s ≤ t)
-no_excess s t m e = (λ h. omega arith, λ h. omega arith)
 
 -- ---- all limits of the slack in a square
 
@@ -162,8 +130,8 @@ mirrored_square f a b h Upper =
 
 -- ---- over lanes
 
--- the lanes are the values and the limits from the right at the indices below n, and the limits from the left one
--- further on
+-- the lanes are the values and the limits from the right at the indices below n, and the limits
+-- from the left one further on
 pub record HasLanes (f : FunctionData) (left value right : ℕ → ℕ) (n : ℕ) : Type 0 where
   pub lefts : (i : ℕ) → i < n → pos (left i) ≡ at f.left (i + 1)
   pub values : (i : ℕ) → i < n → pos (value i) ≡ at f.value i
@@ -178,7 +146,8 @@ pub record FitLanes (left value right : ℕ → ℕ) (a b : ℕ) : Type 0 where
   pub upper : (right (a + b + 1) ≤ left a + right b) × (right (a + b + 1) ≤ right a + left b)
       × (left (a + b + 1) ≤ left a + left b)
 
--- the same, by where the sum is: at the sum of the indices, before and at the next index, and before the one after that
+-- the same, by where the sum is: at the sum of the indices, before and at the next index, and
+-- before the one after that
 pub record FitAtSums (left value right : ℕ → ℕ) (a b : ℕ) : Type 0 where
   pub at_sum : (right (a + b) ≤ right a + value b) × (right (a + b) ≤ min (right a) (value a) + right b)
   pub before_next : (left (a + b) ≤ left a + min (value b) (right b)) × (left (a + b) ≤ min (right a) (value a) + left b)

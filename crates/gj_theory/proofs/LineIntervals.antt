@@ -1,4 +1,5 @@
--- Lines that meet the rules for cover lines have different intervals: as many as intervals are lines for all.
+-- Lines that meet the rules for cover lines have different intervals: as many as intervals are
+-- lines for all.
 use Rattle.std.proofs.Common.{◌≡◌, ℕ, zero, suc, ◌<◌, Bool, true, false, ◌||◌, List, [], ◌∷◌, ◌++◌, length, map, eqb, refl, sym, ap, subst, ◌∙◌, append_assoc, arith}
 use Rattle.std.specs.Prelude.{All}
 use Rattle.std.specs.Cmp.{IsEquivalence}

@@ -1,4 +1,5 @@
--- No list of joined intervals leads from the interval of one opening line to that of another, so joined intervals have one number.
+-- No list of joined intervals leads from the interval of one opening line to that of another, so
+-- joined intervals have one number.
 use Rattle.std.proofs.Common.{◌≡◌, ℕ, ◌⊎◌, ◌%◌, ◌<◌, inl, inr, List, [], ◌∷◌, ◌++◌, refl, sym, ap, subst, ◌∙◌, append_assoc, arith}
 use Rattle.std.proofs.Math.Nat.{mod-lt, mod-mod, mod-eq_of_lt}
 use Rattle.gj_theory.proofs.LineComponents.{line_at}
@@ -11,8 +12,8 @@ use Rattle.gj_theory.proofs.CoverLines.{lines_meet_rules}
 use Rattle.gj_theory.proofs.CoverPaths.{joined_remainders, joined_turned, leads_onward, leads_through, leads_turned}
 use Rattle.gj_theory.proofs.ComponentIntervals.{next_within}
 
--- if no interval without a line is joined to one with a line, lists of joined intervals lead from intervals with a
--- line to such alone
+-- if no interval without a line is joined to one with a line, lists of joined intervals lead from
+-- intervals with a line to such alone
 line_along : (q : ℕ) (Tight : ℕ → ℕ → Type 0) (lines : List CoverLine) → 0 < q →
     ((i j : ℕ) → JoinsLines q Tight lines i j → ⊥) → (j i : ℕ) → LeadsTo q Tight j i → HasCoverLine lines (i % q) →
     (HasCoverLine lines (j % q) → ⊥) → ⊥

@@ -232,7 +232,8 @@ same_length : (numbers : List ℕ) (kept kept' : List KeptRow) (n : ℕ) (b : Bo
 same_length numbers kept kept' n b same e =
     ap (nat_le n) (sym (ap length same ∙ length-map kept' (renumbered numbers))) ∙ e
 
--- what the insertions of one row into both keep, with its place in the list of those that are handed over
+-- what the insertions of one row into both keep, with its place in the list of those that are
+-- handed over
 same_insertion : (n : ℕ) (numbers : List ℕ) (kept kept' : List KeptRow) (row : List ℤ) → kept ≡ map (renumbered numbers) kept' →
     inserted n kept row ≡ inserted n kept' row
 same_insertion n numbers kept kept' row same =

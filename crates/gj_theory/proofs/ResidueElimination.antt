@@ -23,7 +23,8 @@ to_modulo m w (row ∷ rows) all =
     All-cons (SolvesModulo m w) row rows (zero_is m _ (pos 0) (All-head (Solves w) row rows all) (zero_none m))
     (to_modulo m w rows (All-tail (Solves w) row rows all))
 
--- as many kept rows as columns, which each solution of some rows of whole numbers solves modulo m, leave those rows only 0
+-- as many kept rows as columns, which each solution of some rows of whole numbers solves modulo m,
+-- leave those rows only 0
 pub kept_residues_leave_zero : (m n : ℕ) (kept : List KeptRow) (rows : List (List ℤ)) (w : List ℤ) → 1 < m → AreTriangularResidues n kept →
     length kept ≡ n → ((v : List ℤ) → length v ≡ n → All (Solves v) rows → SolvesKeptModulo m v kept) →
     length w ≡ n → All (Solves w) rows → All (λ x. x ≡ pos 0) w

@@ -1,4 +1,5 @@
--- As many rows with different pivots modulo m as columns leave only 0 modulo m; and what this leaves of whole numbers.
+-- As many rows with different pivots modulo m as columns leave only 0 modulo m; and what this
+-- leaves of whole numbers.
 use Rattle.std.proofs.Common.{◌≡◌, ℕ, zero, suc, ◌+◌, ◌*◌, ◌<◌, ◌≤◌, ℤ, pos, ◌*ℤ◌, List, [], ◌∷◌, length, unsigned_abs, refl, sym, ap, ap₂, subst, ◌∙◌, arith}
 use Rattle.std.specs.Prelude.{All}
 use Rattle.std.proofs.lemmas.Int.{ints, unsigned_abs-mul}

@@ -1,4 +1,5 @@
--- A grid that holds all entries of a row: cuts by minimal functions and by the closed form of the mixed-integer cut.
+-- A grid that holds all entries of a row: cuts by minimal functions and by the closed form of the
+-- mixed-integer cut.
 use Rattle.std.proofs.Common.{◌≡◌, ℕ, zero, suc, ◌*◌, ◌<◌, List, [], ◌∷◌, ℤ, pos, ◌*ℤ◌, unsigned_abs, refl, sym, ap, subst, subst₂, ◌∙◌, arith}
 use Rattle.std.specs.List.{AllZip}
 use Rattle.std.proofs.Math.Nat.{mul-pos, mul-lt-mul_of_pos_right}

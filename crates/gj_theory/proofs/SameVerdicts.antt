@@ -1,4 +1,5 @@
--- A table over two scales: a function and its refinement are minimal together, and extreme together.
+-- A table over two scales: a function and its refinement are minimal together, and extreme
+-- together.
 use Rattle.std.proofs.Common.{◌≡◌, ℕ, zero, suc, ◌+◌, ◌*◌, ◌<◌, ⊎_elim, ℤ, pos, ◌+ℤ◌, ◌*ℤ◌, ◌∷◌, [], refl, sym, subst, ap, ap₂, ◌∙◌, mul-pos, arith}
 use Rattle.std.proofs.Math.Nat.{mul_assoc, mul_comm}
 use Rattle.std.proofs.lemmas.Int.{ints}

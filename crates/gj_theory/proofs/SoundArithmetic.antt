@@ -1,4 +1,5 @@
--- What elimination asks of an arithmetic: its steps leave 0 at their columns, and carry solutions along.
+-- What elimination asks of an arithmetic: its steps leave 0 at their columns, and carry solutions
+-- along.
 use Rattle.std.proofs.Common.{◌≡◌, ◌≢◌, ℕ, ◌<◌, ◌↔◌, None, Some, ℤ, pos, ◌<ℤ◌, List, [], ◌∷◌, length, refl, subst}
 use Rattle.std.specs.Prelude.{All}
 use Rattle.gj_shape.specs.Elimination.{KeptRow, Arithmetic, at_column, reduced, eliminated, kept_entries, whole_numbers}
@@ -27,7 +28,8 @@ pub record KeepsRow (is_pivot : ℤ → Type 0) (solves : List ℤ → List ℤ 
   pub at_pivot : is_pivot (at_column entries c)
   pub solutions : (w : List ℤ) → Carries back (solves w row) (solves w entries)
 
--- an arithmetic, the kind of the entries at its pivots, what it is to solve a row, and whether there is a way back
+-- an arithmetic, the kind of the entries at its pivots, what it is to solve a row, and whether
+-- there is a way back
 pub record SoundArithmetic : Type 1 where
   pub by : Arithmetic
   pub is_pivot : ℤ → Type 0
@@ -50,7 +52,8 @@ pub record SoundArithmetic : Type 1 where
   pub none_solved : (w : List ℤ) → solves w []
   pub kept : (row : List ℤ) (c : ℕ) (entries : List ℤ) → at_column row c ≢ pos 0 → by.keep row c ≡ Some entries →
       KeepsRow is_pivot solves back row c entries
-  -- where there is a way back, each row is kept or 0, and as many kept rows as columns leave only what solves each row
+  -- where there is a way back, each row is kept or 0, and as many kept rows as columns leave only
+  -- what solves each row
   pub not_kept : back → (row : List ℤ) (c : ℕ) → by.keep row c ≡ None → ⊥
   pub zeros_solved : back → (row w : List ℤ) → ((i : ℕ) → i < length row → at_column row i ≡ pos 0) → solves w row
   pub all_pivots : back → (n : ℕ) (kept : List KeptRow) (w : List ℤ) → AreTriangularBy is_pivot n kept → length kept ≡ n →

@@ -53,7 +53,8 @@ slacks_nonnegative f c h kind a b =
     (All-map (λ x. pos 0 ≤ℤ x) (slack_at f) (corners_of kind a b) (λ k d below.
     slack_low f h (get_or (corners_of kind a b) k d)))
 
--- if the slack at a point of a face is 0, and the point has a weight above 0 at each corner, the face is additive
+-- if the slack at a point of a face is 0, and the point has a weight above 0 at each corner, the
+-- face is additive
 additive_from_weights : (f : FunctionData) → IsContinuous f → IsMinimal f → (kind : FaceKind) (a b : ℕ) (ws : List ℕ) →
     All (λ w. 0 < w) ws → length (corners_of kind a b) ≤ length ws → (x y : ℤ) →
     x ≡ y +ℤ weighted ws (limits_of f kind a b) →
@@ -129,7 +130,8 @@ pub tight_pair_in_face : (f : FunctionData) (m i j : ℕ) → IsWithinBounds f �
 tight_pair_in_face f m i j l c h some tight =
     tight_in_square f c h m i j (i / m) (j / m) some (place_of m i some) (place_of m j some) tight
 
--- what has the period of the grid and is additive on the closures of all additive faces is additive at each tight pair
+-- what has the period of the grid and is additive on the closures of all additive faces is additive
+-- at each tight pair
 pub additive_from_faces : (f : FunctionData) (m : ℕ) (p : ℕ → ℤ) → IsWithinBounds f → IsContinuous f → IsMinimal f →
     0 < m → ((i : ℕ) → p (i + f.order * m) ≡ p i) →
     ((kind : FaceKind) (a b x y : ℕ) → IsAdditive (IsTight f) kind a b → IsInFace m kind a b x y →

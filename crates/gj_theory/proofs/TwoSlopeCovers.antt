@@ -1,4 +1,5 @@
--- The intervals of a minimal continuous function with two slopes are covered, in two components at most.
+-- The intervals of a minimal continuous function with two slopes are covered, in two components at
+-- most.
 use Rattle.std.proofs.Common.{◌≡◌, ℕ, inl, inr, ◌+◌, ◌-◌, ◌%◌, ◌<◌, ◌≤◌, ◌==◌, Bool, true, false, cond, int_eq, pos, List, [], ◌∷◌, refl, sym, ap, ◌∙◌, arith}
 use Rattle.std.proofs.lemmas.Bool.{eqb-true}
 use Rattle.std.proofs.lemmas.Bool.Decides.{Decides-int_eq}

@@ -1,4 +1,5 @@
--- Of a minimal continuous function with two slopes, the rows of the period and of f leave only the slopes 0.
+-- Of a minimal continuous function with two slopes, the rows of the period and of f leave only the
+-- slopes 0.
 use Rattle.std.proofs.Common.{◌≡◌, ℕ, inl, inr, ◌-◌, ◌<◌, ◌≤◌, ℤ, pos, List, length, All, sym, ap, ◌∙◌, arith}
 use Rattle.std.proofs.lemmas.Int.{ints}
 use Rattle.std.proofs.lemmas.List.Elements.{All-from_get_or}

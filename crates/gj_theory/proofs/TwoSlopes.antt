@@ -1,4 +1,5 @@
--- A minimal continuous function with two slopes rises on the first interval, falls on the last, and goes on each as on one of these.
+-- A minimal continuous function with two slopes rises on the first interval, falls on the last, and
+-- goes on each as on one of these.
 use Rattle.std.proofs.Common.{◌≡◌, ℕ, zero, suc, ◌⊎◌, inl, inr, ◌+◌, ◌-◌, ◌%◌, ℤ, pos, ◌-ℤ◌, ◌≤ℤ◌, ◌<ℤ◌, ap, sym, ◌∙◌, arith}
 use Rattle.std.proofs.lemmas.Int.{ints, by_lt_z}
 use Rattle.gj_shape.specs.FunctionData.{FunctionData, IsWithinBounds, at}
@@ -42,7 +43,8 @@ never_falls v up k (suc n) =
 
 -- ---- two slopes
 
--- a step that does not fall and one that does not rise, of two slopes of which one falls and one rises
+-- a step that does not fall and one that does not rise, of two slopes of which one falls and one
+-- rises
 by_signs : (x y first last r : ℤ) → (x <ℤ pos 0) ⊎ (y <ℤ pos 0) → (pos 0 <ℤ x) ⊎ (pos 0 <ℤ y) →
     pos 0 ≤ℤ first → last ≤ℤ pos 0 → (first ≡ x) ⊎ (first ≡ y) → (last ≡ x) ⊎ (last ≡ y) → (r ≡ x) ⊎ (r ≡ y) →
     (pos 0 <ℤ first) × (last <ℤ pos 0) × ((r ≡ first) ⊎ (r ≡ last))

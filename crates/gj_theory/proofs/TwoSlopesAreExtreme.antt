@@ -1,4 +1,5 @@
--- A minimal continuous function with two slopes is extreme: no perturbation but 0 has one step a slope.
+-- A minimal continuous function with two slopes is extreme: no perturbation but 0 has one step a
+-- slope.
 use Rattle.std.proofs.Common.{◌≡◌, ℕ, zero, suc, ◌⊎◌, inl, inr, ◌+◌, ◌-◌, ◌*◌, ◌<◌, ◌≤◌, ℤ, pos, ◌+ℤ◌, ◌-ℤ◌, ◌*ℤ◌, ◌≤ℤ◌, ◌<ℤ◌, unsigned_abs, [], ◌∷◌, refl, ap, sym, subst, ◌∙◌, arith}
 use Rattle.std.proofs.lemmas.Int.{ints}
 use Rattle.gj_lemmas.proofs.Integers.{mul_comm_z, zero_factor_z, abs_positive_z, pos_abs_z}
@@ -69,7 +70,8 @@ slopes_along v slope x y u w n along (suc i) low =
           (step_down x y u w (sum_before slope i) t (v i -ℤ v 0) (pos i) before refl)
     ]
 
--- both are 0 if the slopes add up to 0 at the period and at a place k at which the table is not as at 0
+-- both are 0 if the slopes add up to 0 at the period and at a place k at which the table is not as
+-- at 0
 pub both_zero : (v slope : ℕ → ℤ) (x y u w : ℤ) (n k : ℕ) → GoAlong v slope x y u w n → 0 < n → k ≤ n → y <ℤ x →
     v n ≡ v 0 → v 0 <ℤ v k → sum_before slope n ≡ pos 0 → sum_before slope k ≡ pos 0 → (u ≡ pos 0) × (w ≡ pos 0)
 both_zero v slope x y u w n k along some k_low apart period higher whole place =
@@ -100,7 +102,8 @@ both_zero v slope x y u w n k along some k_low apart period higher whole place =
 
 -- ---- steps of a perturbation
 
--- a table that is additive where the function's is has the first interval's step where it rises, and the last's where it falls
+-- a table that is additive where the function's is has the first interval's step where it rises,
+-- and the last's where it falls
 pub record StepsBySlope (f : FunctionData) (m : ℕ) (p : ℕ → ℤ) (u w : ℤ) : Type 0 where
   pub rising : (a : ℕ) → rise f a ≡ rise f 0 → HasStepOn p m a u
   pub falling : (a : ℕ) → rise f a ≡ rise f (f.order - 1) → HasStepOn p m a w

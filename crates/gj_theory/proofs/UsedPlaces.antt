@@ -1,4 +1,5 @@
--- Places of a table that are used: what they add up to, and what they weigh if they add up to the place of a right side.
+-- Places of a table that are used: what they add up to, and what they weigh if they add up to the
+-- place of a right side.
 use Rattle.std.proofs.Common.{◌≡◌, ℕ, ◌+◌, ◌*◌, ◌%◌, ◌<◌, ◌≢◌, [], ◌∷◌, ℤ, pos, ◌+ℤ◌, ◌-ℤ◌, ◌*ℤ◌, ◌≤ℤ◌, unsigned_abs, refl, sym, ap, ap₂, ◌∙◌, arith}
 use Rattle.std.proofs.lemmas.Int.{ints}
 use Rattle.gj_lemmas.proofs.Integers.{add_mul_z, mul_assoc_z, mul_comm_z, sub_mul_z, mul_cancel_right_z, mul_le_cancel_right_z, mul_le_mul_right_z}
@@ -81,7 +82,8 @@ place_of_sum c b x n p w k some whole sum =
     let split = sub_mul_z w b n in
     omega (arith, ints)
 
--- places of a valid table that add up to the fractional part k/n of a right side less a whole number weigh 1 or more
+-- places of a valid table that add up to the fractional part k/n of a right side less a whole
+-- number weigh 1 or more
 pub weigh_one : (t : ℕ → ℤ) (n k s c g : ℕ) (x y basic w : ℤ) → IsValidTable t n k s → 0 < s → 0 < c →
     (pos c *ℤ basic +ℤ x) *ℤ pos n ≡ (w *ℤ pos n +ℤ pos k) *ℤ pos c → UsedPlaces t n s c g x y → pos g ≤ℤ y
 weigh_one t n k s c g x y basic w valid s_some c_some whole r =

@@ -1,4 +1,5 @@
--- Valid tables that break a rule of minimal tables are dominated; minimal and extreme tables are so among valid ones.
+-- Valid tables that break a rule of minimal tables are dominated; minimal and extreme tables are so
+-- among valid ones.
 use Rattle.std.proofs.Common.{◌≡◌, ◌≢◌, ℕ, zero, suc, ◌+◌, ◌-◌, ◌*◌, ◌%◌, ◌<◌, ◌≤◌, ◌⊎◌, inl, inr, ⊎_elim, eqb, cond, List, [], ◌∷◌, ℤ, pos, ◌+ℤ◌, ◌-ℤ◌, ◌*ℤ◌, ◌≤ℤ◌, ◌<ℤ◌, refl, sym, subst, ap, ap₂, ◌∙◌, arith}
 use Rattle.std.specs.Prelude.{sum}
 use Rattle.std.proofs.Math.Nat.{add-mod_right, add-mul-mod_self_right, le-mul_of_pos_right, mod-lt, mod-mod, mul-le-mul_right, mul-pos, one-mul}

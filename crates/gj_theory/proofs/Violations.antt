@@ -35,7 +35,8 @@ test_is_of f v h =
 not_nonnegative : (x : ℤ) → (pos 0 ≤ℤ x → ⊥) → x <ℤ pos 0
 not_nonnegative x h = grind (arith, ints)
 
--- the values at (i + 1/4)/order and at f less that do not add up, if those at (i + 1/2)/order and at f less do
+-- the values at (i + 1/4)/order and at f less that do not add up, if those at (i + 1/2)/order and
+-- at f less do
 quarters_differ : (s : ℕ) (x x' y y' : ℤ) →
     (pos 1 *ℤ x +ℤ pos 1 *ℤ x') +ℤ (pos 1 *ℤ y +ℤ pos 1 *ℤ y') ≡ pos (s * 2) →
     ((x +ℤ y' ≡ pos s) × (x' +ℤ y ≡ pos s) → ⊥) →

@@ -4,8 +4,9 @@ use Rattle.gj_shape.specs.Additive.{IsAdditive}
 use Rattle.gj_shape.specs.Cover.{Covers, HasCoverLine, Joins}
 use Rattle.gj_shape.specs.declared.extremality.CoverLine.{CoverLine}
 
--- the line behind those before it: its face is additive, its interval has no line yet, and the face is a triangle that
--- projects on the interval if the line opens a component, or else joins the interval to one that has a line
+-- the line behind those before it: its face is additive, its interval has no line yet, and the face
+-- is a triangle that projects on the interval if the line opens a component, or else joins the
+-- interval to one that has a line
 pub record MeetsCoverRule (q : ℕ) (Tight : ℕ → ℕ → Type 0) (before : List CoverLine) (l : CoverLine) : Type 0 where
   pub additive : IsAdditive Tight l.face.kind l.face.a l.face.b
   pub new : HasCoverLine before l.interval → ⊥

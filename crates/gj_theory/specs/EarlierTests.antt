@@ -59,7 +59,8 @@ PassesKindsBefore f a b Lower = PassesFace f Horizontal a b × PassesFace f Vert
 PassesKindsBefore f a b Upper =
     PassesFace f Horizontal a b × PassesFace f Vertical a b × PassesFace f Diagonal a b × PassesFace f Lower a b
 
--- the squares before (a, b) in walk order have the property: all of an earlier row, and in row a those before b
+-- the squares before (a, b) in walk order have the property: all of an earlier row, and in row a
+-- those before b
 pub record HoldsBefore (f : FunctionData) (P : ℕ → ℕ → Type 0) (a b : ℕ) : Type 0 where
   pub rows : (i j : ℕ) → i < a → j < f.order → P i j
   pub row : (j : ℕ) → j < b → P a j
@@ -86,7 +87,8 @@ PassesBefore f (subadditive_at Vertex a b c) =
     PassesSymmetry f × HoldsBefore f (λ i j. Passes f (subadditive_at Vertex i j 0)) a b
 PassesBefore f (subadditive_at kind a b c) = PassesFacesBefore f kind a b c
 
--- the test is one of the function's: its indices are below the order, and its corner is one of the face's
+-- the test is one of the function's: its indices are below the order, and its corner is one of the
+-- face's
 abbrev pub IsTestOf : FunctionData → Test → Type 0
 IsTestOf f zero_at_zero = Unit {0}
 IsTestOf f (nonnegative_at i) = i < f.order

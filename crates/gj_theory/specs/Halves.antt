@@ -1,10 +1,12 @@
--- Perturbations of a table, and two different minimal tables that average to it (Equivariant Perturbation I).
+-- Perturbations of a table, and two different minimal tables that average to it (Equivariant
+-- Perturbation I).
 use Rattle.std.specs.Prelude.{ℕ, ℤ, pos, ◌≡◌, ◌≢◌, ◌+◌, ◌*◌, ◌<◌, ◌+ℤ◌, ◌-ℤ◌, ◌*ℤ◌, ◌<ℤ◌, ◌≤ℤ◌}
 use Rattle.gj_shape.specs.Extreme.{AverageTo}
 use Rattle.gj_shape.specs.Table.{IsMinimalTable}
 use Rattle.gj_theory.specs.Steps.{IsAdditiveAtTight}
 
--- a perturbation of a table of period n with f at the place k: of that period, additive at each tight pair, and 0 at f
+-- a perturbation of a table of period n with f at the place k: of that period, additive at each
+-- tight pair, and 0 at f
 pub record IsPerturbation (t : ℕ → ℤ) (n k : ℕ) (p : ℕ → ℤ) : Type 0 where
   pub at_tight : IsAdditiveAtTight t n p
   pub zero_at_place : p k ≡ pos 0

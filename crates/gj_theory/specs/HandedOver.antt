@@ -6,8 +6,8 @@ use Rattle.gj_shape.specs.Elimination.{KeptRow, inserted, kept_behind}
 abbrev pub kept_after : ℕ → List KeptRow → ℕ → List ℤ → List KeptRow → List KeptRow
 kept_after n kept number row more = kept_behind kept number (inserted n kept row).reduce (inserted n kept row).kept ++ more
 
--- behind the rows before, of rows with numbers from this one on, those that are handed over, each with its number: a row may be
--- left out if it equals one before, or is all 0
+-- behind the rows before, of rows with numbers from this one on, those that are handed over, each
+-- with its number: a row may be left out if it equals one before, or is all 0
 pub data IsHandedOver : List (List ℤ) → ℕ → List (List ℤ) → List (ℕ × List ℤ) → Type 0 where
   none : (before : List (List ℤ)) (number : ℕ) → IsHandedOver before number [] []
   first : (before : List (List ℤ)) (number : ℕ) (row : List ℤ) (rows : List (List ℤ)) (handed : List (ℕ × List ℤ)) →

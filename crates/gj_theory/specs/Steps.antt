@@ -1,5 +1,5 @@
--- Tables that rise by one step on runs of places, and tables that are additive where the table of a function is
--- (Light on the Infinite Group Relaxation I and II; Equivariant Perturbation I).
+-- Tables that rise by one step on runs of places, and tables that are additive where the table of a
+-- function is (Light on the Infinite Group Relaxation I and II; Equivariant Perturbation I).
 use Rattle.std.specs.Prelude.{ℕ, ℤ, ◌≡◌, ◌+◌, ◌*◌, ◌<◌, ◌≤◌, ◌+ℤ◌}
 use Rattle.gj_shape.specs.FunctionData.{FunctionData}
 use Rattle.gj_shape.specs.Table.{table}
@@ -16,7 +16,8 @@ HasStepOn p m a t = HasStep p (a * m) m t
 abbrev pub IsAdditiveOnLower : (ℕ → ℤ) → ℕ → ℕ → ℕ → Type 0
 IsAdditiveOnLower p a b m = (i j : ℕ) → i + j ≤ m → p (a + i) +ℤ p (b + j) ≡ p (a + b + i + j)
 
--- the table is additive on the closed upper triangle of the square with the corner (a, b) and sides of length m
+-- the table is additive on the closed upper triangle of the square with the corner (a, b) and sides
+-- of length m
 abbrev pub IsAdditiveOnUpper : (ℕ → ℤ) → ℕ → ℕ → ℕ → Type 0
 IsAdditiveOnUpper p a b m = (i j : ℕ) → i ≤ m → j ≤ m → m ≤ i + j → p (a + i) +ℤ p (b + j) ≡ p (a + b + i + j)
 

@@ -1,4 +1,5 @@
--- Rows with different pivots modulo a number, and the triangular rows that elimination over residues keeps (own).
+-- Rows with different pivots modulo a number, and the triangular rows that elimination over
+-- residues keeps (own).
 use Rattle.std.specs.Prelude.{ℕ, ℤ, pos, ◌≡◌, List, All}
 use Rattle.gj_shape.specs.Elimination.{KeptRow}
 use Rattle.gj_shape.specs.Residues.{IsZeroModulo, IsInvertible, SolvesModulo}

@@ -1,4 +1,5 @@
--- Rows of whole numbers, their solutions, and the triangular rows that plain elimination keeps (own).
+-- Rows of whole numbers, their solutions, and the triangular rows that plain elimination keeps
+-- (own).
 use Rattle.std.specs.Prelude.{ℕ, ℤ, pos, ◌≡◌, ◌<◌, ◌==◌, ◌<ℤ◌, List, [], ◌∷◌, length, map, All}
 use Rattle.std.specs.List.{IsDistinct}
 use Rattle.gj_shape.specs.Elimination.{KeptRow, Arithmetic, at_column, entries_of, row_with_pivot, whole_numbers}

@@ -11,23 +11,27 @@ ghost use Rattle.gj_shape.specs.Values.{IsCongruent};
 ghost use Rattle.gj_frac.specs.Floor.{HasFractionalPart};
 ghost use Rattle.gj_theory.specs.Cuts.{IsEntryAt, IsValueOf, IsGmicValue};
 
-/// A row gives a cut if its right side has the fractional part f: by a minimal table whose entries are the
-/// coefficients, and by a minimal function whose values at the row's entries they are.
+/// A row gives a cut if its right side has the fractional part f: by a minimal table whose entries
+/// are the coefficients, and by a minimal function whose values at the row's entries they are.
 pub fn cut_from_subadditivity()
-    ensures by_table { (t : ℕ → ℤ) (n k s : ℕ) (entries : List Frac) (right : Frac) (coefficients : List Frac) →
+    ensures by_table { (t : ℕ → ℤ) (n k s : ℕ) (entries : List Frac) (right : Frac)
+        (coefficients : List Frac) →
         IsMinimalTable t n k s → 0 < n → 0 < s → HasFractionalPart right (pos k) (pos n) →
         AllZip (IsEntryAt t n s) entries coefficients → CutHolds entries right coefficients }
-    ensures by_function { (f : FunctionData) (entries : List Frac) (right : Frac) (coefficients : List Frac) →
+    ensures by_function { (f : FunctionData) (entries : List Frac) (right : Frac)
+        (coefficients : List Frac) →
         IsWithinBounds f → IsMinimal f → HasFractionalPart right (pos f.place) (pos f.order) →
         AllZip (IsValueOf f) entries coefficients → CutHolds entries right coefficients }
 {}
 
 /// The table of the mixed-integer cut is minimal.
 pub fn gmic_table_is_minimal()
-    ensures { (n k : ℕ) → 0 < k → k < n → IsMinimalTable (λ i. pos (gmic_table n k i)) n k (gmic_scale n k) }
+    ensures { (n k : ℕ) → 0 < k → k < n → IsMinimalTable (λ i. pos (gmic_table n k i)) n k
+        (gmic_scale n k) }
 {}
 
-/// On each grid that holds f and x the closed form of the mixed-integer cut for f has at x what its table has there.
+/// On each grid that holds f and x the closed form of the mixed-integer cut for f has at x what its
+/// table has there.
 pub fn gmic_has_closed_form()
     ensures { (f x y : Frac) (n k i : ℕ) (place : ℤ) → 0 < k → k < n →
         IsRatio f (pos k) (pos n) → IsRatio x place (pos n) → IsCongruent (pos i) place n →

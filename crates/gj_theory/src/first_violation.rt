@@ -11,7 +11,8 @@ pub fn first_failed_test()
         (Passes f t → ⊥) → Shows f t v → IsFirstViolation f v }
 {}
 
-/// All tests pass if those of signs, of symmetry and of the vertices do, and those of all other faces.
+/// All tests pass if those of signs, of symmetry and of the vertices do, and those of all other
+/// faces.
 pub fn all_tests_pass()
     ensures { (f : FunctionData) → PassesVertices f →
         ((a b : ℕ) → a < f.order → b < f.order → PassesSquare f a b) → PassesAll f }

@@ -7,15 +7,18 @@ ghost use Rattle.gj_shape.specs.Table.{table, IsMinimalOnGrid, IsMinimal};
 ghost use Rattle.gj_shape.specs.declared.faces.FaceKind.{FaceKind};
 ghost use Rattle.gj_theory.specs.NearCorners.{near_value};
 
-/// The thirteen limits: all tests of minimality pass exactly if the function is minimal, its table on every grid.
+/// The thirteen limits: all tests of minimality pass exactly if the function is minimal, its table
+/// on every grid.
 pub fn tests_say_minimal()
     ensures sound { (f : FunctionData) → IsWithinBounds f → PassesAll f → IsMinimal f }
     ensures complete { (f : FunctionData) → IsWithinBounds f → IsMinimal f → PassesAll f }
 {}
 
-/// A continuous function is minimal if the table on its own grid is: then the tables on all grids are.
+/// A continuous function is minimal if the table on its own grid is: then the tables on all grids
+/// are.
 pub fn own_grid_suffices()
-    ensures { (f : FunctionData) → IsWithinBounds f → IsContinuous f → IsMinimalOnGrid f 1 → IsMinimal f }
+    ensures { (f : FunctionData) → IsWithinBounds f → IsContinuous f →
+        IsMinimalOnGrid f 1 → IsMinimal f }
 {}
 
 /// Near the end of an open interval the values are affine between the limits at its ends.

@@ -9,12 +9,14 @@ ghost use Rattle.gj_theory.specs.GridPoints.{HoldsPoints};
 
 /// The first violation is shown at its points.
 pub fn first_violation_is_shown()
-    ensures { (f : FunctionData) (v : Violation) → IsWithinBounds f → IsFirstViolation f v → ShowsViolation f v }
+    ensures { (f : FunctionData) (v : Violation) → IsWithinBounds f → IsFirstViolation f v →
+        ShowsViolation f v }
 {}
 
 /// A function with a shown violation is not minimal.
 pub fn shown_violation_denies_minimality()
-    ensures { (f : FunctionData) (v : Violation) → IsWithinBounds f → ShowsViolation f v → IsMinimal f → ⊥ }
+    ensures { (f : FunctionData) (v : Violation) → IsWithinBounds f →
+        ShowsViolation f v → IsMinimal f → ⊥ }
 {}
 
 /// If a violation is shown, the table on no grid that holds its points is minimal.

@@ -1,4 +1,5 @@
--- What `extreme` writes with Done calls a function extreme exactly if it is continuous and its table of order 4 q is extreme.
+-- What `extreme` writes with Done calls a function extreme exactly if it is continuous and its
+-- table of order 4 q is extreme.
 use Rattle.std.proofs.Common.{◌≡◌, ◌↔◌, ℕ, Bool, List, String, Option, subst}
 use Rattle.std.specs.Prelude.{IfSome}
 use Rattle.std.specs.declared.alloc.Global.{Global}

@@ -1,4 +1,5 @@
--- What follows a rule, the claims about the cuts of an input, and why no input of `cut` is both in its form and refused.
+-- What follows a rule, the claims about the cuts of an input, and why no input of `cut` is both in
+-- its form and refused.
 use Rattle.std.proofs.Common.{◌≡◌, ℕ, List, subst}
 use Rattle.std.specs.List.{AllZip}
 use Rattle.gj_proof.specs.ProofText.{IsBounded, IsBoundedRule}

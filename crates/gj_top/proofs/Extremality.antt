@@ -1,4 +1,5 @@
--- The proof text of a decision keeps what is promised of it, and calls f extreme exactly if the table of order 4 q is.
+-- The proof text of a decision keeps what is promised of it, and calls f extreme exactly if the
+-- table of order 4 q is.
 use Rattle.std.proofs.Common.{◌≡◌, ◌↔◌, ◌*◌, ℕ, inl, inr, List, subst, arith}
 use Rattle.gj_shape.specs.FunctionData.{FunctionData, IsWithinBounds, IsContinuous}
 use Rattle.gj_shape.specs.Table.{table, IsMinimal}

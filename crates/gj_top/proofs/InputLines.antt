@@ -1,11 +1,10 @@
 -- Inputs by their lines, and as the readers find them.
-use Rattle.std.proofs.Common.{◌≡◌, inl, inr, codes, ℕ, List, [], ◌∷◌, refl, sym, subst}
+use Rattle.std.proofs.Common.{◌≡◌, inl, inr, codes, ℕ, List, [], ◌∷◌, ◌++◌, refl, sym, subst}
 use Rattle.gj_lex.specs.TextLines.{HasLines, HasNextLine}
 use Rattle.gj_lex.specs.declared.spelling.Spelling.TheVariants.{Lenient}
 use Rattle.gj_lex.proofs.WhereLaws.{other_word}
 use Rattle.gj_shape.specs.FunctionData.{FunctionData}
 use Rattle.gj_function_text.specs.BreaksText.{end_words}
-use Rattle.gj_function_text.specs.FamilyLine.{words_of_line}
 use Rattle.gj_function_text.specs.FunctionText.{title_words, breaks_title_words, IsWholeFunctionText}
 use Rattle.gj_function_text.specs.RuleText.{rule_title_words, rule_name_words, BeginsAsRule}
 use Rattle.gj_function_text.proofs.LinesOfFunction.{text_has_lines, lines_are_text}
@@ -31,21 +30,18 @@ title_is_other more e = cc
 breaks_title_is_other : (more : List (List ℕ)) → breaks_title_words ≡ codes "gj-rule" ∷ more → ⊥
 breaks_title_is_other more e = cc
 
-no_rule_before : (text rest : List ℕ) (first : List (List ℕ)) (lines more : List (List (List ℕ))) → HasLines Lenient text lines rest →
-    lines ≡ first ∷ more → ((words : List (List ℕ)) → first ≡ codes "gj-rule" ∷ words → ⊥) → BeginsAsRule text → ⊥
-no_rule_before text rest first lines more h is other begins =
-    before (subst (λ (ls : List (List (List ℕ))). HasLines Lenient text ls rest) is h)
-  where
-    before : HasLines Lenient text (first ∷ more) rest → ⊥
-    before (start, next, line, behind) = other_word Lenient text start first (codes "gj-rule") next line other begins
+no_rule_before : (text rest : List ℕ) (first : List (List ℕ)) (more : List (List (List ℕ))) →
+    HasLines Lenient text (first ∷ more) rest → ((words : List (List ℕ)) → first ≡ codes "gj-rule" ∷ words → ⊥) →
+    BeginsAsRule text → ⊥
+no_rule_before text rest first more (start, next, line, behind) other begins =
+    other_word Lenient text start first (codes "gj-rule") next line other begins
 
 no_rule : (text : List ℕ) (f : FunctionData) (rest : List ℕ) → BeginsWithFunction text f rest → BeginsAsRule text → ⊥
-no_rule text f rest (inl h) = no_rule_before text rest title_words h.lines _ h.has_lines h.are_lines.lines_are title_is_other
-no_rule text f rest (inr (inl h)) =
-    let more = words_of_line h.words ∷ end_words ∷ [] in
-    no_rule_before text rest title_words (title_words ∷ more) more h.has_lines refl title_is_other
+no_rule text f rest (inl h) =
+    no_rule_before text rest title_words (h.order ∷ h.place ∷ h.point_lines ++ end_words ∷ []) h.has_lines title_is_other
+no_rule text f rest (inr (inl h)) = no_rule_before text rest title_words (h.words ∷ end_words ∷ []) h.has_lines title_is_other
 no_rule text f rest (inr (inr h)) =
-    no_rule_before text rest breaks_title_words h.lines _ h.has_lines h.are_lines.lines_are breaks_title_is_other
+    no_rule_before text rest breaks_title_words (h.place ∷ h.points ++ end_words ∷ []) h.has_lines breaks_title_is_other
 
 -- ---- rules
 

@@ -1,4 +1,5 @@
--- `extreme` never ends with Wide on a function that has an uncovered interval, or at most four components.
+-- `extreme` never ends with Wide on a function that has an uncovered interval, or at most four
+-- components.
 use Rattle.std.proofs.Common.{◌≡◌, ◌≢◌, ◌⊎◌, inl, inr, ℕ, Bool, List, String, Option, ap, subst, ◌∙◌, arith}
 use Rattle.std.specs.declared.alloc.Global.{Global}
 use Rattle.gj_shape.specs.Additive.{IsTight}

@@ -12,7 +12,7 @@ use Rattle.gj_json.specs.JsonText.{IsPrintable, AreRatios, IsJsonText, IsReport,
 use Rattle.gj_proof.specs.declared.claim.Claim.{Claim}
 use Rattle.gj_proof.specs.declared.numbers.Numbers.{Numbers}
 use Rattle.gj_proof.specs.declared.numbers.Numbers.TheVariants.{Whole, Residues}
-use Rattle.gj_proof.specs.ProofText.{IsProofText, claim_word, title_fields, numbers_of, own_lines}
+use Rattle.gj_proof.specs.ProofText.{IsProofText, claim_word, title_fields, numbers_of, own_text}
 use Rattle.gj_forms.specs.LineForms.{bytes_of}
 use Rattle.gj_top.specs.declared.reply.End.{End}
 use Rattle.gj_top.specs.declared.reply.End.TheVariants as end
@@ -74,7 +74,7 @@ first_lines a b r q h k e = one_cut a b r q h k (sym (append_assoc a (10 ∷ [])
 
 -- what follows the word of the claim, and what follows the title
 abbrev behind_word : Claim → List ℕ → List ℕ
-behind_word c subject = subject ++ (flat_map (λ l. l.bytes) (own_lines c) ++ line (codes "end"))
+behind_word c subject = subject ++ (own_text c ++ line (codes "end"))
 
 abbrev behind_title : Claim → List ℕ → List ℕ
 behind_title c subject = line (codes "claim " ++ claim_word c) ++ behind_word c subject
@@ -84,9 +84,9 @@ regrouped a b s l e = append_assoc (a ++ b ++ s) l e ∙ append_assoc (a ++ b) s
 
 by_title : (c : Claim) (text : List ℕ) (h : IsProofText c text) → text ≡ line (title_text (numbers_of c)) ++ behind_title c h.subject
 by_title c text h =
-    h.spelled ∙ ap (λ t. t ++ line (codes "claim " ++ claim_word c) ++ h.subject ++ flat_map (λ l. l.bytes) (own_lines c) ++ line (codes "end"))
+    h.spelled ∙ ap (λ t. t ++ line (codes "claim " ++ claim_word c) ++ h.subject ++ own_text c ++ line (codes "end"))
     (title_line (numbers_of c))
-    ∙ regrouped (line (title_text (numbers_of c))) (line (codes "claim " ++ claim_word c)) h.subject (flat_map (λ l. l.bytes) (own_lines c))
+    ∙ regrouped (line (title_text (numbers_of c))) (line (codes "claim " ++ claim_word c)) h.subject (own_text c)
     (line (codes "end"))
 
 one_word : (c d : Claim) (text : List ℕ) → IsProofText c text → IsProofText d text → claim_word c ≡ claim_word d

@@ -41,8 +41,7 @@ use Rattle.gj_lex.specs.Name.{IsNameByte, IsName}
 use Rattle.gj_theory.specs.Modulus.{modulus}
 use Rattle.gj_proof.specs.declared.numbers.Numbers.{Numbers}
 use Rattle.gj_proof.specs.declared.numbers.Numbers.TheVariants.{Whole, Residues}
-use Rattle.gj_proof.specs.ProofText.{title_fields, numbers_of, claim_fields, violation_fields, row_fields, term_fields, column_fields, row_name_fields, modulus_fields, halves_fields, pair_fields, modulus_line, modulus_lines, HasText, IsCoverLineBelow, IsRowNameBelow, IsPivotRowBelow, covered_lines, group_line, reduction_lines, pivot_line, group_lines, halves_line, pair_line, pair_lines, claim_word, OwnLine, own_lines, violation_line, row_line, term_line, reason_word, terms_of, term_lines, row_lines, HasNames, subject_of, AreSubjectLines, IsBounded, IsProofText}
-use Rattle.gj_proof.specs.ProofText.ProofLine.{group_pivot}
+use Rattle.gj_proof.specs.ProofText.{title_fields, numbers_of, claim_fields, violation_fields, row_fields, term_fields, column_fields, row_name_fields, modulus_fields, halves_fields, pair_fields, modulus_line, HasText, IsCoverLineBelow, IsRowNameBelow, IsPivotRowBelow, group_line, pivot_line, halves_line, pair_line, claim_word, row_line, term_line, reason_word, terms_of, HasNames, subject_of, AreSubjectLines, IsBounded, IsProofText, row_text, group_text, modulus_text, extreme_text, own_text, reduction_line}
 use Rattle.gj_proof.specs.declared.pivot.PivotRow.{PivotRow}
 use Rattle.gj_proof.proofs.OwnLines.{names_of_terms}
 use Rattle.gj_forms.proofs.WholeNumbers.{whole, text_of_whole}
@@ -181,21 +180,11 @@ term_bytes t h =
     fields_bytes (term_fields t)
     (known (codes "term") refl, (name_printable t.name h, (fraction_printable t.entry, (fraction_printable t.cut, tt))))
 
-terms_bytes : (i j : ℕ) (terms : List CutTerm) → All (λ t. IsName t.name) terms →
-    All (λ (l : OwnLine). All IsProofByte l.bytes) (term_lines i j terms)
-terms_bytes i j [] h = All-nil (λ (l : OwnLine). All IsProofByte l.bytes)
-terms_bytes i j (t ∷ terms) h =
-    All-cons (λ (l : OwnLine). All IsProofByte l.bytes) _ (term_lines i (j + 1) terms)
-    (term_bytes t (All-head (λ u. IsName u.name) t terms h)) (terms_bytes i (j + 1) terms (All-tail (λ u. IsName u.name) t terms h))
-
-rows_bytes : (i : ℕ) (rows : List CutLine) → All HasNames rows → All (λ (l : OwnLine). All IsProofByte l.bytes) (row_lines i rows)
-rows_bytes i [] h = All-nil (λ (l : OwnLine). All IsProofByte l.bytes)
-rows_bytes i (l ∷ rows) h =
-    let P : OwnLine → Type 0 = λ o. All IsProofByte o.bytes in
-    let names = All-head HasNames l rows h in
-    All-cons P _ (term_lines i 0 (terms_of l) ++ row_lines (i + 1) rows) (row_bytes l names)
-    (All-append P (term_lines i 0 (terms_of l)) (row_lines (i + 1) rows) (terms_bytes i 0 (terms_of l) (names_of_terms l names))
-    (rows_bytes (i + 1) rows (All-tail HasNames l rows h)))
+row_text_bytes : (l : CutLine) → HasNames l → All IsProofByte (row_text l)
+row_text_bytes l h =
+    both (row_line l) (flat_map term_line (terms_of l)) (row_bytes l h)
+    (All-flat_map IsProofByte term_line (terms_of l)
+    (All-weaker (λ (t : CutTerm). IsName t.name) (λ t. All IsProofByte (term_line t)) term_bytes (terms_of l) (names_of_terms l h)))
 
 -- ---- the lines of an extreme function
 
@@ -224,14 +213,6 @@ cover_bytes q l high below =
       ),
     )
 
-covers_bytes : (q i : ℕ) (lines : List CoverLine) → q ≤ 1000 → All (IsCoverLineBelow q) lines →
-    All (λ (l : OwnLine). All IsProofByte l.bytes) (covered_lines i lines)
-covers_bytes q i [] high h = All-nil (λ (l : OwnLine). All IsProofByte l.bytes)
-covers_bytes q i (l ∷ lines) high h =
-    All-cons (λ (o : OwnLine). All IsProofByte o.bytes) _ (covered_lines (i + 1) lines)
-    (cover_bytes q l high (All-head (IsCoverLineBelow q) l lines h))
-    (covers_bytes q (i + 1) lines high (All-tail (IsCoverLineBelow q) l lines h))
-
 -- the line of a word and a column
 column_bytes : (name : List ℕ) (c : ℕ) → All IsPrintable name → c < 1000 → All IsProofByte (bytes_of (column_fields name c))
 column_bytes name c h low = fields_bytes (column_fields name c) (h, (decimal_printable c (omega arith), tt))
@@ -242,27 +223,18 @@ name_printable_of_row q F high below = (known (codes "row") refl, (known (codes 
 name_printable_of_row q (Pair a b) high (a_low, up, b_low) =
     (known (codes "row") refl, (decimal_printable a (omega arith), (decimal_printable b (omega arith), tt)))
 
-steps_bytes : (g r : ℕ) (columns : List ℕ) → All (λ c. c < 1000) columns →
-    All (λ (l : OwnLine). All IsProofByte l.bytes) (reduction_lines g r columns)
-steps_bytes g r [] h = All-nil (λ (l : OwnLine). All IsProofByte l.bytes)
-steps_bytes g r (c ∷ columns) h =
-    All-cons (λ (o : OwnLine). All IsProofByte o.bytes) _ (reduction_lines g (r + 1) columns)
-    (column_bytes (codes "reduce") c (known (codes "reduce") refl) (All-head (λ d. d < 1000) c columns h))
-    (steps_bytes g (r + 1) columns (All-tail (λ d. d < 1000) c columns h))
+steps_bytes : (columns : List ℕ) → All (λ c. c < 1000) columns → All IsProofByte (flat_map reduction_line columns)
+steps_bytes columns h =
+    All-flat_map IsProofByte reduction_line columns
+    (All-weaker (λ c. c < 1000) (λ c. All IsProofByte (reduction_line c)) (λ c low. column_bytes (codes "reduce") c (known (codes "reduce") refl) low)
+    columns h)
 
-groups_bytes : (q g : ℕ) (rows : List PivotRow) → q ≤ 1000 → All (IsPivotRowBelow q) rows →
-    All (λ (l : OwnLine). All IsProofByte l.bytes) (group_lines g rows)
-groups_bytes q g [] high h = All-nil (λ (l : OwnLine). All IsProofByte l.bytes)
-groups_bytes q g (row ∷ rows) high h =
-    let P : OwnLine → Type 0 = λ o. All IsProofByte o.bytes in
-    let here = All-head (IsPivotRowBelow q) row rows h in
-    All-cons P _ (reduction_lines g 0 row.reduce ++ record { name = group_pivot g; bytes = pivot_line row.pivot } ∷ group_lines (g + 1) rows)
-    (fields_bytes (row_name_fields row.name) (name_printable_of_row q row.name high here.name))
-    (All-append P (reduction_lines g 0 row.reduce) (record { name = group_pivot g; bytes = pivot_line row.pivot } ∷ group_lines (g + 1) rows)
-    (steps_bytes g 0 row.reduce here.reduce)
-    (All-cons P (record { name = group_pivot g; bytes = pivot_line row.pivot }) (group_lines (g + 1) rows)
-    (column_bytes (codes "pivot") row.pivot (known (codes "pivot") refl) here.pivot)
-    (groups_bytes q (g + 1) rows high (All-tail (IsPivotRowBelow q) row rows h))))
+group_bytes : (q : ℕ) → q ≤ 1000 → (row : PivotRow) → IsPivotRowBelow q row → All IsProofByte (group_text row)
+group_bytes q high row h =
+    both (group_line row.name ++ flat_map reduction_line row.reduce) (pivot_line row.pivot)
+    (both (group_line row.name) (flat_map reduction_line row.reduce)
+    (fields_bytes (row_name_fields row.name) (name_printable_of_row q row.name high h.name)) (steps_bytes row.reduce h.reduce))
+    (column_bytes (codes "pivot") row.pivot (known (codes "pivot") refl) h.pivot)
 
 -- ---- the lines of halves
 
@@ -285,14 +257,12 @@ pair_bytes : (x y : ℤ) → Fits x → Fits y → All IsProofByte (pair_line (x
 pair_bytes x y x_fits y_fits =
     fields_bytes (pair_fields (x, y)) (known (codes "pair") refl, (whole_printable x x_fits, (whole_printable y y_fits, tt)))
 
-pairs_bytes : (i : ℕ) (xs ys : List ℤ) → All Fits xs → All Fits ys →
-    All (λ (l : OwnLine). All IsProofByte l.bytes) (pair_lines i (zip xs ys))
-pairs_bytes i [] ys h k = All-nil (λ (l : OwnLine). All IsProofByte l.bytes)
-pairs_bytes i (x ∷ xs) [] h k = All-nil (λ (l : OwnLine). All IsProofByte l.bytes)
-pairs_bytes i (x ∷ xs) (y ∷ ys) h k =
-    All-cons (λ (o : OwnLine). All IsProofByte o.bytes) _ (pair_lines (i + 1) (zip xs ys))
-    (pair_bytes x y (All-head Fits x xs h) (All-head Fits y ys k))
-    (pairs_bytes (i + 1) xs ys (All-tail Fits x xs h) (All-tail Fits y ys k))
+pairs_bytes : (xs ys : List ℤ) → All Fits xs → All Fits ys → All IsProofByte (flat_map pair_line (zip xs ys))
+pairs_bytes [] ys h k = All-nil IsProofByte
+pairs_bytes (x ∷ xs) [] h k = All-nil IsProofByte
+pairs_bytes (x ∷ xs) (y ∷ ys) h k =
+    both (pair_line (x, y)) (flat_map pair_line (zip xs ys)) (pair_bytes x y (All-head Fits x xs h) (All-head Fits y ys k))
+    (pairs_bytes xs ys (All-tail Fits x xs h) (All-tail Fits y ys k))
 
 modulus_bytes : All IsProofByte modulus_line
 modulus_bytes =
@@ -307,30 +277,38 @@ title_bytes Residues = fields_bytes (title_fields Residues) (known (codes "gj-pr
 
 -- ---- all lines of the claim's own
 
-own_bytes : (c : Claim) → IsBounded c → HasText c → All IsProofByte (flat_map (λ l. l.bytes) (own_lines c))
+modulus_text_bytes : (n : Numbers) → All IsProofByte (modulus_text n)
+modulus_text_bytes Whole = All-nil IsProofByte
+modulus_text_bytes Residues = modulus_bytes
+
+extreme_bytes : (n : Numbers) (q : ℕ) (lines : List CoverLine) (rows : List PivotRow) → q ≤ 1000 → All (IsCoverLineBelow q) lines →
+    All (IsPivotRowBelow q) rows → All IsProofByte (extreme_text n lines rows)
+extreme_bytes n q lines rows high h k =
+    both (flat_map cover_line lines) (modulus_text n ++ flat_map group_text rows)
+    (All-flat_map IsProofByte cover_line lines
+    (All-weaker (IsCoverLineBelow q) (λ l. All IsProofByte (cover_line l)) (λ l below. cover_bytes q l high below) lines h))
+    (both (modulus_text n) (flat_map group_text rows) (modulus_text_bytes n)
+    (All-flat_map IsProofByte group_text rows
+    (All-weaker (IsPivotRowBelow q) (λ row. All IsProofByte (group_text row)) (group_bytes q high) rows k)))
+
+own_bytes : (c : Claim) → IsBounded c → HasText c → All IsProofByte (own_text c)
 own_bytes (Minimal f) within has = All-nil IsProofByte
-own_bytes (NotMinimal f v) within has = both (violation_line v) [] (fields_bytes (violation_fields v) (violation_printable v)) (All-nil IsProofByte)
-own_bytes (Cut r rows) within has = All-flat_map IsProofByte (λ (l : OwnLine). l.bytes) (row_lines 0 rows) (rows_bytes 0 rows within.1)
-own_bytes (Extreme f lines rows) within has =
-    All-flat_map IsProofByte (λ (l : OwnLine). l.bytes) (covered_lines 0 lines ++ group_lines 0 rows)
-    (All-append (λ (l : OwnLine). All IsProofByte l.bytes) (covered_lines 0 lines) (group_lines 0 rows)
-    (covers_bytes f.order 0 lines within.order_high has.1) (groups_bytes f.order 0 rows within.order_high has.2))
-own_bytes (ExtremeByResidues f lines rows) within has =
-    All-flat_map IsProofByte (λ (l : OwnLine). l.bytes) (covered_lines 0 lines ++ (modulus_lines Residues ++ group_lines 0 rows))
-    (All-append (λ (l : OwnLine). All IsProofByte l.bytes) (covered_lines 0 lines) (modulus_lines Residues ++ group_lines 0 rows)
-    (covers_bytes f.order 0 lines within.order_high has.1)
-    (All-cons (λ (o : OwnLine). All IsProofByte o.bytes) _ (group_lines 0 rows) modulus_bytes (groups_bytes f.order 0 rows within.order_high has.2)))
+own_bytes (NotMinimal f v) within has = fields_bytes (violation_fields v) (violation_printable v)
+own_bytes (Cut r rows) within has =
+    All-flat_map IsProofByte row_text rows
+    (All-weaker HasNames (λ l. All IsProofByte (row_text l)) row_text_bytes rows within.1)
+own_bytes (Extreme f lines rows) within has = extreme_bytes Whole f.order lines rows within.order_high has.1 has.2
+own_bytes (ExtremeByResidues f lines rows) within has = extreme_bytes Residues f.order lines rows within.order_high has.1 has.2
 own_bytes (NotExtreme f h) within has =
-    both (halves_line h) (flat_map (λ (l : OwnLine). l.bytes) (pair_lines 0 (zip h.first h.second))) (halves_bytes h has)
-    (All-flat_map IsProofByte (λ (l : OwnLine). l.bytes) (pair_lines 0 (zip h.first h.second))
-    (pairs_bytes 0 h.first h.second has.first_fit has.second_fit))
+    both (halves_line h) (flat_map pair_line (zip h.first h.second)) (halves_bytes h has)
+    (pairs_bytes h.first h.second has.first_fit has.second_fit)
 
 pub proof_bytes : (c : Claim) (text : List ℕ) → IsBounded c → IsProofText c text → All IsProofByte text
 proof_bytes c text within p =
     let title = bytes_of (title_fields (numbers_of c)) in
     let word = bytes_of (claim_fields (claim_word c)) in
     let head = title ++ word in
-    let own = flat_map (λ (l : OwnLine). l.bytes) (own_lines c) in
+    let own = own_text c in
     subst (All IsProofByte) (sym p.spelled)
     (both (head ++ p.subject ++ own) (line (codes "end"))
     (both (head ++ p.subject) own
@@ -344,5 +322,5 @@ proof_bytes c text within p =
 pub proof_is_ended : (c : Claim) (text : List ℕ) → IsProofText c text → IsEnded text
 proof_is_ended c text p =
     let front = bytes_of (title_fields (numbers_of c)) ++ bytes_of (claim_fields (claim_word c)) ++ p.subject
-    ++ flat_map (λ (l : OwnLine). l.bytes) (own_lines c) in
+    ++ own_text c in
     inr (front ++ codes "end", p.spelled ∙ sym (append_assoc front (codes "end") (10 ∷ [])))

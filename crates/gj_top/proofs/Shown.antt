@@ -1,4 +1,5 @@
--- What `show` writes is a function text of the function that it read, and `show` writes it again as it stands.
+-- What `show` writes is a function text of the function that it read, and `show` writes it again as
+-- it stands.
 use Rattle.std.proofs.Common.{◌≡◌, ℕ, false, List, refl, subst, arith}
 use Rattle.gj_shape.specs.FunctionData.{FunctionData}
 use Rattle.gj_function_text.specs.FunctionText.{IsWholeFunctionText, IsCanonicalText}

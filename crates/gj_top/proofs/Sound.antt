@@ -1,5 +1,5 @@
--- What holds of every task: no input in its form is refused, and none if it reads none; and a reply that ends with Done keeps the
--- promise.
+-- What holds of every task: no input in its form is refused, and none if it reads none; and a reply
+-- that ends with Done keeps the promise.
 use Rattle.std.proofs.Common.{inl, inr, ℕ, Bool, true, false, List, IsTrue, refl}
 use Rattle.gj_shape.specs.FunctionData.{FunctionData, IsWithinBounds, IsContinuous}
 use Rattle.gj_words.specs.declared.requests.Command.{Command}

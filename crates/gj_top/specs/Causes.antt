@@ -16,7 +16,8 @@ use Rattle.gj_top.specs.Answer.{IsAnswerTo, IsWithinLimit}
 abbrev pub IsInput : List (String Global) → Option (List ℕ) → List ℕ → Type 0
 IsInput words left input = (r : Request) → IsNamed words r → IsTrue (reads (promise_for r).form) → left ≡ Some input
 
--- the headline: the words name a request, the input is in its form, and what was written keeps what the request promises
+-- the headline: the words name a request, the input is in its form, and what was written keeps what
+-- the request promises
 pub record IsTrueRun (words : List (String Global)) (input before : List ℕ) (written : Option (List ℕ)) : Type 0 where
   pub request : Request
   pub named : IsNamed words request
@@ -24,7 +25,8 @@ pub record IsTrueRun (words : List (String Global)) (input before : List ℕ) (w
   pub true_reply : IsTrueReply (promise_for request) input text
   pub gain : written ≡ Some (before ++ text)
 
--- the words name a request, and what was written is the reply to what the input spells, as the request's task has it
+-- the words name a request, and what was written is the reply to what the input spells, as the
+-- request's task has it
 pub record IsDoneRun (words : List (String Global)) (input before : List ℕ) (written : Option (List ℕ)) : Type 0 where
   pub request : Request
   pub named : IsNamed words request
@@ -36,8 +38,8 @@ pub record IsDoneRun (words : List (String Global)) (input before : List ℕ) (w
 abbrev pub ReadNothing : List (String Global) → Type 0
 ReadNothing words = NameNone words ⊎ ((r : Request) × IsNamed words r × (reads (promise_for r).form ≡ false))
 
--- the statuses of a task: want of memory and a failing sink come with each, a failing source and a refused input with
--- those that read, and else an end of its replies
+-- the statuses of a task: want of memory and a failing sink come with each, a failing source and a
+-- refused input with those that read, and else an end of its replies
 abbrev pub IsStatusOf : Task → Status → Type 0
 IsStatusOf task s =
     (s ≡ Memory)
@@ -45,8 +47,8 @@ IsStatusOf task s =
     ⊎ (IsTrue (reads task.promise.form) × ((s ≡ ReadFault) ⊎ (s ≡ Input)))
     ⊎ ((end : End) × (s ≡ status_of end) × HasEnd task end)
 
--- why a run over this input has the status: there was no memory, the source or the sink failed, the words name no request,
--- or it is the status of the answer to the input
+-- why a run over this input has the status: there was no memory, the source or the sink failed, the
+-- words name no request, or it is the status of the answer to the input
 abbrev pub IsCause : List (String Global) → List ℕ → Status → Type 0
 IsCause words input s =
     (s ≡ Memory)
@@ -55,7 +57,8 @@ IsCause words input s =
     ⊎ ((s ≡ Words) × NameNone words)
     ⊎ ((r : Request) × IsNamed words r × (text : List ℕ) × IsAnswerTo (task_for r) input s text)
 
--- an input in the form of the task; if the task reads one, the source told it, and it is within the limit
+-- an input in the form of the task; if the task reads one, the source told it, and it is within the
+-- limit
 pub record IsGoodInput (task : Task) (left : Option (List ℕ)) (input : List ℕ) : Type 0 where
   pub told : IsTrue (reads task.promise.form) → left ≡ Some input
   pub within : IsWithinLimit task input

@@ -1,4 +1,5 @@
--- The first jump of a function, the line that names it, and commands for continuous functions (own).
+-- The first jump of a function, the line that names it, and commands for continuous functions
+-- (own).
 use Rattle.std.specs.Prelude.{ℕ, pos, ◌≡◌, List, codes}
 use Rattle.gj_frac.specs.declared.Frac.{Frac}
 use Rattle.gj_frac.specs.Fraction.{IsRatio}

@@ -1,5 +1,5 @@
--- The command `cut`: a function or a rule, and a tableau behind it, are answered with the cuts of its rows (Gomory and Johnson
--- 1972; the form is own).
+-- The command `cut`: a function or a rule, and a tableau behind it, are answered with the cuts of
+-- its rows (Gomory and Johnson 1972; the form is own).
 use Rattle.std.specs.Prelude.{ℕ, ◌≡◌, List, [], ◌∷◌, ◌++◌, All, codes, decimal}
 use Rattle.std.specs.List.{AllZip}
 use Rattle.gj_shape.specs.FirstViolation.{IsFirstViolation}
@@ -33,7 +33,8 @@ use Rattle.gj_top.specs.Forms.{BeginsWithFunction, NamesFault}
 
 -- ---- the input
 
--- the text begins with the lines `gj-rule 1`, `gmic` and `end`, or with those of a function, and the rest follows
+-- the text begins with the lines `gj-rule 1`, `gmic` and `end`, or with those of a function, and
+-- the rest follows
 abbrev pub HasLinesOfRule : List ℕ → CutRule → List ℕ → Type 0
 HasLinesOfRule text Gmic rest = HasLines Lenient text (rule_title_words ∷ rule_name_words ∷ end_words ∷ []) rest
 HasLinesOfRule text (Table f) rest = BeginsWithFunction text f rest
@@ -76,7 +77,8 @@ pub data RefusesCutInput (input text : List ℕ) : Type 0 where
 
 -- ---- the cuts
 
--- the text is the proof text of a line for each row, in their order; each cut holds at every solution of its row
+-- the text is the proof text of a line for each row, in their order; each cut holds at every
+-- solution of its row
 pub record AreCutsOf (input : CutInput) (text : List ℕ) : Type 0 where
   pub lines : List CutLine
   pub lines_are : AllZip (IsLineFor input.rule input.tableau.columns) input.tableau.rows lines
@@ -101,7 +103,8 @@ IsCutReply input Done text = MakesCuts input.rule × AreCheckedCutsOf input text
 IsCutReply input NoFunction text = NamesViolation input.rule text
 IsCutReply input end text = ⊥
 
--- the headline: the rows that are written are those of the tableau, and each cut holds at every solution of its row
+-- the headline: the rows that are written are those of the tableau, and each cut holds at every
+-- solution of its row
 abbrev pub cut_promise : Promise
 cut_promise = record { Thing = CutInput; form = cut_input; headline = AreCutsOf }
 

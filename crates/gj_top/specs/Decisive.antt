@@ -1,4 +1,5 @@
--- What `extreme` says of a function: by its table of order 4 q (own), and if it has two slopes (Gomory and Johnson 1972).
+-- What `extreme` says of a function: by its table of order 4 q (own), and if it has two slopes
+-- (Gomory and Johnson 1972).
 use Rattle.std.specs.Prelude.{ℕ, ◌≡◌, ◌↔◌, Bool, List, ◌++◌, Option, Some}
 use Rattle.gj_shape.specs.FunctionData.{FunctionData, IsContinuous}
 use Rattle.gj_extreme.specs.Decision.{IsExtremeOnGrid4}

@@ -10,7 +10,8 @@ use Rattle.gj_top.specs.Promise.{Promise}
 use Rattle.gj_top.specs.Promise.Form.{reading_nothing}
 use Rattle.gj_top.specs.Task.{Task, EndsDone}
 
--- the headline: the n-th function is minimal and, as the halves show, not extreme; what the text counts is said by the reply
+-- the headline: the n-th function is minimal and, as the halves show, not extreme; what the text
+-- counts is said by the reply
 pub record IsTrueDemonstration (n : ℕ) (text : List ℕ) : Type 0 where
   pub function : FunctionData
   pub halves : Halves

@@ -1,4 +1,5 @@
--- The command `extreme`: a function is answered with the proof text of a verdict on extremality (own).
+-- The command `extreme`: a function is answered with the proof text of a verdict on extremality
+-- (own).
 use Rattle.std.specs.Prelude.{ℕ, ◌≡◌, ◌⊎◌, Bool, List, codes}
 use Rattle.gj_shape.specs.FunctionData.{FunctionData, IsContinuous}
 use Rattle.gj_shape.specs.Table.{IsMinimal}
@@ -24,7 +25,8 @@ use Rattle.gj_top.specs.Report.{proof_promise, proof_task}
 use Rattle.gj_top.specs.Continuity.{NamesFirstJump}
 use Rattle.gj_top.specs.Minimal.{IsNotMinimalText}
 
--- the text is the proof text of what the decision gives of f: a claim that holds, and that meets every rule of the checker
+-- the text is the proof text of what the decision gives of f: a claim that holds, and that meets
+-- every rule of the checker
 pub record IsDecisionText (f : FunctionData) (text : List ℕ) : Type 0 where
   pub claim : Claim
   pub decided : IsDecided f claim
@@ -60,9 +62,9 @@ IsExtremeText f text =
 abbrev pub IsNotExtremeText : FunctionData → Halves → List ℕ → Type 0
 IsNotExtremeText f h text = IsProofText (NotExtreme f h) text
 
--- the headline: the text calls f extreme, and then each of its tables is minimal and no average of two different minimal tables; or
--- it calls f not extreme, with two different minimal tables that average to its own, and it is not; or not minimal, with a violation
--- that shows it, and it is not
+-- the headline: the text calls f extreme, and then each of its tables is minimal and no average of
+-- two different minimal tables; or it calls f not extreme, with two different minimal tables that
+-- average to its own, and it is not; or not minimal, with a violation that shows it, and it is not
 abbrev pub IsTrueExtremality : FunctionData → List ℕ → Type 0
 IsTrueExtremality f text =
     (IsExtremeText f text × IsContinuous f × IsExtreme f)

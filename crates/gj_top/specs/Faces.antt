@@ -1,5 +1,5 @@
--- The command `faces`: a function text is answered with the maximal additive faces and the covered intervals of its
--- function.
+-- The command `faces`: a function text is answered with the maximal additive faces and the covered
+-- intervals of its function.
 use Rattle.std.specs.Prelude.{false}
 use Rattle.gj_shape.specs.FunctionData.{IsContinuous}
 use Rattle.gj_listings.specs.FacesText.{IsFacesText}

@@ -1,5 +1,5 @@
--- The command `fill`: a function text is answered with the two-slope fill-in of its function, by breakpoints (Gomory and Johnson 1972; the
--- form is own).
+-- The command `fill`: a function text is answered with the two-slope fill-in of its function, by
+-- breakpoints (Gomory and Johnson 1972; the form is own).
 use Rattle.std.specs.Prelude.{ℕ, pos, ◌≡◌, false, List, ◌++◌, map, codes}
 use Rattle.gj_frac.specs.declared.Frac.{Frac}
 use Rattle.gj_frac.specs.Fraction.{IsRatio}
@@ -38,7 +38,8 @@ pub record NamesFirstPair (f : FunctionData) (text : List ℕ) : Type 0 where
   pub y_is : IsRatio y (pos b) (pos f.order)
   pub spelled : text ≡ line (codes "not subadditive " ++ fraction_text x ++ codes " " ++ fraction_text y)
 
--- of a continuous function that is not subadditive at the multiples of 1/order the first two of these are named
+-- of a continuous function that is not subadditive at the multiples of 1/order the first two of
+-- these are named
 abbrev pub IsFillReply : FunctionData → End → List ℕ → Type 0
 IsFillReply f Done text = IsFillText f text
 IsFillReply f NotSubadditive text = NamesFirstPair f text

@@ -21,7 +21,8 @@ use Rattle.gj_top.specs.Task.{Task}
 
 -- ---- the forms
 
--- the text begins with the lines of the function f, by its points, as one of a family or by its breakpoints, and the rest follows
+-- the text begins with the lines of the function f, by its points, as one of a family or by its
+-- breakpoints, and the rest follows
 abbrev pub BeginsWithFunction : List ℕ → FunctionData → List ℕ → Type 0
 BeginsWithFunction text f rest = HasLinesOfFunction text f rest ⊎ HasLinesOfFamily text f rest ⊎ HasLinesOfBreaks text f rest
 

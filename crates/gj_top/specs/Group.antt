@@ -1,5 +1,5 @@
--- The command `group`: a function text is answered with a verdict on the table of the function's own order, the finite master problem of
--- that order (Gomory and Johnson 1972; the form is own).
+-- The command `group`: a function text is answered with a verdict on the table of the function's
+-- own order, the finite master problem of that order (Gomory and Johnson 1972; the form is own).
 use Rattle.std.specs.Prelude.{ℕ, ◌≡◌, ◌<◌, ◌≤◌, false, List, codes}
 use Rattle.gj_shape.specs.FunctionData.{FunctionData, IsContinuous}
 use Rattle.gj_shape.specs.Table.{IsMinimalOnGrid}
@@ -15,14 +15,16 @@ use Rattle.gj_top.specs.Forms.{function_promise, function_task}
 use Rattle.gj_top.specs.Continuity.{IsContinuousReply}
 use Rattle.gj_top.specs.Extreme.{wide_line}
 
--- the headline: the function is continuous, and the text calls the table of its own order not minimal, extreme or not extreme, and so it is
+-- the headline: the function is continuous, and the text calls the table of its own order not
+-- minimal, extreme or not extreme, and so it is
 pub record IsTrueGroupText (f : FunctionData) (text : List ℕ) : Type 0 where
   pub continuous : IsContinuous f
   pub answer : GroupAnswer
   pub says : SaysOfTable f answer
   pub spelled : IsGroupText f answer text
 
--- of a function of at most the greatest order, no number is too wide, and the violation or the halves are those of the decision
+-- of a function of at most the greatest order, no number is too wide, and the violation or the
+-- halves are those of the decision
 pub record IsGroupVerdict (f : FunctionData) (text : List ℕ) : Type 0 where
   pub few : f.order ≤ greatest_group_order
   pub narrow : IsMinimalOnGrid f 1 → IsTooWideGroup f → ⊥

@@ -1,5 +1,6 @@
--- The command `mixed`: a function or a rule, and a tableau behind it of which columns may be continuous, are answered with the mixed cuts
--- of its rows (Gomory and Johnson 1972; the form is own).
+-- The command `mixed`: a function or a rule, and a tableau behind it of which columns may be
+-- continuous, are answered with the mixed cuts of its rows (Gomory and Johnson 1972; the form is
+-- own).
 use Rattle.std.specs.Prelude.{ℕ, List}
 use Rattle.gj_shape.specs.Table.{IsMinimal}
 use Rattle.gj_proof.specs.declared.cut.CutRule.{CutRule}
@@ -17,15 +18,16 @@ abbrev pub NamesJump : CutRule → List ℕ → Type 0
 NamesJump Gmic text = ⊥
 NamesJump (Table f) text = IsMinimal f × NamesFirstJump f text
 
--- the mixed cuts of the rows, if the rule makes such cuts; of a function that is not minimal the first violation is named, and of a
--- minimal one that jumps the first jump
+-- the mixed cuts of the rows, if the rule makes such cuts; of a function that is not minimal the
+-- first violation is named, and of a minimal one that jumps the first jump
 abbrev pub IsMixedReply : CutInput → End → List ℕ → Type 0
 IsMixedReply input Done text = MakesMixedCuts input.rule × AreMixedCutsOf input.rule input.tableau text
 IsMixedReply input NoFunction text = NamesViolation input.rule text
 IsMixedReply input NotContinuous text = NamesJump input.rule text
 IsMixedReply input end text = ⊥
 
--- the headline: the rows that are written are those of the tableau, and each cut holds at every solution of its row
+-- the headline: the rows that are written are those of the tableau, and each cut holds at every
+-- solution of its row
 abbrev pub mixed_promise : Promise
 mixed_promise = record {
   Thing = CutInput;

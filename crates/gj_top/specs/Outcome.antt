@@ -1,4 +1,5 @@
--- What a run did: which answer it had, and what the sink, if it tells its bytes, has taken of it (own).
+-- What a run did: which answer it had, and what the sink, if it tells its bytes, has taken of it
+-- (own).
 use Rattle.std.specs.Prelude.{ℕ, ◌≡◌, ◌<◌, List, ◌++◌, length, take, IfSome, Option, Some, String}
 use Rattle.std.specs.declared.alloc.Global.{Global}
 use Rattle.gj_top.specs.declared.status.Status.{Status}

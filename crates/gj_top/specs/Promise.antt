@@ -1,5 +1,5 @@
--- What is promised of a run that ends with Done: which input spells which thing, and what holds of the text that is written
--- for it (own).
+-- What is promised of a run that ends with Done: which input spells which thing, and what holds of
+-- the text that is written for it (own).
 use Rattle.std.specs.Prelude.{ℕ, ◌≡◌, Bool, true, false, List}
 
 -- how a thing is given: an input spells it; or no input is read, and it is this thing

@@ -1,5 +1,5 @@
--- The command `show`: a function is answered with its canonical text, or with `--json` with its JSON
--- text (own).
+-- The command `show`: a function is answered with its canonical text, or with `--json` with its
+-- JSON text (own).
 use Rattle.std.specs.Prelude.{ℕ, Bool, true, false, List}
 use Rattle.gj_shape.specs.FunctionData.{FunctionData}
 use Rattle.gj_function_text.specs.FunctionText.{IsCanonicalText}

@@ -1,5 +1,5 @@
--- The commands `times`, `mirror` and `restrict`: a function text is answered with the canonical text of a function that is made of its
--- function (Gomory and Johnson 1972; the form is own).
+-- The commands `times`, `mirror` and `restrict`: a function text is answered with the canonical
+-- text of a function that is made of its function (Gomory and Johnson 1972; the form is own).
 use Rattle.std.specs.Prelude.{ℕ, ◌≡◌, ◌*◌, ◌<◌, ◌↔◌, false, List, codes, Result, Ok, Err}
 use Rattle.gj_shape.specs.Limits.{greatest_order}
 use Rattle.gj_shape.specs.Extreme.{IsExtreme}
@@ -26,7 +26,8 @@ IsMadeReply made end text = ⊥
 
 -- ---- times
 
--- the text is that of the function of n x with the place (f + j)/n, which is within the limits, and minimal exactly if the function is
+-- the text is that of the function of n x with the place (f + j)/n, which is within the limits, and
+-- minimal exactly if the function is
 pub record IsTimesText (n j : ℕ) (f : FunctionData) (text : List ℕ) : Type 0 where
   pub function : FunctionData
   pub is_times : IsTimesOf f n j function
@@ -48,8 +49,8 @@ times n j = function_task false (IsTimesText n j) (IsTimesReply n j)
 
 -- ---- mirror
 
--- the text is that of the function of -x with the place 1 - f, which is within the limits, and minimal, and extreme, exactly if the
--- function is
+-- the text is that of the function of -x with the place 1 - f, which is within the limits, and
+-- minimal, and extreme, exactly if the function is
 pub record IsMirrorText (f : FunctionData) (text : List ℕ) : Type 0 where
   pub function : FunctionData
   pub is_mirror : IsMirrorOf f function
@@ -66,8 +67,8 @@ mirror = function_task false IsMirrorText (EndsDone IsMirrorText)
 
 -- ---- restrict
 
--- the function is continuous, and the text is that of the continuous function of order d with its values at the multiples of 1/d, which
--- is within the limits, and minimal if the function is
+-- the function is continuous, and the text is that of the continuous function of order d with its
+-- values at the multiples of 1/d, which is within the limits, and minimal if the function is
 pub record IsRestrictionText (d : ℕ) (f : FunctionData) (text : List ℕ) : Type 0 where
   pub continuous : IsContinuous f
   pub function : FunctionData

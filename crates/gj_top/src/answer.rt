@@ -14,7 +14,8 @@ use std::alloc::{AllocError, Global};
 /// The most bytes that are read of an input.
 const INPUT_LIMIT: usize = 16_777_216;
 
-/// What is to be written. The lines that say that no input was answered take no memory.
+/// What a run writes: a reply, or the line that says why there is none. The three lines that the
+/// program always has take no memory.
 #[derive(Drop)]
 pub enum Answer {
     /// The words name no request.
@@ -86,7 +87,8 @@ pub(crate) fn answer_to<S: Source>(
 fn answer_of(alloc: Global, request: Request, input: &[u8]) -> Result<Answer, AllocError>
     requires in_bounds { IsInBounds request.command }
     requires within { length input.now ≤ input_limit }
-    ensures { IfOk result (λ answer. IsAnswerTo (task_for request) input.now (answer_status answer) (answer_text answer)) }
+    ensures { IfOk result (λ answer. IsAnswerTo (task_for request) input.now (answer_status answer)
+        (answer_text answer)) }
 {
     match reply_to(alloc, request, input) {
         Ok(reply) => Ok(Answer::Replied(reply)),

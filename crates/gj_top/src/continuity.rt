@@ -12,7 +12,8 @@ use std::alloc::{AllocError, Global};
 /// The reply to a function that jumps; a continuous one goes on.
 pub(crate) fn jump_reply(alloc: Global, shape: &Shape) -> Result<Option<Reply>, AllocError>
     ensures end { IfOk result (λ found. IfSome found (λ reply. reply.end ≡ End.NotContinuous)) }
-    ensures jump { IfOk result (λ found. IfSome found (λ reply. NamesFirstJump shape.now reply.text.items)) }
+    ensures jump { IfOk result (λ found. IfSome found
+        (λ reply. NamesFirstJump shape.now reply.text.items)) }
     ensures none { IfOk result (λ found. IfNone found (IsContinuous shape.now)) }
 {
     match shape.first_jump() {

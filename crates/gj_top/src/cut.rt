@@ -14,8 +14,8 @@ use gj_row::Tableau;
 use gj_shape::Violation;
 use std::alloc::{AllocError, Global};
 
-/// The cuts of the rows of the tableau behind the function or the rule that the input begins with, or the first violation of the
-/// function.
+/// The cuts of the rows of the tableau behind the function or the rule that the input begins with,
+/// or the first violation of the function.
 pub(crate) fn reply(alloc: Global, input: &[u8]) -> Result<Reply, Unanswered>
     ensures { IsAnswering cut input.now result }
 {
@@ -26,7 +26,8 @@ pub(crate) fn reply(alloc: Global, input: &[u8]) -> Result<Reply, Unanswered>
 /// The cuts of the rows of the tableau, or the first violation of the function of the rule.
 fn cuts_or_violation(alloc: Global, rule: CutRule, tableau: &Tableau) -> Result<Reply, AllocError>
     requires { IsTableau tableau.now }
-    ensures { IfOk result (λ reply. IsCutReply (record { «rule» = rule; tableau = tableau.now }) reply.end reply.text.items) }
+    ensures { IfOk result (λ reply. IsCutReply
+        (record { «rule» = rule; tableau = tableau.now }) reply.end reply.text.items) }
 {
     match violation_of_rule(&rule) {
         Some(violation) => Ok(Reply {
@@ -44,7 +45,8 @@ fn cuts_or_violation(alloc: Global, rule: CutRule, tableau: &Tableau) -> Result<
 fn cuts_text(alloc: Global, rule: CutRule, tableau: &Tableau) -> Result<Vec<u8>, AllocError>
     requires tests { PassesTests rule }
     requires tableau { IsTableau tableau.now }
-    ensures { IfOk result (λ text. AreCheckedCutsOf (record { «rule» = rule; tableau = tableau.now }) text.items) }
+    ensures { IfOk result (λ text. AreCheckedCutsOf
+        (record { «rule» = rule; tableau = tableau.now }) text.items) }
 {
     let proof = cuts_proof(alloc, rule, tableau)?;
     let text = write_proof(alloc, &proof)?;

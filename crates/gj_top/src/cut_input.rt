@@ -2,15 +2,15 @@
 ghost use Rattle.std.specs.Prelude.{◌≤◌, drop, length, IfOk, IfErr};
 ghost use Rattle.gj_proof.specs.declared.cut.CutRule.{CutRule};
 ghost use Rattle.gj_row.specs.TableauText.{IsTableauText};
-ghost use Rattle.gj_top.specs.Task.{IsReadingOf, IsTaskRefusal, IsRefusedWith};
-ghost use Rattle.gj_top.specs.Cut.{SpellsCutInput, BeginsWithRule, RefusesCutInput, refused_record_line};
+ghost use Rattle.gj_top.specs.Task.{IsReadingOf, IsTaskRefusal};
+ghost use Rattle.gj_top.specs.Cut.{SpellsCutInput, BeginsWithRule, RefusesCutInput};
 
 use crate::forms::refusal;
 use crate::lines::numbered_line;
 use crate::reply::Unanswered;
 use gj_function_text::{TextFault, begins_as_rule, read_function, read_rule};
 use gj_proof::CutRule;
-use gj_row::{RowFault, RowReason, Tableau};
+use gj_row::{RowFault, Tableau};
 use std::alloc::Global;
 
 /// A rule, and the rows of which it makes cuts.
@@ -31,18 +31,21 @@ pub(crate) fn cut_input_of(alloc: Global, input: &[u8]) -> Result<CutInput, Unan
 
 /// The rule that the input begins with, and the number of bytes up to and with its line `end`.
 fn rule_of(alloc: Global, input: &[u8]) -> Result<(CutRule, usize), Unanswered>
-    ensures found { IfOk result (λ r. (r.1 ≤ length input.now) × BeginsWithRule input.now r.0 (drop r.1 input.now)) }
+    ensures found { IfOk result (λ r. (r.1 ≤ length input.now) ×
+        BeginsWithRule input.now r.0 (drop r.1 input.now)) }
     ensures refused { IfErr result (IsTaskRefusal RefusesCutInput input.now) }
 {
     if begins_as_rule(input) {
         match read_rule(input) {
             Ok(len) => Ok((CutRule::Gmic, len)),
-            Err((at_line, reason)) => Err(refusal(alloc, at_line, reason)),
+            Err((at_line, reason)) => Err(Unanswered::Refused(refusal(alloc, at_line, reason)?)),
         }
     } else {
         match read_function(alloc, input) {
             Ok((shape, len)) => Ok((CutRule::Table(shape), len)),
-            Err(TextFault::Refused(at_line, reason)) => Err(refusal(alloc, at_line, reason)),
+            Err(TextFault::Refused(at_line, reason)) => {
+                Err(Unanswered::Refused(refusal(alloc, at_line, reason)?))
+            }
             Err(TextFault::Memory(error)) => Err(Unanswered::Memory(error)),
         }
     }
@@ -57,17 +60,10 @@ fn tableau_behind(alloc: Global, input: &[u8], len: usize) -> Result<Tableau, Un
 {
     match Tableau::read(alloc, &input[len..]) {
         Ok(tableau) => Ok(tableau),
-        Err(RowFault::Refused(number, reason)) => Err(record_refusal(alloc, number, reason)),
+        Err(RowFault::Refused(number, reason)) => {
+            let line = numbered_line(alloc, b"refused record ", number, reason.word())?;
+            Err(Unanswered::Refused(line))
+        }
         Err(RowFault::Memory(error)) => Err(Unanswered::Memory(error)),
-    }
-}
-
-/// The refusal of an input for a record of its tableau.
-fn record_refusal(alloc: Global, number: u64, reason: RowReason) -> Unanswered
-    ensures { IsRefusedWith (refused_record_line number reason) result }
-{
-    match numbered_line(alloc, b"refused record ", number, reason.word()) {
-        Ok(line) => Unanswered::Refused(line),
-        Err(error) => Unanswered::Memory(error),
     }
 }

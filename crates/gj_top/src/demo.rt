@@ -7,7 +7,8 @@ use crate::reply::{End, Reply, Unanswered};
 use gj_demo::summary;
 use std::alloc::Global;
 
-/// The summary of the function of the demonstration with this number, over any input, of which nothing is read.
+/// The summary of the function of the demonstration with this number, over any input, of which
+/// nothing is read.
 pub(crate) fn reply(alloc: Global, n: u32) -> Result<Reply, Unanswered>
     requires low { 1 ≤ n }
     requires high { n ≤ 249 }

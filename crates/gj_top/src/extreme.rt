@@ -22,7 +22,8 @@ pub(crate) fn reply(alloc: Global, input: &[u8], json: bool) -> Result<Reply, Un
 
 /// The verdict on the function, or why there is none: its first jump, or that a number is too wide.
 fn verdict_on(alloc: Global, shape: &Shape, json: bool) -> Result<Reply, AllocError>
-    ensures { IfOk result (λ reply. IsToldReply json IsExtremality shape.now reply.end reply.text.items) }
+    ensures { IfOk result (λ reply. IsToldReply json IsExtremality shape.now reply.end
+        reply.text.items) }
 {
     match decide(alloc, shape) {
         Ok(proof) => Ok(Reply {

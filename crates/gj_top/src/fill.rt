@@ -30,7 +30,8 @@ pub(crate) fn reply(alloc: Global, input: &[u8]) -> Result<Reply, Unanswered>
 /// The fill-in of a continuous function, or the first two places at which it is not subadditive.
 fn fill_or_pair(alloc: Global, shape: &Shape) -> Result<Reply, AllocError>
     requires { IsContinuous shape.now }
-    ensures { IfOk result (λ reply. IsContinuousReply IsFillReply shape.now reply.end reply.text.items) }
+    ensures { IfOk result (λ reply. IsContinuousReply IsFillReply shape.now reply.end
+        reply.text.items) }
 {
     match fill(alloc, shape) {
         Ok(filled) => Ok(Reply {

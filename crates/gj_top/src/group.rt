@@ -21,10 +21,12 @@ pub(crate) fn reply(alloc: Global, input: &[u8]) -> Result<Reply, Unanswered>
     Ok(group_reply(alloc, &shape)?)
 }
 
-/// The verdict on the table of the function's own order, as the command `group` gives it: of a function that jumps the first jump is named, and of
-/// a continuous one whose order passes 120 that is said; `Wide` comes exactly if [`decide_group`] answers so.
+/// The verdict on the table of the function's own order, as the command `group` gives it: of a
+/// function that jumps the first jump is named, and of a continuous one whose order passes 120 that
+/// is said; `Wide` comes exactly if [`decide_group`] answers so.
 pub fn group_reply(alloc: Global, shape: &Shape) -> Result<Reply, AllocError>
-    ensures { IfOk result (λ reply. IsContinuousReply IsGroupReply shape.now reply.end reply.text.items) }
+    ensures { IfOk result (λ reply. IsContinuousReply IsGroupReply shape.now reply.end
+        reply.text.items) }
 {
     if let Some(jump) = jump_reply(alloc, shape)? {
         return Ok(jump);

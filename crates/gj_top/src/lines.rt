@@ -11,7 +11,8 @@ pub(crate) fn numbered_line(
     at_line: u64,
     word: &str,
 ) -> Result<Vec<u8>, AllocError>
-    ensures { IfOk result (λ text. text.items ≡ line (front.now ++ decimal at_line ++ codes " " ++ word.now)) }
+    ensures { IfOk result (λ text. text.items ≡ line
+        (front.now ++ decimal at_line ++ codes " " ++ word.now)) }
 {
     let number = at_line.to_string(alloc)?;
     let mut text = Vec::from_slice(alloc, front)?;

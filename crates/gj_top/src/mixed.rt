@@ -1,4 +1,5 @@
-//! The command `mixed`: the mixed cuts of the rows of a tableau, by a function or by the mixed-integer cut.
+//! The command `mixed`: the mixed cuts of the rows of a tableau, by a function or by the
+//! mixed-integer cut.
 ghost use Rattle.std.specs.Prelude.{◌≡◌, IfOk, IfSome, IfNone};
 ghost use Rattle.gj_row.specs.TableauLimits.{IsTableau};
 ghost use Rattle.gj_listings.specs.MixedLines.{MakesMixedCuts};
@@ -16,8 +17,8 @@ use gj_proof::CutRule;
 use gj_row::Tableau;
 use std::alloc::{AllocError, Global};
 
-/// The mixed cuts of the rows of the tableau behind the function or the rule that the input begins with, or the first violation, or the
-/// first jump of the function.
+/// The mixed cuts of the rows of the tableau behind the function or the rule that the input begins
+/// with, or the first violation, or the first jump of the function.
 pub(crate) fn reply(alloc: Global, input: &[u8]) -> Result<Reply, Unanswered>
     ensures { IsAnswering mixed input.now result }
 {
@@ -25,11 +26,12 @@ pub(crate) fn reply(alloc: Global, input: &[u8]) -> Result<Reply, Unanswered>
     Ok(mixed_reply(alloc, &rule, &tableau)?)
 }
 
-/// The mixed cuts of the rows of the tableau by the rule, as the command `mixed` gives them, or the first violation or the first jump of the
-/// function of the rule.
+/// The mixed cuts of the rows of the tableau by the rule, as the command `mixed` gives them, or the
+/// first violation or the first jump of the function of the rule.
 pub fn mixed_reply(alloc: Global, rule: &CutRule, tableau: &Tableau) -> Result<Reply, AllocError>
     requires { IsTableau tableau.now }
-    ensures { IfOk result (λ reply. IsMixedReply (record { «rule» = rule.now; tableau = tableau.now }) reply.end reply.text.items) }
+    ensures { IfOk result (λ reply. IsMixedReply
+        (record { «rule» = rule.now; tableau = tableau.now }) reply.end reply.text.items) }
 {
     if let Some(violation) = violation_of_rule(rule) {
         return Ok(Reply {
@@ -50,7 +52,8 @@ pub fn mixed_reply(alloc: Global, rule: &CutRule, tableau: &Tableau) -> Result<R
 fn jump_of(alloc: Global, rule: &CutRule) -> Result<Option<Reply>, AllocError>
     requires tests { PassesTests rule.now }
     ensures end { IfOk result (λ found. IfSome found (λ reply. reply.end ≡ End.NotContinuous)) }
-    ensures jump { IfOk result (λ found. IfSome found (λ reply. NamesJump rule.now reply.text.items)) }
+    ensures jump { IfOk result (λ found. IfSome found
+        (λ reply. NamesJump rule.now reply.text.items)) }
     ensures none { IfOk result (λ found. IfNone found (MakesMixedCuts rule.now)) }
 {
     match rule {

@@ -44,7 +44,7 @@ impl End {
     }
 }
 
-/// What is to be written, and how the run ends then.
+/// What a command replies to an input in its form: what is to be written, and how the run ends.
 #[derive(Drop)]
 pub struct Reply {
     pub end: End,

@@ -7,7 +7,8 @@ use gj_json::report;
 use gj_proof::{Proof, write_proof};
 use std::alloc::{AllocError, Global};
 
-/// The text of the proof, or with `json` its report: the word of its claim, and the lines of its text.
+/// The text of the proof, or with `json` its report: the word of its claim, and the lines of its
+/// text.
 pub(crate) fn proof_text(alloc: Global, proof: &Proof, json: bool) -> Result<Vec<u8>, AllocError>
     requires { IsBounded proof.now }
     ensures { IfOk result (λ text. Tells json (IsProofText proof.now) text.items) }

@@ -2,9 +2,13 @@
 ghost use Rattle.std.specs.Prelude.{◌≡◌};
 ghost use Rattle.gj_top.specs.Code.{code_of};
 
-/// How a run of the program ended. `Rejected` comes with the command `check` alone, `Wide` with `extreme` and `group`, `NotContinuous` with
-/// `extreme`, `faces`, `mixed`, `fill`, `group` and `restrict`, `NoFunction` with `cut` and `mixed`, `NotSubadditive` with `fill`, `OrderLimit` with
-/// `times` and `group`, and `BadOrder` with `restrict`.
+/// How a run of the program ended: as its answer has it, or for want of memory, or since the sink
+/// failed.
+///
+/// `Rejected` comes with the command `check` alone, `Wide` with `extreme` and `group`,
+/// `NotContinuous` with `extreme`, `faces`, `mixed`, `fill`, `group` and `restrict`,
+/// `NoFunction` with `cut` and `mixed`, `NotSubadditive` with `fill`, `OrderLimit` with `times` and
+/// `group`, and `BadOrder` with `restrict`.
 #[derive(Clone, Copy, Debug, PartialEq, Eq)]
 pub enum Status {
     /// The answer was written.

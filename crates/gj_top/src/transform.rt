@@ -1,4 +1,5 @@
-//! The commands `times`, `mirror` and `restrict`: a function that is made of a function, in its canonical text.
+//! The commands `times`, `mirror` and `restrict`: a function that is made of a function, in its
+//! canonical text.
 ghost use Rattle.std.specs.Prelude.{◌≤◌, ◌<◌, IfOk};
 ghost use Rattle.gj_top.specs.Task.{IsAnswering};
 ghost use Rattle.gj_top.specs.Transform.{IsMadeReply, mirror, restriction, times};
@@ -29,7 +30,8 @@ pub(crate) fn mirror_reply(alloc: Global, input: &[u8]) -> Result<Reply, Unanswe
     Ok(made_or_fault(alloc, Ok(mirror(alloc, &shape)?))?)
 }
 
-/// The restriction to the multiples of 1/`order` of the function that the input spells, or its first jump.
+/// The restriction to the multiples of 1/`order` of the function that the input spells, or its
+/// first jump.
 pub(crate) fn restrict_reply(alloc: Global, input: &[u8], order: u32) -> Result<Reply, Unanswered>
     ensures { IsAnswering (restriction order) input.now result }
 {

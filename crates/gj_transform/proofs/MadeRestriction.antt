@@ -53,7 +53,8 @@ no_place f d s some e apart =
 
 -- ---- the list of values
 
--- xs are the values at each s-th multiple of 1/order, and ys these divided by the greatest number e that divides them and the scale
+-- xs are the values at each s-th multiple of 1/order, and ys these divided by the greatest number e
+-- that divides them and the scale
 pub record AreReduced (f : FunctionData) (d s e : ℕ) (xs ys : List ℤ) : Type 0 where
   pub step : IsStep f d s
   pub some : 0 < e

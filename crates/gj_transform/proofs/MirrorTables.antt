@@ -1,4 +1,5 @@
--- The tables of a function and of that of -x: both functions are minimal or neither is, and both are extreme or neither is.
+-- The tables of a function and of that of -x: both functions are minimal or neither is, and both
+-- are extreme or neither is.
 use Rattle.std.proofs.Common.{◌≡◌, ℕ, ◌+◌, ◌-◌, ◌*◌, ◌%◌, ◌<◌, ◌≤◌, pos, ◌*ℤ◌, sym, ap, subst, ◌∙◌, mul-pos, arith}
 use Rattle.std.proofs.Math.Nat.{mul-mod_left, mul-le-mul_right, add_comm}
 use Rattle.gj_lemmas.proofs.Quotients.{same_remainder}

@@ -4,7 +4,8 @@ use Rattle.gj_lemmas.proofs.Quotients.{same_remainder, from_same_remainder, peri
 use Rattle.gj_shape.specs.Extreme.{IsExtremeTable}
 use Rattle.gj_shape.specs.Table.{IsMinimalTable}
 
--- the entries of a minimal table at the multiples of c, if N multiples make whole periods and the K-th leads to the place k
+-- the entries of a minimal table at the multiples of c, if N multiples make whole periods and the
+-- K-th leads to the place k
 pub minimal_at_multiples : (t : ℕ → ℤ) (n k s c w N K : ℕ) → N * c ≡ w * n → (K * c) % n ≡ k % n → IsMinimalTable t n k s →
     IsMinimalTable (λ i. t (i * c)) N K s
 minimal_at_multiples t n k s c w N K period place h = record {
@@ -52,7 +53,8 @@ extreme_at_multiples t n k K s c w inverse there back h = record {
 
 -- ---- longer periods
 
--- a table of period q that is minimal with a multiple of q as its period is minimal, whatever multiple of q is added to the place
+-- a table of period q that is minimal with a multiple of q as its period is minimal, whatever
+-- multiple of q is added to the place
 pub minimal_of_longer : (t : ℕ → ℤ) (q k j s w : ℕ) → ((i : ℕ) → t (i + q) ≡ t i) →
     IsMinimalTable t (q * (w + 1)) (k + j * q) s → IsMinimalTable t q k s
 minimal_of_longer t q k j s w period h = record {

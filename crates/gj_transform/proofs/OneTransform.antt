@@ -1,4 +1,5 @@
--- A function has one transform of each kind: functions with the same values on every grid are equal.
+-- A function has one transform of each kind: functions with the same values on every grid are
+-- equal.
 use Rattle.std.proofs.Common.{◌≡◌, ℕ, zero, suc, ◌+◌, ◌-◌, ◌*◌, ◌<◌, ◌≤◌, ℤ, pos, ◌+ℤ◌, ◌-ℤ◌, ◌*ℤ◌, [], ◌∷◌, refl, sym, ap, ap₂, ◌∙◌, mul-pos, arith}
 use Rattle.std.proofs.Math.Nat.{eq_of_mul-eq-mul_right, mul_comm}
 use Rattle.std.proofs.lemmas.Int.{ints}
@@ -25,7 +26,8 @@ first_limit_z r l = omega (arith, ints)
 last_limit_z : (r l : ℤ) → pos 2 *ℤ (pos 1 *ℤ r +ℤ pos 2 *ℤ l) -ℤ (pos 2 *ℤ r +ℤ pos 1 *ℤ l) ≡ pos 3 *ℤ l
 last_limit_z r l = omega (arith, ints)
 
--- x and y are equal over s and t, if 3 x is 2 a - b and 3 y is 2 c - d, and a and b are over s what c and d are over t
+-- x and y are equal over s and t, if 3 x is 2 a - b and 3 y is 2 c - d, and a and b are over s what
+-- c and d are over t
 same_limit : (x y a b c d : ℤ) (s t : ℕ) → pos 2 *ℤ a -ℤ b ≡ pos 3 *ℤ x → pos 2 *ℤ c -ℤ d ≡ pos 3 *ℤ y →
     a *ℤ pos (t * 3) ≡ c *ℤ pos (s * 3) → b *ℤ pos (t * 3) ≡ d *ℤ pos (s * 3) → x *ℤ pos t ≡ y *ℤ pos s
 same_limit x y a b c d s t x_is y_is first second =

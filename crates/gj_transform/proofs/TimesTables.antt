@@ -1,4 +1,5 @@
--- The tables of a function and of that of n x: on each grid the entries are the same, and both are minimal or neither is.
+-- The tables of a function and of that of n x: on each grid the entries are the same, and both are
+-- minimal or neither is.
 use Rattle.std.proofs.Common.{◌≡◌, ℕ, ◌+◌, ◌-◌, ◌*◌, ◌%◌, ◌<◌, ℤ, pos, ◌*ℤ◌, [], ◌∷◌, refl, sym, ap, ap₂, ◌∙◌, mul-pos, arith}
 use Rattle.std.proofs.Math.Nat.{mul_comm}
 use Rattle.gj_lemmas.proofs.Integers.{mul_cancel_right_z}

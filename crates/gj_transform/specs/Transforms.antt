@@ -1,4 +1,5 @@
--- The functions of n x and of -x, and restrictions to the multiples of 1/d (Gomory and Johnson 1972; the definitions by tables are own).
+-- The functions of n x and of -x, and restrictions to the multiples of 1/d (Gomory and Johnson
+-- 1972; the definitions by tables are own).
 use Rattle.std.specs.Prelude.{ℕ, ℤ, pos, ◌≡◌, ◌⊎◌, ◌+◌, ◌*◌, ◌%◌, ◌<◌, ◌≤◌, ◌*ℤ◌, ◌↔◌}
 use Rattle.std.specs.Int.{◌∣◌}
 use Rattle.gj_frac.specs.declared.Frac.{Frac}
@@ -22,8 +23,8 @@ pub record IsMirrorOf (f g : FunctionData) : Type 0 where
   pub place : g.place + f.place ≡ f.order
   pub same_values : (m i j : ℕ) → 0 < m → (i + j) % (f.order * m) ≡ 0 → HaveSameValue g m i f m j
 
--- g is the continuous function of order d with the values of f at the multiples of 1/d, and the place of f: these are each
--- step-th of the multiples of 1/order of f
+-- g is the continuous function of order d with the values of f at the multiples of 1/d, and the
+-- place of f: these are each step-th of the multiples of 1/order of f
 pub record IsRestrictionOf (f : FunctionData) (d : ℕ) (g : FunctionData) : Type 0 where
   pub step : ℕ
   pub divides : f.order ≡ d * step
@@ -47,7 +48,7 @@ pub record IsStep (f : FunctionData) (d step : ℕ) : Type 0 where
   pub divides : f.order ≡ d * step
   pub place : step ∣ f.place
 
--- there is no function of order d with the values of f at the multiples of 1/d and the place of f: d is below 2, or 1/d is no
--- multiple of 1/order, or the place is no multiple of 1/d
+-- there is no function of order d with the values of f at the multiples of 1/d and the place of f:
+-- d is below 2, or 1/d is no multiple of 1/order, or the place is no multiple of 1/d
 abbrev pub HasNoRestriction : FunctionData → ℕ → Type 0
 HasNoRestriction f d = (d < 2) ⊎ ((d ∣ f.order → ⊥) ⊎ (f.order ∣ f.place * d → ⊥))

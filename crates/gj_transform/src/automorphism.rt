@@ -11,7 +11,8 @@ use std::alloc::{AllocError, Global};
 
 /// The function of -x, with the place 1 - f: a function of the same order.
 ///
-/// It is minimal exactly if the function is, and extreme exactly if the function is, continuous or not.
+/// It is minimal exactly if the function is, and extreme exactly if the function is, continuous or
+/// not.
 ///
 /// Source: the automorphisms of Gomory and Johnson (1972).
 pub fn mirror(alloc: Global, shape: &Shape) -> Result<Shape, AllocError>

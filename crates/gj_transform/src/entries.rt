@@ -45,7 +45,8 @@ pub(crate) fn quotients(
     divisor: u32,
 ) -> Result<Vec<i64>, AllocError>
     requires { 0 < divisor }
-    ensures { IfOk result (λ v. HasEntries (λ i. int_div (at entries.now i) (pos divisor)) (length entries.now) v.items) }
+    ensures { IfOk result (λ v. HasEntries (λ i. int_div (at entries.now i) (pos divisor))
+        (length entries.now) v.items) }
 {
     let mut items = Vec::with_capacity(alloc, entries.len())?;
     for n in entries {

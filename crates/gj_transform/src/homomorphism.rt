@@ -12,7 +12,8 @@ use std::alloc::Global;
 
 /// The function of `n` x, with the place (f + `j`)/`n`: a function of `n` times the order.
 ///
-/// It is minimal exactly if the function is. The error is `OrderLimit` exactly if its order passes 1,000.
+/// It is minimal exactly if the function is. The error is `OrderLimit` exactly if its order passes
+/// 1,000.
 ///
 /// Source: the multiplicative homomorphisms of Gomory and Johnson (1972).
 pub fn times(alloc: Global, shape: &Shape, n: u32, j: u32) -> Result<Shape, TransformFault>
@@ -22,7 +23,8 @@ pub fn times(alloc: Global, shape: &Shape, n: u32, j: u32) -> Result<Shape, Tran
     ensures within { IfOk result IsWithinBounds }
     ensures values { IfOk result (HasValuesAtMultiples shape.now (pos n)) }
     ensures minimal { IfOk result (λ g. IsMinimal shape.now ↔ IsMinimal g) }
-    ensures limit { (result ≡ Err TransformFault.OrderLimit) ↔ (greatest_order < shape.now.order * n) }
+    ensures limit { (result ≡ Err TransformFault.OrderLimit) ↔
+        (greatest_order < shape.now.order * n) }
     ensures order { result ≢ Err TransformFault.BadOrder }
 {
     if n > GREATEST_ORDER / shape.order() {

@@ -10,11 +10,11 @@ use crate::faults::TransformFault;
 use gj_shape::Shape;
 use std::alloc::Global;
 
-/// The continuous function of order `order` that has the values of a continuous function at the multiples of 1/`order`, and its
-/// place.
+/// The continuous function of order `order` that has the values of a continuous function at the
+/// multiples of 1/`order`, and its place.
 ///
-/// It is minimal if the function is. The error is `BadOrder` exactly if `order` is below 2 or does not divide the function's
-/// order, or if f is no multiple of 1/`order`.
+/// It is minimal if the function is. The error is `BadOrder` exactly if `order` is below 2 or does
+/// not divide the function's order, or if f is no multiple of 1/`order`.
 ///
 /// Source: the restrictions to finite groups of Gomory and Johnson (1972).
 pub fn restrict(alloc: Global, shape: &Shape, order: u32) -> Result<Shape, TransformFault>
@@ -43,8 +43,8 @@ pub fn restrict(alloc: Global, shape: &Shape, order: u32) -> Result<Shape, Trans
     Ok(Shape::from_numerators(order, place, scale / divisor, left, value, right))
 }
 
-/// How many multiples of 1/q, q the order of the function, lead from one multiple of 1/`order` to the next; none if `order` is below
-/// 2 or does not divide q.
+/// How many multiples of 1/q, q the order of the function, lead from one multiple of 1/`order` to
+/// the next; none if `order` is below 2 or does not divide q.
 fn step_of(shape: &Shape, order: u32) -> Option<u32>
     ensures least { IfSome result (λ step. 2 ≤ order) }
     ensures some { IfSome result (λ step. 0 < step) }

@@ -5,7 +5,8 @@ ghost use Rattle.gj_transform.specs.Transforms.{IsTimesOf, IsMirrorOf, IsRestric
 
 /// The function of n x has at each fraction u/d the value of the function at n u/d.
 pub fn times_has_values()
-    ensures { (f g : FunctionData) (n j : ℕ) → IsWithinBounds f → IsWithinBounds g → 0 < n → IsTimesOf f n j g →
+    ensures { (f g : FunctionData) (n j : ℕ) → IsWithinBounds f → IsWithinBounds g → 0 < n →
+        IsTimesOf f n j g →
         HasValuesAtMultiples f (pos n) g }
 {}
 
@@ -17,6 +18,7 @@ pub fn mirror_has_values()
 
 /// The restriction to the multiples of 1/d has at each of them, u/d, the value of the function.
 pub fn restriction_has_values()
-    ensures { (f g : FunctionData) (d : ℕ) → IsWithinBounds f → IsWithinBounds g → IsRestrictionOf f d g →
+    ensures { (f g : FunctionData) (d : ℕ) → IsWithinBounds f → IsWithinBounds g →
+        IsRestrictionOf f d g →
         AgreeAtMultiples f d g }
 {}

@@ -1,4 +1,5 @@
--- A valid table below that of a minimal function on a grid gives a valid function below: the function itself off the grid.
+-- A valid table below that of a minimal function on a grid gives a valid function below: the
+-- function itself off the grid.
 use Rattle.std.proofs.Common.{◌≡◌, ℕ, ◌+◌, ◌*◌, ◌/◌, ◌%◌, ◌<◌, ◌⊎◌, inl, inr, ⊎_elim, eqb, cond, List, [], ◌∷◌, ℤ, pos, ◌+ℤ◌, ◌*ℤ◌, ◌≤ℤ◌, ◌<ℤ◌, refl, sym, subst, ap, ap₂, ◌∙◌, arith}
 use Rattle.std.specs.Prelude.{sum}
 use Rattle.std.proofs.Math.Nat.{mul-pos, mul_comm, div-add-mod', mul-mod_left, eq_of_mul-eq-mul_right}

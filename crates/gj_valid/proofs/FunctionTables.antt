@@ -1,4 +1,5 @@
--- The table of a valid function on a grid is valid, over some scale; the function that data tell is valid if its tables are.
+-- The table of a valid function on a grid is valid, over some scale; the function that data tell is
+-- valid if its tables are.
 use Rattle.std.proofs.Common.{◌≡◌, ℕ, ◌+◌, ◌*◌, ◌/◌, ◌%◌, ◌<◌, List, [], ◌∷◌, map, ℤ, pos, ◌+ℤ◌, ◌*ℤ◌, ◌≤ℤ◌, refl, sym, subst, ap, ap₂, ◌∙◌, arith}
 use Rattle.std.specs.Prelude.{sum}
 use Rattle.std.proofs.Math.Nat.{add-mod_right, eq_of_mul-eq-mul_right, mod-lt, mod-mod, mul-pos, mul_comm, zero-mul}
@@ -63,7 +64,8 @@ pub on_grid : (v : ℕ → ℕ → Fraction) (q n d c : ℕ) (z : ℤ) → 0 < q
 on_grid v q n d c z q_some d_some h is =
     at_place v n d (n * q) (q * d) c z d_some (mul-pos q_some d_some) h (omega arith) is
 
--- entries over c that are the values of a valid function and have the grid's period are a valid table
+-- entries over c that are the values of a valid function and have the grid's period are a valid
+-- table
 pub entries_valid : (v : ℕ → ℕ → Fraction) (k q m c : ℕ) (t : ℕ → ℤ) → 0 < q → 0 < m → 0 < c → IsValidPart v k q →
     ((i : ℕ) → t (i + q * m) ≡ t i) → ((i : ℕ) → Is (v i (q * m)) (t i) c) → IsValidTable t (q * m) (k * m) c
 entries_valid v k q m c t q_some m_some some h period is =

@@ -1,4 +1,5 @@
--- Functions of fractions are valid, minimal and extreme exactly if they are so by the parts of their points.
+-- Functions of fractions are valid, minimal and extreme exactly if they are so by the parts of
+-- their points.
 use Rattle.std.proofs.Common.{◌≡◌, ℕ, ◌<◌, List, [], ◌∷◌, map, pos, unsigned_abs, ◌<ℤ◌, refl, sym, subst, subst₂, ap, arith}
 use Rattle.std.specs.Prelude.{sum}
 use Rattle.std.specs.List.{All}

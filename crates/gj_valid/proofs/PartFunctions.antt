@@ -1,4 +1,5 @@
--- Functions of the top and the bottom of a point, with solutions over one bottom: valid, minimal and extreme ones.
+-- Functions of the top and the bottom of a point, with solutions over one bottom: valid, minimal
+-- and extreme ones.
 use Rattle.std.specs.Prelude.{ℕ, pos, ◌≡◌, ◌+◌, ◌*◌, ◌%◌, ◌<◌, ◌<ℤ◌, List, map, sum, unsigned_abs}
 use Rattle.gj_frac.specs.Fraction.{Fraction, SameValue, sum_of, AtMostValue}
 use Rattle.gj_shape.specs.FunctionData.{FunctionData}

@@ -1,4 +1,5 @@
--- Functions from fractions to fractions: what valid, minimal and extreme mean (Gomory and Johnson 1972).
+-- Functions from fractions to fractions: what valid, minimal and extreme mean (Gomory and Johnson
+-- 1972).
 use Rattle.std.specs.Prelude.{ℕ, pos, ◌*◌, ◌*ℤ◌, ◌<ℤ◌, ◌≤ℤ◌, List, [], ◌∷◌, map, All, unsigned_abs}
 use Rattle.gj_frac.specs.Fraction.{Fraction, SameValue, AtMostValue, sum_of}
 use Rattle.gj_shape.specs.FunctionData.{FunctionData}
@@ -26,7 +27,8 @@ pub record IsFunction (v : Fraction → Fraction) : Type 0 where
   pub nonnegative : (x : Fraction) → IsNonnegative x → IsNonnegative (v x)
   pub has_period : (x y : Fraction) → IsNonnegative x → IsNonnegative y → IsSamePoint x y → SameValue (v x) (v y)
 
--- a valid function for f: if points, each as often as it is used, add up to f modulo 1, its values at them add up to 1 or more
+-- a valid function for f: if points, each as often as it is used, add up to f modulo 1, its values
+-- at them add up to 1 or more
 pub record IsValidFunction (v : Fraction → Fraction) (f : Fraction) : Type 0 where
   pub function : IsFunction v
   pub at_solutions : (points : List Fraction) → All IsNonnegative points → IsSamePoint (total_of points) f → AtMostValue (over 1 1) (total_of (map v points))
@@ -44,6 +46,7 @@ pub record IsExtremeAmongFunctions (v : Fraction → Fraction) (f : Fraction) : 
       ((x : Fraction) → IsNonnegative x → SameValue (sum_of (a x) (b x)) (sum_of (v x) (v x))) →
       (x : Fraction) → IsNonnegative x → SameValue (a x) (b x)
 
--- the function that the data tell: at n/d its value is that of the table on the grid that holds the point
+-- the function that the data tell: at n/d its value is that of the table on the grid that holds the
+-- point
 abbrev pub function_of : FunctionData → Fraction → Fraction
 function_of f x = record { top = value_of f (unsigned_abs x.top) (unsigned_abs x.bottom); bottom = pos (f.scale * unsigned_abs x.bottom) }

@@ -6,15 +6,16 @@ ghost use Rattle.gj_shape.specs.Table.{IsMinimalTable};
 ghost use Rattle.gj_shape.specs.Valid.{IsValidTable};
 ghost use Rattle.gj_theory.specs.Cuts.{IsEntryAt};
 
-/// Each valid table has a minimal one below it: its entries, over a finer scale, are nowhere above the valid table's. So minimal
-/// tables give all cuts of a grid.
+/// Each valid table has a minimal one below it: its entries, over a finer scale, are nowhere above
+/// the valid table's. So minimal tables give all cuts of a grid.
 pub fn valid_tables_lie_above_minimal()
     ensures { (t : ℕ → ℤ) (n k s : ℕ) → 0 < n → IsValidTable t n k s →
-        (c : ℕ) × (u : ℕ → ℤ) × (0 < c) × IsMinimalTable u n k (c * s) × ((i : ℕ) → u i ≤ℤ (pos c *ℤ t i)) }
+        (c : ℕ) × (u : ℕ → ℤ) × (0 < c) × IsMinimalTable u n k (c * s) ×
+        ((i : ℕ) → u i ≤ℤ (pos c *ℤ t i)) }
 {}
 
-/// Each cut by a valid table is dominated by one by a minimal table: at each entry x of a row the minimal table's coefficient is
-/// at most the valid table's.
+/// Each cut by a valid table is dominated by one by a minimal table: at each entry x of a row the
+/// minimal table's coefficient is at most the valid table's.
 pub fn cuts_are_dominated_by_minimal_ones()
     ensures { (t : ℕ → ℤ) (n k s : ℕ) → 0 < n → 0 < s → IsValidTable t n k s →
         (c : ℕ) × (u : ℕ → ℤ) × (0 < c) × IsMinimalTable u n k (c * s) ×

@@ -21,8 +21,8 @@ command_words (Times n j) = codes "times" ∷ decimal n ∷ decimal j ∷ []
 command_words Mirror = codes "mirror" ∷ []
 command_words (Restrict d) = codes "restrict" ∷ decimal d ∷ []
 
--- the number of `demo` lies from 1 to 249, the first of `times` from 1 to 500, the second from 0 on below the first, and that of
--- `restrict` from 2 to 1,000
+-- the number of `demo` lies from 1 to 249, the first of `times` from 1 to 500, the second from 0 on
+-- below the first, and that of `restrict` from 2 to 1,000
 abbrev pub IsInBounds : Command → Type 0
 IsInBounds (Demo n) = (1 ≤ n) × (n ≤ 249)
 IsInBounds (Times n j) = (1 ≤ n) × (n ≤ 500) × (j < n)

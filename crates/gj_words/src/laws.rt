@@ -6,5 +6,6 @@ ghost use Rattle.gj_words.specs.declared.requests.Request.{Request};
 
 /// Words spell at most one request.
 pub fn one_request()
-    ensures { (words : List (List ℕ)) (one other : Request) → SpellRequest words one → SpellRequest words other → one ≡ other }
+    ensures { (words : List (List ℕ)) (one other : Request) → SpellRequest words one →
+        SpellRequest words other → one ≡ other }
 {}

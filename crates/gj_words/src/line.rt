@@ -43,7 +43,8 @@ pub(crate) fn parse<'a>(alloc: Global, words: &'a [String]) -> Result<Line<'a>, 
     requires plain { list_all is_plain (map string_bytes words.now) ≡ true }
     requires once { flag_count (map string_bytes words.now) ≤ 1 }
     ensures ok { IfOk result (IsCommandLineOf (map string_bytes words.entry.now)) }
-    ensures refused { result ≡ Err WordFault.Refused → (name : List ℕ) (rest : List (List ℕ)) → length rest ≤ 2 →
+    ensures refused { result ≡ Err WordFault.Refused → (name : List ℕ)
+        (rest : List (List ℕ)) → length rest ≤ 2 →
         bare_words (map string_bytes words.entry.now) ≢ name ∷ rest }
 {
     let command = our_command(alloc)?;
@@ -66,7 +67,8 @@ pub(crate) fn parse<'a>(alloc: Global, words: &'a [String]) -> Result<Line<'a>, 
 fn operands_of<'a>(first: Option<&'a str>, second: Option<&'a str>) -> Operands<'a>
     requires { first ≡ None → second ≡ None }
     ensures { words_behind result ≡
-        option_to_list (option_map (λ word. word.now) first.entry) ++ option_to_list (option_map (λ word. word.now) second.entry) }
+        option_to_list (option_map (λ word. word.now) first.entry) ++ option_to_list
+        (option_map (λ word. word.now) second.entry) }
 {
     match (first, second) {
         (None, _) => Operands::Nothing,
@@ -75,8 +77,8 @@ fn operands_of<'a>(first: Option<&'a str>, second: Option<&'a str>) -> Operands<
     }
 }
 
-/// The command line as `clap` is told of it: three positionals, of which the first has to be there, and
-/// one flag.
+/// The command line as `clap` is told of it: three positionals, of which the first has to be there,
+/// and one flag.
 fn our_command<'a>(alloc: Global) -> Result<clap::Command<'a>, AllocError>
     ensures { IfOk result (λ command. app_of command ≡ our_app) }
 {

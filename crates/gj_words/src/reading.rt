@@ -40,7 +40,8 @@ pub fn read_words(alloc: Global, words: &[String]) -> Result<Request, WordFault>
     ensures only { (request : Request) → SpellRequest (map string_bytes words.now) request →
         MatchResult result (λ found. found ≡ request) (λ fault. fault ≢ WordFault.Refused) }
     // Words that are refused spell no request.
-    ensures refused { result ≡ Err WordFault.Refused → (request : Request) → ¬ SpellRequest (map string_bytes words.now) request }
+    ensures refused { result ≡ Err WordFault.Refused → (request : Request) →
+        ¬ SpellRequest (map string_bytes words.now) request }
 {
     if !has_plain_words(words) || flags_in(words) > 1 {
         return Err(WordFault::Refused);
@@ -107,8 +108,10 @@ fn may_take_json(command: Command) -> bool
 
 /// The command with this word, and these behind it.
 fn command_of(name: &str, operands: Operands) -> Option<Command>
-    ensures found { IfSome result (λ command. IsCommandOf name.now (words_behind operands.entry) command) }
-    ensures only { (command : Command) → IsCommandOf name.now (words_behind operands.entry) command → result ≡ Some command }
+    ensures found { IfSome result (λ command. IsCommandOf name.now
+        (words_behind operands.entry) command) }
+    ensures only { (command : Command) → IsCommandOf name.now
+        (words_behind operands.entry) command → result ≡ Some command }
 {
     match operands {
         Operands::Nothing => plain_command(name),
@@ -141,7 +144,8 @@ fn plain_command(name: &str) -> Option<Command>
 /// The command that this word spells with the number behind it.
 fn command_with(name: &str, number: &str) -> Option<Command>
     ensures found { IfSome result (λ command. IsCommandOf name.now (number.now ∷ []) command) }
-    ensures only { (command : Command) → IsCommandOf name.now (number.now ∷ []) command → result ≡ Some command }
+    ensures only { (command : Command) → IsCommandOf name.now (number.now ∷ []) command →
+        result ≡ Some command }
 {
     let n = number_of(number)?;
     match name {
@@ -153,8 +157,10 @@ fn command_with(name: &str, number: &str) -> Option<Command>
 
 /// The command `times` with these two numbers.
 fn times_by(factor: &str, step: &str) -> Option<Command>
-    ensures found { IfSome result (λ command. IsCommandOf (codes "times") (factor.now ∷ step.now ∷ []) command) }
-    ensures only { (command : Command) → IsCommandOf (codes "times") (factor.now ∷ step.now ∷ []) command → result ≡ Some command }
+    ensures found { IfSome result (λ command. IsCommandOf (codes "times")
+        (factor.now ∷ step.now ∷ []) command) }
+    ensures only { (command : Command) → IsCommandOf (codes "times")
+        (factor.now ∷ step.now ∷ []) command → result ≡ Some command }
 {
     let n = number_of(factor)?;
     let j = number_of(step)?;

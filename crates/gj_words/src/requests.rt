@@ -29,12 +29,13 @@ pub enum Command {
     Fill,
     /// Decides whether the table of a function's own order is extreme.
     Group,
-    /// Prints the function with the value of a function at n x, for the first number n, and with the place (f + j)/n, for
-    /// the second number j.
+    /// Prints the function with the value of a function at n x, for the first number n, and with
+    /// the place (f + j)/n, for the second number j.
     Times(u32, u32),
     /// Prints the function with the value of a function at -x, and with the place 1 - f.
     Mirror,
-    /// Prints the function of this order that has the values of a continuous function at its grid points.
+    /// Prints the function of this order that has the values of a continuous function at its grid
+    /// points.
     Restrict(u32),
 }
 

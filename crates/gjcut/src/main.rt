@@ -1,4 +1,5 @@
-//! The program `gjcut`: the words after its name, standard input and standard output, handed to the top call.
+//! The program `gjcut`: the words after its name, standard input and standard output, handed to the
+//! top call.
 #![tactic(auto)]
 
 use gj_port::{StdSink, StdSource};
@@ -11,7 +12,8 @@ use std::{env, io};
 /// How the program ends if the system has no memory for the list of words.
 const NO_MEMORY_FOR_WORDS: u8 = 6;
 
-/// How the program ends if the system refuses the list of words otherwise. No status of a run has this code.
+/// How the program ends if the system refuses the list of words otherwise. No status of a run has
+/// this code.
 const NO_WORDS: u8 = 13;
 
 fn main(rt: HostRuntime) -> ExitCode {

@@ -8,10 +8,10 @@ use gj_shape::{Face, FaceKind, RowName, Shape};
 use gj_system::row_of;
 use std::alloc::Global;
 
-/// The function of order 2 with f = 1/2 that has at 0 the limit 1 from the left, the value 0 and the
-/// limit 1/2 from the right, and at 1/2 the limit 1/2, the value 1 and the limit 0. The limit at the
-/// corner 1 of Lower (0, 1): with R and L for the limits from the right and left,
-/// L(1) + R(1) - L(2) = 1/2 + 0 - 1.
+/// The function of order 2 with f = 1/2 that has at 0 the limit 1 from the left, the value 0 and
+/// the limit 1/2 from the right, and at 1/2 the limit 1/2, the value 1 and the limit 0. The limit
+/// at the corner 1 of Lower (0, 1): with R and L for the limits from the right and left, L(1) +
+/// R(1) - L(2) = 1/2 + 0 - 1.
 fn slack_at_jumps(alloc: Global) -> Option<Frac> {
     let zero = Frac::ratio(0, 1);
     let half = Frac::ratio(1, 2);

@@ -72,8 +72,8 @@ fn says(q: &Inequality, x: Frac, y: Frac, z: Frac, right: Frac) -> bool {
     }
 }
 
-/// The row is x + 3/5 s1 - 1/5 s2 + 1/5 z = 12/5, with s1 = 7 - 2x - y whole and s2 = 9 - x - 3y + z
-/// not: so 2/3 s1 + 1/3 s2 + 1/2 z >= 1, which is -5/3 x - 5/3 y + 5/6 z >= -20/3.
+/// The row is x + 3/5 s1 - 1/5 s2 + 1/5 z = 12/5, with s1 = 7 - 2x - y whole and s2 = 9 - x - 3y +
+/// z not: so 2/3 s1 + 1/3 s2 + 1/2 z >= 1, which is -5/3 x - 5/3 y + 5/6 z >= -20/3.
 fn mixed_integer(alloc: Global) -> Option<bool> {
     let cut = cut_of(alloc, &problem(alloc)?)?;
     let xy = Frac::ratio(-5, 3);

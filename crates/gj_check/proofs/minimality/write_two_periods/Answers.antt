@@ -1,4 +1,4 @@
-use Rattle.std.proofs.Common.{pos, length, ap, ◌∙◌, arith}
+use Rattle.std.proofs.Common.{pos, ◌*◌, ◌≤◌, length, ap, sym, subst, ◌∙◌, arith}
 use Rattle.std.proofs.lemmas.Int.{ints}
 use Rattle.std.proofs.Math.ListN.{length-set}
 use Rattle.gj_check.proofs.TableTests.{value_fits, one_more_written}
@@ -30,7 +30,7 @@ loop-i-preserved g c =
     let len = l.value_length in
     let high = l.order_high in
     let room = c.loop-i.invariant.0 in (
-      length-set _ _ _ ∙ room,
+      subst (λ n. 2 * f.order ≤ n) (sym (length-set _ _ _)) room,
       one_more_written g.E.Entry.number c.loop-i.entries f.value c.loop-i.i c.of.result (omega arith) (c.of.ensures ∙ value) c.loop-i.invariant.1,
     )
 

@@ -1,5 +1,6 @@
 use Rattle.std.proofs.Common.{◌≡◌, length, sym, ap, subst₂, ◌∙◌, arith}
 use Rattle.std.proofs.lemmas.List.{length-map}
+use Rattle.std.proofs.lemmas.Result.{err_from_is_err_and}
 use Rattle.gj_shape.specs.SlopeRows.{row_names, component_in}
 use Rattle.gj_theory.specs.HandedOver.{renumbered}
 use Rattle.gj_theory.proofs.Eliminations.{elimination_has}
@@ -11,6 +12,7 @@ use Rattle.gj_proof.specs.declared.numbers.Numbers.TheVariants.{Whole}
 use Rattle.gj_extreme.specs.Decision.{slope_elimination}
 use Rattle.gj_extreme.specs.RowsToCome.{name_of, AreLoggedRows}
 use Rattle.gj_extreme.proofs.ClaimTexts.{extreme_has_text}
+use Rattle.gj_extreme.proofs.FaultCases.{no_wide_memory, no_jump_memory}
 use Rattle.gj_extreme.proofs.DecidedHalves.{begun_columns}
 use Rattle.gj_extreme.proofs.RenumberedKernel.{lines_renumbered}
 use Rattle.gj_extreme.proofs.covered.extreme_or_kernel.Goals as goal
@@ -62,4 +64,43 @@ slope_halves-requires-clause-covered c = (c.args.cover.lines, c.requires.covered
 pub returns-in_err-halves-clause-no_jump : goal.returns-in_err-halves-clause-no_jump
 returns-in_err-halves-clause-no_jump c = λ i e.
     c.in_err-halves.ensures.no_jump i (same_error c.from_residual-in_err-halves.result c.in_err-halves.field-0.0 _
+    c.from_residual-in_err-halves.ensures.0 c.from_residual-in_err-halves.ensures.1 e)
+
+pub returns-in_err-groups-clause-decided : goal.returns-in_err-groups-clause-decided
+returns-in_err-groups-clause-decided c = rw (err_from_is_err_and c.from_residual.result c.from_residual.ensures.1).1 tt
+
+pub returns-in_err-groups-clause-text : goal.returns-in_err-groups-clause-text
+returns-in_err-groups-clause-text c = rw (err_from_is_err_and c.from_residual.result c.from_residual.ensures.1).1 tt
+
+pub returns-in_err-groups-clause-wide : goal.returns-in_err-groups-clause-wide
+returns-in_err-groups-clause-wide c = λ e.
+    absurd (no_wide_memory c.from_residual.result c.in_err-groups.field-0.0 c.from_residual.ensures.0 c.from_residual.ensures.1 e)
+
+pub returns-in_err-groups-clause-no_jump : goal.returns-in_err-groups-clause-no_jump
+returns-in_err-groups-clause-no_jump c = λ i e.
+    no_jump_memory c.from_residual.result c.in_err-groups.field-0.0 i c.from_residual.ensures.0 c.from_residual.ensures.1 e
+
+pub returns-in_err-copy-clause-decided : goal.returns-in_err-copy-clause-decided
+returns-in_err-copy-clause-decided c = rw (err_from_is_err_and c.from_residual-in_err-copy.result c.from_residual-in_err-copy.ensures.1).1 tt
+
+pub returns-in_err-copy-clause-text : goal.returns-in_err-copy-clause-text
+returns-in_err-copy-clause-text c = rw (err_from_is_err_and c.from_residual-in_err-copy.result c.from_residual-in_err-copy.ensures.1).1 tt
+
+pub returns-in_err-copy-clause-wide : goal.returns-in_err-copy-clause-wide
+returns-in_err-copy-clause-wide c = λ e.
+    absurd (no_wide_memory c.from_residual-in_err-copy.result c.in_err-copy.field-0.0 c.from_residual-in_err-copy.ensures.0 c.from_residual-in_err-copy.ensures.1 e)
+
+pub returns-in_err-copy-clause-no_jump : goal.returns-in_err-copy-clause-no_jump
+returns-in_err-copy-clause-no_jump c = λ i e.
+    no_jump_memory c.from_residual-in_err-copy.result c.in_err-copy.field-0.0 i c.from_residual-in_err-copy.ensures.0 c.from_residual-in_err-copy.ensures.1 e
+
+pub returns-in_err-halves-clause-decided : goal.returns-in_err-halves-clause-decided
+returns-in_err-halves-clause-decided c = rw (err_from_is_err_and c.from_residual-in_err-halves.result c.from_residual-in_err-halves.ensures.1).1 tt
+
+pub returns-in_err-halves-clause-text : goal.returns-in_err-halves-clause-text
+returns-in_err-halves-clause-text c = rw (err_from_is_err_and c.from_residual-in_err-halves.result c.from_residual-in_err-halves.ensures.1).1 tt
+
+pub returns-in_err-halves-clause-wide : goal.returns-in_err-halves-clause-wide
+returns-in_err-halves-clause-wide c = λ e.
+    c.in_err-halves.ensures.wide (same_error c.from_residual-in_err-halves.result c.in_err-halves.field-0.0 _
     c.from_residual-in_err-halves.ensures.0 c.from_residual-in_err-halves.ensures.1 e)

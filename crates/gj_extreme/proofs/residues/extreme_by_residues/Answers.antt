@@ -1,5 +1,6 @@
 use Rattle.std.proofs.Common.{◌≡◌, ◌≤◌, length, sym, subst, subst₂, ◌∙◌}
 use Rattle.std.specs.Prelude.{All}
+use Rattle.std.proofs.lemmas.Result.{err_from_is_err_and}
 use Rattle.gj_shape.specs.Elimination.{elimination, Passes}
 use Rattle.gj_shape.specs.SlopeRows.{row_names, component_in}
 use Rattle.gj_residue.specs.Settled.{IsSettled, IsPlain, IsKernel, IsByResidues, AreRowsTooWide as IsTooWideOf}
@@ -7,7 +8,7 @@ use Rattle.gj_system.specs.Components.{IsNameBelow}
 use Rattle.gj_proof.specs.declared.numbers.Numbers.TheVariants.{Residues}
 use Rattle.gj_extreme.specs.Decision.{elimination_over}
 use Rattle.gj_extreme.proofs.ClaimTexts.{extreme_has_text}
-use Rattle.gj_extreme.proofs.FaultCases.{wide_settling}
+use Rattle.gj_extreme.proofs.FaultCases.{wide_settling, no_wide_memory, no_jump_memory}
 use Rattle.gj_extreme.proofs.ResidueRows.{rows_can_settle, names_are_below, rows_by_residues, wide_by_residues, rows_are, log_of}
 use Rattle.gj_extreme.proofs.residues.extreme_by_residues.Goals as goal
 
@@ -108,3 +109,37 @@ returns-clause-text c =
     let decided = returns-clause-decided c in
     extreme_has_text Residues c.args.shape.now c.in_ok-copy-in-Residues.field-0 c.args.cover.lines c.of.result
     c.in_ok-names.ensures.limits decided.0 decided.3
+
+pub returns-in_err-names-clause-decided : goal.returns-in_err-names-clause-decided
+returns-in_err-names-clause-decided c = rw (err_from_is_err_and c.from_residual.result c.from_residual.ensures.1).1 tt
+
+pub returns-in_err-names-clause-text : goal.returns-in_err-names-clause-text
+returns-in_err-names-clause-text c = rw (err_from_is_err_and c.from_residual.result c.from_residual.ensures.1).1 tt
+
+pub returns-in_err-names-clause-wide : goal.returns-in_err-names-clause-wide
+returns-in_err-names-clause-wide c = λ e.
+    absurd (no_wide_memory c.from_residual.result c.in_err-names.field-0.0 c.from_residual.ensures.0 c.from_residual.ensures.1 e)
+
+pub returns-in_err-names-clause-no_jump : goal.returns-in_err-names-clause-no_jump
+returns-in_err-names-clause-no_jump c = λ i e.
+    no_jump_memory c.from_residual.result c.in_err-names.field-0.0 i c.from_residual.ensures.0 c.from_residual.ensures.1 e
+
+pub returns-in_err-rows-clause-decided : goal.returns-in_err-rows-clause-decided
+returns-in_err-rows-clause-decided c = rw (err_from_is_err_and c.from_residual-in_err-rows.result c.from_residual-in_err-rows.ensures.1).1 tt
+
+pub returns-in_err-rows-clause-text : goal.returns-in_err-rows-clause-text
+returns-in_err-rows-clause-text c = rw (err_from_is_err_and c.from_residual-in_err-rows.result c.from_residual-in_err-rows.ensures.1).1 tt
+
+pub returns-in_err-rows-clause-wide : goal.returns-in_err-rows-clause-wide
+returns-in_err-rows-clause-wide c = λ e.
+    absurd (no_wide_memory c.from_residual-in_err-rows.result c.in_err-rows.field-0.0 c.from_residual-in_err-rows.ensures.0 c.from_residual-in_err-rows.ensures.1 e)
+
+pub returns-in_err-rows-clause-no_jump : goal.returns-in_err-rows-clause-no_jump
+returns-in_err-rows-clause-no_jump c = λ i e.
+    no_jump_memory c.from_residual-in_err-rows.result c.in_err-rows.field-0.0 i c.from_residual-in_err-rows.ensures.0 c.from_residual-in_err-rows.ensures.1 e
+
+pub returns-in_err-log-clause-decided : goal.returns-in_err-log-clause-decided
+returns-in_err-log-clause-decided c = rw (err_from_is_err_and c.from_residual-in_err-log.result c.from_residual-in_err-log.ensures.1).1 tt
+
+pub returns-in_err-log-clause-text : goal.returns-in_err-log-clause-text
+returns-in_err-log-clause-text c = rw (err_from_is_err_and c.from_residual-in_err-log.result c.from_residual-in_err-log.ensures.1).1 tt

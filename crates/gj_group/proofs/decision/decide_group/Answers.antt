@@ -1,14 +1,8 @@
-use Rattle.std.proofs.Common.{ℕ, ◌≡◌, ◌≤◌, ◌<◌, ◌^◌, ℤ, List, length, sym, subst, ◌∙◌, arith}
-use Rattle.std.specs.Prelude.{All}
-use Rattle.gj_frac.specs.Fraction.{Fits}
-use Rattle.gj_shape.specs.FunctionData.{at}
-use Rattle.gj_perturb.specs.Split.{CanSplit, IsWide}
-use Rattle.gj_residue.specs.Settled.{IsKernel}
-use Rattle.gj_group.specs.Decision.{own_rows, halves_too_wide}
-use Rattle.gj_group.specs.GroupRows.{group_rows}
+use Rattle.std.proofs.Common.{refl, arith}
+use Rattle.gj_elim.proofs.Keeping.{same_error}
+use Rattle.gj_group.specs.Decision.{own_rows, rows_too_wide, halves_too_wide}
 use Rattle.gj_group.specs.declared.decision.GroupAnswer.TheVariants.{NotMinimal, Extreme, NotExtreme}
-use Rattle.gj_group.proofs.RowBounds.{rows_length, rows_fit, rows_few}
-use Rattle.gj_group.proofs.TableAnswers.{asked_of, extreme_exactly, plain_says, residues_say, plain_fits, residues_fit, kernel_own, kernel_splits, kernel_says, kernel_finds, kernel_fits_group, wide_settling, wide_split, no_wide, wide_asked, some_is_not_none}
+use Rattle.gj_group.proofs.TableAnswers.{asked_of, extreme_exactly, plain_says, residues_say, plain_fits, residues_fit, kernel_own, kernel_splits, kernel_says, kernel_finds, kernel_fits_group, wide_split, some_is_not_none}
 use Rattle.gj_group.proofs.decision.decide_group.Goals as goal
 
 pub returns-in-Some-clause-says : goal.returns-in-Some-clause-says
@@ -27,72 +21,42 @@ returns-in-Some-clause-extreme c =
 pub returns-in-Some-clause-narrow : goal.returns-in-Some-clause-narrow
 returns-in-Some-clause-narrow c = λ minimal wide. (returns-in-Some-clause-says c).0 minimal
 
-pub returns-in_err-rows-clause-wide : goal.returns-in_err-rows-clause-wide
-returns-in_err-rows-clause-wide c = λ e.
-    absurd (no_wide c.from_residual.result c.in_err-rows.field-0.0 c.from_residual.ensures.0 c.from_residual.ensures.1 e)
-
-pub settle-requires-clause-some : goal.settle-requires-clause-some
-settle-requires-clause-some c =
-    let low = c.order.ensures.limits.order_low in
-    let same = c.order.ensures.value in
-    omega arith
-
-pub settle-requires-clause-lengths : goal.settle-requires-clause-lengths
-settle-requires-clause-lengths c =
-    let f = c.args.shape.now in
-    subst (λ (rows : List (List ℤ)). All (λ row. length row ≡ c.order.result) rows) (sym c.in_ok-rows.ensures.all)
-    (subst (λ (n : ℕ). All (λ row. length row ≡ n) (group_rows (at f.value) f.order f.place)) (sym c.order.ensures.value)
-    (rows_length (at f.value) f.order f.place))
-
-pub settle-requires-clause-entries : goal.settle-requires-clause-entries
-settle-requires-clause-entries c =
-    let f = c.args.shape.now in
-    subst (λ (rows : List (List ℤ)). All (All Fits) rows) (sym c.in_ok-rows.ensures.all) (rows_fit (at f.value) f.order f.place)
-
-pub settle-requires-clause-count : goal.settle-requires-clause-count
-settle-requires-clause-count c =
-    let f = c.args.shape.now in
-    subst (λ (rows : List (List ℤ)). length rows < 2 ^ 63) (sym c.in_ok-rows.ensures.all)
-    (rows_few (at f.value) f.order f.place c.order.ensures.limits.order_high)
-
-pub returns-in_err-settle-clause-wide : goal.returns-in_err-settle-clause-wide
-returns-in_err-settle-clause-wide c = λ e. (
+pub returns-in_err-settled_table-clause-wide : goal.returns-in_err-settled_table-clause-wide
+returns-in_err-settled_table-clause-wide c = λ e. (
   c.in_default.ensures.minimal 1 (omega arith),
-  wide_asked c.args.shape.now c.order.result c.in_ok-rows.rows.all (asked_of c.args.shape.now c.order.result c.in_ok-rows.rows.all c.order.ensures.limits c.in_default.ensures.minimal
-      c.order.ensures.value c.in_ok-rows.ensures.all)
-      (c.in_err-settle.ensures.wide (wide_settling c.from_residual-in_err-settle.result c.in_err-settle.field-0.0
-      c.from_residual-in_err-settle.ensures.0 c.from_residual-in_err-settle.ensures.1 e)),
+  rows_too_wide (c.in_err-settled_table.ensures.wide (same_error c.from_residual.result c.in_err-settled_table.field-0.0 _
+      c.from_residual.ensures.0 c.from_residual.ensures.1 e)),
 )
 
 pub returns-in-Plain-clause-says : goal.returns-in-Plain-clause-says
 returns-in-Plain-clause-says c =
-    plain_says c.args.shape.now c.order.result c.in_ok-rows.rows.all c.in_ok-settle.field-0 c.in-Plain.field-0 (asked_of c.args.shape.now c.order.result c.in_ok-rows.rows.all c.order.ensures.limits c.in_default.ensures.minimal
-    c.order.ensures.value c.in_ok-rows.ensures.all) c.in-Plain.is
-    c.in_ok-settle.ensures.answers
+    plain_says c.args.shape.now c.args.shape.now.order (own_rows c.args.shape.now) c.in_ok-settled_table.field-0 c.in-Plain.field-0 (asked_of c.args.shape.now c.args.shape.now.order (own_rows c.args.shape.now) c.in_ok-settled_table.ensures.limits c.in_default.ensures.minimal
+    refl refl) c.in-Plain.is
+    c.in_ok-settled_table.ensures.answers
 
 pub returns-in-Plain-clause-extreme : goal.returns-in-Plain-clause-extreme
 returns-in-Plain-clause-extreme c = extreme_exactly c.args.shape.now Extreme (returns-in-Plain-clause-says c)
 
 pub returns-in-Plain-clause-narrow : goal.returns-in-Plain-clause-narrow
 returns-in-Plain-clause-narrow c = λ minimal wide.
-    plain_fits c.args.shape.now c.order.result c.in_ok-rows.rows.all c.in_ok-settle.field-0 c.in-Plain.field-0 (asked_of c.args.shape.now c.order.result c.in_ok-rows.rows.all c.order.ensures.limits c.in_default.ensures.minimal
-    c.order.ensures.value c.in_ok-rows.ensures.all) c.in-Plain.is
-    c.in_ok-settle.ensures.settled wide
+    plain_fits c.args.shape.now c.args.shape.now.order (own_rows c.args.shape.now) c.in_ok-settled_table.field-0 c.in-Plain.field-0 (asked_of c.args.shape.now c.args.shape.now.order (own_rows c.args.shape.now) c.in_ok-settled_table.ensures.limits c.in_default.ensures.minimal
+    refl refl) c.in-Plain.is
+    c.in_ok-settled_table.ensures.settled wide
 
 pub returns-in-Residues-clause-says : goal.returns-in-Residues-clause-says
 returns-in-Residues-clause-says c =
-    residues_say c.args.shape.now c.order.result c.in_ok-rows.rows.all c.in_ok-settle.field-0 c.in-Residues.field-0 (asked_of c.args.shape.now c.order.result c.in_ok-rows.rows.all c.order.ensures.limits c.in_default.ensures.minimal
-    c.order.ensures.value c.in_ok-rows.ensures.all) c.in-Residues.is
-    c.in_ok-settle.ensures.answers
+    residues_say c.args.shape.now c.args.shape.now.order (own_rows c.args.shape.now) c.in_ok-settled_table.field-0 c.in-Residues.field-0 (asked_of c.args.shape.now c.args.shape.now.order (own_rows c.args.shape.now) c.in_ok-settled_table.ensures.limits c.in_default.ensures.minimal
+    refl refl) c.in-Residues.is
+    c.in_ok-settled_table.ensures.answers
 
 pub returns-in-Residues-clause-extreme : goal.returns-in-Residues-clause-extreme
 returns-in-Residues-clause-extreme c = extreme_exactly c.args.shape.now Extreme (returns-in-Residues-clause-says c)
 
 pub returns-in-Residues-clause-narrow : goal.returns-in-Residues-clause-narrow
 returns-in-Residues-clause-narrow c = λ minimal wide.
-    residues_fit c.args.shape.now c.order.result c.in_ok-rows.rows.all c.in_ok-settle.field-0 c.in-Residues.field-0 (asked_of c.args.shape.now c.order.result c.in_ok-rows.rows.all c.order.ensures.limits c.in_default.ensures.minimal
-    c.order.ensures.value c.in_ok-rows.ensures.all) c.in-Residues.is
-    c.in_ok-settle.ensures.settled wide
+    residues_fit c.args.shape.now c.args.shape.now.order (own_rows c.args.shape.now) c.in_ok-settled_table.field-0 c.in-Residues.field-0 (asked_of c.args.shape.now c.args.shape.now.order (own_rows c.args.shape.now) c.in_ok-settled_table.ensures.limits c.in_default.ensures.minimal
+    refl refl) c.in-Residues.is
+    c.in_ok-settled_table.ensures.settled wide
 
 pub split-requires-clause-minimal : goal.split-requires-clause-minimal
 split-requires-clause-minimal c = c.in_default.ensures.minimal
@@ -103,16 +67,16 @@ split-requires-clause-continuous c = c.requires.continuous
 pub split-requires-clause-perturbation : goal.split-requires-clause-perturbation
 split-requires-clause-perturbation c =
     let f = c.args.shape.now in
-    kernel_splits f c.order.result c.in_ok-rows.rows.all c.in_ok-settle.field-0 c.in-Kernel.numbers (asked_of c.args.shape.now c.order.result c.in_ok-rows.rows.all c.order.ensures.limits c.in_default.ensures.minimal
-    c.order.ensures.value c.in_ok-rows.ensures.all) c.in-Kernel.is
-    c.in_ok-settle.ensures.settled c.in_ok-settle.ensures.answers
+    kernel_splits f c.args.shape.now.order (own_rows c.args.shape.now) c.in_ok-settled_table.field-0 c.in-Kernel.numbers (asked_of c.args.shape.now c.args.shape.now.order (own_rows c.args.shape.now) c.in_ok-settled_table.ensures.limits c.in_default.ensures.minimal
+    refl refl) c.in-Kernel.is
+    c.in_ok-settled_table.ensures.settled c.in_ok-settled_table.ensures.answers
 
 pub returns-in_err-halves-in-Kernel-clause-wide : goal.returns-in_err-halves-in-Kernel-clause-wide
 returns-in_err-halves-in-Kernel-clause-wide c = λ e.
     let f = c.args.shape.now in
-    let kernel = kernel_own f c.order.result c.in_ok-rows.rows.all c.in_ok-settle.field-0 c.in-Kernel.numbers (asked_of c.args.shape.now c.order.result c.in_ok-rows.rows.all c.order.ensures.limits c.in_default.ensures.minimal
-    c.order.ensures.value c.in_ok-rows.ensures.all) c.in-Kernel.is
-    c.in_ok-settle.ensures.settled in (
+    let kernel = kernel_own f c.args.shape.now.order (own_rows c.args.shape.now) c.in_ok-settled_table.field-0 c.in-Kernel.numbers (asked_of c.args.shape.now c.args.shape.now.order (own_rows c.args.shape.now) c.in_ok-settled_table.ensures.limits c.in_default.ensures.minimal
+    refl refl) c.in-Kernel.is
+    c.in_ok-settled_table.ensures.settled in (
       c.in_default.ensures.minimal 1 (omega arith),
       halves_too_wide c.in-Kernel.numbers kernel
           (c.in_err-halves-in-Kernel.ensures.wide (wide_split c.from_residual-in_err-halves-in-Kernel.result
@@ -128,9 +92,9 @@ returns-clause-says c =
 pub returns-clause-found : goal.returns-clause-found
 returns-clause-found c =
     let f = c.args.shape.now in
-    let kernel = kernel_own f c.order.result c.in_ok-rows.rows.all c.in_ok-settle.field-0 c.in-Kernel.numbers (asked_of c.args.shape.now c.order.result c.in_ok-rows.rows.all c.order.ensures.limits c.in_default.ensures.minimal
-    c.order.ensures.value c.in_ok-rows.ensures.all) c.in-Kernel.is
-    c.in_ok-settle.ensures.settled in
+    let kernel = kernel_own f c.args.shape.now.order (own_rows c.args.shape.now) c.in_ok-settled_table.field-0 c.in-Kernel.numbers (asked_of c.args.shape.now c.args.shape.now.order (own_rows c.args.shape.now) c.in_ok-settled_table.ensures.limits c.in_default.ensures.minimal
+    refl refl) c.in-Kernel.is
+    c.in_ok-settled_table.ensures.settled in
     kernel_finds f c.in-Kernel.numbers c.in_ok-halves-in-Kernel.halves kernel
     c.in_ok-halves-in-Kernel.ensures.halves c.in_ok-halves-in-Kernel.ensures.limits
 
@@ -140,8 +104,8 @@ returns-clause-extreme c = extreme_exactly c.args.shape.now (NotExtreme c.in_ok-
 pub returns-clause-narrow : goal.returns-clause-narrow
 returns-clause-narrow c = λ minimal wide.
     let f = c.args.shape.now in
-    let kernel = kernel_own f c.order.result c.in_ok-rows.rows.all c.in_ok-settle.field-0 c.in-Kernel.numbers (asked_of c.args.shape.now c.order.result c.in_ok-rows.rows.all c.order.ensures.limits c.in_default.ensures.minimal
-    c.order.ensures.value c.in_ok-rows.ensures.all) c.in-Kernel.is
-    c.in_ok-settle.ensures.settled in
+    let kernel = kernel_own f c.args.shape.now.order (own_rows c.args.shape.now) c.in_ok-settled_table.field-0 c.in-Kernel.numbers (asked_of c.args.shape.now c.args.shape.now.order (own_rows c.args.shape.now) c.in_ok-settled_table.ensures.limits c.in_default.ensures.minimal
+    refl refl) c.in-Kernel.is
+    c.in_ok-settled_table.ensures.settled in
     kernel_fits_group f c.in-Kernel.numbers kernel c.in_ok-halves-in-Kernel.ensures.narrow
     wide

@@ -1,6 +1,6 @@
 use Rattle.std.proofs.Common.{ℕ, List, ◌++◌, flat_map, ap₂, ◌∙◌, append_assoc}
 use Rattle.gj_proof.specs.declared.cut.CutTerm.{CutTerm}
-use Rattle.gj_proof.specs.CutTexts.{row_text}
+use Rattle.gj_proof.specs.ProofText.{row_text}
 use Rattle.gj_listings.specs.MixedLines.{weight_line}
 use Rattle.gj_listings.proofs.mixed.push_cut.Goals as goal
 

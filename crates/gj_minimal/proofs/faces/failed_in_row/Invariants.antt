@@ -3,4 +3,4 @@ use Rattle.gj_minimal.specs.FirstFailure.{HoldsBelow}
 use Rattle.gj_minimal.proofs.faces.failed_in_row.Given as goal
 
 abbrev pub invariant-loop-b : goal.invariant-loop-b
-invariant-loop-b l = HoldsBelow (PassesSquare l.shape l.a) l.b
+invariant-loop-b g l = HoldsBelow (PassesSquare l.shape l.a) l.b

@@ -1,9 +1,20 @@
 use Rattle.std.proofs.Common.{◌≡◌, ◌<◌, ◌≤◌, ◌+ℤ◌, length, ap₂, sym, ◌∙◌, w64, to_z, of_z, arith}
-use Rattle.std.proofs.lemmas.Int.{ints, to_z-of_z}
+use Rattle.std.proofs.lemmas.Int.{ints, to_z-of_z, fits_signed_from_abs}
 use Rattle.gj_complex.specs.Squares.{limits_in}
 use Rattle.gj_minimal.proofs.Theory.{some_corners}
 use Rattle.gj_minimal.proofs.NearPairs.{as_many_limits_in, total_more}
 use Rattle.gj_minimal.proofs.shown.limit_total.Goals as goal
+
+pub overflow_add-total : goal.overflow_add-total
+overflow_add-total c =
+    let so_far = to_z w64 c.loop-corner.total-bits in
+    let few = (some_corners c.args.kind 0 0).1 in
+    let corner_low : c.loop-corner.corner ≤ 2 = omega arith in
+    let bound = c.loop-corner.invariant.fits in
+    let limit_bound = c.limit-total.ensures.fits in
+    let limit_is : to_z w64 (of_z w64 c.limit-total.result) ≡ c.limit-total.result =
+    to_z-of_z w64 c.limit-total.result (fits_signed_from_abs w64 c.limit-total.result (omega arith)) in
+    rw limit_is (fits_signed_from_abs w64 (so_far +ℤ c.limit-total.result) (omega (arith, ints)))
 
 pub loop-corner-preserved : goal.loop-corner-preserved
 loop-corner-preserved c =
@@ -16,7 +27,8 @@ loop-corner-preserved c =
     let corner_low : c.loop-corner.corner ≤ 2 = omega arith in
     let bound = c.loop-corner.invariant.fits in
     let limit_bound = c.limit-total.ensures.fits in
-    let limit_is : to_z w64 (of_z w64 c.limit-total.result) ≡ c.limit-total.result = omega (arith, ints) in
+    let limit_is : to_z w64 (of_z w64 c.limit-total.result) ≡ c.limit-total.result =
+    to_z-of_z w64 c.limit-total.result (fits_signed_from_abs w64 c.limit-total.result (omega arith)) in
     let whole : to_z w64 (of_z w64 (to_z w64 c.loop-corner.total-bits +ℤ to_z w64 (of_z w64 c.limit-total.result)))
     ≡ to_z w64 c.loop-corner.total-bits +ℤ c.limit-total.result =
     rw limit_is (to_z-of_z w64 (so_far +ℤ c.limit-total.result) (omega (arith, ints))) in

@@ -1,5 +1,5 @@
 use Rattle.std.proofs.Common.{◌≡◌, ◌++◌, flat_map, take}
-use Rattle.gj_proof.specs.CutTexts.{row_text}
+use Rattle.gj_proof.specs.ProofText.{row_text}
 use Rattle.gj_proof.proofs.write_cuts.push_rows.Given as goal
 
 abbrev pub invariant-loop-row : goal.invariant-loop-row

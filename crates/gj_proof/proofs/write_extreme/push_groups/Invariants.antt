@@ -1,5 +1,5 @@
 use Rattle.std.proofs.Common.{◌≡◌, ◌++◌, flat_map, take}
-use Rattle.gj_proof.specs.ExtremeTexts.{group_text}
+use Rattle.gj_proof.specs.ProofText.{group_text}
 use Rattle.gj_proof.proofs.write_extreme.push_groups.Given as goal
 
 abbrev pub invariant-loop-row : goal.invariant-loop-row

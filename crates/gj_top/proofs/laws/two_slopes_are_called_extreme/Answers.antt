@@ -13,7 +13,8 @@ use Rattle.gj_top.proofs.Sound.{IsSound, extreme_sound}
 use Rattle.gj_top.proofs.TwoSlopeAnswers.{two_slope_reply}
 use Rattle.gj_top.proofs.laws.two_slopes_are_called_extreme.Goals as goal
 
--- what holds of each reply to an input in the form holds of its answer, if the input is within the limit
+-- what holds of each reply to an input in the form holds of its answer, if the input is within the
+-- limit
 answered : (task : Task) (input text : List ℕ) (s : Status) (Called : Type 0) → IsSound task → IsInForm task input →
     length input ≤ input_limit → ((e : End) → IsReply task input e text → (e ≡ end.Done) × Called) → IsAnswerTo task input s text →
     (s ≡ Done) × Called

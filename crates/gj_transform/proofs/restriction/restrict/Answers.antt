@@ -2,6 +2,7 @@ use Rattle.std.proofs.Common.{◌≡◌, ℕ, ◌≤◌, ◌*◌, ◌/◌, ◌%�
 use Rattle.std.specs.Int.{◌∣◌}
 use Rattle.std.proofs.lemmas.Int.{to_z-of_z}
 use Rattle.std.proofs.lemmas.Nat.Gcd.{dvd_of_mod-eq-zero}
+use Rattle.std.proofs.lemmas.Result.{err_from_is_err_and}
 use Rattle.gj_shape.specs.FunctionData.{FunctionData, IsWithinBounds}
 use Rattle.gj_transform.specs.Transforms.{IsRestrictionOf, IsStep}
 use Rattle.gj_transform.proofs.AtFractions.{restriction_values}
@@ -109,3 +110,51 @@ from_numerators-requires c =
     let right = c.in_ok-right.ensures.items ∙ c.as_slice-4.ensures.value in
     let is = function_as refl place (ap (λ s. s / c.greatest_divisor-divisor.result) scale) refl value right in
     subst IsWithinBounds (sym is) (restriction_within f _ _ _ _ _ limits reduced)
+
+pub returns-in_err-taken-clause-restriction : goal.returns-in_err-taken-clause-restriction
+returns-in_err-taken-clause-restriction c = rw (err_from_is_err_and c.from_residual.result c.from_residual.ensures.1).1 tt
+
+pub returns-in_err-taken-clause-within : goal.returns-in_err-taken-clause-within
+returns-in_err-taken-clause-within c = rw (err_from_is_err_and c.from_residual.result c.from_residual.ensures.1).1 tt
+
+pub returns-in_err-taken-clause-values : goal.returns-in_err-taken-clause-values
+returns-in_err-taken-clause-values c = rw (err_from_is_err_and c.from_residual.result c.from_residual.ensures.1).1 tt
+
+pub returns-in_err-taken-clause-minimal : goal.returns-in_err-taken-clause-minimal
+returns-in_err-taken-clause-minimal c = rw (err_from_is_err_and c.from_residual.result c.from_residual.ensures.1).1 tt
+
+pub returns-in_err-left-clause-restriction : goal.returns-in_err-left-clause-restriction
+returns-in_err-left-clause-restriction c = rw (err_from_is_err_and c.from_residual-in_err-left.result c.from_residual-in_err-left.ensures.1).1 tt
+
+pub returns-in_err-left-clause-within : goal.returns-in_err-left-clause-within
+returns-in_err-left-clause-within c = rw (err_from_is_err_and c.from_residual-in_err-left.result c.from_residual-in_err-left.ensures.1).1 tt
+
+pub returns-in_err-left-clause-values : goal.returns-in_err-left-clause-values
+returns-in_err-left-clause-values c = rw (err_from_is_err_and c.from_residual-in_err-left.result c.from_residual-in_err-left.ensures.1).1 tt
+
+pub returns-in_err-left-clause-minimal : goal.returns-in_err-left-clause-minimal
+returns-in_err-left-clause-minimal c = rw (err_from_is_err_and c.from_residual-in_err-left.result c.from_residual-in_err-left.ensures.1).1 tt
+
+pub returns-in_err-value-clause-restriction : goal.returns-in_err-value-clause-restriction
+returns-in_err-value-clause-restriction c = rw (err_from_is_err_and c.from_residual-in_err-value.result c.from_residual-in_err-value.ensures.1).1 tt
+
+pub returns-in_err-value-clause-within : goal.returns-in_err-value-clause-within
+returns-in_err-value-clause-within c = rw (err_from_is_err_and c.from_residual-in_err-value.result c.from_residual-in_err-value.ensures.1).1 tt
+
+pub returns-in_err-value-clause-values : goal.returns-in_err-value-clause-values
+returns-in_err-value-clause-values c = rw (err_from_is_err_and c.from_residual-in_err-value.result c.from_residual-in_err-value.ensures.1).1 tt
+
+pub returns-in_err-value-clause-minimal : goal.returns-in_err-value-clause-minimal
+returns-in_err-value-clause-minimal c = rw (err_from_is_err_and c.from_residual-in_err-value.result c.from_residual-in_err-value.ensures.1).1 tt
+
+pub returns-in_err-right-clause-restriction : goal.returns-in_err-right-clause-restriction
+returns-in_err-right-clause-restriction c = rw (err_from_is_err_and c.from_residual-in_err-right.result c.from_residual-in_err-right.ensures.1).1 tt
+
+pub returns-in_err-right-clause-within : goal.returns-in_err-right-clause-within
+returns-in_err-right-clause-within c = rw (err_from_is_err_and c.from_residual-in_err-right.result c.from_residual-in_err-right.ensures.1).1 tt
+
+pub returns-in_err-right-clause-values : goal.returns-in_err-right-clause-values
+returns-in_err-right-clause-values c = rw (err_from_is_err_and c.from_residual-in_err-right.result c.from_residual-in_err-right.ensures.1).1 tt
+
+pub returns-in_err-right-clause-minimal : goal.returns-in_err-right-clause-minimal
+returns-in_err-right-clause-minimal c = rw (err_from_is_err_and c.from_residual-in_err-right.result c.from_residual-in_err-right.ensures.1).1 tt

@@ -1,11 +1,8 @@
-use Rattle.std.proofs.Common.{ℕ, ◌≡◌, ◌≢◌, inl, inr, ◌+◌, ◌%◌, ℤ, pos, List, ◌∷◌, Some, length, to_z, sym, ap, ap₂, subst, ◌∙◌, arith, rules}
-use Rattle.std.proofs.Math.ListN.{replicate}
-use mir.Syntax.{w128}
+use Rattle.std.proofs.Common.{ℕ, ◌≡◌, ◌+◌, ℤ, List, ◌∷◌, Some, length, sym, ap, ap₂, subst, ◌∙◌, arith}
 use Rattle.gj_shape.specs.FunctionData.{at}
 use Rattle.gj_residue.specs.Source.{RowsToCome}
 use Rattle.gj_group.specs.GroupRows.{entry_row, sum_row}
-use Rattle.gj_group.specs.RowsToCome.{upcoming_rows, rows_from, pair_rows, IsNextPair, to_come}
-use Rattle.gj_group.specs.declared.table_rows.Upcoming.{Upcoming}
+use Rattle.gj_group.specs.RowsToCome.{upcoming_rows, rows_from, pair_rows, IsNextPair}
 use Rattle.gj_group.specs.declared.table_rows.Upcoming.TheVariants.{Start, Place, Pair}
 use Rattle.gj_group.proofs.PairRows.{pairs_begin}
 use Rattle.gj_group.proofs.table_rows.GroupRowsRowSource.next.Goals as goal

@@ -1,61 +1,23 @@
-use Rattle.std.proofs.Common.{◌⊎◌, ◌+◌, inl, inr, List, take, drop, refl, ap, subst, ◌∙◌}
+use Rattle.std.proofs.Common.{◌⊎◌, inr, List, ap, subst, ◌∙◌}
 use Rattle.gj_frac.proofs.Refusals.{on_err}
 use Rattle.gj_frac.specs.declared.Frac.{Frac}
 use Rattle.gj_rational.specs.Rational.{Rational, rational, ◌+ℚ◌, ◌*ℚ◌, ◌-ℚ◌}
 use Rattle.gj_problem.specs.Problems.{sum_at}
 use Rattle.gj_problem.specs.Rows.{dot}
 use Rattle.gj_problem.specs.Steps.{IsWideAt, IsWideWithin}
-use Rattle.gj_problem.proofs.Prefixes.{split_at}
-use Rattle.gj_problem.proofs.AddedSums.{nothing_added, entries_added, all_added, inequality_added}
+use Rattle.gj_problem.proofs.AddedSums.{inequality_added}
 use Rattle.gj_problem.proofs.sums.Sum.add.Goals as goal
-
-pub loop-entry-init : goal.loop-entry-init
-loop-entry-init c = record {
-  right = refl;
-  count = refl;
-  added = λ (point : List Rational). nothing_added (dot c.args.self.now.coefficients.items point) (rational c.args.factor);
-}
-
-pub loop-entry-preserved : goal.loop-entry-preserved
-loop-entry-preserved c = record {
-  right = c.add_entry.ensures.right ∙ c.loop-entry.invariant.right;
-  count = c.add_entry.ensures.count ∙ c.loop-entry.invariant.count;
-  added = λ (point : List Rational). entries_added point c.args.entries.now c.loop-entry.entry-index c.entry-item.result (rational c.args.factor)
-      (dot c.args.self.now.coefficients.items point) (dot c.loop-entry.self.coefficients.items point)
-      (dot c.add_entry.new.self.coefficients.items point) c.loop-entry-test.true c.entry-item.is (c.loop-entry.invariant.added point)
-      (c.in_ok-add_entry.ensures.added point);
-}
 
 pub returns-clause-added : goal.returns-clause-added
 returns-clause-added c = λ (point : List Rational).
     let d = dot c.args.self.now.coefficients.items point in
-    let now = dot c.loop-entry.self.coefficients.items point in
-    inequality_added d now (sum_at point c.args.entries.now) c.loop-entry.self.right c.in_ok-self.field-0 c.args.factor c.args.right
-    (all_added d now d point c.args.entries.now c.loop-entry.entry-index (rational c.args.factor) c.loop-entry-test.false
-    (c.loop-entry.invariant.added point)) c.in_ok-self.ensures.value
+    inequality_added d (dot c.add_entries.new.self.coefficients.items point) (sum_at point c.args.entries.now) c.add_entries.new.self.right
+    c.in_ok-self.field-0 c.args.factor c.args.right (c.in_ok-add_entries.ensures.added point) c.in_ok-self.ensures.value
     ∙ ap (λ (r : Frac). (d -ℚ rational r) +ℚ rational c.args.factor *ℚ (sum_at point c.args.entries.now -ℚ rational c.args.right))
-    c.loop-entry.invariant.right
-
-pub returns-in_err-add_entry-clause-wide : goal.returns-in_err-add_entry-clause-wide
-returns-in_err-add_entry-clause-wide c =
-    let items = c.args.self.now.coefficients.items in
-    let es = c.args.entries.now in
-    let i = c.loop-entry.entry-index in
-    on_err c.from_residual.result (IsWideWithin items c.args.factor es ⊎ IsWideAt c.args.self.now.right c.args.factor c.args.right)
-    (inl (record {
-      before = take i es;
-      entry = c.entry-item.result;
-      after = drop (i + 1) es;
-      place = split_at es i c.entry-item.result c.loop-entry-test.true c.entry-item.is;
-      reached = c.loop-entry.self.coefficients.items;
-      count = c.loop-entry.invariant.count;
-      adds = c.loop-entry.invariant.added;
-      wide = c.in_err-add_entry.ensures.wide;
-    }))
+    c.add_entries.ensures.right
 
 pub returns-in_err-self-clause-wide : goal.returns-in_err-self-clause-wide
 returns-in_err-self-clause-wide c =
     on_err c.from_residual-in_err-self.result
     (IsWideWithin c.args.self.now.coefficients.items c.args.factor c.args.entries.now ⊎ IsWideAt c.args.self.now.right c.args.factor c.args.right)
-    (inr (subst (λ (r : Frac). IsWideAt r c.args.factor c.args.right) c.loop-entry.invariant.right
-    c.in_err-self.ensures.wide))
+    (inr (subst (λ (r : Frac). IsWideAt r c.args.factor c.args.right) c.add_entries.ensures.right c.in_err-self.ensures.wide))

@@ -2,8 +2,9 @@ use Rattle.std.proofs.Common.{rules, IsTrue, false, arith}
 use Rattle.std.proofs.lemmas.Int.{ints}
 use Rattle.std.proofs.lemmas.Result.{IfOk-weaker}
 use Rattle.gj_frac.specs.Fraction.{SameValue, fraction_of, quotient_of}
-use Rattle.gj_rule.proofs.ClosedForm.{rest_parts, complement_parts, rising_value, falling_value}
+use Rattle.gj_rule.proofs.ClosedForm.{rest_parts}
 use Rattle.gj_theory.specs.Cuts.{IsGmicValue}
+use Rattle.gj_safe_cut.proofs.ValueParts.{complement_parts, rising_value, falling_value}
 use Rattle.gj_safe_cut.proofs.values.PlaceValues.value.Goals as goal
 
 false_is_not_true : IsTrue false → ⊥

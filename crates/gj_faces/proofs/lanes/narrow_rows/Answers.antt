@@ -1,0 +1,4 @@
+use Rattle.gj_faces.proofs.lanes.narrow_rows.Goals as goal
+
+pub rows_over-requires-clause-range : goal.rows_over-requires-clause-range
+rows_over-requires-clause-range c = c.requires.range
