@@ -1,9 +1,8 @@
 -- What words tell, or why they tell nothing.
-use Rattle.std.proofs.Common.{◌≡◌, inl, inr, ℕ, pos, ◌<◌, ◌^◌, List, [], ◌∷◌, ◌++◌, Bool, map, codes, refl, sym, ap, subst, ◌∙◌, arith}
+use Rattle.std.proofs.Common.{◌≡◌, inr, ℕ, pos, ◌<◌, ◌^◌, List, [], ◌∷◌, ◌++◌, map, codes, refl, sym, ap, subst, arith}
 use Rattle.std.proofs.lemmas.Int.{ints}
 use Rattle.std.proofs.lemmas.List.{append_assoc, append-nil}
 use Rattle.gj_frac.specs.declared.Frac.{Frac}
-use Rattle.gj_lex.specs.Words.{word_texts}
 use Rattle.gj_lex.specs.SpelledNumbers.{IsCountWord, IsFractionWord}
 use Rattle.gj_lex.specs.declared.spelling.Spelling.TheVariants.{Lenient}
 use Rattle.gj_lex.specs.declared.reason.Reason.TheVariants as reason
@@ -11,7 +10,7 @@ use Rattle.gj_lex.proofs.SpelledWords.{one_count}
 use Rattle.gj_forms.specs.LineForms.{with_numbers}
 use Rattle.gj_forms.specs.LineForms.Field.{fraction}
 use Rattle.gj_forms.specs.SpelledForms.{SpellFields, Spell}
-use Rattle.gj_forms.proofs.PlainWords.{are_same, apart}
+use Rattle.gj_forms.proofs.PlainWords.{apart}
 use Rattle.gj_forms.proofs.WholeNumbers.{whole}
 use Rattle.gj_problem.specs.declared.problem.Sense.{Sense}
 use Rattle.gj_problem_text.specs.ProblemLines.{ProblemLine, column, constraint, entry, upper, sum, grid, sense_word, problem_form, told_rule}

@@ -1,3 +1,5 @@
 pub mod ProblemLines
 pub mod LinesRead
 pub mod Tasks
+pub mod ProblemText
+pub mod FirstFault

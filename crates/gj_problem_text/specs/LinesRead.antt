@@ -1,5 +1,4 @@
 -- What the readers of lines find (own).
-use Rattle.std.specs.Prelude.{ℕ, List, ◌∷◌}
 use Rattle.gj_lex.specs.declared.reason.Reason.{Reason}
 use Rattle.gj_problem_text.specs.ProblemLines.{ProblemLine, column, constraint, entry, upper, sum, grid}
 use Rattle.gj_problem_text.specs.declared.lines.Line.{Line}

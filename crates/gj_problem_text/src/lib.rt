@@ -2,8 +2,13 @@
 #![tactic(auto)]
 
 mod faults;
+mod laws;
 mod lines;
+mod read;
 mod steps;
 mod task;
 
+pub use faults::ProblemFault;
+pub use laws::one_problem_text;
+pub use read::read_problem;
 pub use task::{Request, Task};

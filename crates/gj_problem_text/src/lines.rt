@@ -48,7 +48,8 @@ pub(crate) fn line_in(alloc: Global, line: &[u8]) -> Result<Line<'_>, LineFault>
 /// What a line tells that begins with the word, another than `sum`, and goes on so.
 fn line_with<'a>(word: &[u8], rest: &'a [u8]) -> Result<Line<'a>, Reason>
     requires { word.now ≡ codes "sum" → ⊥ }
-    ensures told { IfOk result (λ l. told_rule.Spells (word.now ∷ word_texts rest.now) (line_told l)) }
+    ensures told { IfOk result (λ l. told_rule.Spells (word.now ∷ word_texts rest.now)
+        (line_told l)) }
     ensures broken { IfErr result (told_rule.Breaks (word.now ∷ word_texts rest.now)) }
 {
     if word == b"entry".as_slice() {
@@ -71,7 +72,8 @@ fn line_with<'a>(word: &[u8], rest: &'a [u8]) -> Result<Line<'a>, Reason>
 
 /// What `column` tells with these words behind it.
 fn column_in(rest: &[u8]) -> Result<Line<'_>, Reason>
-    ensures told { IfOk result (λ l. told_rule.Spells (codes "column" ∷ word_texts rest.now) (line_told l)) }
+    ensures told { IfOk result (λ l. told_rule.Spells (codes "column" ∷ word_texts rest.now)
+        (line_told l)) }
     ensures broken { IfErr result (told_rule.Breaks (codes "column" ∷ word_texts rest.now)) }
 {
     let Some((name, is_whole, lower, upper)) = column_words(rest) else {
@@ -82,7 +84,8 @@ fn column_in(rest: &[u8]) -> Result<Line<'_>, Reason>
 
 /// The name, the kind and the words of the bounds of a column.
 fn column_words(rest: &[u8]) -> Option<(&[u8], bool, &[u8], &[u8])>
-    ensures found { IfSome result (λ r. word_texts rest.now ≡ r.0.now ∷ kind_word r.1 ∷ r.2.now ∷ r.3.now ∷ []) }
+    ensures found { IfSome result (λ r. word_texts rest.now
+        ≡ r.0.now ∷ kind_word r.1 ∷ r.2.now ∷ r.3.now ∷ []) }
     ensures none { IfNone result ((name : List ℕ) (is_whole : Bool) (low high : List ℕ) →
         word_texts rest.now ≡ name ∷ kind_word is_whole ∷ low ∷ high ∷ [] → ⊥) }
 {
@@ -110,7 +113,8 @@ fn kind_of(word: &[u8]) -> Option<bool>
 
 /// What `constraint` tells with these words behind it.
 fn constraint_in(rest: &[u8]) -> Result<Line<'_>, Reason>
-    ensures told { IfOk result (λ l. told_rule.Spells (codes "constraint" ∷ word_texts rest.now) (line_told l)) }
+    ensures told { IfOk result (λ l. told_rule.Spells (codes "constraint" ∷ word_texts rest.now)
+        (line_told l)) }
     ensures broken { IfErr result (told_rule.Breaks (codes "constraint" ∷ word_texts rest.now)) }
 {
     let Some((name, sense, right)) = constraint_words(rest) else {
@@ -124,7 +128,8 @@ fn constraint_in(rest: &[u8]) -> Result<Line<'_>, Reason>
 
 /// The name, the sense and the word of the right side of a constraint.
 fn constraint_words(rest: &[u8]) -> Option<(&[u8], Sense, &[u8])>
-    ensures found { IfSome result (λ r. word_texts rest.now ≡ r.0.now ∷ sense_word r.1 ∷ r.2.now ∷ []) }
+    ensures found { IfSome result (λ r. word_texts rest.now
+        ≡ r.0.now ∷ sense_word r.1 ∷ r.2.now ∷ []) }
     ensures none { IfNone result ((name : List ℕ) (sense : Sense) (right : List ℕ) →
         word_texts rest.now ≡ name ∷ sense_word sense ∷ right ∷ [] → ⊥) }
 {
@@ -154,7 +159,8 @@ fn sense_of(word: &[u8]) -> Option<Sense>
 
 /// What `entry` tells with these words behind it.
 fn entry_in(rest: &[u8]) -> Result<Line<'_>, Reason>
-    ensures told { IfOk result (λ l. told_rule.Spells (codes "entry" ∷ word_texts rest.now) (line_told l)) }
+    ensures told { IfOk result (λ l. told_rule.Spells (codes "entry" ∷ word_texts rest.now)
+        (line_told l)) }
     ensures broken { IfErr result (told_rule.Breaks (codes "entry" ∷ word_texts rest.now)) }
 {
     let Some((name, word)) = two_words(rest) else {
@@ -169,7 +175,8 @@ fn entry_in(rest: &[u8]) -> Result<Line<'_>, Reason>
 /// The two words of the line, if it has two.
 fn two_words(line: &[u8]) -> Option<(&[u8], &[u8])>
     ensures found { IfSome result (λ r. word_texts line.now ≡ r.0.now ∷ r.1.now ∷ []) }
-    ensures none { IfNone result ((first second : List ℕ) → word_texts line.now ≡ first ∷ second ∷ [] → ⊥) }
+    ensures none { IfNone result ((first second : List ℕ) →
+        word_texts line.now ≡ first ∷ second ∷ [] → ⊥) }
 {
     let (first, rest) = split_word(line)?;
     let second = only_word(rest)?;
@@ -178,7 +185,8 @@ fn two_words(line: &[u8]) -> Option<(&[u8], &[u8])>
 
 /// What `upper` tells with these words behind it.
 fn upper_in(rest: &[u8]) -> Result<Line<'_>, Reason>
-    ensures told { IfOk result (λ l. told_rule.Spells (codes "upper" ∷ word_texts rest.now) (line_told l)) }
+    ensures told { IfOk result (λ l. told_rule.Spells (codes "upper" ∷ word_texts rest.now)
+        (line_told l)) }
     ensures broken { IfErr result (told_rule.Breaks (codes "upper" ∷ word_texts rest.now)) }
 {
     let Some(name) = only_word(rest) else {
@@ -189,7 +197,8 @@ fn upper_in(rest: &[u8]) -> Result<Line<'_>, Reason>
 
 /// What `grid` tells with these words behind it.
 fn grid_in(rest: &[u8]) -> Result<Line<'_>, Reason>
-    ensures told { IfOk result (λ l. told_rule.Spells (codes "grid" ∷ word_texts rest.now) (line_told l)) }
+    ensures told { IfOk result (λ l. told_rule.Spells (codes "grid" ∷ word_texts rest.now)
+        (line_told l)) }
     ensures broken { IfErr result (told_rule.Breaks (codes "grid" ∷ word_texts rest.now)) }
 {
     let Some(word) = only_word(rest) else {
@@ -206,8 +215,10 @@ fn grid_in(rest: &[u8]) -> Result<Line<'_>, Reason>
 
 /// What `sum` tells with these words behind it.
 fn sum_in(alloc: Global, rest: &[u8]) -> Result<Line<'_>, LineFault>
-    ensures told { IfOk result (λ l. told_rule.Spells (codes "sum" ∷ word_texts rest.now) (line_told l)) }
-    ensures broken { IfErr result (IsRefusedFor (told_rule.Breaks (codes "sum" ∷ word_texts rest.now))) }
+    ensures told { IfOk result (λ l. told_rule.Spells (codes "sum" ∷ word_texts rest.now)
+        (line_told l)) }
+    ensures broken { IfErr result
+        (IsRefusedFor (told_rule.Breaks (codes "sum" ∷ word_texts rest.now))) }
 {
     let mut multipliers = Vec::new(alloc);
     let mut left = rest;

@@ -53,7 +53,8 @@ fn with_column(
     upper: &[u8],
 ) -> Result<Task, LineFault>
     ensures added { IfOk result (AddsColumn task name.now is_whole lower.now upper.now) }
-    ensures refused { IfErr result (IsRefusedFor (RefusesColumn task name.now lower.now upper.now)) }
+    ensures refused { IfErr result (IsRefusedFor
+        (RefusesColumn task name.now lower.now upper.now)) }
 {
     let kept = name_of(alloc, name)?;
     let Some(lower) = bound_of(lower) else {
@@ -68,15 +69,31 @@ fn with_column(
     if index_of(task.names.as_slice(), name).is_some() {
         return Err(LineFault::Broken(Reason::Place));
     }
-    let Task { names, problem, entries, requests, grid } = task;
-    let Problem { columns, constraints } = problem;
+    let Task {
+        names,
+        problem,
+        entries,
+        requests,
+        grid,
+    } = task;
+    let Problem {
+        columns,
+        constraints,
+    } = problem;
     let mut names = names.into_vec();
     names.push(kept)?;
     let mut columns = columns.into_vec();
-    columns.push(Column { is_whole, lower, upper })?;
+    columns.push(Column {
+        is_whole,
+        lower,
+        upper,
+    })?;
     Ok(Task {
         names: List::of(names),
-        problem: Problem { columns: List::of(columns), constraints },
+        problem: Problem {
+            columns: List::of(columns),
+            constraints,
+        },
         entries,
         requests,
         grid,
@@ -141,13 +158,29 @@ fn with_constraint(
     if task.problem.constraints.as_slice().len() >= MOST_CONSTRAINTS {
         return Err(LineFault::Broken(Reason::Large));
     }
-    let Task { names, problem, entries, requests, grid } = task;
-    let Problem { columns, constraints } = problem;
+    let Task {
+        names,
+        problem,
+        entries,
+        requests,
+        grid,
+    } = task;
+    let Problem {
+        columns,
+        constraints,
+    } = problem;
     let mut constraints = constraints.into_vec();
-    constraints.push(Constraint { entries: List::of(Vec::new(alloc)), sense, right })?;
+    constraints.push(Constraint {
+        entries: List::of(Vec::new(alloc)),
+        sense,
+        right,
+    })?;
     Ok(Task {
         names,
-        problem: Problem { columns, constraints: List::of(constraints) },
+        problem: Problem {
+            columns,
+            constraints: List::of(constraints),
+        },
         entries,
         requests,
         grid,
@@ -169,12 +202,30 @@ fn with_entry(task: Task, name: &[u8], value: Frac) -> Result<Task, LineFault>
     let Some(index) = index_of(task.names.as_slice(), name) else {
         return Err(LineFault::Broken(Reason::Place));
     };
-    let Task { names, problem, entries, requests, grid } = task;
-    let Problem { columns, constraints } = problem;
-    let constraints = longer(constraints, Entry { column: index as u32, value })?;
+    let Task {
+        names,
+        problem,
+        entries,
+        requests,
+        grid,
+    } = task;
+    let Problem {
+        columns,
+        constraints,
+    } = problem;
+    let constraints = longer(
+        constraints,
+        Entry {
+            column: index as u32,
+            value,
+        },
+    )?;
     Ok(Task {
         names,
-        problem: Problem { columns, constraints },
+        problem: Problem {
+            columns,
+            constraints,
+        },
         entries: entries + 1,
         requests,
         grid,
@@ -204,31 +255,62 @@ fn longer(constraints: List<Constraint>, entry: Entry) -> Result<List<Constraint
 
 /// The constraint with one more entry.
 fn with_one_more(constraint: Constraint, entry: Entry) -> Result<Constraint, LineFault>
-    ensures added { IfOk result (λ c. c ≡ record { entries = constraint.entries ++ entry ∷ []; sense = constraint.sense; right = constraint.right }) }
+    ensures added { IfOk result (λ c. c ≡ record {
+      entries = constraint.entries ++ entry ∷ [];
+      sense = constraint.sense;
+      right = constraint.right;
+    }) }
     ensures memory { IfErr result IsMemory }
 {
-    let Constraint { entries, sense, right } = constraint;
+    let Constraint {
+        entries,
+        sense,
+        right,
+    } = constraint;
     let mut entries = entries.into_vec();
     entries.push(entry)?;
-    Ok(Constraint { entries: List::of(entries), sense, right })
+    Ok(Constraint {
+        entries: List::of(entries),
+        sense,
+        right,
+    })
 }
 
 /// The task with a request.
 fn with_request(task: Task, request: Request) -> Result<Task, LineFault>
-    ensures added { IfOk result (λ t. t ≡ record { names = task.names; problem = task.problem; entries = task.entries; requests = task.requests ++ request ∷ []; grid = task.grid }) }
+    ensures added { IfOk result (λ t. t ≡ record {
+      names = task.names;
+      problem = task.problem;
+      entries = task.entries;
+      requests = task.requests ++ request ∷ [];
+      grid = task.grid;
+    }) }
     ensures memory { IfErr result IsMemory }
 {
-    let Task { names, problem, entries, requests, grid } = task;
+    let Task {
+        names,
+        problem,
+        entries,
+        requests,
+        grid,
+    } = task;
     let mut requests = requests.into_vec();
     requests.push(request)?;
-    Ok(Task { names, problem, entries, requests: List::of(requests), grid })
+    Ok(Task {
+        names,
+        problem,
+        entries,
+        requests: List::of(requests),
+        grid,
+    })
 }
 
 /// The task that turns the column with the name by its upper bound from here on.
 fn with_upper(task: Task, name: &[u8]) -> Result<Task, LineFault>
     requires few { length task.names ≤ most_columns }
     ensures added { IfOk result (AddsUpper task name.now) }
-    ensures refused { IfErr result (IsRefusedFor (Unless (IsKnown task name.now) reason.Place Never)) }
+    ensures refused { IfErr result (IsRefusedFor
+        (Unless (IsKnown task name.now) reason.Place Never)) }
 {
     let Some(index) = index_of(task.names.as_slice(), name) else {
         return Err(LineFault::Broken(Reason::Place));
@@ -239,7 +321,8 @@ fn with_upper(task: Task, name: &[u8]) -> Result<Task, LineFault>
 /// The task that asks for the row by these multipliers.
 fn with_sum(task: Task, multipliers: Vec<Frac>) -> Result<Task, LineFault>
     ensures added { IfOk result (AddsSum task multipliers.items) }
-    ensures refused { IfErr result (IsRefusedFor (Unless (length multipliers.items ≡ length task.problem.constraints) reason.Form Never)) }
+    ensures refused { IfErr result (IsRefusedFor
+        (Unless (length multipliers.items ≡ length task.problem.constraints) reason.Form Never)) }
 {
     if multipliers.len() != task.problem.constraints.as_slice().len() {
         return Err(LineFault::Broken(Reason::Form));
@@ -255,6 +338,18 @@ fn with_grid(task: Task, grid: u32) -> Result<Task, LineFault>
     if task.grid.is_some() {
         return Err(LineFault::Broken(Reason::Form));
     }
-    let Task { names, problem, entries, requests, .. } = task;
-    Ok(Task { names, problem, entries, requests, grid: Some(grid) })
+    let Task {
+        names,
+        problem,
+        entries,
+        requests,
+        ..
+    } = task;
+    Ok(Task {
+        names,
+        problem,
+        entries,
+        requests,
+        grid: Some(grid),
+    })
 }

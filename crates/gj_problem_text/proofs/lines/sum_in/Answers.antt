@@ -1,6 +1,4 @@
-use Rattle.std.proofs.Common.{subst, sym}
-use Rattle.gj_lex.specs.Words.{word_texts}
-use Rattle.gj_problem_text.proofs.LinesTold.{AreRead, one_more_read, all_read, not_read}
+use Rattle.gj_problem_text.proofs.LinesTold.{one_more_read, all_read, not_read}
 use Rattle.gj_problem_text.proofs.lines.sum_in.Goals as goal
 
 pub returns-in_default-fraction_of-clause-broken : goal.returns-in_default-fraction_of-clause-broken
