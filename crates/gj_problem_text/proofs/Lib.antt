@@ -5,3 +5,7 @@ pub mod TextParts
 pub mod ClearLines
 pub mod ExactTasks
 pub mod ExactText
+pub mod PrintedItems
+pub mod PrintedLines
+pub mod AnsweredRequests
+pub mod WholeTexts
