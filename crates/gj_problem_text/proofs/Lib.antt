@@ -1,0 +1,11 @@
+pub mod LinesTold
+pub mod Bounds
+pub mod LinesOfProblem
+pub mod TextParts
+pub mod ClearLines
+pub mod ExactTasks
+pub mod ExactText
+pub mod PrintedItems
+pub mod PrintedLines
+pub mod AnsweredRequests
+pub mod WholeTexts

@@ -1,0 +1,17 @@
+use Rattle.std.proofs.lemmas.Result.{IfOk-weaker}
+use Rattle.gj_safe_cut.specs.SafeCuts.{HoldsFor}
+use Rattle.gj_safe_cut.specs.declared.cut.SafeCut.{SafeCut}
+use Rattle.gj_problem_text.specs.Cuts.{IsOnGridOf, IsAnswer}
+use Rattle.gj_problem_text.proofs.answers.answer_of.Goals as goal
+
+pub returns-clause-is : goal.returns-clause-is
+returns-clause-is c =
+    IfOk-weaker c.on_grid.result (IsOnGridOf c.args.task.now.problem c.args.task.now.grid c.in_ok-cut.cut)
+    (IsAnswer c.args.task.now c.args.multipliers.now c.args.at_upper.now)
+    (λ (answer : SafeCut) h. (c.in_ok-cut.cut, c.in_ok-cut.ensures.is, h)) c.on_grid.ensures.is
+
+pub returns-clause-holds : goal.returns-clause-holds
+returns-clause-holds c =
+    IfOk-weaker c.on_grid.result
+    (λ (answer : SafeCut). HoldsFor c.args.task.now.problem c.in_ok-cut.cut → HoldsFor c.args.task.now.problem answer)
+    (HoldsFor c.args.task.now.problem) (λ (answer : SafeCut) h. h c.in_ok-cut.ensures.holds) c.on_grid.ensures.holds

@@ -1,0 +1,25 @@
+use Rattle.std.proofs.Common.{◌∙◌, List, subst}
+use Rattle.std.proofs.lemmas.List.{drop_all}
+use Rattle.gj_problem_text.specs.declared.task.Request.{Request}
+use Rattle.gj_problem_text.proofs.PrintedItems.{next_item}
+use Rattle.gj_problem_text.proofs.AnsweredRequests.{IsAnswered, none_answered, one_answered, all_answered}
+use Rattle.gj_problem_text.proofs.answers.push_answers.Goals as goal
+
+pub loop-request-init : goal.loop-request-init
+loop-request-init c = record {
+  count = c.in_ok-at_upper.ensures.count;
+  leads = none_answered _ _ _ _ c.in_ok-at_upper.ensures.none;
+}
+
+pub loop-request-preserved : goal.loop-request-preserved
+loop-request-preserved c = record {
+  count = c.in_ok-push_request.ensures.count ∙ c.loop-request.invariant.count;
+  leads = one_answered _ _ _ _ _ _ _ c.request-item.result _ _ c.loop-request.invariant.leads
+      (next_item _ c.loop-request.request-index c.request-item.result c.loop-request-test.true c.request-item.is)
+      c.in_ok-push_request.ensures.step;
+}
+
+pub returns : goal.returns
+returns c =
+    subst (λ (rs : List Request). IsAnswered c.args.task.now c.args.out.now.items rs c.loop-request.out.items) c.as_slice-request-items.ensures
+    (all_answered _ _ _ _ _ _ c.loop-request.invariant.leads (drop_all _ _ c.loop-request-test.false))

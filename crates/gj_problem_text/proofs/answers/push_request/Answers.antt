@@ -1,0 +1,18 @@
+use Rattle.std.proofs.Common.{List, Bool, refl, subst₂}
+use Rattle.gj_frac.specs.declared.Frac.{Frac}
+use Rattle.gj_problem_text.specs.Cuts.{IsAnswer}
+use Rattle.gj_problem_text.proofs.answers.push_request.Goals as goal
+
+pub returns-in_ok-push_answer-in-Sum-clause-step : goal.returns-in_ok-push_answer-in-Sum-clause-step
+returns-in_ok-push_answer-in-Sum-clause-step c =
+    let (cut, answer, holds, pushed) = c.in_ok-push_answer-in-Sum.ensures in
+    rw c.in-Sum.is (
+      refl,
+      (
+        cut,
+        subst₂ (λ (ms : List Frac) (ups : List Bool). IsAnswer c.args.task.now ms ups cut) c.as_slice.ensures
+            c.as_slice-in-Sum.ensures.value answer,
+        holds,
+        pushed,
+      ),
+    )

@@ -1,0 +1,14 @@
+use Rattle.std.proofs.Common.{◌≤◌, length}
+use Rattle.gj_lex.proofs.LoopRead.{LeadsOn}
+use Rattle.gj_problem_text.specs.ProblemText.{no_task, next_line}
+use Rattle.gj_problem_text.specs.Tasks.{most_columns}
+use Rattle.gj_problem_text.proofs.read.lines_at.Given as goal
+
+abbrev pub invariant-loop-alloc : goal.invariant-loop-alloc
+invariant-loop-alloc l = record {
+  few : length l.task.names ≤ most_columns;
+  leads : LeadsOn next_line no_task l.text l.task l.rest;
+}
+
+abbrev pub decreases-loop-alloc : goal.decreases-loop-alloc
+decreases-loop-alloc l = length l.rest

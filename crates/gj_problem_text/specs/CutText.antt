@@ -1,0 +1,50 @@
+-- The text of the cuts (own).
+use Rattle.std.specs.Prelude.{ℕ, ◌≡◌, List, [], ◌∷◌, ◌++◌, All, codes, flat_map, slice_index_or}
+use Rattle.gj_frac.specs.declared.Frac.{Frac}
+use Rattle.gj_forms.specs.LineForms.{LineForm, form_of, line_of}
+use Rattle.gj_forms.specs.LineForms.Field.{word, fraction}
+use Rattle.gj_function_lines.specs.FunctionLines.{line}
+use Rattle.gj_problem.specs.declared.problem.Entry.{Entry}
+use Rattle.gj_safe_cut.specs.SafeCuts.{HoldsFor}
+use Rattle.gj_safe_cut.specs.declared.cut.SafeCut.{SafeCut}
+use Rattle.gj_safe_cut.specs.declared.cut.SafeCut.TheVariants.{Cut, Integral, OtherFraction, Free, Wide}
+use Rattle.gj_problem_text.specs.Cuts.{AreAnswers, none_turned}
+use Rattle.gj_problem_text.specs.declared.task.Task.{Task}
+
+-- `cut RIGHT`
+abbrev pub cut_form : LineForm Frac
+cut_form = form_of (λ right. word (codes "cut") ∷ fraction right ∷ [])
+
+-- `term NAME VALUE`
+abbrev pub term_form : LineForm (List ℕ × Frac)
+term_form = form_of (λ term. word (codes "term") ∷ word term.0 ∷ fraction term.1 ∷ [])
+
+-- `skip free NAME`
+abbrev pub free_form : LineForm (List ℕ)
+free_form = form_of (λ name. word (codes "skip") ∷ word (codes "free") ∷ word name ∷ [])
+
+-- the name of the column at an index
+abbrev pub name_at : List (List ℕ) → ℕ → List ℕ
+name_at names j = slice_index_or names j []
+
+abbrev pub term_line : List (List ℕ) → Entry → List ℕ
+term_line names e = line_of term_form (name_at names e.column, e.value)
+
+-- a cut with a line for each term, or why there is none
+abbrev pub cut_lines : List (List ℕ) → SafeCut → List ℕ
+cut_lines names (Cut q) = line_of cut_form q.right ++ flat_map (term_line names) q.entries
+cut_lines names Integral = line (codes "skip integral")
+cut_lines names OtherFraction = line (codes "skip other")
+cut_lines names (Free j) = line_of free_form (name_at names j)
+cut_lines names Wide = line (codes "skip wide")
+
+abbrev pub cuts_text : List (List ℕ) → List SafeCut → List ℕ
+cuts_text names cuts =
+    line (codes "gj-safe 1") ++ line (codes "rule gmic") ++ flat_map (cut_lines names) cuts ++ line (codes "end")
+
+-- the text is that of the cuts that the task asks for, and each holds at all feasible points of its problem
+pub record IsCutsTextOf (s : Task) (text : List ℕ) : Type 0 where
+  pub cuts : List SafeCut
+  pub are_cuts : AreAnswers s (none_turned s) s.requests cuts
+  pub hold : All (HoldsFor s.problem) cuts
+  pub text_is : text ≡ cuts_text s.names cuts

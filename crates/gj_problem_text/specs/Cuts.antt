@@ -1,0 +1,43 @@
+-- The cuts of a problem that a text asks for (own).
+use Rattle.std.specs.Prelude.{ℕ, ◌≡◌, Option, Some, None, Bool, true, false, List, [], ◌∷◌, length, slice_set, replicate}
+use Rattle.gj_frac.specs.declared.Frac.{Frac}
+use Rattle.gj_problem.specs.RoundedCuts.{IsRoundedCut, IsFirstFreeEntry}
+use Rattle.gj_problem.specs.declared.problem.Inequality.{Inequality}
+use Rattle.gj_problem.specs.declared.problem.Problem.{Problem}
+use Rattle.gj_safe_cut.specs.SafeCuts.{IsGmicSafeCutOf}
+use Rattle.gj_safe_cut.specs.declared.cut.SafeCut.{SafeCut}
+use Rattle.gj_safe_cut.specs.declared.cut.SafeCut.TheVariants.{Cut, Integral, OtherFraction, Free, Wide}
+use Rattle.gj_problem_text.specs.declared.task.Request.{Request}
+use Rattle.gj_problem_text.specs.declared.task.Request.TheVariants.{Upper, Sum}
+use Rattle.gj_problem_text.specs.declared.task.Task.{Task}
+
+-- the inequality rounded to multiples of 1/n, or why it is not
+abbrev pub IsRoundedTo : Problem → ℕ → Inequality → SafeCut → Type 0
+IsRoundedTo p n q (Cut rounded) = IsRoundedCut p n q rounded
+IsRoundedTo p n q (Free j) = IsFirstFreeEntry p n q.entries j
+IsRoundedTo p n q Wide = Unit {0}
+IsRoundedTo p n q Integral = ⊥
+IsRoundedTo p n q OtherFraction = ⊥
+
+-- a cut is rounded if there is a grid
+abbrev pub IsOnGridOf : Problem → Option ℕ → SafeCut → SafeCut → Type 0
+IsOnGridOf p (Some n) (Cut q) answer = IsRoundedTo p n q answer
+IsOnGridOf p (Some n) cut answer = answer ≡ cut
+IsOnGridOf p None cut answer = answer ≡ cut
+
+-- what is answered to the multipliers, if these columns are turned by their upper bounds
+abbrev pub IsAnswer : Task → List Frac → List Bool → SafeCut → Type 0
+IsAnswer s multipliers at_upper answer =
+    (cut : SafeCut) × IsGmicSafeCutOf s.problem multipliers at_upper cut × IsOnGridOf s.problem s.grid cut answer
+
+-- what is answered to the requests, in their order
+abbrev pub AreAnswers : Task → List Bool → List Request → List SafeCut → Type 0
+AreAnswers s at_upper [] cuts = cuts ≡ []
+AreAnswers s at_upper (Upper j ∷ requests) cuts = AreAnswers s (slice_set at_upper j true) requests cuts
+AreAnswers s at_upper (Sum multipliers ∷ requests) cuts =
+    (cut : SafeCut) × (others : List SafeCut) × (cuts ≡ cut ∷ others) × IsAnswer s multipliers at_upper cut
+    × AreAnswers s at_upper requests others
+
+-- at first no column is turned by its upper bound
+abbrev pub none_turned : Task → List Bool
+none_turned s = replicate (length s.problem.columns) false

@@ -1,0 +1,185 @@
+-- A problem, and which rows of it give cuts, line by line (own).
+use Rattle.std.specs.Prelude.{ℕ, ◌≡◌, ◌≢◌, ◌⊎◌, ◌+◌, ◌<◌, Option, Some, None, Bool, List, [], ◌∷◌, ◌++◌, length, codes, nat_eq}
+use Rattle.std.specs.Cmp.Lexicographic.{pointwise}
+use Rattle.std.specs.List.{position}
+use Rattle.gj_frac.specs.declared.Frac.{Frac}
+use Rattle.gj_lex.specs.Name.{IsName}
+use Rattle.gj_lex.specs.Parts.{LineRule}
+use Rattle.gj_lex.specs.SpelledNumbers.{IsFractionWord}
+use Rattle.gj_lex.specs.declared.reason.Reason.{Reason}
+use Rattle.gj_lex.specs.declared.reason.Reason.TheVariants as reason
+use Rattle.gj_lex.specs.declared.spelling.Spelling.TheVariants.{Lenient}
+use Rattle.gj_forms.specs.SpelledForms.{made_rule}
+use Rattle.gj_problem.specs.declared.problem.Constraint.{Constraint}
+use Rattle.gj_problem.specs.declared.problem.Entry.{Entry}
+use Rattle.gj_problem.specs.declared.problem.Sense.{Sense}
+use Rattle.gj_problem_text.specs.ProblemLines.{ProblemLine, column, constraint, entry, upper, sum, grid, told_rule}
+use Rattle.gj_problem_text.specs.declared.task.Task.{Task}
+use Rattle.gj_problem_text.specs.declared.task.Request.TheVariants.{Upper, Sum}
+
+-- how many columns, constraints and entries there are at most
+abbrev pub most_columns : ℕ
+most_columns = 10000
+
+abbrev pub most_constraints : ℕ
+most_constraints = 10000
+
+abbrev pub most_entries : ℕ
+most_entries = 100000
+
+-- refused for this reason if it is not so, and else as the next ones say
+abbrev pub Unless : Type 0 → Reason → (Reason → Type 0) → Reason → Type 0
+Unless So because Next e = ((So → ⊥) × (e ≡ because)) ⊎ (So × Next e)
+
+abbrev pub Never : Reason → Type 0
+Never e = ⊥
+
+-- the index of the first column with the name
+abbrev pub index_of : Task → List ℕ → Option ℕ
+index_of s name = position (pointwise nat_eq name) s.names
+
+abbrev pub IsKnown : Task → List ℕ → Type 0
+IsKnown s name = (j : ℕ) × (index_of s name ≡ Some j)
+
+-- ---- columns
+
+-- the word spells the bound: `-` is none
+abbrev pub SpellsBound : List ℕ → Option Frac → Type 0
+SpellsBound word None = word ≡ codes "-"
+SpellsBound word (Some x) = (word ≢ codes "-") × IsFractionWord Lenient word x
+
+abbrev pub IsBound : List ℕ → Type 0
+IsBound word = (b : Option Frac) × SpellsBound word b
+
+pub record AddsColumn (s : Task) (name : List ℕ) (is_whole : Bool) (low high : List ℕ) (t : Task) : Type 0 where
+  pub is_name : IsName name
+  pub lower : Option Frac
+  pub lower_is : SpellsBound low lower
+  pub upper : Option Frac
+  pub upper_is : SpellsBound high upper
+  pub few : length s.names < most_columns
+  pub new : index_of s name ≡ None
+  pub added : t ≡ record {
+    names = s.names ++ name ∷ [];
+    problem = record {
+      columns = s.problem.columns ++ record { is_whole = is_whole; lower = lower; upper = upper } ∷ [];
+      constraints = s.problem.constraints;
+    };
+    entries = s.entries;
+    requests = s.requests;
+    grid = s.grid;
+  }
+
+abbrev pub RefusesColumn : Task → List ℕ → List ℕ → List ℕ → Reason → Type 0
+RefusesColumn s name low high =
+    Unless (IsName name) reason.Form (Unless (IsBound low) reason.Number (Unless (IsBound high) reason.Number
+    (Unless (length s.names < most_columns) reason.Large (Unless (index_of s name ≡ None) reason.Place Never))))
+
+-- ---- constraints and their entries: before the first row that is asked for
+
+pub record AddsConstraint (s : Task) (name : List ℕ) (sense : Sense) (right : Frac) (t : Task) : Type 0 where
+  pub before : s.requests ≡ []
+  pub is_name : IsName name
+  pub few : length s.problem.constraints < most_constraints
+  pub added : t ≡ record {
+    names = s.names;
+    problem = record {
+      columns = s.problem.columns;
+      constraints = s.problem.constraints ++ record { entries = []; sense = sense; right = right } ∷ [];
+    };
+    entries = s.entries;
+    requests = s.requests;
+    grid = s.grid;
+  }
+
+abbrev pub RefusesConstraint : Task → List ℕ → Reason → Type 0
+RefusesConstraint s name =
+    Unless (s.requests ≡ []) reason.Form (Unless (IsName name) reason.Form
+    (Unless (length s.problem.constraints < most_constraints) reason.Large Never))
+
+-- there is a constraint, and no row is asked for
+abbrev pub TakesEntries : Task → Type 0
+TakesEntries s = (s.requests ≡ []) × (s.problem.constraints ≢ [])
+
+-- the last constraint has one more entry
+pub record AreLonger (old : List Constraint) (e : Entry) (new : List Constraint) : Type 0 where
+  pub others : List Constraint
+  pub last : Constraint
+  pub old_is : old ≡ others ++ last ∷ []
+  pub new_is : new ≡ others ++ record { entries = last.entries ++ e ∷ []; sense = last.sense; right = last.right } ∷ []
+
+pub record AddsEntry (s : Task) (name : List ℕ) (value : Frac) (t : Task) : Type 0 where
+  pub takes : TakesEntries s
+  pub few : s.entries < most_entries
+  pub index : ℕ
+  pub index_is : index_of s name ≡ Some index
+  pub constraints : List Constraint
+  pub longer : AreLonger s.problem.constraints (record { column = index; value = value }) constraints
+  pub added : t ≡ record {
+    names = s.names;
+    problem = record { columns = s.problem.columns; constraints = constraints };
+    entries = s.entries + 1;
+    requests = s.requests;
+    grid = s.grid;
+  }
+
+abbrev pub RefusesEntry : Task → List ℕ → Reason → Type 0
+RefusesEntry s name =
+    Unless (TakesEntries s) reason.Form (Unless (s.entries < most_entries) reason.Large (Unless (IsKnown s name) reason.Place Never))
+
+-- ---- rows
+
+pub record AddsUpper (s : Task) (name : List ℕ) (t : Task) : Type 0 where
+  pub index : ℕ
+  pub index_is : index_of s name ≡ Some index
+  pub added : t ≡ record {
+    names = s.names;
+    problem = s.problem;
+    entries = s.entries;
+    requests = s.requests ++ Upper index ∷ [];
+    grid = s.grid;
+  }
+
+pub record AddsSum (s : Task) (multipliers : List Frac) (t : Task) : Type 0 where
+  pub count : length multipliers ≡ length s.problem.constraints
+  pub added : t ≡ record {
+    names = s.names;
+    problem = s.problem;
+    entries = s.entries;
+    requests = s.requests ++ Sum multipliers ∷ [];
+    grid = s.grid;
+  }
+
+-- once at most
+pub record AddsGrid (s : Task) (n : ℕ) (t : Task) : Type 0 where
+  pub none : s.grid ≡ None
+  pub added : t ≡ record {
+    names = s.names;
+    problem = s.problem;
+    entries = s.entries;
+    requests = s.requests;
+    grid = Some n;
+  }
+
+-- ---- all lines
+
+-- the line makes of the task s the task t
+abbrev pub Adds : Task → ProblemLine → Task → Type 0
+Adds s (column name is_whole low high) t = AddsColumn s name is_whole low high t
+Adds s (constraint name sense right) t = AddsConstraint s name sense right t
+Adds s (entry name value) t = AddsEntry s name value t
+Adds s (upper name) t = AddsUpper s name t
+Adds s (sum multipliers) t = AddsSum s multipliers t
+Adds s (grid n) t = AddsGrid s n t
+
+-- or is refused
+abbrev pub Refuses : Task → ProblemLine → Reason → Type 0
+Refuses s (column name is_whole low high) e = RefusesColumn s name low high e
+Refuses s (constraint name sense right) e = RefusesConstraint s name e
+Refuses s (entry name value) e = RefusesEntry s name e
+Refuses s (upper name) e = Unless (IsKnown s name) reason.Place Never e
+Refuses s (sum multipliers) e = Unless (length multipliers ≡ length s.problem.constraints) reason.Form Never e
+Refuses s (grid n) e = Unless (s.grid ≡ None) reason.Form Never e
+
+abbrev pub task_rule : Task → LineRule Task
+task_rule s = made_rule (Adds s) (Refuses s) told_rule

@@ -1,0 +1,176 @@
+//! The cuts that a problem text asks for.
+ghost use Rattle.std.specs.Prelude.{◌≡◌, ◌++◌, All, List, true, flat_map, length, slice_set, IfOk, OnOk};
+ghost use Rattle.gj_problem.specs.Problems.{Holds};
+ghost use Rattle.gj_safe_cut.specs.SafeCuts.{IsGmicSafeCutOf, HoldsFor};
+ghost use Rattle.gj_safe_cut.specs.declared.cut.SafeCut.{SafeCut};
+ghost use Rattle.gj_problem_text.specs.AnswersMade.{IsStep};
+ghost use Rattle.gj_problem_text.specs.CutText.{cut_lines};
+ghost use Rattle.gj_problem_text.specs.Cuts.{IsRoundedTo, IsOnGridOf, IsAnswer, AreAnswers, none_turned};
+
+use crate::print::push_cut;
+use crate::task::{Request, Task};
+use gj_frac::Frac;
+use gj_problem::{Inequality, Problem, RoundedCut, rounded};
+use gj_safe_cut::{SafeCut, gmic_safe_cut};
+use std::alloc::{AllocError, Global};
+
+/// Appends the lines of the cuts that the task asks for. A cut is made and printed before the next,
+/// so that no more than one is kept.
+pub(crate) fn push_answers(alloc: Global, out: &mut Vec<u8>, task: &Task) -> Result<(), AllocError>
+    ensures { OnOk result ((cuts : List SafeCut)
+        × AreAnswers task.now (none_turned task.now) task.now.requests cuts
+        × All (HoldsFor task.now.problem) cuts
+        × (out.new.items ≡ out.old.items ++ flat_map (cut_lines task.now.names) cuts)) }
+{
+    let mut at_upper = none_turned(alloc, task)?;
+    for request in task.requests.as_slice() {
+        push_request(alloc, out, task, &mut at_upper, request)?;
+    }
+    Ok(())
+}
+
+/// No column is turned by its upper bound.
+fn none_turned(alloc: Global, task: &Task) -> Result<Vec<bool>, AllocError>
+    ensures none { IfOk result (λ at_upper. at_upper.items ≡ none_turned task.now) }
+    ensures count { IfOk result (λ at_upper. length at_upper.items
+        ≡ length task.now.problem.columns) }
+{
+    vec![in alloc; false; task.problem.columns.as_slice().len()]
+}
+
+/// Notes which column is turned by its upper bound, or appends the lines of the cut that is asked
+/// for.
+fn push_request(
+    alloc: Global,
+    out: &mut Vec<u8>,
+    task: &Task,
+    at_upper: &mut Vec<bool>,
+    request: &Request,
+) -> Result<(), AllocError>
+    requires at_upper { length at_upper.old.items ≡ length task.now.problem.columns }
+    ensures step { OnOk result (IsStep task.now at_upper.old.items out.old.items request.now
+        at_upper.new.items out.new.items) }
+    ensures count { OnOk result (length at_upper.new.items ≡ length at_upper.old.items) }
+{
+    match request {
+        Request::Upper(column) => {
+            turn(at_upper, *column);
+            Ok(())
+        }
+        Request::Sum(multipliers) => {
+            push_answer(
+                alloc,
+                out,
+                task,
+                multipliers.as_slice(),
+                at_upper.as_slice(),
+            )?;
+            Ok(())
+        }
+    }
+}
+
+/// From here on the column is turned by its upper bound.
+fn turn(at_upper: &mut Vec<bool>, column: u32)
+    ensures turned { at_upper.new.items ≡ slice_set at_upper.old.items column true }
+    ensures count { length at_upper.new.items ≡ length at_upper.old.items }
+{
+    let column = column as usize;
+    if column < at_upper.len() {
+        at_upper[column] = true;
+    }
+}
+
+/// Appends the lines of the cut by the multipliers.
+fn push_answer(
+    alloc: Global,
+    out: &mut Vec<u8>,
+    task: &Task,
+    multipliers: &[Frac],
+    at_upper: &[bool],
+) -> Result<(), AllocError>
+    requires at_upper { length at_upper.now ≡ length task.now.problem.columns }
+    ensures { OnOk result ((cut : SafeCut) × IsAnswer task.now multipliers.now at_upper.now cut
+        × HoldsFor task.now.problem cut
+        × (out.new.items ≡ out.old.items ++ cut_lines task.now.names cut)) }
+{
+    let cut = answer_of(alloc, task, multipliers, at_upper)?;
+    push_cut(alloc, out, task.names.as_slice(), &cut)?;
+    Ok(())
+}
+
+/// The cut by the multipliers, rounded if there is a grid.
+fn answer_of(
+    alloc: Global,
+    task: &Task,
+    multipliers: &[Frac],
+    at_upper: &[bool],
+) -> Result<SafeCut, AllocError>
+    requires at_upper { length at_upper.now ≡ length task.now.problem.columns }
+    ensures is { IfOk result (IsAnswer task.now multipliers.now at_upper.now) }
+    ensures holds { IfOk result (HoldsFor task.now.problem) }
+{
+    let cut = unrounded(alloc, &task.problem, multipliers, at_upper)?;
+    on_grid(alloc, &task.problem, task.grid, cut)
+}
+
+/// The cut by the multipliers. It is `Wide` if they are not one for each constraint.
+fn unrounded(
+    alloc: Global,
+    problem: &Problem,
+    multipliers: &[Frac],
+    at_upper: &[bool],
+) -> Result<SafeCut, AllocError>
+    requires at_upper { length at_upper.now ≡ length problem.now.columns }
+    ensures is { IfOk result (IsGmicSafeCutOf problem.now multipliers.now at_upper.now) }
+    ensures holds { IfOk result (HoldsFor problem.now) }
+{
+    if multipliers.len() != problem.constraints.as_slice().len() {
+        return Ok(SafeCut::Wide);
+    }
+    gmic_safe_cut(alloc, problem, multipliers, at_upper)
+}
+
+/// The cut, rounded if there is a grid.
+fn on_grid(
+    alloc: Global,
+    problem: &Problem,
+    grid: Option<u32>,
+    cut: SafeCut,
+) -> Result<SafeCut, AllocError>
+    ensures is { IfOk result (IsOnGridOf problem.now grid cut) }
+    ensures holds { IfOk result (λ answer. HoldsFor problem.now cut → HoldsFor problem.now answer) }
+{
+    let Some(grid) = grid else {
+        return Ok(cut);
+    };
+    match cut {
+        SafeCut::Cut(cut) => rounded_to(alloc, problem, grid, &cut),
+        SafeCut::Integral => Ok(SafeCut::Integral),
+        SafeCut::OtherFraction => Ok(SafeCut::OtherFraction),
+        SafeCut::Free(column) => Ok(SafeCut::Free(column)),
+        SafeCut::Wide => Ok(SafeCut::Wide),
+    }
+}
+
+/// The inequality rounded to multiples of 1/grid. It is `Wide` if the grid is 0.
+fn rounded_to(
+    alloc: Global,
+    problem: &Problem,
+    grid: u32,
+    cut: &Inequality,
+) -> Result<SafeCut, AllocError>
+    ensures is { IfOk result (IsRoundedTo problem.now grid cut.now) }
+    ensures holds { IfOk result (λ answer. Holds problem.now cut.now →
+        HoldsFor problem.now answer) }
+{
+    if grid == 0 {
+        return Ok(SafeCut::Wide);
+    }
+    match rounded(alloc, problem, cut, u64::from(grid)) {
+        Ok(RoundedCut::Cut(cut)) => Ok(SafeCut::Cut(cut)),
+        Ok(RoundedCut::Free(column)) => Ok(SafeCut::Free(column)),
+        Ok(RoundedCut::Wide) => Ok(SafeCut::Wide),
+        Err(error) => Err(error),
+    }
+}

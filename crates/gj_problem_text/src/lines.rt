@@ -1,0 +1,233 @@
+//! The lines of a problem text, read.
+ghost use Rattle.std.specs.Prelude.{◌≡◌, ◌∷◌, [], ℕ, Bool, List, codes, IfSome, IfNone, IfOk, IfErr};
+ghost use Rattle.gj_lex.specs.Words.{word_texts};
+ghost use Rattle.gj_problem.specs.declared.problem.Sense.{Sense};
+ghost use Rattle.gj_problem_text.specs.ProblemLines.{kind_word, sense_word, told_rule};
+ghost use Rattle.gj_problem_text.specs.LinesRead.{line_told, IsRefusedFor};
+
+use crate::faults::LineFault;
+use gj_frac::Frac;
+use gj_lex::{Reason, Spelling, count_of, fraction_of, only_word, split_word};
+use gj_problem::Sense;
+use std::alloc::Global;
+
+/// A line with what it tells: names and bounds as they are spelled.
+#[derive(Drop)]
+pub(crate) enum Line<'a> {
+    /// A column: its name, whether it is whole, and the words of its bounds.
+    Column(&'a [u8], bool, &'a [u8], &'a [u8]),
+    /// A constraint: its name, its sense and its right side.
+    Constraint(&'a [u8], Sense, Frac),
+    /// An entry of the constraint before: the name of its column, and its value.
+    Entry(&'a [u8], Frac),
+    /// The column with this name is turned by its upper bound.
+    Upper(&'a [u8]),
+    /// A multiplier for each constraint.
+    Sum(Vec<Frac>),
+    /// The cuts are rounded to multiples of one over this.
+    Grid(u32),
+}
+
+/// What the line tells, or why it tells nothing.
+pub(crate) fn line_in(alloc: Global, line: &[u8]) -> Result<Line<'_>, LineFault>
+    ensures told { IfOk result (λ l. told_rule.Spells (word_texts line.now) (line_told l)) }
+    ensures broken { IfErr result (IsRefusedFor (told_rule.Breaks (word_texts line.now))) }
+{
+    let Some((word, rest)) = split_word(line) else {
+        return Err(LineFault::Broken(Reason::Form));
+    };
+    if word == b"sum".as_slice() {
+        return sum_in(alloc, rest);
+    }
+    match line_with(word, rest) {
+        Ok(told) => Ok(told),
+        Err(reason) => Err(LineFault::Broken(reason)),
+    }
+}
+
+/// What a line tells that begins with the word, another than `sum`, and goes on so.
+fn line_with<'a>(word: &[u8], rest: &'a [u8]) -> Result<Line<'a>, Reason>
+    requires { word.now ≡ codes "sum" → ⊥ }
+    ensures told { IfOk result (λ l. told_rule.Spells (word.now ∷ word_texts rest.now)
+        (line_told l)) }
+    ensures broken { IfErr result (told_rule.Breaks (word.now ∷ word_texts rest.now)) }
+{
+    if word == b"entry".as_slice() {
+        return entry_in(rest);
+    }
+    if word == b"column".as_slice() {
+        return column_in(rest);
+    }
+    if word == b"constraint".as_slice() {
+        return constraint_in(rest);
+    }
+    if word == b"upper".as_slice() {
+        return upper_in(rest);
+    }
+    if word == b"grid".as_slice() {
+        return grid_in(rest);
+    }
+    Err(Reason::Form)
+}
+
+/// What `column` tells with these words behind it.
+fn column_in(rest: &[u8]) -> Result<Line<'_>, Reason>
+    ensures told { IfOk result (λ l. told_rule.Spells (codes "column" ∷ word_texts rest.now)
+        (line_told l)) }
+    ensures broken { IfErr result (told_rule.Breaks (codes "column" ∷ word_texts rest.now)) }
+{
+    let Some((name, is_whole, lower, upper)) = column_words(rest) else {
+        return Err(Reason::Form);
+    };
+    Ok(Line::Column(name, is_whole, lower, upper))
+}
+
+/// The name, the kind and the words of the bounds of a column.
+fn column_words(rest: &[u8]) -> Option<(&[u8], bool, &[u8], &[u8])>
+    ensures found { IfSome result (λ r. word_texts rest.now
+        ≡ r.0.now ∷ kind_word r.1 ∷ r.2.now ∷ r.3.now ∷ []) }
+    ensures none { IfNone result ((name : List ℕ) (is_whole : Bool) (low high : List ℕ) →
+        word_texts rest.now ≡ name ∷ kind_word is_whole ∷ low ∷ high ∷ [] → ⊥) }
+{
+    let (name, rest) = split_word(rest)?;
+    let (kind, rest) = split_word(rest)?;
+    let is_whole = kind_of(kind)?;
+    let (lower, rest) = split_word(rest)?;
+    let upper = only_word(rest)?;
+    Some((name, is_whole, lower, upper))
+}
+
+/// Whether a column of this kind is whole.
+fn kind_of(word: &[u8]) -> Option<bool>
+    ensures found { IfSome result (λ is_whole. word.now ≡ kind_word is_whole) }
+    ensures none { IfNone result ((is_whole : Bool) → word.now ≡ kind_word is_whole → ⊥) }
+{
+    if word == b"whole".as_slice() {
+        return Some(true);
+    }
+    if word == b"continuous".as_slice() {
+        return Some(false);
+    }
+    None
+}
+
+/// What `constraint` tells with these words behind it.
+fn constraint_in(rest: &[u8]) -> Result<Line<'_>, Reason>
+    ensures told { IfOk result (λ l. told_rule.Spells (codes "constraint" ∷ word_texts rest.now)
+        (line_told l)) }
+    ensures broken { IfErr result (told_rule.Breaks (codes "constraint" ∷ word_texts rest.now)) }
+{
+    let Some((name, sense, right)) = constraint_words(rest) else {
+        return Err(Reason::Form);
+    };
+    let Some(right) = fraction_of(Spelling::Lenient, right) else {
+        return Err(Reason::Number);
+    };
+    Ok(Line::Constraint(name, sense, right))
+}
+
+/// The name, the sense and the word of the right side of a constraint.
+fn constraint_words(rest: &[u8]) -> Option<(&[u8], Sense, &[u8])>
+    ensures found { IfSome result (λ r. word_texts rest.now
+        ≡ r.0.now ∷ sense_word r.1 ∷ r.2.now ∷ []) }
+    ensures none { IfNone result ((name : List ℕ) (sense : Sense) (right : List ℕ) →
+        word_texts rest.now ≡ name ∷ sense_word sense ∷ right ∷ [] → ⊥) }
+{
+    let (name, rest) = split_word(rest)?;
+    let (word, rest) = split_word(rest)?;
+    let sense = sense_of(word)?;
+    let right = only_word(rest)?;
+    Some((name, sense, right))
+}
+
+/// The sense that the word names.
+fn sense_of(word: &[u8]) -> Option<Sense>
+    ensures found { IfSome result (λ sense. word.now ≡ sense_word sense) }
+    ensures none { IfNone result ((sense : Sense) → word.now ≡ sense_word sense → ⊥) }
+{
+    if word == b"<=".as_slice() {
+        return Some(Sense::AtMost);
+    }
+    if word == b">=".as_slice() {
+        return Some(Sense::AtLeast);
+    }
+    if word == b"=".as_slice() {
+        return Some(Sense::Equal);
+    }
+    None
+}
+
+/// What `entry` tells with these words behind it.
+fn entry_in(rest: &[u8]) -> Result<Line<'_>, Reason>
+    ensures told { IfOk result (λ l. told_rule.Spells (codes "entry" ∷ word_texts rest.now)
+        (line_told l)) }
+    ensures broken { IfErr result (told_rule.Breaks (codes "entry" ∷ word_texts rest.now)) }
+{
+    let Some((name, word)) = two_words(rest) else {
+        return Err(Reason::Form);
+    };
+    let Some(value) = fraction_of(Spelling::Lenient, word) else {
+        return Err(Reason::Number);
+    };
+    Ok(Line::Entry(name, value))
+}
+
+/// The two words of the line, if it has two.
+fn two_words(line: &[u8]) -> Option<(&[u8], &[u8])>
+    ensures found { IfSome result (λ r. word_texts line.now ≡ r.0.now ∷ r.1.now ∷ []) }
+    ensures none { IfNone result ((first second : List ℕ) →
+        word_texts line.now ≡ first ∷ second ∷ [] → ⊥) }
+{
+    let (first, rest) = split_word(line)?;
+    let second = only_word(rest)?;
+    Some((first, second))
+}
+
+/// What `upper` tells with these words behind it.
+fn upper_in(rest: &[u8]) -> Result<Line<'_>, Reason>
+    ensures told { IfOk result (λ l. told_rule.Spells (codes "upper" ∷ word_texts rest.now)
+        (line_told l)) }
+    ensures broken { IfErr result (told_rule.Breaks (codes "upper" ∷ word_texts rest.now)) }
+{
+    let Some(name) = only_word(rest) else {
+        return Err(Reason::Form);
+    };
+    Ok(Line::Upper(name))
+}
+
+/// What `grid` tells with these words behind it.
+fn grid_in(rest: &[u8]) -> Result<Line<'_>, Reason>
+    ensures told { IfOk result (λ l. told_rule.Spells (codes "grid" ∷ word_texts rest.now)
+        (line_told l)) }
+    ensures broken { IfErr result (told_rule.Breaks (codes "grid" ∷ word_texts rest.now)) }
+{
+    let Some(word) = only_word(rest) else {
+        return Err(Reason::Form);
+    };
+    let Some(grid) = count_of(Spelling::Lenient, word) else {
+        return Err(Reason::Number);
+    };
+    if grid == 0 {
+        return Err(Reason::Number);
+    }
+    Ok(Line::Grid(grid))
+}
+
+/// What `sum` tells with these words behind it.
+fn sum_in(alloc: Global, rest: &[u8]) -> Result<Line<'_>, LineFault>
+    ensures told { IfOk result (λ l. told_rule.Spells (codes "sum" ∷ word_texts rest.now)
+        (line_told l)) }
+    ensures broken { IfErr result
+        (IsRefusedFor (told_rule.Breaks (codes "sum" ∷ word_texts rest.now))) }
+{
+    let mut multipliers = Vec::new(alloc);
+    let mut left = rest;
+    while let Some((word, behind)) = split_word(left) {
+        let Some(multiplier) = fraction_of(Spelling::Lenient, word) else {
+            return Err(LineFault::Broken(Reason::Number));
+        };
+        multipliers.push(multiplier)?;
+        left = behind;
+    }
+    Ok(Line::Sum(multipliers))
+}

@@ -1,0 +1,111 @@
+//! Problem texts, read.
+ghost use Rattle.std.specs.Prelude.{◌≡◌, ◌≤◌, List, ℕ, length, IfOk, IfErr, MatchResult};
+ghost use Rattle.gj_lex.specs.Parts.{line_part, IsFaultOf};
+ghost use Rattle.gj_lex.specs.Words.{word_texts};
+ghost use Rattle.gj_problem_text.specs.FirstFault.{IsMemoryFault, NamesFirstFault};
+ghost use Rattle.gj_problem_text.specs.LinesRead.{IsRefusedFor};
+ghost use Rattle.gj_problem_text.specs.ProblemText.{no_task, lines_part, problem_text, IsProblemText};
+ghost use Rattle.gj_problem_text.specs.Tasks.{most_columns, task_rule};
+
+use crate::faults::{LineFault, ProblemFault};
+use crate::lines::line_in;
+use crate::steps::with_line;
+use crate::task::Task;
+use gj_lex::{PartFault, Spelling, begins_with_word, end_at, line_at, line_number, words_at};
+use gj_problem::Problem;
+use gj_shape::List;
+use std::alloc::Global;
+
+/// The problem whose text the bytes are, and which rows of it give cuts.
+///
+/// `Refused` has the line and the reason of the first fault, and comes exactly if the bytes are no
+/// problem text.
+pub fn read_problem(alloc: Global, bytes: &[u8]) -> Result<Task, ProblemFault>
+    // What is read is spelled so.
+    ensures found { IfOk result (IsProblemText bytes.now) }
+    // What is spelled so is read, unless there is no memory.
+    ensures only { (task : Task) → IsProblemText bytes.now task →
+        MatchResult result (λ t. t ≡ task) IsMemoryFault }
+    // A refusal names the first fault.
+    ensures refused { IfErr result (NamesFirstFault bytes.now) }
+{
+    match problem_text_at(alloc, bytes) {
+        Ok(task) => Ok(task),
+        Err(PartFault::Refused(left, reason)) => {
+            Err(ProblemFault::Refused(line_number(bytes, left), reason))
+        }
+        Err(PartFault::Memory(error)) => Err(ProblemFault::Memory(error)),
+    }
+}
+
+/// The task whose problem text the bytes are.
+fn problem_text_at(alloc: Global, text: &[u8]) -> Result<Task, PartFault>
+    ensures found { IfOk result (IsProblemText text.now) }
+    ensures fault { IfErr result (IsFaultOf problem_text text.now) }
+{
+    let rest = words_at(Spelling::Lenient, text, b"gj-problem 1")?;
+    let rest = words_at(Spelling::Lenient, rest, b"rule gmic")?;
+    let (task, rest) = lines_at(alloc, rest)?;
+    end_at(Spelling::Lenient, rest)?;
+    Ok(task)
+}
+
+/// The task that the next lines tell, up to their line `end`, and what follows that line.
+fn lines_at(alloc: Global, text: &[u8]) -> Result<(Task, &[u8]), PartFault>
+    ensures found { IfOk result (λ r. lines_part.Reads text.now r.0 r.1.now) }
+    ensures fault { IfErr result (IsFaultOf lines_part text.now) }
+{
+    let mut task = no_task(alloc);
+    let mut rest = text;
+    while !begins_with_word(Spelling::Lenient, rest, b"end") {
+        let (longer, behind) = one_more_at(alloc, task, rest)?;
+        task = longer;
+        rest = behind;
+    }
+    let rest = words_at(Spelling::Lenient, rest, b"end")?;
+    Ok((task, rest))
+}
+
+/// The task before any line.
+fn no_task(alloc: Global) -> Task
+    ensures { result ≡ no_task }
+{
+    Task {
+        names: List::of(Vec::new(alloc)),
+        problem: Problem {
+            columns: List::of(Vec::new(alloc)),
+            constraints: List::of(Vec::new(alloc)),
+        },
+        entries: 0,
+        requests: List::of(Vec::new(alloc)),
+        grid: None,
+    }
+}
+
+/// The task with the next line, and what follows that line.
+fn one_more_at(alloc: Global, task: Task, text: &[u8]) -> Result<(Task, &[u8]), PartFault>
+    requires few { length task.names ≤ most_columns }
+    ensures found { IfOk result
+        (λ r. (line_part Spelling.Lenient (task_rule task)).Reads text.now r.0 r.1.now) }
+    ensures few { IfOk result (λ r. length r.0.names ≤ most_columns) }
+    ensures fault { IfErr result
+        (IsFaultOf (line_part Spelling.Lenient (task_rule task)) text.now) }
+{
+    let line = line_at(Spelling::Lenient, text)?;
+    match with_line_of(alloc, task, line.bytes) {
+        Ok(longer) => Ok((longer, line.rest)),
+        Err(LineFault::Broken(reason)) => Err(PartFault::at(line.start, reason)),
+        Err(LineFault::Memory(error)) => Err(PartFault::Memory(error)),
+    }
+}
+
+/// The task with the line, or why the line cannot follow.
+fn with_line_of(alloc: Global, task: Task, line: &[u8]) -> Result<Task, LineFault>
+    requires few { length task.names ≤ most_columns }
+    ensures found { IfOk result ((task_rule task).Spells (word_texts line.now)) }
+    ensures few { IfOk result (λ t. length t.names ≤ most_columns) }
+    ensures broken { IfErr result (IsRefusedFor ((task_rule task).Breaks (word_texts line.now))) }
+{
+    let told = line_in(alloc, line)?;
+    with_line(alloc, task, told)
+}

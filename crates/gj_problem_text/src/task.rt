@@ -1,0 +1,29 @@
+//! A problem, and which rows of it give cuts.
+use gj_frac::Frac;
+use gj_lex::Name;
+use gj_problem::Problem;
+use gj_shape::List;
+
+/// What is asked of a problem.
+#[derive(Drop)]
+pub enum Request {
+    /// From here on the column with this index is turned by its upper bound, if it has one.
+    Upper(u32),
+    /// The cut of the row by these multipliers, one for each constraint.
+    Sum(List<Frac>),
+}
+
+/// A problem, and which rows of it give cuts.
+#[derive(Drop)]
+pub struct Task {
+    /// The names of the columns.
+    pub names: List<Name>,
+    /// The problem.
+    pub problem: Problem,
+    /// How many entries its constraints have.
+    pub entries: u32,
+    /// The rows that give cuts.
+    pub requests: List<Request>,
+    /// The cuts are rounded to multiples of one over this.
+    pub grid: Option<u32>,
+}
