@@ -42,7 +42,8 @@ abbrev pub cuts_text : List (List ℕ) → List SafeCut → List ℕ
 cuts_text names cuts =
     line (codes "gj-safe 1") ++ line (codes "rule gmic") ++ flat_map (cut_lines names) cuts ++ line (codes "end")
 
--- the text is that of the cuts that the task asks for, and each holds at all feasible points of its problem
+-- the text is that of the cuts that the task asks for, and each holds at all feasible points of its
+-- problem
 pub record IsCutsTextOf (s : Task) (text : List ℕ) : Type 0 where
   pub cuts : List SafeCut
   pub are_cuts : AreAnswers s (none_turned s) s.requests cuts

@@ -27,8 +27,8 @@ sense_word AtMost = codes "<="
 sense_word AtLeast = codes ">="
 sense_word Equal = codes "="
 
--- `column NAME whole|continuous LOWER UPPER`, `constraint NAME <=|>=|= RIGHT`, `entry NAME VALUE`, `upper NAME`,
--- `sum MULTIPLIER ..` or `grid N`
+-- `column NAME whole|continuous LOWER UPPER`, `constraint NAME <=|>=|= RIGHT`, `entry NAME VALUE`,
+-- `upper NAME`, `sum MULTIPLIER ..` or `grid N`
 abbrev pub problem_fields : ProblemLine → List Field
 problem_fields (column name is_whole low high) =
     word (codes "column") ∷ word name ∷ word (kind_word is_whole) ∷ word low ∷ word high ∷ []

@@ -27,7 +27,8 @@ next_line s =
 abbrev pub lines_part : Part Task
 lines_part = loop_part next_line no_task
 
--- a problem text: the lines `gj-problem 1` and `rule gmic`, lines of the problem, the line `end`, and nothing behind it
+-- a problem text: the lines `gj-problem 1` and `rule gmic`, lines of the problem, the line `end`,
+-- and nothing behind it
 abbrev pub problem_text : Part Task
 problem_text =
     then_part (line_part Lenient (words_rule title_words)) (λ t. then_part (line_part Lenient (words_rule rule_words))
