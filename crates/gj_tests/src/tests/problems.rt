@@ -6,6 +6,7 @@ ghost use Rattle.gj_mixed.specs.Slopes.{AreSlopesOfKind, IsSlope, Weighs};
 use gj_frac::Frac;
 use gj_mixed::{Slopes, SlopesAtZero};
 use gj_problem::{Column, Constraint, Entry, Inequality, Problem, RoundedCut, Sense, rounded};
+use gj_problem_text::safe_cuts_text;
 use gj_rule::{Evaluator, Rule, RuleKind, gmic_value};
 use gj_safe_cut::{SafeCut, gmic_safe_cut, safe_cut};
 use gj_shape::List;
@@ -151,9 +152,20 @@ fn rounded_cut(alloc: Global) -> Option<bool> {
     Some(says(&made, xy, xy, Frac::ratio(1, 1), Frac::ratio(-7, 1)))
 }
 
+/// Of x whole and not below 0 with x <= 7/2 the multiplier 1 gives x <= 3, and 2 a whole right
+/// side.
+fn written_cuts(alloc: Global) -> Option<bool> {
+    let input =
+        b"gj-problem 1\nrule gmic\ncolumn x whole 0 -\nconstraint c <= 7/2\nentry x 1\nsum 1\nsum 2\nend\n";
+    let output = safe_cuts_text(alloc, input).ok()?;
+    let cuts = b"gj-safe 1\nrule gmic\ncut -6\nterm x -2\nskip integral\nend\n";
+    Some(output.as_slice() == cuts.as_slice())
+}
+
 #[test]
 fn problems(rt: HostRuntime) {
     assert!(rt; mixed_integer(rt.alloc()) == Some(true));
     assert!(rt; by_rule(rt.alloc()) == Some(true));
     assert!(rt; rounded_cut(rt.alloc()) == Some(true));
+    assert!(rt; written_cuts(rt.alloc()) == Some(true));
 }
