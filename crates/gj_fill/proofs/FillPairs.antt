@@ -75,20 +75,6 @@ small_product a b x y a_is b_is first second =
       small = subst (λ z. unsigned_abs z ≤ 2 ^ 106) (sym value) low;
     }
 
--- the sum of such a product and a number of 64 bits
-pub record IsWideSum (p n x : ℤ) : Type 0 where
-  pub value : to_z w128 (of_z w128 (to_z w128 (of_z w128 p) +ℤ to_z w128 (of_z w128 n))) ≡ p +ℤ x
-  pub small : unsigned_abs (to_z w128 (of_z w128 (to_z w128 (of_z w128 p) +ℤ to_z w128 (of_z w128 n)))) < 2 ^ 127
-
-pub wide_sum : (p n x : ℤ) → unsigned_abs p ≤ 2 ^ 106 → n ≡ to_z w64 (of_z w64 x) → unsigned_abs x ≤ 2 ^ 53 → IsWideSum p n x
-wide_sum p n x first n_is second =
-    let low : unsigned_abs (p +ℤ x) ≤ 2 ^ 107 = omega (arith, ints) in
-    let value = ap (λ z. to_z w128 (of_z w128 z)) (ap₂ (λ a b. a +ℤ b) (wide_itself p (omega arith)) (widened n x n_is second))
-    ∙ wide_itself (p +ℤ x) low in record {
-      value = value;
-      small = subst (λ z. unsigned_abs z < 2 ^ 127) (sym value) (omega arith);
-    }
-
 -- ---- the same fraction by equal numbers
 
 pub place_ratio : (x : Frac) (a q q' : ℕ) (c c' w w' : ℤ) → IsRatio x (pos a *ℤ w +ℤ c) (pos q *ℤ w) → q ≡ q' → c ≡ c' → w ≡ w' →

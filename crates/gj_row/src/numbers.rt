@@ -190,6 +190,8 @@ fn right_side(word: &[u8]) -> Result<(Frac, u32), RowReason>
 
 /// The entry that the word spells behind numbers with the least common denominator `scale`, and the
 /// least common denominator with it.
+// Two loops call it for each word.
+#[inline(always)]
 fn entry(scale: u32, word: &[u8]) -> Result<(Frac, u32), RowReason>
     requires { 0 < scale }
     ensures found { IfOk result (λ r. SpellsEntry word.now r.0 ×
