@@ -1,3 +1,5 @@
 pub mod Codes
 pub mod WordsSoFar
+pub mod Fronts
 pub mod Calls
+pub mod SafeCalls
