@@ -16,7 +16,7 @@ ghost use Rattle.gj_top.specs.Decisive.{IsDecisive, IsCalledExtreme};
 ghost use Rattle.gj_top.specs.Causes.{IsTrueRun, IsDoneRun, IsCause, IsGoodInput, IsStatusOfReply};
 ghost use Rattle.gj_problem_text.specs.ProblemText.{IsProblemText};
 ghost use Rattle.gj_problem_text.specs.declared.task.Task.{Task};
-ghost use Rattle.gj_safe.specs.Answers.{IsCutsOf, IsRefusal};
+ghost use Rattle.gj_safe.specs.Answers.{IsTrueAnswer, IsCutsOf, IsRefusal};
 ghost use Rattle.gj_library.specs.Call.{OfWords, IsCall, IsTooSmall};
 ghost use Rattle.gj_library.specs.SafeCall.{IsSafeFront};
 
@@ -106,7 +106,10 @@ pub extern "C" fn gjcut_safe_cut(
     written: &mut usize,
 ) -> u8
     // The headline: each cut that was written holds at all feasible points of the problem.
-    ensures headline { result ≡ 0 → IsCutsOf input.now (take written.new output.new) }
+    ensures headline { result ≡ 0 → IsTrueAnswer input.now (take written.new output.new) }
+
+    // And what was written then is the text of the cuts that the input asks for.
+    ensures reply { result ≡ 0 → IsCutsOf input.now (take written.new output.new) }
 
     // A refusal names the first fault of the input. A problem text is never refused.
     ensures refused { result ≡ 3 → IsRefusal input.now (take written.new output.new) }

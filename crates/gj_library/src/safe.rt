@@ -1,5 +1,7 @@
 //! The answer to the text of a problem, before it is put into an output.
 ghost use Rattle.std.specs.Prelude.{◌≡◌, IfOk};
+ghost use Rattle.gj_problem_text.specs.ProblemText.{IsProblemText};
+ghost use Rattle.gj_problem_text.specs.declared.task.Task.{Task};
 ghost use Rattle.gj_library.specs.SafeCall.{IsSafeAnswer, status_of};
 
 use crate::answer::Answer;
@@ -9,7 +11,9 @@ use std::alloc::{AllocError, Global};
 
 /// The answer to the text of a problem, unless there is no memory.
 pub(crate) fn safe_answer_to(alloc: Global, input: &[u8]) -> Result<Answer, AllocError>
-    ensures { IfOk result (λ a. IsSafeAnswer input.now a.status a.text.items) }
+    ensures answer { IfOk result (λ a. IsSafeAnswer input.now a.status a.text.items) }
+    ensures done { (task : Task) → IsProblemText input.now task →
+        IfOk result (λ a. a.status ≡ Status.Done) }
 {
     let made = answer(alloc, input)?;
     Ok(Answer {
