@@ -36,9 +36,9 @@ pub struct Answer {
 /// ```text
 /// let input = b"gj-problem 1\nrule gmic\ncolumn x whole 0 -\nconstraint c <= 7/2\n\
 ///     entry x 1\nsum 1\nend\n";
-/// let output = answer(alloc, input)?.text;
+/// let output = answer_to(alloc, input)?.text;
 /// ```
-pub fn answer(alloc: Global, input: &[u8]) -> Result<Answer, AllocError>
+pub fn answer_to(alloc: Global, input: &[u8]) -> Result<Answer, AllocError>
     // The text of the cuts, each of which holds at all feasible points, or the first fault.
     ensures answer { IfOk result (λ a. IsAnswer input.now a.end a.text.items) }
 

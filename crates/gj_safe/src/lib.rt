@@ -17,7 +17,7 @@ mod lines;
 mod status;
 mod told;
 
-pub use answer::{Answer, End, answer};
+pub use answer::{Answer, End, answer_to};
 pub use status::Status;
 use told::told_to;
 

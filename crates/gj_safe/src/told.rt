@@ -2,7 +2,7 @@
 ghost use Rattle.std.specs.Prelude.{◌≡◌, ◌≤◌, [], IfOk, OnErr};
 ghost use Rattle.gj_safe.specs.Told.{IsReadInPart, IsSourceFault, IsTold, told_status, told_text, status_of};
 
-use crate::answer::{Answer, End, answer};
+use crate::answer::{Answer, End, answer_to};
 use crate::status::Status;
 use gj_port::{ReadError, Source, read_all};
 use std::alloc::{AllocError, Global};
@@ -76,7 +76,7 @@ pub(crate) fn told_to<S: Source>(
         return Ok(Told::NoWords);
     }
     match read_all(alloc, source, INPUT_LIMIT) {
-        Ok(input) => Ok(Told::Answered(answer(alloc, input.as_slice())?)),
+        Ok(input) => Ok(Told::Answered(answer_to(alloc, input.as_slice())?)),
         Err(ReadError::ReadFault) => Ok(Told::ReadFault),
         Err(ReadError::TooLong) => Ok(Told::TooLong),
         Err(ReadError::Memory(error)) => Err(error),
