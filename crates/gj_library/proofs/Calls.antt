@@ -34,7 +34,7 @@ use Rattle.gj_library.specs.Call.{AreWordsOf, OfWords, IsAnswered, IsCall, IsToo
 use Rattle.gj_library.specs.Handing.{IsHandedOver}
 use Rattle.gj_library.specs.Handing.IsHandedOver.{whole, cut_off}
 use Rattle.gj_library.specs.declared.answer.Answer.{Answer}
-use Rattle.gj_library.proofs.Codes.{status_at, status_is}
+use Rattle.gj_library.proofs.Codes.{status_is}
 
 -- ---- words
 
@@ -181,11 +181,66 @@ module _ (bytes input : List ℕ) (room : ℕ) (front : List ℕ) (written code 
   full_of (Ok a) answered (cut_off small is e) none full five = full small
   full_of (Err e) answered put none full five = absurd (let both : 5 ≡ 6 = sym five ∙ none.0 in cc)
 
+-- ---- of a call that may have had no memory
+
+module _ {bytes input : List ℕ} {room : ℕ} {text : List ℕ} {code : ℕ} {P : Type 0} (call : (code ≡ 6) ⊎ IsCall bytes input room text code) where
+  pub unless : (IsCall bytes input room text code → P) → code ≢ 6 → P
+  unless says memory = elim call [
+    | inl six ↦ absurd (memory six)
+    | inr c ↦ says c
+  ]
+
+  -- by another code
+  pub by : (n : ℕ) → n ≢ 6 → (IsCall bytes input room text code → code ≡ n → P) → code ≡ n → P
+  by n other says e = unless (λ c. says c e) (λ six. other (sym e ∙ six))
+
 -- ---- its clauses
 
 module _ (bytes input : List ℕ) (room : ℕ) (text : List ℕ) (code : ℕ) (c : IsCall bytes input room text code) where
-  is_status : (n : ℕ) → code ≡ n → c.status ≡ status_at n
-  is_status n e = status_is c.status n (sym c.code_is ∙ e)
+  pub headline_of : code ≡ 0 → OfWords bytes (λ given. IsTrueRun given input [] (Some text))
+  headline_of e = (
+    c.words,
+    c.are_words,
+    headline_clause c.words ⊥ (Some input) c.left (Some []) (Some text) room c.status c.outcome (status_is c.status 0 (sym c.code_is ∙ e)) input
+        (λ r named reads. refl),
+  )
+
+  pub reply_of : code ≡ 0 → OfWords bytes (λ given. IsDoneRun given input [] (Some text))
+  reply_of e = (
+    c.words,
+    c.are_words,
+    reply_clause c.words ⊥ (Some input) c.left (Some []) (Some text) room c.status c.outcome (status_is c.status 0 (sym c.code_is ∙ e)) input
+        (λ r named reads. refl),
+  )
+
+  pub cause_of : OfWords bytes (λ given. (status : Status) × (code ≡ code_of status) × IsCause given input status)
+  cause_of = (
+    c.words,
+    c.are_words,
+    (
+      c.status,
+      c.code_is,
+      cause_clause c.words ⊥ (Some input) c.left (Some []) (Some text) room c.status c.outcome input (λ r named reads. refl),
+    ),
+  )
+
+  pub narrow_of : code ≡ 7 → OfWords bytes (λ given. (json : Bool) (f : FunctionData) → AskIfExtreme json given input f →
+      HasUncoveredInterval f ⊎ HasAtMostComponents 4 f → ⊥)
+  narrow_of e = (
+    c.words,
+    c.are_words,
+    λ json f asked few. narrow_clause c.words ⊥ (Some input) c.left (Some []) (Some text) room c.status c.outcome input json f
+        (λ r named reads. refl) asked few (status_is c.status 7 (sym c.code_is ∙ e)),
+  )
+
+  pub order_4q_of : code ≡ 0 → OfWords bytes (λ given. (json : Bool) (f : FunctionData) → AskIfExtreme json given input f →
+      IsDecisive json f [] (Some text))
+  order_4q_of e = (
+    c.words,
+    c.are_words,
+    λ json f asked. order_4q_clause c.words ⊥ (Some input) c.left (Some []) (Some text) room c.status c.outcome
+        (status_is c.status 0 (sym c.code_is ∙ e)) input json f (λ r named reads. refl) asked,
+  )
 
   -- the status of the call is neither Wide nor NotContinuous
   told_of : (json : Bool) (f : FunctionData) → AskIfExtreme json c.words input f → IsMinimal f → HasTwoSlopes f →
@@ -193,18 +248,40 @@ module _ (bytes input : List ℕ) (room : ℕ) (text : List ℕ) (code : ℕ) (c
   told_of json f =
       two_slopes_clause c.words ⊥ (Some input) c.left (Some []) (Some text) room c.status c.outcome input json f (λ r named reads. refl)
 
-  no_read_fault : code ≢ 4
-  no_read_fault e =
-      let is : c.status ≡ ReadFault = is_status 4 e in
+  pub two_slopes_of : (code ≡ 7) ⊎ (code ≡ 8) → OfWords bytes (λ given. (json : Bool) (f : FunctionData) → AskIfExtreme json given input f →
+      IsMinimal f → HasTwoSlopes f → ⊥)
+  two_slopes_of (inl e) = (
+    c.words,
+    c.are_words,
+    λ json f asked minimal two. (told_of json f asked minimal two).0 (status_is c.status 7 (sym c.code_is ∙ e)),
+  )
+  two_slopes_of (inr e) = (
+    c.words,
+    c.are_words,
+    λ json f asked minimal two. (told_of json f asked minimal two).1 (status_is c.status 8 (sym c.code_is ∙ e)),
+  )
+
+  pub called_extreme_of : code ≡ 0 → OfWords bytes (λ given. (json : Bool) (f : FunctionData) → AskIfExtreme json given input f →
+      IsMinimal f → HasTwoSlopes f → IsCalledExtreme json f [] (Some text))
+  called_extreme_of e = (
+    c.words,
+    c.are_words,
+    λ json f asked. called_extreme_clause c.words ⊥ (Some input) c.left (Some []) (Some text) room c.status c.outcome
+        (status_is c.status 0 (sym c.code_is ∙ e)) input json f (λ r named reads. refl) asked,
+  )
+
+  pub no_read_fault_of : code ≢ 4
+  no_read_fault_of e =
+      let is : c.status ≡ ReadFault = status_is c.status 4 (sym c.code_is ∙ e) in
       elim c.outcome [
         | silent o ↦ let memory = o.status_is in cc
         | cut o ↦ let fault = o.status_is in cc
         | told o ↦ failed_source c.words ⊥ (Some input) c.left c.status o.text o.answer is
       ]
 
-  too_small : code ≡ 5 → IsTooSmall bytes input room
-  too_small e =
-      let is : c.status ≡ WriteFault = is_status 5 e in
+  pub room_of : code ≡ 5 → IsTooSmall bytes input room
+  room_of e =
+      let is : c.status ≡ WriteFault = status_is c.status 5 (sym c.code_is ∙ e) in
       elim c.outcome [
         | silent o ↦ absurd (let memory = o.status_is in cc)
         | cut o ↦ (c.words, c.are_words, (c.left, (o.status, o.text, o.answer, o.unsure)))
@@ -221,6 +298,10 @@ module _ (bytes input : List ℕ) (room : ℕ) (text : List ℕ) (code : ℕ) (c
         | inr replied ↦ (c.status, c.code_is, replied)
       ]
 
+  pub complete_of : code ≢ 5 → code ≢ 6 → OfWords bytes (λ given. (r : Request) → IsNamed given r → IsGoodInput (task_for r) (Some input) input →
+      (status : Status) × (code ≡ code_of status) × IsStatusOfReply (task_for r) input status)
+  complete_of full memory = (c.words, c.are_words, complete_for full memory)
+
   -- bytes that are not UTF-8 are refused as words
   refused : (IsUtf8 bytes → ⊥) → AreWordsOf bytes c.words → c.words ≡ []
   refused other (inl are) = absurd (other are.0)
@@ -231,121 +312,9 @@ module _ (bytes input : List ℕ) (room : ℕ) (text : List ℕ) (code : ℕ) (c
   unanswered s t none (read_fault a) = absurd a.failed
   unanswered s t none (of_request a) = absurd (none_named c.words a.request none a.named)
 
-  no_text : (IsUtf8 bytes → ⊥) → (code ≡ 2) ⊎ (code ≡ 5) ⊎ (code ≡ 6)
-  no_text other = elim c.outcome [
+  pub no_text_of : (IsUtf8 bytes → ⊥) → (code ≡ 2) ⊎ (code ≡ 5) ⊎ (code ≡ 6)
+  no_text_of other = elim c.outcome [
     | silent o ↦ inr (inr (c.code_is ∙ ap code_of o.status_is))
     | cut o ↦ inr (inl (c.code_is ∙ ap code_of o.status_is))
     | told o ↦ inl (c.code_is ∙ ap code_of (unanswered c.status o.text (refused other c.are_words) o.answer))
-  ]
-
-module _ (bytes input : List ℕ) (room : ℕ) (text : List ℕ) (code : ℕ) (call : (code ≡ 6) ⊎ IsCall bytes input room text code) where
-  pub outcome_of : code ≢ 6 → IsCall bytes input room text code
-  outcome_of memory = elim call [
-    | inl six ↦ absurd (memory six)
-    | inr c ↦ c
-  ]
-
-  -- the call, by a code that is not that of want of memory
-  by : (n : ℕ) → code ≡ n → n ≢ 6 → IsCall bytes input room text code
-  by n e other = outcome_of (λ six. other (sym e ∙ six))
-
-  pub headline_of : code ≡ 0 → OfWords bytes (λ given. IsTrueRun given input [] (Some text))
-  headline_of e =
-      let c : IsCall bytes input room text code = by 0 e (λ six. cc) in
-      (
-        c.words,
-        c.are_words,
-        headline_clause c.words ⊥ (Some input) c.left (Some []) (Some text) room c.status c.outcome (is_status bytes input room text code c 0 e) input
-            (λ r named reads. refl),
-      )
-
-  pub reply_of : code ≡ 0 → OfWords bytes (λ given. IsDoneRun given input [] (Some text))
-  reply_of e =
-      let c : IsCall bytes input room text code = by 0 e (λ six. cc) in
-      (
-        c.words,
-        c.are_words,
-        reply_clause c.words ⊥ (Some input) c.left (Some []) (Some text) room c.status c.outcome (is_status bytes input room text code c 0 e) input
-            (λ r named reads. refl),
-      )
-
-  pub cause_of : code ≢ 6 → OfWords bytes (λ given. (status : Status) × (code ≡ code_of status) × IsCause given input status)
-  cause_of memory =
-      let c : IsCall bytes input room text code = outcome_of memory in
-      (
-        c.words,
-        c.are_words,
-        (
-          c.status,
-          c.code_is,
-          cause_clause c.words ⊥ (Some input) c.left (Some []) (Some text) room c.status c.outcome input (λ r named reads. refl),
-        ),
-      )
-
-  pub narrow_of : code ≡ 7 → OfWords bytes (λ given. (json : Bool) (f : FunctionData) → AskIfExtreme json given input f →
-      HasUncoveredInterval f ⊎ HasAtMostComponents 4 f → ⊥)
-  narrow_of e =
-      let c : IsCall bytes input room text code = by 7 e (λ six. cc) in
-      (
-        c.words,
-        c.are_words,
-        λ json f asked few. narrow_clause c.words ⊥ (Some input) c.left (Some []) (Some text) room c.status c.outcome input json f
-            (λ r named reads. refl) asked few (is_status bytes input room text code c 7 e),
-      )
-
-  pub order_4q_of : code ≡ 0 → OfWords bytes (λ given. (json : Bool) (f : FunctionData) → AskIfExtreme json given input f →
-      IsDecisive json f [] (Some text))
-  order_4q_of e =
-      let c : IsCall bytes input room text code = by 0 e (λ six. cc) in
-      (
-        c.words,
-        c.are_words,
-        λ json f asked. order_4q_clause c.words ⊥ (Some input) c.left (Some []) (Some text) room c.status c.outcome
-            (is_status bytes input room text code c 0 e) input json f (λ r named reads. refl) asked,
-      )
-
-  pub two_slopes_of : (code ≡ 7) ⊎ (code ≡ 8) → OfWords bytes (λ given. (json : Bool) (f : FunctionData) → AskIfExtreme json given input f →
-      IsMinimal f → HasTwoSlopes f → ⊥)
-  two_slopes_of (inl e) =
-      let c : IsCall bytes input room text code = by 7 e (λ six. cc) in
-      (
-        c.words,
-        c.are_words,
-        λ json f asked minimal two. (told_of bytes input room text code c json f asked minimal two).0 (is_status bytes input room text code c 7 e),
-      )
-  two_slopes_of (inr e) =
-      let c : IsCall bytes input room text code = by 8 e (λ six. cc) in
-      (
-        c.words,
-        c.are_words,
-        λ json f asked minimal two. (told_of bytes input room text code c json f asked minimal two).1 (is_status bytes input room text code c 8 e),
-      )
-
-  pub called_extreme_of : code ≡ 0 → OfWords bytes (λ given. (json : Bool) (f : FunctionData) → AskIfExtreme json given input f →
-      IsMinimal f → HasTwoSlopes f → IsCalledExtreme json f [] (Some text))
-  called_extreme_of e =
-      let c : IsCall bytes input room text code = by 0 e (λ six. cc) in
-      (
-        c.words,
-        c.are_words,
-        λ json f asked. called_extreme_clause c.words ⊥ (Some input) c.left (Some []) (Some text) room c.status c.outcome
-            (is_status bytes input room text code c 0 e) input json f (λ r named reads. refl) asked,
-      )
-
-  pub no_read_fault_of : code ≢ 4
-  no_read_fault_of e = no_read_fault bytes input room text code (by 4 e (λ six. cc)) e
-
-  pub room_of : code ≡ 5 → IsTooSmall bytes input room
-  room_of e = too_small bytes input room text code (by 5 e (λ six. cc)) e
-
-  pub complete_of : code ≢ 5 → code ≢ 6 → OfWords bytes (λ given. (r : Request) → IsNamed given r → IsGoodInput (task_for r) (Some input) input →
-      (status : Status) × (code ≡ code_of status) × IsStatusOfReply (task_for r) input status)
-  complete_of full memory =
-      let c : IsCall bytes input room text code = outcome_of memory in
-      (c.words, c.are_words, complete_for bytes input room text code c full memory)
-
-  pub no_text_of : (IsUtf8 bytes → ⊥) → (code ≡ 2) ⊎ (code ≡ 5) ⊎ (code ≡ 6)
-  no_text_of other = elim call [
-    | inl six ↦ inr (inr six)
-    | inr c ↦ no_text bytes input room text code c other
   ]

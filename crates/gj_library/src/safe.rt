@@ -5,7 +5,7 @@ ghost use Rattle.gj_problem_text.specs.declared.task.Task.{Task};
 ghost use Rattle.gj_library.specs.SafeCall.{IsSafeAnswer, status_of};
 
 use crate::answer::Answer;
-use gj_safe::{End, answer};
+use gj_safe::{End, answer_to};
 use gj_top::Status;
 use std::alloc::{AllocError, Global};
 
@@ -15,7 +15,7 @@ pub(crate) fn safe_answer_to(alloc: Global, input: &[u8]) -> Result<Answer, Allo
     ensures done { (task : Task) → IsProblemText input.now task →
         IfOk result (λ a. a.status ≡ Status.Done) }
 {
-    let made = answer(alloc, input)?;
+    let made = answer_to(alloc, input)?;
     Ok(Answer {
         status: status_of(made.end),
         text: made.text,
