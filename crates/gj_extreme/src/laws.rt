@@ -27,7 +27,7 @@ pub fn decided_claims()
 pub fn decided_texts_are_short()
     ensures { (f : FunctionData) (c : Claim) (text : List ℕ) → IsWithinBounds f → IsDecided f c →
         IsProofText c text →
-        length text ≤ 12_000_000 }
+        length text ≤ longest_extreme_text }
 {}
 
 /// With at most four components no number is too wide, and a proof is never by residues.

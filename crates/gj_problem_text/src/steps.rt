@@ -1,16 +1,15 @@
 //! A task with one more line.
 ghost use Rattle.std.specs.Prelude.{◌≡◌, ◌≢◌, ◌≤◌, ◌∷◌, ◌++◌, [], None, length, IfSome, IfNone, IfOk, IfErr, IsTrue, ◌↔◌, codes};
-ghost use Rattle.gj_lex.specs.Name.{IsName};
+ghost use Rattle.gj_lex.specs.LineFaults.{IsRefusedFor, IsMemory};
 ghost use Rattle.gj_lex.specs.declared.reason.Reason.TheVariants as reason;
-ghost use Rattle.gj_problem_text.specs.LinesRead.{line_told, IsRefusedFor, IsMemory};
+ghost use Rattle.gj_problem_text.specs.LinesRead.{line_told};
 ghost use Rattle.gj_problem_text.specs.Tasks.{Adds, Refuses, AddsColumn, RefusesColumn, AddsConstraint, RefusesConstraint, AddsEntry, RefusesEntry, AddsUpper, AddsSum, AddsGrid, Unless, Never, IsKnown, TakesEntries, AreLonger, SpellsBound, IsBound, most_columns};
 
-use crate::faults::LineFault;
 use crate::lines::Line;
 use crate::places::Places;
 use crate::task::{Request, Task};
 use gj_frac::Frac;
-use gj_lex::{Name, NameFault, Reason, Spelling, fraction_of};
+use gj_lex::{LineFault, Reason, Spelling, fraction_of, name_of};
 use gj_problem::{Column, Constraint, Entry, Problem, Sense};
 use gj_shape::List;
 use std::alloc::Global;
@@ -129,18 +128,6 @@ fn is_absent(word: &[u8]) -> bool
     ensures { IsTrue result ↔ (word.now ≡ codes "-") }
 {
     word == b"-".as_slice()
-}
-
-/// The name of these bytes.
-fn name_of(alloc: Global, word: &[u8]) -> Result<Name, LineFault>
-    ensures name { IfOk result (λ name. (name ≡ word.now) × IsName word.now) }
-    ensures refused { IfErr result (IsRefusedFor (Unless (IsName word.now) reason.Form Never)) }
-{
-    match Name::new(alloc, word) {
-        Ok(name) => Ok(name),
-        Err(NameFault::Form) => Err(LineFault::Broken(Reason::Form)),
-        Err(NameFault::Memory(error)) => Err(LineFault::Memory(error)),
-    }
 }
 
 /// The task with a constraint that has no entries yet.

@@ -108,6 +108,6 @@ verdict_or_decision_is_short input text (inl r) =
     omega arith
 verdict_or_decision_is_short input text (inr r) =
     let d = r.replied in
-    let short : length text ≤ 12000000 =
+    let short : length text ≤ longest_extreme_text =
     decided_text_is_short r.thing d.claim text (function_is_bounded input r.thing r.spelled) d.decided d.spelled in
     omega arith
