@@ -9,6 +9,8 @@ from pathlib import Path
 
 import gjcut
 from gjcut import command_line
+from gjcut._library import call_safe_cut
+from gjcut._problem_sentences import GJSAFE
 from gjcut.sentences import RULES, SENTENCES, sentence_for
 
 TOP = Path(__file__).resolve().parents[2]
@@ -34,15 +36,18 @@ class Sentences(unittest.TestCase):
     def test_each_has_an_input_that_causes_it(self):
         for each in SENTENCES:
             given = each.input * each.times
-            _, said = gjcut.call(each.words, given)
+            is_problem = each.words == GJSAFE
+            _, said = call_safe_cut(given, 200) if is_problem else gjcut.call(each.words, given)
             line = each.answer if each.answer in said.splitlines() else said.strip()
             self.assertEqual(line, each.answer, each.see)
             self.assertIs(sentence_for(each.words, given, line), each, each.see)
 
     def test_each_refusal_of_the_examples_has_one(self):
         tried = 0
-        for example in sorted(EXAMPLES.glob("**/words")):
-            words = " ".join(example.read_text().split())
+        for example in sorted(EXAMPLES.glob("**/status")):
+            words = GJSAFE
+            if example.parents[1].name != "problems":
+                words = " ".join((example.parent / "words").read_text().split())
             text = (example.parent / "input").read_bytes().decode("utf-8", "replace")
             said = (example.parent / "output").read_text().strip()
             if int((example.parent / "status").read_text()) not in (0, 1, 4, 5, 6, 7):
