@@ -46,7 +46,7 @@ class ByHand(unittest.TestCase):
         self.assertEqual(numbers_of(cut, *"xyz"), fractions("-3/2", "-3/2", 1, "-27/4"))
 
     def test_upper_bounds(self):
-        # 3x + 4y <= 16 and x <= 3. With x' = 3 - x the row of y is y - 3/4 x' + 1/4 s = 7/4. Its cut
+        # 3x + 4y <= 16, x <= 3. With x' = 3 - x the row of y is y - 3/4 x' + 1/4 s = 7/4. Its cut
         # is 1/3 x' + 1/3 s >= 1. With x at 0 the right side is 4.
         problem = [X._replace(upper="7/2"), Y], [Constraint("c", {"x": 3, "y": 4}, "<=", 16)]
         cut = safe_cut(*problem, ["1/4"], at_upper=["x"])
