@@ -44,10 +44,8 @@ class Sentences(unittest.TestCase):
 
     def test_each_refusal_of_the_examples_has_one(self):
         tried = 0
-        for example in sorted(EXAMPLES.glob("**/status")):
-            words = GJSAFE
-            if example.parents[1].name != "problems":
-                words = " ".join((example.parent / "words").read_text().split())
+        for example in sorted(EXAMPLES.glob("**/words")):
+            words = " ".join(example.read_text().split())
             text = (example.parent / "input").read_bytes().decode("utf-8", "replace")
             said = (example.parent / "output").read_text().strip()
             if int((example.parent / "status").read_text()) not in (0, 1, 4, 5, 6, 7):
@@ -56,6 +54,13 @@ class Sentences(unittest.TestCase):
                 )
                 tried += 1
         self.assertGreater(tried, 60)
+
+    def test_each_refusal_of_a_problem_has_one(self):
+        for example in sorted(EXAMPLES.glob("problems/*/output")):
+            text, said = (example.parent / "input").read_text(), example.read_text().strip()
+            if said.startswith("refused line"):
+                found = sentence_for(GJSAFE, text, said)
+                self.assertIsNotNone(found, f"{example.parent.name}: {said}")
 
     def test_each_rule_of_the_checker_has_one(self):
         page = (TOP / "docs/formats.md").read_text()
