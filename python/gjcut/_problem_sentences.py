@@ -95,9 +95,19 @@ PROBLEM_SENTENCES = [
         when=LINE + "number", line=r"\d{38}",
     ),
     Sentence(
+        see="`number` in a problem, at `column`",
+        means="a bound is no fraction: `inf` and `1e20` are none",
+        do="write `-` for a bound that is not there, and `0.001` or `1/1000` for a small one",
+        words=GJSAFE, input=problem("0 -", "0 inf"), answer="refused line 3 number",
+        when=LINE + "number", line=r"^\s*column\b",
+    ),
+    Sentence(
         see="`number` in a problem",
-        means="a number has an exponent, or no digits on one side of its point",
-        do="write `0.001` or `1/1000`",
+        means=(
+            "a word is no number where one belongs: it has an exponent or a decimal comma, no "
+            "digits on one side of its point, or is a name"
+        ),
+        do="write `0.001` or `1/1000`, as in `entry x 1/1000`",
         words=GJSAFE, input=problem("7/2", "35e-1"), answer="refused line 4 number",
         when=LINE + "number",
     ),
