@@ -1,6 +1,6 @@
 use Rattle.std.proofs.lemmas.List.Sums.{prefix_len-le-length}
 use Rattle.gj_lex.proofs.WrittenNumbers.{whole_found, whole_only, ratio_found, ratio_only, point_found, point_only}
-use Rattle.gj_lex.proofs.lenient.read_written.Goals as goal
+use Rattle.gj_lex.proofs.lenient.read_long.Goals as goal
 
 pub split_at-requires : goal.split_at-requires
 split_at-requires c = rw c.mark_place.ensures (prefix_len-le-length _ c.args.word.now)
