@@ -20,3 +20,5 @@ pub mod ProofWritten
 pub mod GridCoordinates
 pub mod AtPlaces
 pub mod LineCounts
+mod FieldWords
+mod FieldLines
