@@ -4,7 +4,6 @@ pub mod ReadFaults
 pub mod OneText
 pub mod LineNumbers
 pub mod ShortTexts
-pub mod ListRead
 pub mod ClearLines
 pub mod BrokenLines
 pub mod CutTexts
@@ -20,5 +19,3 @@ pub mod ProofWritten
 pub mod GridCoordinates
 pub mod AtPlaces
 pub mod LineCounts
-mod FieldWords
-mod FieldLines
