@@ -1,6 +1,7 @@
 -- What is told of an input that was read whole, and of one that is too long.
 use Rattle.std.proofs.Common.{◌≡◌, inl, inr, ℕ, ◌+◌, ◌<◌, ◌≤◌, List, [], length, replicate, IfSome, Option, None, Some, Ok, Err, String, Vec, vec_len}
-use Rattle.std.proofs.Common.{◌==◌, true, ◌∷◌, refl, sym, ap, ◌∙◌, arith, nat_tests}
+use Rattle.std.proofs.Common.{◌==◌, true, ◌∷◌, refl, sym, ap, ◌∙◌, arith}
+use Rattle.std.proofs.lemmas.Bool.Decides.{nat_tests}
 use Rattle.std.proofs.lemmas.List.{drop_all, length-replicate}
 use Rattle.std.specs.declared.alloc.Global.{Global}
 use Rattle.gj_port.specs.Whole.{TakesAll}
