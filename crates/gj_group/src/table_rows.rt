@@ -111,7 +111,14 @@ fn row_of_pair(alloc: Global, order: usize, a: usize, b: usize) -> Result<Vec<i1
 {
     let mut row = vec![in alloc; 0; order]?;
     row[a] = 1;
-    row[b] = if a == b { 2 } else { 1 };
+    row[b] = times_in_pair(a, b);
     row[(a + b) % order] = -1;
     Ok(row)
+}
+
+/// How many times b stands in the pair (a, b).
+fn times_in_pair(a: usize, b: usize) -> i128
+    ensures { ((a ≡ b) × (result ≡ pos 2)) ⊎ ((a ≢ b) × (result ≡ pos 1)) }
+{
+    if a == b { 2 } else { 1 }
 }

@@ -36,10 +36,20 @@ fn tight_from(values: &[i64], a: usize, from: usize) -> Option<usize>
         ≡ b ∷ tight_in_row (at values.now) (length values.now) a (b + 1))) }
 {
     for b in from..values.len() {
-        let sum = i128::from(values[a]) + i128::from(values[b]);
-        if sum == i128::from(values[(a + b) % values.len()]) {
+        if is_tight(values, a, b) {
             return Some(b);
         }
     }
     None
+}
+
+/// Whether the table is additive at the pair.
+fn is_tight(values: &[i64], a: usize, b: usize) -> bool
+    requires ordered { a ≤ b }
+    requires below { b < length values.now }
+    requires few { length values.now ≤ greatest_order }
+    ensures { result ≡ is_tight_pair (at values.now) a b }
+{
+    let sum = i128::from(values[a]) + i128::from(values[b]);
+    sum == i128::from(values[(a + b) % values.len()])
 }
