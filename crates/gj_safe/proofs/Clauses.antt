@@ -3,10 +3,11 @@ use Rattle.std.proofs.Common.{◌≡◌, inl, inr, ℕ, List, [], ◌++◌, code
 use Rattle.std.proofs.lemmas.Option.{IfSome_then}
 use Rattle.std.specs.declared.alloc.Global.{Global}
 use Rattle.gj_function_lines.specs.FunctionLines.{line}
+use Rattle.gj_port.specs.Runs.{Gains}
 use Rattle.gj_problem_text.specs.CutText.{cut_lines}
 use Rattle.gj_safe.specs.Answers.{IsTrueAnswer, IsCutsOf}
 use Rattle.gj_safe.specs.Told.{IsReadWhole, IsTold, IsToldOf}
-use Rattle.gj_safe.specs.Runs.{IsTrueRun, IsDoneRun, IsCause, Gains}
+use Rattle.gj_safe.specs.Runs.{IsTrueRun, IsDoneRun, IsCause}
 use Rattle.gj_safe.specs.declared.status.Status.{Status}
 use Rattle.gj_safe.specs.declared.status.Status.TheVariants.{Done, Words, Input, ReadFault, WriteFault, Memory}
 
