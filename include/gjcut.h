@@ -118,8 +118,8 @@ static inline size_t gjcut_count(const uint8_t *text, size_t length, const char 
 /* An output of so many bytes has room for the answer of `gjcut_safe_cut` to this input, as reckoned
  * from the form of the texts, and tested. */
 static inline size_t gjcut_safe_room(const uint8_t *input, size_t input_length) {
-    /* The lines of a function; and for each line `sum` a cut of 85 bytes, and for each column 87 and
-     * its name. */
+    /* The lines of a function. For each line `sum` a cut of 85 bytes, and in it for each column 87
+     * and its name. */
     size_t sums = gjcut_count(input, input_length, "sum");
     size_t columns = gjcut_count(input, input_length, "column");
     if (columns > 10000) columns = 10000;

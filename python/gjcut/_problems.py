@@ -1,4 +1,5 @@
 """Cuts of mixed-integer programs, in their own columns."""
+import itertools
 import math
 import numbers
 import operator
@@ -8,13 +9,16 @@ from typing import Tuple, Union
 
 from ._functions import Number, line, number, printed
 from ._library import call_safe_cut
-from ._refusals import NAME, WIDEST, Place, Refused
+from ._problem_sentences import GJSAFE
+from ._refusals import NAME, REFUSED, WIDEST, Place, Refused
 from .sentences import sentence_for
 
 # A float is taken as a multiple of one over the first of these with which a number is not too wide.
 DENOMINATORS = (2**40, 2**30, 2**20)
 FRONT = ("gj-problem 1\n", "rule gmic\n")
 SENSES = ("<=", ">=", "=")
+# Values of a column and of a constraint, as a refusal names them.
+SIDES, RIGHT = ("the lower bound", "the upper bound"), "the right side"
 # The lines of an answer have so many bytes at most, a term beside the name of its column.
 MOST_OF_LINES, MOST_OF_A_TERM = 500, 88
 
@@ -50,8 +54,15 @@ class SafeCut(NamedTuple):
 
 
 Multiplier = Union[Number, float]
-# The lines of the problem, each with the value of the caller that stands in it.
-Lines = List[Tuple[str, Place]]
+
+
+class Given(NamedTuple):
+    """What a caller hands over, but for the multipliers."""
+
+    columns: Sequence[Column]
+    constraints: Sequence[Constraint]
+    at_upper: Sequence[str]
+    grid: Optional[int]
 
 
 def safe_cut(
@@ -85,117 +96,117 @@ def safe_cut(
     """
     if rule != "gmic":
         raise ValueError(f"there is no rule {rule!r}: the rule of a problem is \"gmic\"")
-    lines = [(text, Place("rule")) for text in FRONT]
-    lines += _columns(columns)
-    # A line of a column is longer than its name.
-    room = MOST_OF_LINES + sum(MOST_OF_A_TERM + len(text) for text, _ in lines)
-    lines += [*_constraints(constraints), *_turned(at_upper)]
-    if grid is not None:
-        lines.append((line("grid", operator.index(grid)), Place("grid")))
-    text, found = "".join(text for text, _ in lines), SafeCut({}, None, "wide", "")
+    given = Given(list(columns), list(constraints), list(at_upper), grid)
+    text, found = "".join(_lines(given)), SafeCut({}, None, "wide", "")
     for tried in _rounded(list(multipliers)):
-        found = _answer(text, lines, tried, room)
+        found = _answer(text, given, tried)
         if found.skipped != "wide":
             break
     return found
 
 
-def _columns(columns: Iterable[Column]) -> Iterator[Tuple[str, Place]]:
-    for i, (name, whole, *bounds) in enumerate(columns):
-        place, words = Place("columns", i), []
-        at = place
-        for side, bound in zip(("lower", "upper"), bounds):
-            here = place._replace(column=f"the {side} bound")
-            words.append("-" if bound is None else _exact(bound, here))
-            at = here if bound is not None and _is_wide(words[-1]) else at
-        kind = "whole" if whole else "continuous"
-        yield line("column", _name(name, place), kind, *words), at
-
-
-def _constraints(constraints: Iterable[Constraint]) -> Iterator[Tuple[str, Place]]:
-    for i, (name, entries, sense, right) in enumerate(constraints):
-        place = Place("constraints", i)
+def _lines(given: Given) -> Iterator[str]:
+    """The lines of the problem, up to the sum."""
+    yield from FRONT
+    known = set()
+    for i, (name, whole, *bounds) in enumerate(given.columns):
+        kind, words = "whole" if whole else "continuous", []
+        for side, bound in zip(SIDES, bounds):
+            words.append("-" if bound is None else _exact(bound, "columns", i, side))
+        known.add(_name(name, "columns", i))
+        yield line("column", name, kind, *words)
+    for i, (name, entries, sense, right) in enumerate(given.constraints):
         if sense not in SENSES:
-            raise ValueError(f"{place}: the sense {sense!r} is none of \"<=\", \">=\" and \"=\"")
-        here = place._replace(column="the right side")
-        side = _exact(right, here)
-        yield line("constraint", _name(name, place), sense, side), here if _is_wide(side) else place
+            which = f"constraints[{i}]: the sense {sense!r}"
+            raise ValueError(f"{which} is none of \"<=\", \">=\" and \"=\"")
+        side = _exact(right, "constraints", i, RIGHT)
+        yield line("constraint", _name(name, "constraints", i), sense, side)
         for column, value in entries.items():
-            at = place._replace(column=repr(column))
-            yield line("entry", _name(column, at), _exact(value, at)), at
+            if column not in known:
+                _name(column, "constraints", i, repr(column))
+            if type(value) is not int:
+                value = _exact(value, "constraints", i, repr(column))
+            yield f"entry {column} {value}\n"
+    for i, name in enumerate(given.at_upper):
+        yield line("upper", _name(name, "at_upper", i))
+    if given.grid is not None:
+        yield line("grid", operator.index(given.grid))
 
 
-def _turned(names: Iterable[str]) -> Iterator[Tuple[str, Place]]:
-    for i, name in enumerate(names):
-        place = Place("at_upper", i)
-        yield line("upper", _name(name, place)), place
+def _places(given: Given) -> Iterator[Place]:
+    """The value in each of these lines."""
+    yield from (Place("rule") for _ in FRONT)
+    for i, (_, _, *bounds) in enumerate(given.columns):
+        wide = (side for side, bound in zip(SIDES, bounds) if bound is not None and _is_wide(bound))
+        yield Place("columns", i, next(wide, None))
+    for i, (_, entries, _, right) in enumerate(given.constraints):
+        yield Place("constraints", i, RIGHT if _is_wide(right) else None)
+        yield from (Place("constraints", i, repr(column)) for column in entries)
+    yield from (Place("at_upper", i) for i, _ in enumerate(given.at_upper))
+    if given.grid is not None:
+        yield Place("grid")
 
 
-def _name(name: str, place: Place) -> str:
+def _name(name: str, *place) -> str:
     if not (isinstance(name, str) and NAME.fullmatch(name)):
-        how = "1 to 255 visible ASCII characters, without a blank or a double quote"
-        raise ValueError(f"{place}: the name {name!r} cannot stand in a problem: write {how}")
+        how = "write 1 to 255 visible ASCII characters, without a blank or a double quote"
+        raise ValueError(f"{Place(*place)}: the name {name!r} cannot stand in a problem: {how}")
     return name
 
 
-def _exact(given: Number, place: Place) -> Fraction:
+def _exact(given: Number, *place) -> Fraction:
     try:
         return number(given)
     except (TypeError, ValueError) as error:
-        raise type(error)(f"{place}: {error}") from None
+        raise type(error)(f"{Place(*place)}: {error}") from None
+
+
+def _rounded(multipliers: Sequence[Multiplier]) -> Iterator[List[Fraction]]:
+    """The multipliers as fractions, in each way that is tried; without a float there is one."""
+    floats = [_is_float(given) for given in multipliers]
+    values = [_value(given, "multipliers", i) for i, given in enumerate(multipliers)]
+    for parts in DENOMINATORS if any(floats) else (1,):
+        pairs = zip(values, floats)
+        taken = [Fraction(round(x * parts), parts) if is_float else x for x, is_float in pairs]
+        # What has more bits cannot be written.
+        if not any(is_float and _is_wide(x) for x, is_float in zip(taken, floats)):
+            yield taken
 
 
 def _is_float(given: Multiplier) -> bool:
     return isinstance(given, numbers.Real) and not isinstance(given, numbers.Rational)
 
 
-def _rounded(multipliers: Sequence[Multiplier]) -> Iterator[List[Fraction]]:
-    """The multipliers as fractions, in each way that is tried; without a float there is one."""
-    exact = []
-    for i, given in enumerate(multipliers):
-        place = Place("multipliers", i)
-        if not _is_float(given):
-            exact.append(_exact(given, place))
-        elif math.isfinite(given):
-            exact.append(Fraction(float(given)))
-        else:
-            raise ValueError(f"{place}: {given!r} is no number: leave this sum of constraints out")
-    floats = [_is_float(given) for given in multipliers]
-    if not any(floats):
-        yield exact
-        return
-    for denominator in DENOMINATORS:
-        taken = [
-            Fraction(round(value * denominator), denominator) if is_float else value
-            for value, is_float in zip(exact, floats)
-        ]
-        # What has more bits cannot be written.
-        if not any(is_float and _is_wide(value) for value, is_float in zip(taken, floats)):
-            yield taken
+def _value(given: Multiplier, *place) -> Fraction:
+    if not _is_float(given):
+        return _exact(given, *place)
+    if math.isfinite(given):
+        return Fraction(float(given))
+    raise ValueError(f"{Place(*place)}: {given!r} is no number: leave this sum out")
 
 
-def _answer(front: str, lines: Lines, multipliers: Sequence[Fraction], room: int) -> SafeCut:
+def _answer(front: str, given: Given, multipliers: Sequence[Fraction]) -> SafeCut:
     text = front + line("sum", *multipliers) + "end\n"
+    room = MOST_OF_LINES + sum(MOST_OF_A_TERM + len(name) for name, *_ in given.columns)
     status, said = call_safe_cut(text, room)
     if status:
-        refused = Refused(status, said)
-        place = _place(lines, multipliers, refused)
-        found = sentence_for("gjsafe", text, said.strip())
+        place, found = _place(given, multipliers, said), sentence_for(GJSAFE, text, said.strip())
         raise Refused(status, said, place, f"{found.means}; {found.do}" if found else None)
     return _read(said)
 
 
-def _place(lines: Lines, multipliers: Sequence[Fraction], refused: Refused) -> Optional[Place]:
-    """The value of the caller in the line that is refused."""
-    if refused.line is None:
+def _place(given: Given, multipliers: Sequence[Fraction], said: str) -> Optional[Place]:
+    """The value in the line that is refused: the sum stands in the last line but one."""
+    found = REFUSED.fullmatch(said)
+    if not found:
         return None
-    if refused.line <= len(lines):
-        return lines[refused.line - 1][1]
     wide = (i for i, value in enumerate(multipliers) if _is_wide(value))
-    return Place("multipliers", next(wide, None))
+    places = itertools.chain(_places(given), [Place("multipliers", next(wide, None))])
+    return next(itertools.islice(places, int(found[2]) - 1, None), None)
 
 
-def _is_wide(value: Fraction) -> bool:
+def _is_wide(given: Number) -> bool:
+    value = number(given)
     return max(abs(value.numerator), value.denominator) > WIDEST
 
 

@@ -1,5 +1,5 @@
 -- A word of at most 19 bytes that writes a number without a sign, cut where its first digits end.
-use Rattle.std.proofs.Common.{◌≡◌, ◌≢◌, ℕ, zero, suc, ◌^◌, ◌<◌, ◌≤◌, List, [], ◌∷◌, ◌++◌, length, get_or, take, drop, Option, None, Some, IfSome, IsSome, ◌↔◌, pos, true, refl, sym, ◌∙◌, ap, subst, arith, append-nil, take-append-drop}
+use Rattle.std.proofs.Common.{◌≡◌, ◌≢◌, ℕ, zero, suc, ◌+◌, ◌*◌, ◌^◌, ◌<◌, ◌≤◌, List, [], ◌∷◌, ◌++◌, length, get_or, take, drop, Option, None, Some, IfSome, IsSome, ◌↔◌, pos, true, refl, sym, ◌∙◌, ap, subst, arith, append-nil, take-append-drop}
 use Rattle.std.specs.Char.{digit_value}
 use Rattle.std.specs.List.{position_or_len}
 use Rattle.std.specs.Str.Parse.{AllDigits, IsNumeral, digits_value, digits_value_after}
@@ -9,7 +9,22 @@ use Rattle.gj_frac.specs.declared.Frac.{Frac}
 use Rattle.gj_frac.specs.Fraction.{IsRatio}
 use Rattle.gj_lex.specs.NumberText.{IsWritten}
 use Rattle.gj_lex.specs.NumberText.IsWritten.{whole, ratio, point}
+use Rattle.gj_lex.proofs.Decimals.{room_is_below}
 use Rattle.gj_lex.proofs.WrittenNumbers.{is_mark, mark_after_digits, no_mark_in_digits, point_value}
+
+-- a `/` and a `.` are marks
+pub slash_is_mark : (m : ℕ) → m ≡ 47 → is_mark m ≡ true
+slash_is_mark m e = rw e refl
+
+pub point_is_mark : (m : ℕ) → m ≡ 46 → is_mark m ≡ true
+point_is_mark m e = rw e refl
+
+pub point_no_slash : (m : ℕ) → m ≡ 46 → m ≢ 47
+point_no_slash m e other = omega arith
+
+-- a number with room for digits fits 64 bits
+pub top_small : (top k : ℕ) → (top + 1) * 10 ^ k ≤ 10 ^ 19 → top < 2 ^ 64
+top_small top k room = omega (arith, room_is_below top k (10 ^ 19) room)
 
 -- digits end where the first other byte stands
 digits_end : (xs ys : List ℕ) (k : ℕ) → AllDigits 10 (take k (xs ++ ys)) → k ≤ length (xs ++ ys) →

@@ -1,4 +1,4 @@
-//! The calls for programs in C and in other languages: what they read and what they answer stands in
+//! The calls for programs in C and in other languages: what they read and what they answer is in
 //! memory.
 #![tactic(auto)]
 

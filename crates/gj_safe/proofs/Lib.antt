@@ -1,1 +1,2 @@
+pub mod InputRead
 pub mod Clauses
