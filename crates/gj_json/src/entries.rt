@@ -1,8 +1,7 @@
 //! What stands for a fraction in JSON.
-ghost use Rattle.std.specs.Prelude.{◌≡◌, ◌↔◌, pos, map, IsTrue, IfSome, IfNone, IfOk, IfErr};
+ghost use Rattle.std.specs.Prelude.{◌≡◌, ◌↔◌, map, IsTrue, IfSome, IfNone, IfOk, IfErr};
 ghost use Rattle.std.specs.List.{AllZip};
 ghost use Rattle.gj_frac.specs.declared.Frac.{Frac};
-ghost use Rattle.gj_frac.specs.Fraction.{IsRatio};
 ghost use Rattle.serde_json.specs.View.{view};
 ghost use Rattle.gj_json.specs.JsonFunction.{integer, IsEntry, AreEntries, SpellsNumber};
 ghost use Rattle.gj_json.specs.FirstReason.{NamesJsonReason};
@@ -42,16 +41,8 @@ pub(crate) fn fraction(value: &Value) -> Option<Frac>
 {
     match value.as_str() {
         Some(word) => fraction_of(Spelling::Lenient, word.as_bytes()),
-        None => whole(integer(value)?),
+        None => Frac::new(integer(value)?, 1),
     }
-}
-
-/// The whole number as a fraction.
-fn whole(n: i128) -> Option<Frac>
-    ensures found { IfSome result (λ x. IsRatio x n (pos 1)) }
-    ensures none { IfNone result ((x : Frac) → IsRatio x n (pos 1) → ⊥) }
-{
-    Frac::new(n, 1)
 }
 
 /// The fractions that the entries spell.

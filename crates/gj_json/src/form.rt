@@ -3,7 +3,7 @@ ghost use Rattle.std.specs.Prelude.{◌≡◌, ◌↔◌, List, pos, map, Some, 
 ghost use Rattle.serde_json.specs.Data.{Data};
 ghost use Rattle.serde_json.specs.Find.{get, as_array};
 ghost use Rattle.serde_json.specs.View.{view};
-ghost use Rattle.gj_json.specs.JsonFunction.{integer, list_of, list_at, IsKey, HasOnlyKeys, HasSideLimits, HasForm};
+ghost use Rattle.gj_json.specs.JsonFunction.{integer, list_of, list_at, HasOnlyKeys, HasSideLimits, HasForm};
 
 use crate::entries::{are_entries, integer, is_entry};
 use serde_json::Value;
@@ -94,14 +94,10 @@ fn has_only_keys(value: &Value) -> bool
     ensures { IsTrue result ↔ HasOnlyKeys (view value.now) }
 {
     match value.as_object() {
-        Some(members) => members.keys().all(|key| is_key(key.as_str())),
+        Some(members) => members.keys().all(|key| {
+            let key = key.as_str();
+            key == "f" || key == "left" || key == "order" || key == "right" || key == "value"
+        }),
         None => false,
     }
-}
-
-/// Whether a function has the key.
-fn is_key(key: &str) -> bool
-    ensures { IsTrue result ↔ IsKey key.now }
-{
-    key == "f" || key == "left" || key == "order" || key == "right" || key == "value"
 }
