@@ -1,10 +1,14 @@
 -- A line of a name and so many words behind it, as a line of a form.
-use Rattle.std.proofs.Common.{◌≡◌, inl, inr, ℕ, ℤ, List, [], ◌∷◌, length, codes, refl, sym, subst, ◌∙◌}
+use Rattle.std.proofs.Common.{◌≡◌, ◌≢◌, inl, inr, ℕ, List, [], ◌∷◌, length, get_or, codes, refl, sym, subst, ◌∙◌, arith}
 use Rattle.gj_lex.specs.declared.fault.PartFault.{PartFault}
 use Rattle.gj_lex.specs.declared.fault.PartFault.TheVariants.{Refused, Memory}
 use Rattle.gj_lex.specs.declared.reason.Reason.TheVariants.{Form, Number}
 use Rattle.gj_lex.specs.Parts.{IsFaultOf}
 use Rattle.gj_forms.specs.LineForms.{words_of, with_numbers, LineForm, AreOfForm}
+use Rattle.gj_forms.proofs.LineLaws.{no_such_numbers}
+use Rattle.gj_shape.specs.declared.faces.FaceKind.{FaceKind}
+use Rattle.gj_shape.specs.declared.faces.FaceKind.TheVariants.{Vertex}
+use Rattle.gj_function_lines.specs.FaceLines.{face_word}
 use Rattle.gj_proof.specs.LineFields.{fields_part}
 use Rattle.gj_proof.specs.ProofGrammar.{form_part, cover_form, modulus_form, column_form, halves_form, pair_form}
 
@@ -36,25 +40,34 @@ module _ {A : Type 0} (form : LineForm A) (name : List ℕ) (n : ℕ) (text : Li
   no_fields has (Refused left e) (start, at, inr no_line) = (start, at, inr no_line)
   no_fields has (Memory a) h = tt
 
-  -- the words are the line of a thing
-  pub fields_told : (fields : List (List ℕ)) (rest : List ℕ) (a : A) → (fields_part name n).Reads text fields rest →
-      name ∷ fields ≡ words_of (form.fields a) → form.HasLine a → (form_part form).Reads text a rest
-  fields_told fields rest a (start, words, line, (same, count)) is has = (start, words, line, (same ∙ is, has))
+  module _ (fields known : List (List ℕ)) (rest : List ℕ) (e : PartFault) (reads : (fields_part name n).Reads text fields rest)
+      (is : name ∷ fields ≡ known) where
+    -- they are of no such form
+    pub fields_broken : (AreOfForm form known → ⊥) → e ≡ Refused (length text) Form → IsFaultOf (form_part form) text e
+    fields_broken none at = subst (IsFaultOf (form_part form) text) (sym at) (by reads)
+      where
+        P : List (List ℕ) → Type 0
+        P ws = AreOfForm form ws → ⊥
 
-  -- they are of no such form
-  pub fields_broken : (fields : List (List ℕ)) (rest : List ℕ) (e : PartFault) → (fields_part name n).Reads text fields rest →
-      (AreOfForm form (name ∷ fields) → ⊥) → e ≡ Refused (length text) Form → IsFaultOf (form_part form) text e
-  fields_broken fields rest e (start, words, (here, strict), (same, count)) none at =
-      let P : List (List ℕ) → Type 0 = λ ws. AreOfForm form ws → ⊥ in
-      subst (IsFaultOf (form_part form) text) (sym at)
-      (text, refl, inl (words, rest, (refl, strict), inl (refl, subst P (sym same) none)))
+        by : (fields_part name n).Reads text fields rest → IsFaultOf (form_part form) text (Refused (length text) Form)
+        by (start, words, (here, strict), (same, count)) =
+            (text, refl, inl (words, rest, (refl, strict), inl (refl, subst P (sym (same ∙ is)) none)))
 
-  -- they are, but no such numbers
-  pub no_numbers : (fields : List (List ℕ)) (rest : List ℕ) (e : PartFault) (a : A) → (fields_part name n).Reads text fields rest →
-      name ∷ fields ≡ with_numbers (form.fields a) (name ∷ fields) → form.HasForm a →
-      ((b : A) → name ∷ fields ≡ words_of (form.fields b) → form.HasLine b → ⊥) → e ≡ Refused (length text) Number →
-      IsFaultOf (form_part form) text e
-  no_numbers fields rest e a (start, words, (here, strict), (same, count)) of has none at =
-      let P : List (List ℕ) → Type 0 = λ ws. ws ≡ with_numbers (form.fields a) ws in
-      subst (IsFaultOf (form_part form) text) (sym at)
-      (text, refl, inl (words, rest, (refl, strict), inr (refl, (a, subst P (sym same) of, has), λ b h. none b (sym same ∙ h.0) h.1)))
+    -- they are, but no such numbers
+    pub no_numbers : (a : A) → known ≡ with_numbers (form.fields a) known → form.HasForm a →
+        ((b : A) → known ≡ words_of (form.fields b) → form.HasLine b → ⊥) → e ≡ Refused (length text) Number →
+        IsFaultOf (form_part form) text e
+    no_numbers a of has none at = subst (IsFaultOf (form_part form) text) (sym at) (by reads)
+      where
+        by : (fields_part name n).Reads text fields rest → IsFaultOf (form_part form) text (Refused (length text) Number)
+        by (start, words, (here, strict), (same, count)) =
+            (text, refl, inl (words, rest, (refl, strict), no_such_numbers form words known a Number (same ∙ is) of has refl none))
+
+-- five words with none of a face in the middle
+pub no_face : (q : ℕ) (fields : List (List ℕ)) (w : List ℕ) → length fields ≡ 5 → get_or fields 2 [] ≡ w →
+    ((kind : FaceKind) → w ≡ face_word kind → kind ≢ Vertex → ⊥) → AreOfForm (cover_form q) (codes "cover" ∷ fields) → ⊥
+no_face q [] w few is none h = omega (arith, few)
+no_face q (i ∷ []) w few is none h = omega (arith, few)
+no_face q (i ∷ j ∷ []) w few is none h = omega (arith, few)
+no_face q (i ∷ j ∷ v ∷ fields) w few is none (l, of, other) =
+    none l.face.kind (sym is ∙ (let same : v ≡ face_word l.face.kind = cc in same)) other
