@@ -9,4 +9,4 @@ returns-in_ok-answer_to-in-Ok-clause-told g c =
 
 pub returns-in-Err-TooLong-clause-told : goal.returns-in-Err-TooLong-clause-told
 returns-in-Err-TooLong-clause-told g c =
-    told_of_long _ _ _ _ (no_words _ c.if-not-is_empty.ensures) (rw c.in-Err-TooLong.field-0-is at c.in-Err-TooLong.ensures.told)
+    (no_words _ c.if-not-is_empty.ensures, told_of_long _ _ (rw c.in-Err-TooLong.field-0-is at c.in-Err-TooLong.ensures.told))
