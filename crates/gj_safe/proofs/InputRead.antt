@@ -1,6 +1,7 @@
 -- What is told of an input that was read whole, and of one that is too long.
 use Rattle.std.proofs.Common.{◌≡◌, inl, inr, ℕ, ◌+◌, ◌<◌, ◌≤◌, List, [], length, replicate, IfSome, Option, None, Some, Ok, Err, String, Vec, vec_len}
-use Rattle.std.proofs.Common.{refl, sym, ap, ◌∙◌, arith}
+use Rattle.std.proofs.Common.{◌==◌, true, ◌∷◌, refl, sym, ap, ◌∙◌, arith}
+use Rattle.std.proofs.lemmas.Bool.Decides.{nat_tests}
 use Rattle.std.proofs.lemmas.List.{drop_all, length-replicate}
 use Rattle.std.specs.declared.alloc.Global.{Global}
 use Rattle.gj_port.specs.Whole.{TakesAll}
@@ -10,6 +11,11 @@ use Rattle.gj_safe.specs.Told.{IsReadWhole, IsTold, input_limit, long_line, stat
 use Rattle.gj_safe.specs.declared.answer.End.{End}
 use Rattle.gj_safe.specs.declared.answer.End.TheVariants.{Done, Refused}
 use Rattle.gj_safe.specs.declared.status.Status.TheVariants.{Input}
+
+-- there are no words if they are empty
+pub no_words : (words : List (String Global)) → true ≡ (length words == 0) → words ≡ []
+no_words [] e = refl
+no_words (w ∷ ws) e = absurd (grind (arith, nat_tests))
 
 -- what was read is all that the source told
 read_whole : (left after : Option (List ℕ)) (bytes : Vec ℕ Global) → vec_len bytes ≤ input_limit →

@@ -1,0 +1,73 @@
+-- A line of a name and so many words behind it, as a line of a form.
+use Rattle.std.proofs.Common.{◌≡◌, ◌≢◌, inl, inr, ℕ, List, [], ◌∷◌, length, get_or, codes, refl, sym, subst, ◌∙◌, arith}
+use Rattle.gj_lex.specs.declared.fault.PartFault.{PartFault}
+use Rattle.gj_lex.specs.declared.fault.PartFault.TheVariants.{Refused, Memory}
+use Rattle.gj_lex.specs.declared.reason.Reason.TheVariants.{Form, Number}
+use Rattle.gj_lex.specs.Parts.{IsFaultOf}
+use Rattle.gj_forms.specs.LineForms.{words_of, with_numbers, LineForm, AreOfForm}
+use Rattle.gj_forms.proofs.LineLaws.{no_such_numbers}
+use Rattle.gj_shape.specs.declared.faces.FaceKind.{FaceKind}
+use Rattle.gj_shape.specs.declared.faces.FaceKind.TheVariants.{Vertex}
+use Rattle.gj_function_lines.specs.FaceLines.{face_word}
+use Rattle.gj_proof.specs.LineFields.{fields_part}
+use Rattle.gj_proof.specs.ProofGrammar.{form_part, cover_form, modulus_form, column_form, halves_form, pair_form}
+
+-- words of the form are the name and so many words
+abbrev pub HasFields : {A : Type 0} → LineForm A → List ℕ → ℕ → Type 0
+HasFields form name n =
+    (words : List (List ℕ)) → AreOfForm form words → (fields : List (List ℕ)) × (length fields ≡ n) × (words ≡ name ∷ fields)
+
+pub cover_has : (q : ℕ) → HasFields (cover_form q) (codes "cover") 5
+cover_has q words (l, is, h) = (_, refl, is)
+
+pub modulus_has : HasFields modulus_form (codes "modulus") 1
+modulus_has words (t, is, h) = (_, refl, is)
+
+pub column_has : (name : List ℕ) → HasFields (column_form name) name 1
+column_has name words (c, is, h) = (_, refl, is)
+
+pub halves_has : HasFields halves_form (codes "halves") 2
+halves_has words (p, is, h) = (_, refl, is)
+
+pub pair_has : HasFields pair_form (codes "pair") 2
+pair_has words (p, is, h) = (_, refl, is)
+
+module _ {A : Type 0} (form : LineForm A) (name : List ℕ) (n : ℕ) (text : List ℕ) where
+  -- other words are of no such form
+  pub no_fields : HasFields form name n → (e : PartFault) → IsFaultOf (fields_part name n) text e → IsFaultOf (form_part form) text e
+  no_fields has (Refused left e) (start, at, inl (words, rest, line, (is, none))) =
+      (start, at, inl (words, rest, line, inl (is, λ of. let (fields, count, same) = has words of in none fields count same)))
+  no_fields has (Refused left e) (start, at, inr no_line) = (start, at, inr no_line)
+  no_fields has (Memory a) h = tt
+
+  module _ (fields known : List (List ℕ)) (rest : List ℕ) (e : PartFault) (reads : (fields_part name n).Reads text fields rest)
+      (is : name ∷ fields ≡ known) where
+    -- they are of no such form
+    pub fields_broken : (AreOfForm form known → ⊥) → e ≡ Refused (length text) Form → IsFaultOf (form_part form) text e
+    fields_broken none at = subst (IsFaultOf (form_part form) text) (sym at) (by reads)
+      where
+        P : List (List ℕ) → Type 0
+        P ws = AreOfForm form ws → ⊥
+
+        by : (fields_part name n).Reads text fields rest → IsFaultOf (form_part form) text (Refused (length text) Form)
+        by (start, words, (here, strict), (same, count)) =
+            (text, refl, inl (words, rest, (refl, strict), inl (refl, subst P (sym (same ∙ is)) none)))
+
+    -- they are, but no such numbers
+    pub no_numbers : (a : A) → known ≡ with_numbers (form.fields a) known → form.HasForm a →
+        ((b : A) → known ≡ words_of (form.fields b) → form.HasLine b → ⊥) → e ≡ Refused (length text) Number →
+        IsFaultOf (form_part form) text e
+    no_numbers a of has none at = subst (IsFaultOf (form_part form) text) (sym at) (by reads)
+      where
+        by : (fields_part name n).Reads text fields rest → IsFaultOf (form_part form) text (Refused (length text) Number)
+        by (start, words, (here, strict), (same, count)) =
+            (text, refl, inl (words, rest, (refl, strict), no_such_numbers form words known a Number (same ∙ is) of has refl none))
+
+-- five words with none of a face in the middle
+pub no_face : (q : ℕ) (fields : List (List ℕ)) (w : List ℕ) → length fields ≡ 5 → get_or fields 2 [] ≡ w →
+    ((kind : FaceKind) → w ≡ face_word kind → kind ≢ Vertex → ⊥) → AreOfForm (cover_form q) (codes "cover" ∷ fields) → ⊥
+no_face q [] w few is none h = omega (arith, few)
+no_face q (i ∷ []) w few is none h = omega (arith, few)
+no_face q (i ∷ j ∷ []) w few is none h = omega (arith, few)
+no_face q (i ∷ j ∷ v ∷ fields) w few is none (l, of, other) =
+    none l.face.kind (sym is ∙ (let same : v ≡ face_word l.face.kind = cc in same)) other
