@@ -1,5 +1,5 @@
 -- What a call over the text of a problem has written, from its answer and what was handed over.
-use Rattle.std.proofs.Common.{◌≡◌, ℕ, ◌<◌, List, Result, Ok, Err, IfOk, IfErr, sym, ap, subst, ◌∙◌}
+use Rattle.std.proofs.Common.{◌≡◌, ℕ, List, Result, Ok, Err, IfOk, IfErr, sym, ap, subst, ◌∙◌}
 use Rattle.std.specs.declared.alloc.AllocError.{AllocError}
 use Rattle.gj_safe.specs.Answers.{IsAnswer, IsCutsOf, IsTrueAnswer}
 use Rattle.gj_safe.specs.declared.answer.End.{End}
