@@ -3,7 +3,8 @@
 A function is made from its breakpoints, its values or a family, and everything comes back as
 `Fraction`s, with what the program writes as `text`. A number is an int, a `Fraction`, a `Decimal`,
 or a text such as "3/5" or "0.25"; a float is refused, since it is seldom the number that was meant.
-An input that is refused, and a function with which a command does nothing, raise `Refused`.
+An input that is refused, and a function with which a command does nothing, raise `Refused`. Only
+the multipliers of `safe_cut` may be floats: it makes cuts of a mixed-integer program.
 
 Several threads may call at once, and so may several processes. But the child of a fork in a process
 with several threads must not call: where a process has threads, give `multiprocessing` the way
@@ -19,6 +20,7 @@ from typing import Iterable, List, NamedTuple, Optional, Sequence, Tuple, Union
 from ._functions import Function, Number, Point
 from ._functions import line as _line, number as _number, printed as _printed
 from ._library import Answer, LibraryMissing, call
+from ._problems import Column, Constraint, SafeCut, safe_cut
 from ._refusals import Place, Places, Refused
 from ._refusals import always as _always, no_place as _no_place, refusal as _refusal
 from ._refusals import places_of_breakpoints as _places_of_breakpoints
@@ -26,9 +28,10 @@ from ._refusals import places_of_tableau as _places_of_tableau
 from ._refusals import places_of_values as _places_of_values
 
 __all__ = [
-    "Answer", "Cut", "Cuts", "Function", "Judgement", "LibraryMissing", "Number", "Place", "Point",
-    "Refused", "Term", "Verdict", "Violation", "by_breakpoints", "by_text", "by_values", "call",
-    "check", "cut", "extreme", "family", "fill", "minimal", "mirror", "mixed", "restrict", "times",
+    "Answer", "Column", "Constraint", "Cut", "Cuts", "Function", "Judgement", "LibraryMissing",
+    "Number", "Place", "Point", "Refused", "SafeCut", "Term", "Verdict", "Violation",
+    "by_breakpoints", "by_text", "by_values", "call", "check", "cut", "extreme", "family", "fill",
+    "minimal", "mirror", "mixed", "restrict", "safe_cut", "times",
 ]  # fmt: skip
 
 

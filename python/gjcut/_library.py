@@ -1,10 +1,10 @@
-"""The shared library: where it is found, and the one call that it has."""
+"""The shared library: where it is found, and the two calls that it has."""
 import ctypes
 import functools
 import os
 import subprocess
 from pathlib import Path
-from typing import NamedTuple, Union
+from typing import Callable, NamedTuple, Tuple, Union
 
 NO_ROOM = 5
 HERE = Path(__file__).resolve().parent
@@ -62,11 +62,17 @@ def find() -> Path:
 
 
 @functools.lru_cache(maxsize=None)
-def _answer():
-    answer = ctypes.CDLL(str(find())).gjcut_answer
-    answer.argtypes = [ctypes.c_char_p, ctypes.c_size_t] * 3 + [ctypes.POINTER(ctypes.c_size_t)]
-    answer.restype = ctypes.c_uint8
-    return answer
+def _function(name: str, texts: int):
+    """A function of the library, of so many texts and an output."""
+    path = find()
+    try:
+        function = getattr(ctypes.CDLL(str(path)), name)
+    except AttributeError:
+        raise LibraryMissing(f"{path} has no {name}: it is older than this package") from None
+    sized = [ctypes.c_char_p, ctypes.c_size_t]
+    function.argtypes = [*sized * (texts + 1), ctypes.POINTER(ctypes.c_size_t)]
+    function.restype = ctypes.c_uint8
+    return function
 
 
 def room_for(words: str, length: int) -> int:
@@ -96,18 +102,33 @@ def call(words: str, text: Union[str, bytes] = "") -> Answer:
     Answer(status=2, text='words refused\\n')
     """
     command, given = words.encode(), text if isinstance(text, bytes) else text.encode()
-    answer = _answer()
+    sized = (command, len(command), given, len(given))
+    return _called("gjcut_answer", sized, lambda: room_for(words, len(given)))
+
+
+def call_safe_cut(text: Union[str, bytes], room: int) -> Answer:
+    """The answer to the text of a problem: that of its cuts, for which so many bytes are enough.
+
+    >>> call_safe_cut("gj-problem 2", 100)
+    Answer(status=3, text='refused line 1 form\\n')
+    """
+    given = text if isinstance(text, bytes) else text.encode()
+    return _called("gjcut_safe_cut", (given, len(given)), lambda: room)
+
+
+def _called(name: str, sized: Tuple[Union[bytes, int], ...], room: Callable[[], int]) -> Answer:
+    """The answer to texts, each with its length."""
+    function = _function(name, len(sized) // 2)
     try:
         output, written = _free.pop()
     except IndexError:
         output, written = ctypes.create_string_buffer(KEPT_ROOM), ctypes.c_size_t()
     used = output
-    status = answer(command, len(command), given, len(given), used, KEPT_ROOM, written)
+    status = function(*sized, used, KEPT_ROOM, written)
     if status == NO_ROOM:
-        room = room_for(words, len(given))
-        used = ctypes.create_string_buffer(room)
-        status = answer(command, len(command), given, len(given), used, room, written)
+        enough = room()
+        used = ctypes.create_string_buffer(enough)
+        status = function(*sized, used, enough, written)
     said = ctypes.string_at(used, written.value).decode()
     _free.append((output, written))
     return Answer(status, said)
-

@@ -28,7 +28,8 @@ class Refused(ValueError):
     `status` is that of the program, `reason` its word, and `place` says at which of the caller's
     values, as `points[2]` or `rows[0], 'x1'`; it is None where no single value is at fault. `text`
     is what the program wrote, and `line` the number of the line or record of the text that was
-    sent, which a caller of `check` and `by_text` has written.
+    sent, which a caller of `check` and `by_text` has written. `advice` says of a problem what the
+    reason means and what to do.
 
     >>> import gjcut
     >>> try:
@@ -38,16 +39,23 @@ class Refused(ValueError):
     3 break points[2] 2
     """
 
-    def __init__(self, status: int, text: str, place: Optional[Place] = None):
+    def __init__(
+        self,
+        status: int,
+        text: str,
+        place: Optional[Place] = None,
+        advice: Optional[str] = None,
+    ):
         found = REFUSED.fullmatch(text)
-        self.status, self.text, self.place = status, text, place
+        self.status, self.text, self.place, self.advice = status, text, place, advice
         self.line = int(found[2]) if found else None
         self.reason = found[3] if found else text.strip()
         said = text.strip() or f"status {status}"
-        super().__init__(f"{place}: refused, {self.reason}" if place else said)
+        where = f"{place}: refused, {self.reason}" if place else said
+        super().__init__(f"{where}: {advice}" if advice else where)
 
     def __reduce__(self):
-        return Refused, (self.status, self.text, self.place)
+        return Refused, (self.status, self.text, self.place, self.advice)
 
 
 # Says which value of the caller stands in a `line` or a `record` with a number, for which a reason

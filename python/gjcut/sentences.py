@@ -9,16 +9,20 @@ from typing import Optional
 
 from ._function_sentences import FUNCTION_SENTENCES
 from ._other_sentences import OTHER_SENTENCES
+from ._problem_sentences import GJSAFE, PROBLEM_SENTENCES
 from ._sentence import Sentence, line_at_fault
 
 __all__ = ["RULES", "SENTENCES", "Sentence", "line_at_fault", "sentence_for"]
 
-SENTENCES = [*FUNCTION_SENTENCES, *OTHER_SENTENCES]
+COMMAND_SENTENCES = [*FUNCTION_SENTENCES, *OTHER_SENTENCES]
+SENTENCES = [*COMMAND_SENTENCES, *PROBLEM_SENTENCES]
 
 
 def sentence_for(words: str, text: str, answer: str) -> Optional[Sentence]:
-    """The sentence about an answer, without the line break at its end, to the words over a text."""
-    return next((each for each in SENTENCES if each.fits(words, text, answer)), None)
+    """The sentence about an answer, without the line break at its end, to the words over a text.
+    For a problem the words are "gjsafe"."""
+    among = PROBLEM_SENTENCES if words == GJSAFE else COMMAND_SENTENCES
+    return next((each for each in among if each.fits(words, text, answer)), None)
 
 
 # What a rule of the checker asks, for a proof that is rejected.

@@ -2,10 +2,10 @@
 import doctest
 
 import gjcut
-from gjcut import _functions, _library, _refusals
+from gjcut import _functions, _library, _problems, _refusals
 
 
 def load_tests(_loader, tests, _pattern):
-    for module in (gjcut, _functions, _library, _refusals):
+    for module in (gjcut, _functions, _library, _problems, _refusals):
         tests.addTests(doctest.DocTestSuite(module))
     return tests

@@ -5,7 +5,7 @@ ghost use Rattle.gj_shape.specs.Table.{IsMinimal};
 ghost use Rattle.gj_shape.specs.TwoSlopes.{HasTwoSlopes};
 ghost use Rattle.gj_shape.specs.declared.extremality.CoverLine.{CoverLine};
 ghost use Rattle.gj_proof.specs.Meaning.{ClaimHolds};
-ghost use Rattle.gj_proof.specs.ProofText.{HasText, IsProofText, numbers_of};
+ghost use Rattle.gj_proof.specs.ProofText.{HasText, longest_extreme_text, IsProofText, numbers_of};
 ghost use Rattle.gj_proof.specs.declared.claim.Claim.{Claim};
 ghost use Rattle.gj_proof.specs.declared.numbers.Numbers.TheVariants.{Whole};
 ghost use Rattle.gj_extreme.specs.Decision.{AreAllCovered, IsDecided, IsExtremeClaim, IsTooWide};

@@ -19,7 +19,7 @@ use gj_shape::Shape;
 use std::alloc::{AllocError, Global};
 
 /// The words of a line that names a function of a family.
-#[derive(Clone, Copy, Debug)]
+#[derive(Clone, Copy)]
 pub(crate) enum LineWords<'a> {
     /// `family gmic F`.
     Gmic(&'a [u8]),

@@ -3,6 +3,7 @@ use Rattle.std.proofs.Common.{◌≡◌, ◌⊎◌, inl, inr, ℕ, ◌≤◌, fa
 use Rattle.gj_shape.specs.FunctionData.{FunctionData}
 use Rattle.gj_proof.specs.declared.claim.Claim.{Claim}
 use Rattle.gj_proof.specs.declared.claim.Claim.TheVariants as claim
+use Rattle.gj_proof.specs.ProofText.{longest_extreme_text}
 use Rattle.gj_proof.specs.Rules.{MeetsRules}
 use Rattle.gj_extreme.proofs.DecidedTexts.{decided_is_bounded, decided_text_is_short}
 use Rattle.gj_top.specs.declared.reply.End.{End}

@@ -1,0 +1,149 @@
+"""Sentences about the text of a problem, which `gjcut_safe_cut` and the program `gjsafe` read."""
+from ._function_sentences import LINE
+from ._sentence import Sentence
+
+# In the place of the words of a command: `gjsafe` takes none.
+GJSAFE = "gjsafe"
+HEAD = "gj-problem 1\nrule gmic\n"
+X = "column x whole 0 -\n"
+C = "constraint c <= 7/2\n"
+E = "entry x 1\n"
+PROBLEM = HEAD + X + C + E + "sum 1\nend\n"
+
+
+def problem(old: str, new: str) -> str:
+    assert old in PROBLEM
+    return PROBLEM.replace(old, new, 1)
+
+
+PROBLEM_SENTENCES = [
+    Sentence(
+        see="`form` in a problem, in its first lines",
+        means="the problem does not begin with the lines `gj-problem 1` and `rule gmic`",
+        do="write them in front of the columns, in small letters",
+        words=GJSAFE, input=X + C + E, answer="refused line 1 form",
+        when=LINE + "form", around=r"\A\n|\A\s*gj-problem",
+    ),
+    Sentence(
+        see="`form` in a problem, one line after the last",
+        means="the line `end` is missing",
+        do="write it after the last line",
+        words=GJSAFE, input=problem("end\n", ""), answer="refused line 7 form",
+        when=LINE + "form", is_past=True,
+    ),
+    Sentence(
+        see="`form` in a problem, at `column`",
+        means=(
+            "a column has a name, `whole` or `continuous`, and two bounds; its name has 1 to 255 "
+            "visible ASCII bytes, no blank and no `\"`"
+        ),
+        do="write `column x whole 0 -`, with `-` for a bound that is not there",
+        words=GJSAFE, input=problem("0 -", "0"), answer="refused line 3 form",
+        when=LINE + "form", line=r"^\s*column\b",
+    ),
+    Sentence(
+        see="`form` in a problem, at `constraint` or `entry` after `sum` or `upper`",
+        means="all constraints and entries stand before the first `sum` and the first `upper`",
+        do="put it before these lines",
+        words=GJSAFE, input=problem("end", C + "end"), answer="refused line 7 form",
+        when=LINE + "form", line=r"^\s*(constraint|entry)\b",
+        text=r"^\s*(sum|upper)\b[\s\S]*^\s*(constraint|entry)\b",
+    ),
+    Sentence(
+        see="`form` in a problem, at `constraint`",
+        means="a constraint has a name, `<=`, `>=` or `=`, and its right side",
+        do="write `constraint c <= 7/2`, and its entries in lines of their own",
+        words=GJSAFE, input=problem("<=", "<"), answer="refused line 4 form",
+        when=LINE + "form", line=r"^\s*constraint\b",
+    ),
+    Sentence(
+        see="`form` in a problem, at `entry`",
+        means="an entry has the name of its column and a value, and stands after its constraint",
+        do="write `entry x 1` after the line `constraint`",
+        words=GJSAFE, input=problem(C, ""), answer="refused line 4 form",
+        when=LINE + "form", line=r"^\s*entry\b",
+    ),
+    Sentence(
+        see="`form` in a problem, at `sum`",
+        means="there are not as many multipliers as constraints",
+        do="give each constraint one, in their order: 0 to one that is not in the sum",
+        words=GJSAFE, input=problem("sum 1", "sum 1 1"), answer="refused line 6 form",
+        when=LINE + "form", line=r"^\s*sum\b",
+    ),
+    Sentence(
+        see="`form` in a problem, at another line",
+        means=(
+            "no line of a problem has these words; or it is a second `grid`, or has a word too "
+            "many or too few"
+        ),
+        do="look at [Problem text and its cuts](#problem-text-and-its-cuts)",
+        words=GJSAFE, input=problem("end", "grid 4\ngrid 4\nend"), answer="refused line 8 form",
+        when=LINE + "form",
+    ),
+    Sentence(
+        see="`number` in a problem, at `grid`",
+        means="a grid is a whole number from 1 to 4,294,967,295",
+        do="take 1048576, which is 2^20: all numbers of the cut are then multiples of 1/2^20",
+        words=GJSAFE, input=problem("end", "grid 0\nend"), answer="refused line 7 number",
+        when=LINE + "number", line=r"^\s*grid\b",
+    ),
+    Sentence(
+        see="`number` in a problem, at a long number",
+        means="its numerator or its denominator, as it is written, is above 2^127 - 1",
+        do="scale the constraint, or take a multiplier with fewer digits: any gives a cut",
+        words=GJSAFE, input=problem("sum 1", "sum 1/" + "9" * 39), answer="refused line 6 number",
+        when=LINE + "number", line=r"\d{38}",
+    ),
+    Sentence(
+        see="`number` in a problem, at `column`",
+        means="a bound is no fraction: `inf` and `1e20` are none",
+        do="write `-` for a bound that is not there, and `0.001` or `1/1000` for a small one",
+        words=GJSAFE, input=problem("0 -", "0 inf"), answer="refused line 3 number",
+        when=LINE + "number", line=r"^\s*column\b",
+    ),
+    Sentence(
+        see="`number` in a problem",
+        means=(
+            "a word is no number where one belongs: it has an exponent or a decimal comma, no "
+            "digits on one side of its point, or is a name"
+        ),
+        do="write `0.001` or `1/1000`, as in `entry x 1/1000`",
+        words=GJSAFE, input=problem("7/2", "35e-1"), answer="refused line 4 number",
+        when=LINE + "number",
+    ),
+    Sentence(
+        see="`large` in a problem",
+        means="there are more than 10,000 columns, 10,000 constraints or 100,000 entries",
+        do="leave out the constraints whose multipliers are 0, and the columns without entries",
+        words=GJSAFE, input=HEAD + C * 10_001, answer="refused line 10003 large",
+        when=LINE + "large",
+    ),
+    Sentence(
+        see="`place` in a problem, at `column`",
+        means="two columns have one name",
+        do="give each its own",
+        words=GJSAFE, input=problem(X, X + X), answer="refused line 4 place",
+        when=LINE + "place", line=r"^\s*column\b",
+    ),
+    Sentence(
+        see="`place` in a problem, at `entry` or `upper`",
+        means="no column before it has this name",
+        do="correct the name, or give the column a line before it",
+        words=GJSAFE, input=problem("entry x", "entry y"), answer="refused line 5 place",
+        when=LINE + "place",
+    ),
+    Sentence(
+        see="`tail` in a problem",
+        means="something follows the line `end`",
+        do="leave it out, or begin each such line with `#`",
+        words=GJSAFE, input=PROBLEM + "sum 1\n", answer="refused line 8 tail",
+        when=LINE + "tail",
+    ),
+    Sentence(
+        see="`refused long` of a problem",
+        means="the text has more than 16,777,216 bytes",
+        do="leave out the constraints whose multipliers are 0, and the columns without entries",
+        words=GJSAFE, input="#", times=16_777_217, answer="refused long",
+        when="refused long",
+    ),
+]

@@ -1,0 +1,223 @@
+"""Cuts of mixed-integer programs, in their own columns."""
+import itertools
+import math
+import numbers
+import operator
+from fractions import Fraction
+from typing import Dict, Iterable, Iterator, List, Mapping, NamedTuple, Optional, Sequence
+from typing import Tuple, Union
+
+from ._functions import Number, line, number, printed
+from ._library import call_safe_cut
+from ._problem_sentences import GJSAFE
+from ._refusals import NAME, REFUSED, WIDEST, Place, Refused
+from .sentences import sentence_for
+
+# A float is taken as a multiple of one over the first of these with which a number is not too wide.
+DENOMINATORS = (2**40, 2**30, 2**20)
+FRONT = ("gj-problem 1\n", "rule gmic\n")
+SENSES = ("<=", ">=", "=")
+# Values of a column and of a constraint, as a refusal names them.
+SIDES, RIGHT = ("the lower bound", "the upper bound"), "the right side"
+# The lines of an answer have so many bytes at most, a term beside the name of its column.
+MOST_OF_LINES, MOST_OF_A_TERM = 500, 88
+
+
+class Column(NamedTuple):
+    """A variable: its name, whether it is a whole number at each point, and its bounds; None is no
+    bound."""
+
+    name: str
+    whole: bool
+    lower: Optional[Number]
+    upper: Optional[Number]
+
+
+class Constraint(NamedTuple):
+    """The sum of the entries, each times its column, is at most ("<="), at least (">=") or equal to
+    ("=") the right side. The entries stand by the names of their columns."""
+
+    name: str
+    entries: Mapping[str, Number]
+    sense: str
+    right: Number
+
+
+class SafeCut(NamedTuple):
+    """At each feasible point of the problem the sum of the entries, each times its column, is at
+    least `right`; or `skipped` says why there is no cut. `text` is what the library wrote."""
+
+    entries: Dict[str, Fraction]
+    right: Optional[Fraction]
+    skipped: Optional[str]
+    text: str
+
+
+Multiplier = Union[Number, float]
+
+
+class Given(NamedTuple):
+    """What a caller hands over, but for the multipliers."""
+
+    columns: Sequence[Column]
+    constraints: Sequence[Constraint]
+    at_upper: Sequence[str]
+    grid: Optional[int]
+
+
+def safe_cut(
+    columns: Iterable[Column],
+    constraints: Iterable[Constraint],
+    multipliers: Iterable[Multiplier],
+    rule: str = "gmic",
+    at_upper: Iterable[str] = (),
+    grid: Optional[int] = None,
+) -> SafeCut:
+    """The cut of a mixed-integer program that the rule gives of the sum of its constraints, each
+    times its multiplier.
+
+    Each feasible point of the problem meets the cut, whatever the multipliers are: whole numbers in
+    whole columns, any in the others. Multipliers alone may be floats. These are rounded to
+    multiples of 1/2**40; and if a number of the computation is then too wide, to those of 1/2**30
+    and of 1/2**20. `at_upper` names the columns that are turned by their upper bounds. With `grid`
+    the numbers of the cut are rounded to multiples of 1/grid, so that it holds still.
+
+    `skipped` is "integral" (the right side of the sum is whole, and there is no cut), "free NAME"
+    (this column has no bound, and cannot be left out), "wide" (a number has more than 127 bits), or
+    None.
+
+    >>> x, y = Column("x", True, 0, None), Column("y", True, 0, None)
+    >>> z = Column("z", False, 0, None)
+    >>> first = Constraint("first", {"x": 2, "y": 1}, "<=", 7)
+    >>> second = Constraint("second", {"x": 1, "y": 3, "z": -1}, "<=", 9)
+    >>> cut = safe_cut([x, y, z], [first, second], ["3/5", "-1/5"])
+    >>> [f"{value} {name}" for name, value in cut.entries.items()], str(cut.right)
+    (['-5/3 x', '-5/3 y', '5/6 z'], '-20/3')
+    """
+    if rule != "gmic":
+        raise ValueError(f"there is no rule {rule!r}: the rule of a problem is \"gmic\"")
+    given = Given(list(columns), list(constraints), list(at_upper), grid)
+    text, found = "".join(_lines(given)), SafeCut({}, None, "wide", "")
+    for tried in _rounded(list(multipliers)):
+        found = _answer(text, given, tried)
+        if found.skipped != "wide":
+            break
+    return found
+
+
+def _lines(given: Given) -> Iterator[str]:
+    """The lines of the problem, up to the sum."""
+    yield from FRONT
+    known = set()
+    for i, (name, whole, *bounds) in enumerate(given.columns):
+        kind, words = "whole" if whole else "continuous", []
+        for side, bound in zip(SIDES, bounds):
+            words.append("-" if bound is None else _exact(bound, "columns", i, side))
+        known.add(_name(name, "columns", i))
+        yield line("column", name, kind, *words)
+    for i, (name, entries, sense, right) in enumerate(given.constraints):
+        if sense not in SENSES:
+            which = f"constraints[{i}]: the sense {sense!r}"
+            raise ValueError(f"{which} is none of \"<=\", \">=\" and \"=\"")
+        side = _exact(right, "constraints", i, RIGHT)
+        yield line("constraint", _name(name, "constraints", i), sense, side)
+        for column, value in entries.items():
+            if column not in known:
+                _name(column, "constraints", i, repr(column))
+            if type(value) is not int:
+                value = _exact(value, "constraints", i, repr(column))
+            yield f"entry {column} {value}\n"
+    for i, name in enumerate(given.at_upper):
+        yield line("upper", _name(name, "at_upper", i))
+    if given.grid is not None:
+        yield line("grid", operator.index(given.grid))
+
+
+def _places(given: Given) -> Iterator[Place]:
+    """The value in each of these lines."""
+    yield from (Place("rule") for _ in FRONT)
+    for i, (_, _, *bounds) in enumerate(given.columns):
+        wide = (side for side, bound in zip(SIDES, bounds) if bound is not None and _is_wide(bound))
+        yield Place("columns", i, next(wide, None))
+    for i, (_, entries, _, right) in enumerate(given.constraints):
+        yield Place("constraints", i, RIGHT if _is_wide(right) else None)
+        yield from (Place("constraints", i, repr(column)) for column in entries)
+    yield from (Place("at_upper", i) for i, _ in enumerate(given.at_upper))
+    if given.grid is not None:
+        yield Place("grid")
+
+
+def _name(name: str, *place) -> str:
+    if not (isinstance(name, str) and NAME.fullmatch(name)):
+        how = "write 1 to 255 visible ASCII characters, without a blank or a double quote"
+        raise ValueError(f"{Place(*place)}: the name {name!r} cannot stand in a problem: {how}")
+    return name
+
+
+def _exact(given: Number, *place) -> Fraction:
+    try:
+        return number(given)
+    except (TypeError, ValueError) as error:
+        raise type(error)(f"{Place(*place)}: {error}") from None
+
+
+def _rounded(multipliers: Sequence[Multiplier]) -> Iterator[List[Fraction]]:
+    """The multipliers as fractions, in each way that is tried; without a float there is one."""
+    floats = [_is_float(given) for given in multipliers]
+    values = [_value(given, "multipliers", i) for i, given in enumerate(multipliers)]
+    for parts in DENOMINATORS if any(floats) else (1,):
+        pairs = zip(values, floats)
+        taken = [Fraction(round(x * parts), parts) if is_float else x for x, is_float in pairs]
+        # What has more bits cannot be written.
+        if not any(is_float and _is_wide(x) for x, is_float in zip(taken, floats)):
+            yield taken
+
+
+def _is_float(given: Multiplier) -> bool:
+    return isinstance(given, numbers.Real) and not isinstance(given, numbers.Rational)
+
+
+def _value(given: Multiplier, *place) -> Fraction:
+    if not _is_float(given):
+        return _exact(given, *place)
+    if math.isfinite(given):
+        return Fraction(float(given))
+    raise ValueError(f"{Place(*place)}: {given!r} is no number: leave this sum out")
+
+
+def _answer(front: str, given: Given, multipliers: Sequence[Fraction]) -> SafeCut:
+    text = front + line("sum", *multipliers) + "end\n"
+    room = MOST_OF_LINES + sum(MOST_OF_A_TERM + len(name) for name, *_ in given.columns)
+    status, said = call_safe_cut(text, room)
+    if status:
+        place, found = _place(given, multipliers, said), sentence_for(GJSAFE, text, said.strip())
+        raise Refused(status, said, place, f"{found.means}; {found.do}" if found else None)
+    return _read(said)
+
+
+def _place(given: Given, multipliers: Sequence[Fraction], said: str) -> Optional[Place]:
+    """The value in the line that is refused: the sum stands in the last line but one."""
+    found = REFUSED.fullmatch(said)
+    if not found:
+        return None
+    wide = (i for i, value in enumerate(multipliers) if _is_wide(value))
+    places = itertools.chain(_places(given), [Place("multipliers", next(wide, None))])
+    return next(itertools.islice(places, int(found[2]) - 1, None), None)
+
+
+def _is_wide(given: Number) -> bool:
+    value = number(given)
+    return max(abs(value.numerator), value.denominator) > WIDEST
+
+
+def _read(said: str) -> SafeCut:
+    entries: Dict[str, Fraction] = {}
+    right, skipped = None, None
+    for kind, *words in map(str.split, said.splitlines()):
+        if kind == "cut":
+            right = printed(words[0])
+        elif kind == "term":
+            entries[words[0]] = printed(words[1])
+        elif kind == "skip":
+            skipped = " ".join(words)
+    return SafeCut(entries, right, skipped, said)

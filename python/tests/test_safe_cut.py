@@ -1,0 +1,273 @@
+"""Cuts of mixed-integer programs: by hand, and against every feasible point of small ones."""
+import itertools
+import pickle
+import random
+import unittest
+from decimal import Decimal
+from fractions import Fraction
+
+import gjcut
+from gjcut import Column, Constraint, safe_cut
+from gjcut._problems import DENOMINATORS
+
+X, Y, Z = Column("x", True, 0, None), Column("y", True, 0, None), Column("z", False, 0, None)
+# The program of docs/solver.md: 2x + y <= 7 and x + 3y - z <= 9.
+FIRST = Constraint("first", {"x": 2, "y": 1}, "<=", 7)
+SECOND = Constraint("second", {"x": 1, "y": 3, "z": -1}, "<=", 9)
+PROGRAM = [X, Y, Z], [FIRST, SECOND]
+ONE = [X], [Constraint("c", {"x": 1}, "<=", "7/2")]
+
+
+def fractions(*texts):
+    return [Fraction(text) for text in texts]
+
+
+def numbers_of(cut, *names):
+    return [*(cut.entries.get(name, 0) for name in names), cut.right]
+
+
+class ByHand(unittest.TestCase):
+    """The row of x is x + 3/5 s1 - 1/5 s2 + 1/5 z = 12/5, that of y is y - 1/5 s1 + 2/5 s2 - 2/5 z
+    = 11/5; s1 = 7 - 2x - y is whole, and s2 = 9 - x - 3y + z is not."""
+
+    def test_the_cuts_of_the_two_rows(self):
+        # 2/3 s1 + 1/3 s2 + 1/2 z >= 1, and 1/4 s1 + 2 s2 + 1/2 z >= 1.
+        cut = safe_cut(*PROGRAM, ["3/5", Decimal("-0.2")])
+        self.assertEqual(numbers_of(cut, *"xyz"), fractions("-5/3", "-5/3", "5/6", "-20/3"))
+        self.assertIsNone(cut.skipped)
+        self.assertEqual(cut.text.splitlines()[0], "gj-safe 1")
+        cut = safe_cut(*PROGRAM, ["-1/5", Fraction(2, 5)])
+        self.assertEqual(numbers_of(cut, *"xyz"), fractions("-5/2", "-25/4", "5/2", "-75/4"))
+
+    def test_a_rounded_cut(self):
+        # All columns have the bound 0 below, so coefficients go up to multiples of 1/4, and the
+        # right side, -80/12, goes down to -81/12.
+        cut = safe_cut(*PROGRAM, ["3/5", "-1/5"], grid=4)
+        self.assertEqual(numbers_of(cut, *"xyz"), fractions("-3/2", "-3/2", 1, "-27/4"))
+
+    def test_upper_bounds(self):
+        # 3x + 4y <= 16, x <= 3. With x' = 3 - x the row of y is y - 3/4 x' + 1/4 s = 7/4. Its cut
+        # is 1/3 x' + 1/3 s >= 1. With x at 0 the right side is 4.
+        problem = [X._replace(upper="7/2"), Y], [Constraint("c", {"x": 3, "y": 4}, "<=", 16)]
+        cut = safe_cut(*problem, ["1/4"], at_upper=["x"])
+        self.assertEqual(numbers_of(cut, *"xy"), fractions("-4/3", "-4/3", "-16/3"))
+        cut = safe_cut(*problem, ["1/4"])
+        self.assertEqual((cut.entries, cut.right, cut.skipped), ({}, None, "integral"))
+
+    def test_a_constraint_with_fractions(self):
+        # x <= 7/2: its slack is whole after it is doubled, s = 7 - 2x, and 1/2 s + whole = 7/2; the
+        # cut is s >= 1.
+        self.assertEqual(numbers_of(safe_cut(*ONE, [1]), "x"), [-2, -6])
+
+    def test_what_is_skipped(self):
+        free = [X, Z._replace(lower=None)], [Constraint("c", {"x": "1/2", "z": 1}, ">=", "1/3")]
+        self.assertEqual(safe_cut(*free, [1]).skipped, "free z")
+        self.assertEqual(safe_cut(*ONE, [2]).skipped, "integral")
+        self.assertEqual(safe_cut(*ONE, [0.0]).skipped, "integral")
+        # The two denominators have no common divisor, and their product has 160 bits.
+        wide = [X], [Constraint("c", {"x": Fraction(1, 2**80)}, "<=", Fraction(1, 3**51))]
+        self.assertEqual(safe_cut(*wide, [1]).skipped, "wide")
+
+    def test_no_point_at_all(self):
+        # 2x = 1 has no solution in whole numbers, and the row 1/2 has no column.
+        cut = safe_cut([X], [Constraint("c", {"x": 2}, "=", 1)], ["1/2"])
+        self.assertEqual((cut.entries, cut.right), ({}, 1))
+
+
+class Floats(unittest.TestCase):
+    def test_a_float_is_taken_over_a_power_of_two(self):
+        exact = [Fraction(round(m * 2**40), 2**40) for m in (0.6, -0.2)]
+        cut = safe_cut(*PROGRAM, [0.6, -0.2])
+        self.assertEqual(cut, safe_cut(*PROGRAM, exact))
+        self.assertNotEqual(cut, safe_cut(*PROGRAM, ["3/5", "-1/5"]))
+
+    def test_and_over_a_lesser_one_where_a_number_is_too_wide(self):
+        source, taken = random.Random(3), set()
+        for most in (10, 100, 300) * 4:
+            columns = [Column(f"x{j}", True, 0, None) for j in range(5)]
+            rows = []
+            for i in range(5):
+                parts = [(source.randint(1, 10**4), source.randint(1, most)) for _ in range(6)]
+                values = [Fraction(*part) for part in parts]
+                entries = {column.name: value for column, value in zip(columns, values)}
+                rows.append(Constraint(f"c{i}", entries, "<=", values[5]))
+            floats = [source.uniform(-1, 1) for _ in rows]
+            found = safe_cut(columns, rows, floats)
+            for denominator in DENOMINATORS:
+                exact = [Fraction(round(m * denominator), denominator) for m in floats]
+                cut = safe_cut(columns, rows, exact)
+                if cut.skipped != "wide":
+                    taken.add(denominator)
+                    break
+            self.assertEqual(found, cut)
+        self.assertEqual(taken, set(DENOMINATORS))
+
+    def test_of_any_size(self):
+        self.assertEqual(safe_cut(*ONE, [1e30]).skipped, "integral")
+        self.assertEqual(safe_cut(*ONE, [1e300]).skipped, "wide")
+        self.assertEqual(safe_cut(*ONE, [5e-324]).skipped, "integral")
+
+    def test_no_number(self):
+        for given in (float("nan"), float("inf")):
+            with self.assertRaisesRegex(ValueError, r"multipliers\[1\]: (nan|inf) is no number"):
+                safe_cut(*PROGRAM, [1.0, given])
+
+    def test_data_are_exact(self):
+        x = X._replace(upper=0.5)
+        c = Constraint("c", {"x": 1}, "<=", 1)
+        for columns, constraint, place in (
+            ([x], c, r"columns\[0\], the upper bound"),
+            ([X], c._replace(right=0.5), r"constraints\[0\], the right side"),
+            ([X], c._replace(entries={"x": 1.0}), r"constraints\[0\], 'x'"),
+        ):
+            with self.assertRaisesRegex(TypeError, f"{place}: .* is a float: write an int, a Frac"):
+                safe_cut(columns, [constraint], [1])
+        with self.assertRaises(TypeError):
+            safe_cut(*ONE, [1], grid=4.0)
+
+
+class Refusals(unittest.TestCase):
+    def refused(self, *arguments, **words):
+        with self.assertRaises(gjcut.Refused) as caught:
+            safe_cut(*arguments, **words)
+        refused = pickle.loads(pickle.dumps(caught.exception))
+        self.assertEqual((refused.status, str(refused)), (3, str(caught.exception)))
+        self.assertIn(refused.advice, str(refused))
+        return str(refused.place), refused.reason
+
+    def test_places(self):
+        c, wide = ONE[1][0], 2**127
+        many = [X._replace(name=f"x{i}") for i in range(10_001)]
+        for problem, place, reason in (
+            (([X, Y, X], [c], [1]), "columns[2]", "place"),
+            (([X], [c, FIRST], [1, 1]), "constraints[1], 'y'", "place"),
+            (([X], [c], [1, 1]), "multipliers", "form"),
+            (([X], [c], [1, "1/2"]), "multipliers", "form"),
+            (([X, Y._replace(upper=wide)], [c], [1]), "columns[1], the upper bound", "number"),
+            (([X], [c._replace(right=-wide)], [1]), "constraints[0], the right side", "number"),
+            (([X], [c._replace(entries={"x": wide})], [1]), "constraints[0], 'x'", "number"),
+            (([X], [c, c], [1, Fraction(1, wide)]), "multipliers[1]", "number"),
+            ((many, [], []), "columns[10000]", "large"),
+        ):
+            self.assertEqual(self.refused(*problem), (place, reason))
+        self.assertEqual(self.refused(*ONE, [1], at_upper=["x", "y"]), ("at_upper[1]", "place"))
+        self.assertEqual(self.refused(*ONE, [1], grid=0), ("grid", "number"))
+        self.assertEqual(self.refused(*ONE, [1], grid=2**32), ("grid", "number"))
+
+    def test_names_that_cannot_stand_in_a_text(self):
+        c = ONE[1][0]
+        for name in ("", "a b", 'a"', "a\n", "a\nend", "\xe4", "a" * 256, "\0", 1):
+            for columns, constraints, upper, place in (
+                ([X._replace(name=name)], [], [], r"columns\[0\]"),
+                ([X], [c._replace(name=name)], [], r"constraints\[0\]"),
+                ([X], [c._replace(entries={name: 1})], [], r"constraints\[0\], "),
+                ([X], [], [name], r"at_upper\[0\]"),
+            ):
+                with self.assertRaisesRegex(ValueError, f"^{place}.*: the name .* cannot stand"):
+                    safe_cut(columns, constraints, [1] * len(constraints), at_upper=upper)
+
+    def test_names_that_can(self):
+        for name in ("-", "end", "#", "sum", "a" * 255, "x[1,2]", "0"):
+            c = Constraint(name, {name: 1}, "<=", "7/2")
+            cut = safe_cut([X._replace(name=name)], [c], [1], at_upper=[name])
+            self.assertEqual(numbers_of(cut, name), [-2, -6])
+
+    def test_no_such_sense_or_rule(self):
+        c = ONE[1][0]._replace(sense="==")
+        with self.assertRaisesRegex(ValueError, r"constraints\[0\]: the sense '==' is none of"):
+            safe_cut([X], [c], [1])
+        with self.assertRaisesRegex(ValueError, "there is no rule 'gmi'"):
+            safe_cut(*ONE, [1], rule="gmi")
+
+
+SENSES = {"<=": (-1,), ">=": (1,), "=": (-1, 1)}
+
+
+def some(source, size):
+    """A number that is whole, or a fraction with a small denominator."""
+    return Fraction(source.randint(-size, size), source.choice((1, 1, 1, 2, 3, 5)))
+
+
+def multiplier(source):
+    return source.choice((0, some(source, 3), source.uniform(-1, 1), source.gauss(0, 1e-9), 1 / 3))
+
+
+class Program:
+    """A small program: whole columns in a box, and at most one continuous column, which can lack
+    bounds."""
+
+    def __init__(self, source):
+        self.columns = []
+        for j in range(source.randint(1, 3)):
+            lower = some(source, 4)
+            self.columns.append(Column(f"x{j}", True, lower, lower + source.randint(0, 4)))
+        whole = len(self.columns)
+        if source.random() < 0.6:
+            bounds = [None if source.random() < 0.3 else some(source, 3) for _ in range(2)]
+            if None not in bounds:
+                bounds.sort()
+            self.columns.insert(source.randint(0, whole), Column("z", False, *bounds))
+        names, self.constraints = [column.name for column in self.columns], []
+        for i in range(source.randint(1, 3)):
+            entries = {name: some(source, 5) for name in names if source.random() < 0.8}
+            sense = source.choice(("<=", "<=", ">=", ">=", "="))
+            self.constraints.append(Constraint(f"c{i}", entries, sense, some(source, 9)))
+
+    def ends(self, point):
+        """The least and the greatest z with which the point of the whole columns is feasible, and
+        None where there is none; nothing if there is no such z."""
+        least, greatest = next((c[2:] for c in self.columns if not c.whole), (0, 0))
+        for constraint in self.constraints:
+            slope = constraint.entries.get("z", 0)
+            rest = sum(constraint.entries.get(name, 0) * value for name, value in point.items())
+            for sign in SENSES[constraint.sense]:
+                # sign * (slope * z + rest - right) is at least 0.
+                gap, rise = sign * (constraint.right - rest), sign * slope
+                if rise == 0 and gap > 0:
+                    return None
+                if rise > 0:
+                    least = gap / rise if least is None else max(least, gap / rise)
+                if rise < 0:
+                    greatest = gap / rise if greatest is None else min(greatest, gap / rise)
+        return None if None not in (least, greatest) and least > greatest else (least, greatest)
+
+    def points(self):
+        whole = [column for column in self.columns if column.whole]
+        ranges = [range(-(-c.lower // 1), c.upper // 1 + 1) for c in whole]
+        for values in itertools.product(*ranges):
+            point = dict(zip([column.name for column in whole], values))
+            ends = self.ends(point)
+            if ends:
+                yield point, ends
+
+
+class BruteForce(unittest.TestCase):
+    def test_no_cut_removes_a_feasible_point(self):
+        source, cuts, tried = random.Random(50), 0, 0
+        for _ in range(600):
+            program = Program(source)
+            given = [multiplier(source) for _ in program.constraints]
+            upper = [column.name for column in program.columns if source.random() < 0.5]
+            grid = source.choice((None, 1, 4, 10, 2**20))
+            cut = safe_cut(program.columns, program.constraints, given, at_upper=upper, grid=grid)
+            if cut.skipped:
+                self.assertIn(cut.skipped, ("integral", "free z"))
+                continue
+            cuts += 1
+            if grid:
+                on_grid = [n * grid for n in numbers_of(cut, *cut.entries)]
+                self.assertTrue(all(n.denominator == 1 for n in on_grid))
+            for point, ends in program.points():
+                tried += 1
+                rest = sum(cut.entries.get(name, 0) * value for name, value in point.items())
+                slope = cut.entries.get("z", 0)
+                # The cut asks something of z at one end alone, where there is no end of nothing.
+                end = ends[0] if slope > 0 else ends[1]
+                self.assertTrue(slope == 0 or end is not None)
+                self.assertGreaterEqual(rest + slope * (end if slope else 0), cut.right)
+        self.assertGreater(cuts, 200)
+        self.assertGreater(tried, 1000)
+
+
+if __name__ == "__main__":
+    unittest.main()
