@@ -22,7 +22,9 @@ returns-in-Err-Refused-clause-refused c =
     let text = c.args.bytes.now in
     let left = c.in-Err-Refused.left in
     let reason = c.in-Err-Refused.reason in
-    first_fault_of safe_input safe_input_is_exact text left _ reason
+    rw c.in-Err-Refused.field-0-is
+    (first_fault_of safe_input safe_input_is_exact text left _ reason
     (behind_fault text c.requires.begins c.args.shape (drop c.args.len text) c.requires.function (Refused left reason)
     (subst (λ (t : List ℕ). IsFaultOf unruled_text t (Refused left reason)) (whole text c.args.len)
-    (rw c.in-Err-Refused.field-0-is at c.in-Err-Refused.ensures.fault))) c.line_number.ensures
+    (rw c.in-Err-Refused.field-0-is at c.in-Err-Refused.ensures.fault)))
+    (rw c.in-Err-Refused.field-0-is at c.line_number.ensures))
