@@ -1,6 +1,6 @@
 -- The tests of signs and of symmetry, by the lists of a function.
 use Rattle.std.proofs.lemmas.Bool.{cases_lt}
-use Rattle.std.proofs.Common.{◌≤◌, inl, inr, ◌≡◌, ◌↔◌, ℕ, ◌+◌, ◌-◌, ◌%◌, ◌<◌, ◌^◌, ℤ, pos, ◌+ℤ◌, ◌≤ℤ◌, List, length, get_or, unsigned_abs, Bool, IsTrue, to_z, of_z, w64, refl, ap, sym, subst, ◌∙◌, arith}
+use Rattle.std.proofs.Common.{◌≤◌, inl, inr, ◌≡◌, ◌↔◌, ℕ, ◌+◌, ◌-◌, ◌%◌, ◌<◌, ℤ, pos, ◌+ℤ◌, ◌≤ℤ◌, List, length, get_or, Bool, IsTrue, to_z, of_z, w64, refl, ap, sym, subst, ◌∙◌, arith}
 use Rattle.std.proofs.lemmas.Int.{ints}
 use Rattle.std.proofs.Math.Nat.{add-mod_right, mod-lt}
 use Rattle.gj_shape.specs.FunctionData.{FunctionData, IsWithinBounds, at}

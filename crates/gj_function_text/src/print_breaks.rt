@@ -1,5 +1,6 @@
 //! Function texts by breakpoints, printed.
-ghost use Rattle.std.specs.Prelude.{◌≡◌, IfOk, map};
+ghost use Rattle.std.specs.Prelude.{◌≡◌, ◌++◌, IfOk, OnOk, flat_map, map};
+ghost use Rattle.gj_function_lines.specs.BreakLines.{break_line};
 ghost use Rattle.gj_function_text.specs.FunctionText.{canonical_breaks_text, even_break};
 
 use gj_frac::Frac;
@@ -44,9 +45,21 @@ pub fn write_breaks_with_limits(
     let mut text = Vec::new(alloc);
     text.extend_from_slice(b"gj-function 2\n")?;
     push_fraction_line(alloc, &mut text, b"f ", f)?;
-    for point in points {
-        push_break_line(alloc, &mut text, *point)?;
-    }
+    push_break_lines(alloc, &mut text, points)?;
     text.extend_from_slice(b"end\n")?;
     Ok(text)
+}
+
+/// Appends the lines of breakpoints.
+fn push_break_lines(
+    alloc: Global,
+    out: &mut Vec<u8>,
+    points: &[Break],
+) -> Result<(), AllocError>
+    ensures { OnOk result (out.new.items ≡ out.old.items ++ flat_map break_line points.now) }
+{
+    for point in points {
+        push_break_line(alloc, out, *point)?;
+    }
+    Ok(())
 }

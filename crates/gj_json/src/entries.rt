@@ -1,8 +1,7 @@
 //! What stands for a fraction in JSON.
-ghost use Rattle.std.specs.Prelude.{◌≡◌, ◌↔◌, pos, map, IsTrue, IfSome, IfNone, IfOk, IfErr};
+ghost use Rattle.std.specs.Prelude.{◌≡◌, ◌↔◌, map, IsTrue, IfSome, IfNone, IfOk, IfErr};
 ghost use Rattle.std.specs.List.{AllZip};
 ghost use Rattle.gj_frac.specs.declared.Frac.{Frac};
-ghost use Rattle.gj_frac.specs.Fraction.{IsRatio};
 ghost use Rattle.serde_json.specs.View.{view};
 ghost use Rattle.gj_json.specs.JsonFunction.{integer, IsEntry, AreEntries, SpellsNumber};
 ghost use Rattle.gj_json.specs.FirstReason.{NamesJsonReason};

@@ -3,7 +3,7 @@ ghost use Rattle.std.specs.Prelude.{◌≡◌, ◌↔◌, List, pos, map, Some, 
 ghost use Rattle.serde_json.specs.Data.{Data};
 ghost use Rattle.serde_json.specs.Find.{get, as_array};
 ghost use Rattle.serde_json.specs.View.{view};
-ghost use Rattle.gj_json.specs.JsonFunction.{integer, list_of, list_at, IsKey, HasOnlyKeys, HasSideLimits, HasForm};
+ghost use Rattle.gj_json.specs.JsonFunction.{integer, list_of, list_at, HasOnlyKeys, HasSideLimits, HasForm};
 
 use crate::entries::{are_entries, integer, is_entry};
 use serde_json::Value;
@@ -29,7 +29,7 @@ pub(crate) fn form_of(value: &Value) -> Option<Form<'_>>
         HasForm (view value.now) p ls vs rs → ⊥) }
 {
     let place = value.get("f")?;
-    let values = list(value.get("value")?)?;
+    let values = list_at(value, "value")?;
     let (left, right) = limits_of(value, values)?;
     let count = values.len();
     if has_only_keys(value)
@@ -61,6 +61,13 @@ fn limits_of<'a>(value: &'a Value, values: &'a [Value]) -> Option<(&'a [Value], 
         (Some(left), Some(right)) => Some((list(left)?, list(right)?)),
         _ => None,
     }
+}
+
+/// The list at the key.
+fn list_at<'a>(value: &'a Value, key: &str) -> Option<&'a [Value]>
+    ensures { option_map (λ v. map view v.now) result ≡ list_at key.now (view value.now) }
+{
+    list(value.get(key)?)
 }
 
 /// The list that the value is.

@@ -15,7 +15,8 @@ use Rattle.gj_words.specs.declared.requests.Command.TheVariants.{Minimal, Extrem
 use Rattle.gj_words.specs.declared.requests.Request.{Request}
 use Rattle.gj_top.specs.declared.status.Status.{Status}
 use Rattle.gj_top.specs.declared.status.Status.TheVariants.{Words, ReadFault, WriteFault, Memory, Wide, NotContinuous}
-use Rattle.gj_top.specs.Answer.{IsAnswer, IsSourceFault}
+use Rattle.gj_port.specs.Runs.{IsSourceFault}
+use Rattle.gj_top.specs.Answer.{IsAnswer}
 use Rattle.gj_top.specs.Answer.IsAnswer.{no_request, read_fault, of_request}
 use Rattle.gj_top.specs.Causes.{IsTrueRun, IsDoneRun, IsCause, IsGoodInput, IsStatusOfReply}
 use Rattle.gj_top.specs.Code.{code_of}

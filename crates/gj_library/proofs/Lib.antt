@@ -1,3 +1,4 @@
 pub mod Codes
 pub mod WordsSoFar
 pub mod Calls
+pub mod SafeCalls

@@ -14,7 +14,14 @@ pub(crate) fn continuous_columns(alloc: Global, columns: &[Name]) -> Result<Vec<
 {
     let mut flags = Vec::with_capacity(alloc, columns.len())?;
     for column in columns {
-        flags.push(column.bytes().starts_with(CONTINUOUS))?;
+        flags.push(begins_with_c(column.bytes()))?;
     }
     Ok(flags)
+}
+
+/// Whether the name begins with `c:`.
+fn begins_with_c(name: &[u8]) -> bool
+    ensures { result ≡ begins_with_c name.now }
+{
+    name.starts_with(CONTINUOUS)
 }

@@ -5,3 +5,4 @@ pub mod MemorySource
 pub mod MemorySink
 pub mod Stream
 pub mod Whole
+pub mod Runs

@@ -1,8 +1,13 @@
--- Why a run ends as it does.
-use Rattle.std.proofs.Common.{◌≡◌, inl, inr, ℕ, List, [], Option, Some, String, refl, sym, subst}
+-- Why a run ends as it does, and what it then wrote.
+use Rattle.std.proofs.Common.{◌≡◌, inl, inr, ℕ, List, [], ◌++◌, codes, flat_map, IfSome, Option, Some, String, refl, sym, ap, subst, ◌∙◌}
+use Rattle.std.proofs.lemmas.Option.{IfSome_then}
 use Rattle.std.specs.declared.alloc.Global.{Global}
+use Rattle.gj_function_lines.specs.FunctionLines.{line}
+use Rattle.gj_port.specs.Runs.{Gains}
+use Rattle.gj_problem_text.specs.CutText.{cut_lines}
+use Rattle.gj_safe.specs.Answers.{IsTrueAnswer, IsCutsOf}
 use Rattle.gj_safe.specs.Told.{IsReadWhole, IsTold, IsToldOf}
-use Rattle.gj_safe.specs.Runs.{IsCause}
+use Rattle.gj_safe.specs.Runs.{IsTrueRun, IsDoneRun, IsCause}
 use Rattle.gj_safe.specs.declared.status.Status.{Status}
 use Rattle.gj_safe.specs.declared.status.Status.TheVariants.{Done, Words, Input, ReadFault, WriteFault, Memory}
 
@@ -23,3 +28,27 @@ cause_of_told words Fault left after Done text none input is t =
     inr (inr (inr (text, of_input input t.1.0 left after Done text is t.1.1 t.1.2)))
 cause_of_told words Fault left after Input text none input is t =
     inr (inr (inr (text, of_input input t.1.0 left after Input text is t.1.1 t.1.2)))
+
+-- the text of the cuts that an input asks for is one of cuts that hold
+pub true_answer : (input text : List ℕ) → IsCutsOf input text → IsTrueAnswer input text
+true_answer input text (task, spelled, are) = record {
+  task = task;
+  spelled = spelled;
+  cuts = are.cuts;
+  hold = are.hold;
+  text_is = are.text_is
+      ∙ ap (λ lines. line (codes "gj-safe 1") ++ lines ++ flat_map (cut_lines task.names) are.cuts ++ line (codes "end")) are.rule_lines_are;
+}
+
+module _ (words : List (String Global)) (Fault : Type 0) (left after written written' : Option (List ℕ)) (s : Status) (text : List ℕ) where
+  pub done_of_told : IsTold words Fault left after s text → s ≡ Done → (input : List ℕ) → left ≡ Some input → Gains written written' text →
+      IfSome written (λ before. IsDoneRun input before written')
+  done_of_told t e input is gain =
+      let told : IsTold words Fault left after Done text = subst (λ (r : Status). IsTold words Fault left after r text) e t in
+      let answer = of_input input told.1.0 left after Done text is told.1.1 told.1.2 in
+      IfSome_then written gain (λ before grown. (text, answer.1, grown))
+
+  pub true_of_told : IsTold words Fault left after s text → s ≡ Done → (input : List ℕ) → left ≡ Some input → Gains written written' text →
+      IfSome written (λ before. IsTrueRun input before written')
+  true_of_told t e input is gain =
+      IfSome_then written (done_of_told t e input is gain) (λ before done. (done.0, true_answer input done.0 done.1, done.2))

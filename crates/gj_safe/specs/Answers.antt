@@ -1,11 +1,11 @@
 -- How the text of a problem is answered (own).
-use Rattle.std.specs.Prelude.{ℕ, ◌≡◌, List, ◌++◌, All, codes, decimal}
+use Rattle.std.specs.Prelude.{ℕ, ◌≡◌, List, ◌++◌, All, codes, decimal, flat_map}
 use Rattle.gj_lex.specs.Reason.{reason_word}
 use Rattle.gj_lex.specs.declared.reason.Reason.{Reason}
 use Rattle.gj_function_lines.specs.FunctionLines.{line}
 use Rattle.gj_safe_cut.specs.SafeCuts.{HoldsFor}
 use Rattle.gj_safe_cut.specs.declared.cut.SafeCut.{SafeCut}
-use Rattle.gj_problem_text.specs.CutText.{cuts_text, IsCutsTextOf}
+use Rattle.gj_problem_text.specs.CutText.{cut_lines, IsCutsTextOf}
 use Rattle.gj_problem_text.specs.ProblemText.{IsProblemText, IsFirstFault}
 use Rattle.gj_problem_text.specs.declared.task.Task.{Task}
 use Rattle.gj_safe.specs.declared.answer.End.{End}
@@ -17,7 +17,7 @@ pub record IsTrueAnswer (input text : List ℕ) : Type 0 where
   pub spelled : IsProblemText input task
   pub cuts : List SafeCut
   pub hold : All (HoldsFor task.problem) cuts
-  pub text_is : text ≡ cuts_text task.names cuts
+  pub text_is : text ≡ line (codes "gj-safe 1") ++ line (codes "rule gmic") ++ flat_map (cut_lines task.names) cuts ++ line (codes "end")
 
 -- the input spells a problem, and the text is that of the cuts that it asks for
 abbrev pub IsCutsOf : List ℕ → List ℕ → Type 0

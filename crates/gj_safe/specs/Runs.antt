@@ -1,18 +1,11 @@
 -- What a run did: what it told, and what the sink, if it tells its bytes, has taken of it (own).
-use Rattle.std.specs.Prelude.{ℕ, ◌≡◌, ◌≢◌, ◌⊎◌, ◌<◌, List, [], ◌++◌, length, take, IfSome, Option, Some, String}
+use Rattle.std.specs.Prelude.{ℕ, ◌≡◌, ◌⊎◌, ◌<◌, List, [], ◌++◌, length, Option, Some, String}
 use Rattle.std.specs.declared.alloc.Global.{Global}
+use Rattle.gj_port.specs.Runs.{Gains, GainsFront}
 use Rattle.gj_safe.specs.Answers.{IsTrueAnswer, IsCutsOf}
 use Rattle.gj_safe.specs.Told.{IsReadInPart, IsTold, IsToldOf}
 use Rattle.gj_safe.specs.declared.status.Status.{Status}
 use Rattle.gj_safe.specs.declared.status.Status.TheVariants.{ReadFault, WriteFault, Memory}
-
--- the bytes taken grew by the text
-abbrev pub Gains : Option (List ℕ) → Option (List ℕ) → List ℕ → Type 0
-Gains written after text = IfSome written (λ before. after ≡ Some (before ++ text))
-
--- they grew by a front of the text, not all of it
-abbrev pub GainsFront : Option (List ℕ) → Option (List ℕ) → List ℕ → Type 0
-GainsFront written after text = IfSome written (λ before. (n : ℕ) × (n < length text) × (after ≡ Some (before ++ take n text)))
 
 -- the headline: what was written are cuts that hold at all feasible points of the problem in the
 -- input

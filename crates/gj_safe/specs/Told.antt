@@ -1,7 +1,6 @@
 -- What a run tells: a status and a text, and what it read for them (own).
-use Rattle.std.specs.Prelude.{ℕ, ◌≡◌, ◌≢◌, ◌⊎◌, ◌+◌, ◌<◌, ◌≤◌, Bool, List, [], drop, length, codes, IsTrue, IfSome, Option, Some, String}
+use Rattle.std.specs.Prelude.{ℕ, ◌≡◌, ◌≢◌, ◌⊎◌, ◌+◌, ◌<◌, ◌≤◌, List, [], drop, length, codes, IfSome, Option, Some, String}
 use Rattle.std.specs.declared.alloc.Global.{Global}
-use Rattle.gj_port.specs.Faults.{HasFailed}
 use Rattle.gj_port.specs.Whole.{TakesUpTo}
 use Rattle.gj_function_lines.specs.FunctionLines.{line}
 use Rattle.gj_safe.specs.declared.answer.End.{End}
@@ -27,10 +26,6 @@ abbrev pub long_line : List ℕ
 long_line = line (codes "refused long")
 
 -- ---- what the source, if it tells its bytes, has left
-
--- the source failed: its count of faults rose, or stands at its last value, and it is not steady
-abbrev pub IsSourceFault : Bool → ℕ → ℕ → Type 0
-IsSourceFault steady before after = HasFailed before after × (IsTrue steady → ⊥)
 
 -- the input is all that the source had, of which it has left what stands behind the limit and one
 -- byte more

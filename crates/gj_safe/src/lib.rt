@@ -4,10 +4,11 @@
 ghost use Rattle.std.specs.Prelude.{◌≡◌, ◌≢◌, ◌⊎◌, ◌≤◌, ◌<◌, ℕ, List, [], length, Some, IfSome, IsTrue};
 ghost use Rattle.gj_lex.specs.declared.reason.Reason.{Reason};
 ghost use Rattle.gj_port.specs.Faults.{HasFailed};
+ghost use Rattle.gj_port.specs.Runs.{IsSourceFault, Gains};
 ghost use Rattle.gj_problem_text.specs.ProblemText.{IsProblemText, IsFirstFault};
 ghost use Rattle.gj_problem_text.specs.declared.task.Task.{Task};
-ghost use Rattle.gj_safe.specs.Told.{IsSourceFault, IsTold, input_limit, words_line, fault_line};
-ghost use Rattle.gj_safe.specs.Runs.{IsTrueRun, IsDoneRun, IsOutcome, IsCause, Gains};
+ghost use Rattle.gj_safe.specs.Told.{input_limit, words_line, fault_line};
+ghost use Rattle.gj_safe.specs.Runs.{IsTrueRun, IsDoneRun, IsOutcome, IsCause};
 
 use gj_port::{Sink, Source, write_all};
 use std::alloc::Global;

@@ -1,6 +1,7 @@
 //! What a run tells, before it is written.
 ghost use Rattle.std.specs.Prelude.{◌≡◌, ◌≤◌, [], IfOk, OnErr};
-ghost use Rattle.gj_safe.specs.Told.{IsReadInPart, IsSourceFault, IsTold, told_status, told_text, status_of};
+ghost use Rattle.gj_port.specs.Runs.{IsSourceFault};
+ghost use Rattle.gj_safe.specs.Told.{IsReadInPart, IsTold, told_status, told_text, status_of};
 
 use crate::answer::{Answer, End, answer_to};
 use crate::status::Status;

@@ -1,7 +1,6 @@
 -- The answer of the program: its status and its text, and what it read for them (own).
 use Rattle.std.specs.Prelude.{ℕ, ◌≡◌, ◌+◌, ◌<◌, ◌≤◌, Bool, true, false, List, drop, length, codes, IsTrue, IfSome, Option, Some, String}
 use Rattle.std.specs.declared.alloc.Global.{Global}
-use Rattle.gj_port.specs.Faults.{HasFailed}
 use Rattle.gj_port.specs.Whole.{TakesUpTo}
 use Rattle.gj_function_lines.specs.FunctionLines.{line}
 use Rattle.gj_words.specs.declared.requests.Request.{Request}
@@ -62,10 +61,6 @@ pub data IsAnswerTo (task : Task) (input : List ℕ) (status : Status) (text : L
   replied : IsReplied task input status text → IsAnswerTo task input status text
 
 -- ---- the answer to words, and what the source, if it tells its bytes, has left
-
--- the source failed: its count of faults rose, or stands at its last value, and it is not steady
-abbrev pub IsSourceFault : Bool → ℕ → ℕ → Type 0
-IsSourceFault steady before after = HasFailed before after × (IsTrue steady → ⊥)
 
 -- the input is all that the source had, of which it has left what stands behind the limit and one
 -- byte more; or the source is as it was, if nothing is read

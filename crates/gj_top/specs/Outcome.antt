@@ -1,18 +1,11 @@
 -- What a run did: which answer it had, and what the sink, if it tells its bytes, has taken of it
 -- (own).
-use Rattle.std.specs.Prelude.{ℕ, ◌≡◌, ◌<◌, List, ◌++◌, length, take, IfSome, Option, Some, String}
+use Rattle.std.specs.Prelude.{ℕ, ◌≡◌, ◌<◌, List, length, Option, String}
 use Rattle.std.specs.declared.alloc.Global.{Global}
+use Rattle.gj_port.specs.Runs.{Gains, GainsFront}
 use Rattle.gj_top.specs.declared.status.Status.{Status}
 use Rattle.gj_top.specs.declared.status.Status.TheVariants.{WriteFault, Memory}
 use Rattle.gj_top.specs.Answer.{IsAnswer, IsUnanswered}
-
--- the bytes taken grew by the text
-abbrev pub Gains : Option (List ℕ) → Option (List ℕ) → List ℕ → Type 0
-Gains written after text = IfSome written (λ before. after ≡ Some (before ++ text))
-
--- they grew by a front of the text, not all of it
-abbrev pub GainsFront : Option (List ℕ) → Option (List ℕ) → List ℕ → Type 0
-GainsFront written after text = IfSome written (λ before. (n : ℕ) × (n < length text) × (after ≡ Some (before ++ take n text)))
 
 -- there was no memory for an answer, and nothing was written
 pub record IsSilent (words : List (String Global)) (left left' written written' : Option (List ℕ)) (result : Status) : Type 0 where

@@ -3,14 +3,15 @@
 
 ghost use Rattle.std.specs.Prelude.{◌≡◌, ◌≢◌, ◌⊎◌, ◌≤◌, ℕ, Bool, List, [], length, Some, IfSome, IsTrue};
 ghost use Rattle.gj_port.specs.Faults.{HasFailed};
+ghost use Rattle.gj_port.specs.Runs.{IsSourceFault, Gains};
 ghost use Rattle.gj_shape.specs.FunctionData.{FunctionData};
 ghost use Rattle.gj_shape.specs.Table.{IsMinimal};
 ghost use Rattle.gj_shape.specs.TwoSlopes.{HasTwoSlopes};
 ghost use Rattle.gj_words.specs.declared.requests.Request.{Request};
 ghost use Rattle.gj_top.specs.Command.{IsNamed, NameNone, promise_for, task_for};
 ghost use Rattle.gj_top.specs.Promise.{reads};
-ghost use Rattle.gj_top.specs.Answer.{IsSourceFault, input_limit, words_line, fault_line};
-ghost use Rattle.gj_top.specs.Outcome.{IsOutcome, IsUnsure, Gains};
+ghost use Rattle.gj_top.specs.Answer.{input_limit, words_line, fault_line};
+ghost use Rattle.gj_top.specs.Outcome.{IsOutcome, IsUnsure};
 ghost use Rattle.gj_top.specs.Asked.{AskIfExtreme};
 ghost use Rattle.gj_top.specs.Narrow.{HasUncoveredInterval, HasAtMostComponents};
 ghost use Rattle.gj_top.specs.Decisive.{IsDecisive, IsCalledExtreme};

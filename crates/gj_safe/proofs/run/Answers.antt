@@ -1,8 +1,17 @@
-use Rattle.std.proofs.Common.{sym, subst}
-use Rattle.gj_safe.specs.declared.status.Status.{Status}
-use Rattle.gj_safe.specs.Told.{IsSourceFault, IsTold, told_text}
-use Rattle.gj_safe.proofs.Clauses.{cause_of_told}
+use Rattle.std.proofs.Common.{sym}
+use Rattle.gj_safe.specs.Told.{told_text}
+use Rattle.gj_safe.proofs.Clauses.{cause_of_told, done_of_told, true_of_told}
 use Rattle.gj_safe.proofs.run.Goals as goal
+
+pub returns-in-Ok-write_all-clause-headline : goal.returns-in-Ok-write_all-clause-headline
+returns-in-Ok-write_all-clause-headline g c = λ done input is.
+    true_of_told _ _ _ _ _ _ _ (told_text c.in-Ok.told) (rw (sym c.status.ensures) at c.in-Ok.ensures.told) done input is
+    (rw c.text.ensures at c.in-Ok-write_all.ensures.told)
+
+pub returns-in-Ok-write_all-clause-reply : goal.returns-in-Ok-write_all-clause-reply
+returns-in-Ok-write_all-clause-reply g c = λ done input is.
+    done_of_told _ _ _ _ _ _ _ (told_text c.in-Ok.told) (rw (sym c.status.ensures) at c.in-Ok.ensures.told) done input is
+    (rw c.text.ensures at c.in-Ok-write_all.ensures.told)
 
 pub returns-in-Ok-write_all-clause-cause : goal.returns-in-Ok-write_all-clause-cause
 returns-in-Ok-write_all-clause-cause g c = λ none input is.

@@ -1,13 +1,15 @@
-//! The cut of a problem by its multipliers, before and after it is rounded. No command makes it.
+//! The cut of a problem by its multipliers, before and after it is rounded, and runs of `gjsafe`
+//! over streams in steps.
 ghost use Rattle.gj_rule.specs.Kind.{IsKind};
 ghost use Rattle.gj_rule.specs.Kept.{Evaluates};
 ghost use Rattle.gj_mixed.specs.Slopes.{AreSlopesOfKind, IsSlope, Weighs};
 
 use gj_frac::Frac;
 use gj_mixed::{Slopes, SlopesAtZero};
+use gj_port::{MemSink, MemSource};
 use gj_problem::{Column, Constraint, Entry, Inequality, Problem, RoundedCut, Sense, rounded};
-use gj_problem_text::safe_cuts_text;
 use gj_rule::{Evaluator, Rule, RuleKind, gmic_value};
+use gj_safe::{Status, run};
 use gj_safe_cut::{SafeCut, gmic_safe_cut, safe_cut};
 use gj_shape::List;
 use std::alloc::Global;
@@ -152,14 +154,28 @@ fn rounded_cut(alloc: Global) -> Option<bool> {
     Some(says(&made, xy, xy, Frac::ratio(1, 1), Frac::ratio(-7, 1)))
 }
 
-/// Of x whole and not below 0 with x <= 7/2 the multiplier 1 gives x <= 3, and 2 a whole right
-/// side.
-fn written_cuts(alloc: Global) -> Option<bool> {
-    let input =
-        b"gj-problem 1\nrule gmic\ncolumn x whole 0 -\nconstraint c <= 7/2\nentry x 1\nsum 1\nsum 2\nend\n";
-    let output = safe_cuts_text(alloc, input).ok()?;
-    let cuts = b"gj-safe 1\nrule gmic\ncut -6\nterm x -2\nskip integral\nend\n";
-    Some(output.as_slice() == cuts.as_slice())
+/// Two rows of x <= 7/2 with x whole and not below 0.
+const PROBLEM: &[u8] =
+    b"gj-problem 1\nrule gmic\ncolumn x whole 0 -\nconstraint c <= 7/2\nentry x 1\nsum 1\nsum 2\nend\n";
+
+/// Their cuts: x <= 3, and none, since twice the right side is whole.
+const CUTS: &[u8] = b"gj-safe 1\nrule gmic\ncut -6\nterm x -2\nskip integral\nend\n";
+
+/// Whether a run of `gjsafe` ends so, and writes so much, over a source in steps of 7 and a sink in
+/// steps of 10, of which the calls with these numbers fail.
+fn ends(alloc: Global, read: u64, write: u64, ended: Status, written: &[u8]) -> Option<bool> {
+    let mut source = MemSource::with_step(alloc, PROBLEM, 7, &[read]).ok()?;
+    let mut sink = MemSink::with_step(alloc, 100, 10, &[write]).ok()?;
+    let status = run(alloc, &[], &mut source, &mut sink);
+    Some(status == ended && sink.taken() == written)
+}
+
+#[test]
+fn runs_on_a_problem(rt: HostRuntime) {
+    let alloc = rt.alloc();
+    assert!(rt; ends(alloc, 0, 0, Status::Done, CUTS) == Some(true));
+    assert!(rt; ends(alloc, 3, 0, Status::ReadFault, b"read fault\n") == Some(true));
+    assert!(rt; ends(alloc, 0, 2, Status::WriteFault, b"gj-safe 1\n") == Some(true));
 }
 
 #[test]
@@ -167,5 +183,4 @@ fn problems(rt: HostRuntime) {
     assert!(rt; mixed_integer(rt.alloc()) == Some(true));
     assert!(rt; by_rule(rt.alloc()) == Some(true));
     assert!(rt; rounded_cut(rt.alloc()) == Some(true));
-    assert!(rt; written_cuts(rt.alloc()) == Some(true));
 }

@@ -1,7 +1,8 @@
 use Rattle.std.proofs.Common.{inl, inr, refl, sym, subst}
+use Rattle.gj_port.specs.Runs.{IsSourceFault, Gains}
 use Rattle.gj_top.specs.declared.status.Status.{Status}
-use Rattle.gj_top.specs.Answer.{IsAnswer, IsSourceFault, answer_text}
-use Rattle.gj_top.specs.Outcome.{IsOutcome, Gains}
+use Rattle.gj_top.specs.Answer.{IsAnswer, answer_text}
+use Rattle.gj_top.specs.Outcome.{IsOutcome}
 use Rattle.gj_top.specs.Outcome.IsOutcome.{told}
 use Rattle.gj_top.proofs.Clauses.{no_write_fault, failed_source, input_clause, unread_by_answer, unread_unanswered, headline_clause, reply_clause}
 use Rattle.gj_top.proofs.Clauses.{ends_clause, cause_clause, complete_clause}
