@@ -104,7 +104,7 @@ only_one text asked (Err (Refused n e)) found fault h = no_fault text asked n e 
 only_one text asked (Err (Memory a)) found fault h = tt
 
 pub ready_input : (text : List ℕ) (asked : SafeInput) → IsSafeInput text asked → IsReady asked.task
-ready_input text asked (rest, inl (is, (f, middle, function, (task, (t, behind, title, (told, end, read, (same, at))), made)))) =
+ready_input text asked (rest, inl (is, (f, middle, function, (task, (t, behind, title, (told, end, read, (same, at, nothing))), made)))) =
     subst (λ (a : SafeInput). IsReady a.task) (sym made) (subst IsReady (sym same) (ready_lines told end behind read))
 ready_input text asked (rest, inr (not, (task, h, made))) =
     subst (λ (a : SafeInput). IsReady a.task) (sym made) (ready_text text task (rest, h))

@@ -54,5 +54,5 @@ pub ready_lines : (t : Task) (rest text : List ℕ) → ReadsInTurn (λ u. (next
 ready_lines t rest text h = ready_in_turn t rest no_task text h (record { multipliers = All-nil (HasMultipliers 0); grid = tt })
 
 pub ready_text : (text : List ℕ) (t : Task) → IsProblemText text t → IsReady t
-ready_text text t (rest, (u, behind, title, (v, lines, rule_line, (task, end, read, (same, at))))) =
+ready_text text t (rest, (u, behind, title, (v, lines, rule_line, (task, end, read, (same, at, nothing))))) =
     subst IsReady (sym same) (ready_lines task end lines read)

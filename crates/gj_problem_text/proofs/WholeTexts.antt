@@ -1,6 +1,5 @@
 -- The text of cuts, put together.
 use Rattle.std.proofs.Common.{◌≡◌, ℕ, List, ◌++◌, Result, Err, MatchResult, codes, flat_map, ap, ◌∙◌}
-use Rattle.std.proofs.lemmas.List.{append_assoc}
 use Rattle.gj_function_lines.specs.FunctionLines.{line}
 use Rattle.gj_proof.specs.ProofText.{AreSubjectLines, subject_of_rule}
 use Rattle.gj_proof.specs.declared.cut.CutRule.{CutRule}
@@ -19,9 +18,7 @@ whole_text r s title rule_lines start middle text titled ruled begun (cuts, are,
   rule_lines = rule_lines;
   rule_lines_are = ruled;
   text_is = ended
-      ∙ ap (λ t. t ++ line (codes "end")) (pushed ∙ ap (λ t. t ++ flat_map (cut_lines s.names) cuts) (begun ∙ ap (λ t. t ++ rule_lines) titled))
-      ∙ append_assoc (line (codes "gj-safe 1") ++ rule_lines) (flat_map (cut_lines s.names) cuts) (line (codes "end"))
-      ∙ append_assoc (line (codes "gj-safe 1")) rule_lines (flat_map (cut_lines s.names) cuts ++ line (codes "end"));
+      ∙ ap (λ t. t ++ line (codes "end")) (pushed ∙ ap (λ t. t ++ flat_map (cut_lines s.names) cuts) (begun ∙ ap (λ t. t ++ rule_lines) titled));
 }
 
 -- an error that is passed on is that of the callee
