@@ -13,7 +13,7 @@ ghost use Rattle.gj_row.specs.FirstFault.{HasNumberFault};
 ghost use Rattle.gj_row.specs.Reading.{StopsNumber, StopsEntry, HasRead, NamesReason, fields_in, fields_of_line, words_in, words_of_fields};
 
 use crate::faults::{RecordFault, RowReason};
-use crate::fields::{Fields, field_behind_empty, first_field, word_at, word_of};
+use crate::fields::{Fields, commas, field_behind_empty, first_field, word_at, word_of};
 use crate::limits::within;
 use crate::tableau::Entry;
 use csv::ByteRecord;
@@ -74,7 +74,7 @@ fn numbers_in_line(alloc: Global, line: &[u8], used: usize) -> Result<Numbers, R
         Err(reason) => return Err(RecordFault::Refused(reason)),
     };
     let mut scale = right_scale;
-    let mut entries = Vec::new(alloc);
+    let mut entries = Vec::with_capacity(alloc, likely_entries_in(line))?;
     let mut column = 0;
     let mut left = behind;
     while let Some(rest) = left {
@@ -132,6 +132,11 @@ fn likely_entries(fields: &ByteRecord) -> usize
     requires { 2 ≤ length (fields_of fields.now) }
 {
     (fields.len() - 2).min(fields.as_slice().len() / 8)
+}
+
+/// The same for a line, whose commas spell nothing.
+fn likely_entries_in(line: &[u8]) -> usize {
+    line.len().saturating_sub(commas(line)) / 8
 }
 
 /// Adds the entry that the word spells for the column, unless it is 0, and gives the least common
