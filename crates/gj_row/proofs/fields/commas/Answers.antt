@@ -23,21 +23,21 @@ counted bs front back few f b is =
 pub overflow_add-count : goal.overflow_add-count
 overflow_add-count c =
     let held = c.loop-left.invariant in
-    let s = counted c.loop-left.left c.split_at-part.result.0.now c.split_at-part.result.1.now c.commas_in_part-few.result
-    c.split_at-part.ensures.front c.split_at-part.ensures.back c.commas_in_part-few.ensures in
+    let s = counted c.loop-left.left.now c.split_at.result.0.now c.split_at.result.1.now c.commas_in_part-few.result
+    c.split_at.ensures.front c.split_at.ensures.back c.commas_in_part-few.ensures in
     let within : c.loop-left.count + c.commas_in_part-few.result ≤ length c.args.line.now = omega (arith, s.1, held.within) in
     search rules
 
 pub loop-left-smaller : goal.loop-left-smaller
 loop-left-smaller c =
-    let back = ap length c.split_at-part.ensures.back in
-    omega (arith, back, length-drop 240 c.loop-left.left)
+    let back = ap length c.split_at.ensures.back in
+    omega (arith, back, length-drop 240 c.loop-left.left.now)
 
 pub loop-left-preserved : goal.loop-left-preserved
 loop-left-preserved c =
     let held = c.loop-left.invariant in
-    let s = counted c.loop-left.left c.split_at-part.result.0.now c.split_at-part.result.1.now c.commas_in_part-few.result
-    c.split_at-part.ensures.front c.split_at-part.ensures.back c.commas_in_part-few.ensures in
+    let s = counted c.loop-left.left.now c.split_at.result.0.now c.split_at.result.1.now c.commas_in_part-few.result
+    c.split_at.ensures.front c.split_at.ensures.back c.commas_in_part-few.ensures in
     record {
       count = omega (arith, s.0, held.count);
       within = omega (arith, s.1, held.within);
@@ -46,7 +46,7 @@ loop-left-preserved c =
 pub overflow_add-result : goal.overflow_add-result
 overflow_add-result c =
     let held = c.loop-left.invariant in
-    let most = count_by-le-length is_comma c.loop-left.left in
+    let most = count_by-le-length is_comma c.loop-left.left.now in
     let within : c.loop-left.count + c.commas_in_part-last.result ≤ length c.args.line.now =
     omega (arith, most, held.within, c.commas_in_part-last.ensures) in
     search rules
@@ -59,7 +59,7 @@ returns-clause-count c =
 pub returns-clause-few : goal.returns-clause-few
 returns-clause-few c =
     let held = c.loop-left.invariant in
-    let most = count_by-le-length is_comma c.loop-left.left in
+    let most = count_by-le-length is_comma c.loop-left.left.now in
     let within : c.loop-left.count + c.commas_in_part-last.result ≤ length c.args.line.now =
     omega (arith, most, held.within, c.commas_in_part-last.ensures) in
     search rules
