@@ -42,7 +42,7 @@ pub(crate) fn field_count(fields: &Fields<'_>) -> usize
 }
 
 /// How many commas stand in the line.
-pub(crate) fn commas(line: &[u8]) -> usize
+fn commas(line: &[u8]) -> usize
     ensures count { result ≡ count_by is_comma line.now }
     ensures few { result < 2 ^ 63 }
 {

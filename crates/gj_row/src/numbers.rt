@@ -13,7 +13,7 @@ ghost use Rattle.gj_row.specs.FirstFault.{HasNumberFault};
 ghost use Rattle.gj_row.specs.Reading.{StopsNumber, StopsEntry, HasRead, NamesReason, fields_in, fields_of_line, words_in, words_of_fields};
 
 use crate::faults::{RecordFault, RowReason};
-use crate::fields::{Fields, commas, field_behind_empty, first_field, word_at, word_of};
+use crate::fields::{Fields, field_behind_empty, first_field, word_at, word_of};
 use crate::limits::within;
 use crate::tableau::Entry;
 use csv::ByteRecord;
@@ -23,6 +23,9 @@ use std::alloc::Global;
 
 /// The greatest number of entries of a tableau that are not 0.
 const MOST_ENTRIES: usize = 100_000;
+
+/// Room is made for so many entries of a line before it is read.
+const MOST_LIKELY: usize = 64;
 
 /// The right side and the entries of a row.
 #[derive(Drop)]
@@ -134,9 +137,9 @@ fn likely_entries(fields: &ByteRecord) -> usize
     (fields.len() - 2).min(fields.as_slice().len() / 8)
 }
 
-/// The same for a line, whose commas spell nothing.
+/// The same for a line, but no more than `MOST_LIKELY`, since its fields may be mostly empty.
 fn likely_entries_in(line: &[u8]) -> usize {
-    line.len().saturating_sub(commas(line)) / 8
+    (line.len() / 8).min(MOST_LIKELY)
 }
 
 /// Adds the entry that the word spells for the column, unless it is 0, and gives the least common
