@@ -12,8 +12,8 @@ ghost use Rattle.gj_function_text.specs.FunctionText.{family_part};
 
 use gj_family::{FamilyFault, gmic, half, two_slope};
 use gj_lex::{
-    LineFault, PartFault, Reason, Spelling, behind_name, count_of, field_of, fraction_of, is_count, line_at,
-    two_fields_of,
+    LineFault, PartFault, Reason, Spelling, behind_name, count_of, field_of, fraction_of, is_count,
+    line_at, two_fields_of,
 };
 use gj_shape::Shape;
 use std::alloc::{AllocError, Global};

@@ -51,11 +51,7 @@ pub fn write_breaks_with_limits(
 }
 
 /// Appends the lines of breakpoints.
-fn push_break_lines(
-    alloc: Global,
-    out: &mut Vec<u8>,
-    points: &[Break],
-) -> Result<(), AllocError>
+fn push_break_lines(alloc: Global, out: &mut Vec<u8>, points: &[Break]) -> Result<(), AllocError>
     ensures { OnOk result (out.new.items ≡ out.old.items ++ flat_map break_line points.now) }
 {
     for point in points {

@@ -44,9 +44,9 @@ returns-clause-complete c = λ full memory. unless (call_of _ _ _ _ _ _ c.answer
 
 pub returns-clause-no_text : goal.returns-clause-no_text
 returns-clause-no_text c = λ other. elim (call_of _ _ _ _ _ _ c.answer_to.result c.answer_to.ensures c.hand_over.ensures.answer c.hand_over.ensures.none) [
-    | inl six ↦ inr (inr six)
-    | inr call ↦ no_text_of _ _ _ _ _ call other
-  ]
+  | inl six ↦ inr (inr six)
+  | inr call ↦ no_text_of _ _ _ _ _ call other
+]
 
 pub returns-clause-memory : goal.returns-clause-memory
 returns-clause-memory c = memory_of _ _ _ _ _ _ c.answer_to.result c.answer_to.ensures c.hand_over.ensures.answer c.hand_over.ensures.none
