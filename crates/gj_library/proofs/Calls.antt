@@ -25,7 +25,7 @@ use Rattle.gj_top.specs.Asked.{AskIfExtreme}
 use Rattle.gj_top.specs.Narrow.{HasUncoveredInterval, HasAtMostComponents}
 use Rattle.gj_top.specs.Decisive.{IsDecisive, IsCalledExtreme}
 use Rattle.gj_top.specs.Outcome.{IsOutcome, IsTold}
-use Rattle.gj_top.specs.Outcome.IsOutcome.{silent, told, cut_off as cut}
+use Rattle.gj_top.specs.Outcome.IsOutcome.{silent, told, cut_off}
 use Rattle.gj_top.proofs.Clauses.{no_write_fault, failed_source, headline_clause, reply_clause, cause_clause, complete_clause}
 use Rattle.gj_top.proofs.Ends.{not_answered}
 use Rattle.gj_top.proofs.ByOrder4q.{order_4q_clause}
@@ -33,7 +33,7 @@ use Rattle.gj_top.proofs.NeverWide.{narrow_clause}
 use Rattle.gj_top.proofs.TwoSlopeAnswers.{two_slopes_clause, called_extreme_clause}
 use Rattle.gj_library.specs.Call.{AreWordsOf, OfWords, IsAnswered, IsCall, IsTooSmall}
 use Rattle.gj_library.specs.Handing.{IsHandedOver}
-use Rattle.gj_library.specs.Handing.IsHandedOver.{whole, cut_off}
+use Rattle.gj_library.specs.Handing.IsHandedOver.{whole, part}
 use Rattle.gj_library.specs.declared.answer.Answer.{Answer}
 use Rattle.gj_library.proofs.Codes.{status_is}
 
@@ -102,7 +102,7 @@ answered : (bytes input : List ℕ) (words : List (String Global)) (Fault : Type
     (s : Status) → AreWordsOf bytes words → (Fault → ⊥) → written ≡ Some text → (s ≡ Memory → ⊥) → (s ≡ WriteFault → ⊥) →
     IsOutcome words Fault (Some input) left (Some []) written sure s → IsAnswered bytes input s text
 answered bytes input words Fault left written text sure s are steady is m w (silent o) = absurd (m o.status_is)
-answered bytes input words Fault left written text sure s are steady is m w (cut o) = absurd (w o.status_is)
+answered bytes input words Fault left written text sure s are steady is m w (cut_off o) = absurd (w o.status_is)
 answered bytes input words Fault left written text sure s are steady is m w (told o) =
     told_answer bytes input words Fault left written text s are steady is o
 
@@ -142,13 +142,13 @@ module _ (bytes input : List ℕ) (s : Status) (text : List ℕ) (a : IsAnswered
     left = a.left;
     outcome = told (record { text = text; answer = a.answer; gain = ap Some is });
   }
-  called room front code (cut_off small is five) = record {
+  called room front code (part small is five) = record {
     words = a.words;
     are_words = a.are_words;
     status = WriteFault;
     code_is = five;
     left = a.left;
-    outcome = cut (record { status_is = refl; status = s; text = text; answer = a.answer; unsure = small; gain = (room, small, ap Some is) });
+    outcome = cut_off (record { status_is = refl; status = s; text = text; answer = a.answer; unsure = small; gain = (room, small, ap Some is) });
   }
 
   no_memory_code : code_of s ≢ 6
@@ -171,7 +171,7 @@ module _ (bytes input : List ℕ) (room : ℕ) (front : List ℕ) (written code 
       IfOk r (λ a. IsHandedOver a.status a.text.items room front code) → IfErr r (λ e. (code ≡ 6) × (written ≡ 0)) → code ≡ 6 → written ≡ 0
   memory_of (Ok a) answered (whole fits is own) none six =
       absurd (no_memory_code bytes input a.status a.text.items answered (sym own ∙ six))
-  memory_of (Ok a) answered (cut_off small is five) none six = absurd (let both : 5 ≡ 6 = sym five ∙ six in cc)
+  memory_of (Ok a) answered (part small is five) none six = absurd (let both : 5 ≡ 6 = sym five ∙ six in cc)
   memory_of (Err e) answered put none six = none.1
 
   pub full_of : (r : Result Answer AllocError) → IfOk r (λ a. IsAnswered bytes input a.status a.text.items) →
@@ -179,7 +179,7 @@ module _ (bytes input : List ℕ) (room : ℕ) (front : List ℕ) (written code 
       IfOk r (λ a. room < length a.text.items → written ≡ room) → code ≡ 5 → written ≡ room
   full_of (Ok a) answered (whole fits is own) none full five =
       absurd (no_room_code bytes input a.status a.text.items answered (sym own ∙ five))
-  full_of (Ok a) answered (cut_off small is e) none full five = full small
+  full_of (Ok a) answered (part small is e) none full five = full small
   full_of (Err e) answered put none full five = absurd (let both : 5 ≡ 6 = sym five ∙ none.0 in cc)
 
 -- ---- of a call that may have had no memory
@@ -276,7 +276,7 @@ module _ (bytes input : List ℕ) (room : ℕ) (text : List ℕ) (code : ℕ) (c
       let is : c.status ≡ ReadFault = status_is c.status 4 (sym c.code_is ∙ e) in
       elim c.outcome [
         | silent o ↦ let memory = o.status_is in cc
-        | cut o ↦ let fault = o.status_is in cc
+        | cut_off o ↦ let fault = o.status_is in cc
         | told o ↦ failed_source c.words ⊥ (Some input) c.left c.status o.text o.answer is
       ]
 
@@ -285,7 +285,7 @@ module _ (bytes input : List ℕ) (room : ℕ) (text : List ℕ) (code : ℕ) (c
       let is : c.status ≡ WriteFault = status_is c.status 5 (sym c.code_is ∙ e) in
       elim c.outcome [
         | silent o ↦ absurd (let memory = o.status_is in cc)
-        | cut o ↦ (c.words, c.are_words, (c.left, (o.status, o.text, o.answer, o.unsure)))
+        | cut_off o ↦ (c.words, c.are_words, (c.left, (o.status, o.text, o.answer, o.unsure)))
         | told o ↦ absurd (no_write_fault c.words ⊥ (Some input) c.left c.status o.text o.answer is)
       ]
 
@@ -316,6 +316,6 @@ module _ (bytes input : List ℕ) (room : ℕ) (text : List ℕ) (code : ℕ) (c
   pub no_text_of : (IsUtf8 bytes → ⊥) → (code ≡ 2) ⊎ (code ≡ 5) ⊎ (code ≡ 6)
   no_text_of other = elim c.outcome [
     | silent o ↦ inr (inr (c.code_is ∙ ap code_of o.status_is))
-    | cut o ↦ inr (inl (c.code_is ∙ ap code_of o.status_is))
+    | cut_off o ↦ inr (inl (c.code_is ∙ ap code_of o.status_is))
     | told o ↦ inl (c.code_is ∙ ap code_of (unanswered c.status o.text (refused other c.are_words) o.answer))
   ]

@@ -8,7 +8,7 @@ use Rattle.gj_safe.proofs.Clauses.{true_answer}
 use Rattle.gj_top.specs.declared.status.Status.{Status}
 use Rattle.gj_top.specs.Code.{code_of}
 use Rattle.gj_library.specs.Handing.{IsHandedOver}
-use Rattle.gj_library.specs.Handing.IsHandedOver.{whole, cut_off}
+use Rattle.gj_library.specs.Handing.IsHandedOver.{whole, part}
 use Rattle.gj_library.specs.SafeCall.{IsSafeAnswer, status_of}
 use Rattle.gj_library.specs.declared.answer.Answer.{Answer}
 
@@ -23,5 +23,5 @@ module _ (input : List ℕ) (room : ℕ) (front : List ℕ) (written code : ℕ)
       IsTrueAnswer input front
   true_call (Ok a) (e, ends, answer) (whole fits is own) none zero =
       true_answer input front (subst (λ (t : List ℕ). IsCutsOf input t) (sym is) (cuts_of e a.status a.text.items answer ends (sym own ∙ zero)))
-  true_call (Ok a) safe (cut_off small is five) none zero = absurd (let both : 5 ≡ 0 = sym five ∙ zero in cc)
+  true_call (Ok a) safe (part small is five) none zero = absurd (let both : 5 ≡ 0 = sym five ∙ zero in cc)
   true_call (Err e) safe put none zero = absurd (let both : 6 ≡ 0 = sym none.0 ∙ zero in cc)

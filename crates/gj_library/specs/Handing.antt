@@ -7,4 +7,4 @@ use Rattle.gj_top.specs.Code.{code_of}
 -- small, the front fills it, and the code is 5
 pub data IsHandedOver (status : Status) (text : List ℕ) (room : ℕ) (front : List ℕ) (code : ℕ) : Type 0 where
   whole : length text ≤ room → front ≡ text → code ≡ code_of status → IsHandedOver status text room front code
-  cut_off : room < length text → front ≡ take room text → code ≡ 5 → IsHandedOver status text room front code
+  part : room < length text → front ≡ take room text → code ≡ 5 → IsHandedOver status text room front code

@@ -24,6 +24,9 @@ use std::alloc::Global;
 /// The greatest number of entries of a tableau that are not 0.
 const MOST_ENTRIES: usize = 100_000;
 
+/// Room is made for so many entries of a line before it is read.
+const MOST_LIKELY: usize = 64;
+
 /// The right side and the entries of a row.
 #[derive(Drop)]
 pub(crate) struct Numbers {
@@ -74,7 +77,7 @@ fn numbers_in_line(alloc: Global, line: &[u8], used: usize) -> Result<Numbers, R
         Err(reason) => return Err(RecordFault::Refused(reason)),
     };
     let mut scale = right_scale;
-    let mut entries = Vec::new(alloc);
+    let mut entries = Vec::with_capacity(alloc, likely_entries_in(line))?;
     let mut column = 0;
     let mut left = behind;
     while let Some(rest) = left {
@@ -132,6 +135,11 @@ fn likely_entries(fields: &ByteRecord) -> usize
     requires { 2 ≤ length (fields_of fields.now) }
 {
     (fields.len() - 2).min(fields.as_slice().len() / 8)
+}
+
+/// The same for a line, but no more than `MOST_LIKELY`, since its fields may be mostly empty.
+fn likely_entries_in(line: &[u8]) -> usize {
+    (line.len() / 8).min(MOST_LIKELY)
 }
 
 /// Adds the entry that the word spells for the column, unless it is 0, and gives the least common

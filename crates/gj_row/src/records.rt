@@ -1,7 +1,7 @@
 //! The records of a text, one after the other.
 //!
 //! A text with a quote is read by `csv`. In any other the records are its lines, and the fields of
-//! a line stand between commas; so it is read where fields are empty, and else by `csv` too.
+//! a line stand between commas.
 ghost use Rattle.std.specs.Prelude.{◌≡◌, [], IfOk, IfSome, IfNone, All, true, false, not};
 ghost use Rattle.std.specs.List.{position};
 ghost use Rattle.csv.specs.Reading.{strip_bom};
@@ -12,45 +12,23 @@ use csv::{Reader, ReaderBuilder};
 use memchr::{memchr, memchr2};
 use std::alloc::{AllocError, Global};
 
-/// So many bytes are looked at for empty fields.
-const SAMPLE: usize = 1_024;
-
 /// What is left of the records of a text.
 #[derive(Drop)]
 pub(crate) enum Records<'a> {
-    /// The records of a text as `csv` reads them.
+    /// The records of a text with quotes.
     Quoted(Reader<&'a [u8]>),
     /// The rest of a text that has none.
     Plain(&'a [u8]),
 }
 
-/// The records of the text: read by `csv`, but for a text without quotes that has empty fields.
-///
-/// Either way they are the same. Rows whose fields are mostly empty are read several times faster
-/// as lines, and full ones by `csv`.
+/// The records of the text.
 pub(crate) fn records_of(alloc: Global, bytes: &[u8]) -> Records<'_>
     ensures { StandsBehind bytes.now [] result }
 {
-    if !has_empty_fields(bytes) {
-        return Records::Quoted(reader_of(alloc, bytes));
-    }
     match memchr(b'"', bytes) {
         Some(_) => Records::Quoted(reader_of(alloc, bytes)),
         None => Records::Plain(without_mark(bytes)),
     }
-}
-
-/// Whether two commas meet in the bytes from the middle of the text on.
-fn has_empty_fields(bytes: &[u8]) -> bool {
-    let mut is_behind_comma = false;
-    for byte in bytes[bytes.len() / 2..].iter().take(SAMPLE) {
-        let is_comma = *byte == b',';
-        if is_comma && is_behind_comma {
-            return true;
-        }
-        is_behind_comma = is_comma;
-    }
-    false
 }
 
 /// What reads the records of the text.

@@ -18,7 +18,7 @@ pub loop-left-init : goal.loop-left-init
 loop-left-init c =
     let right = c.in-Ok.right in
     let found = c.in-Ok.ensures.found in
-    rw c.new-entries.ensures.items
+    rw c.in_ok-entries.ensures.items
     (front_first c.args.used (fields_of_line c.args.line.now) (fields_behind c.first_field.result.1) c.first_field.result.0.now right.0 right.1
     c.requires.few c.first_field.ensures (subst (λ w. IsFractionWord Lenient w right.0) c.word_of.ensures found.0) found.1)
 
