@@ -178,12 +178,7 @@ fn with_constraint(
 }
 
 /// The task with an entry of its last constraint.
-fn with_entry(
-    task: Task,
-    places: &Places<'_>,
-    name: &[u8],
-    value: Frac,
-) -> Result<Task, LineFault>
+fn with_entry(task: Task, places: &Places<'_>, name: &[u8], value: Frac) -> Result<Task, LineFault>
     requires few { length task.names ≤ most_columns }
     requires places { places.now ≡ task.names }
     ensures added { IfOk result (AddsEntry task name.now value) }
