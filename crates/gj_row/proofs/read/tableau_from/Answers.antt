@@ -1,6 +1,8 @@
+use Rattle.std.proofs.Common.{ℕ}
 use Rattle.std.proofs.lemmas.Result.{IfOk-weaker, IfErr-weaker}
 use Rattle.gj_row.specs.TableauText.{IsTableauText}
 use Rattle.gj_row.specs.FirstFault.{IsFirstFaultOfTableau}
+use Rattle.gj_row.specs.declared.faults.RowReason.{RowReason}
 use Rattle.gj_row.specs.Reading.{NamesRecord, HoldsBehindFirst, HoldsOfText, fields_in}
 use Rattle.gj_row.proofs.Reasons.{records_weaker}
 use Rattle.gj_row.proofs.RowsRead.{no_record}
@@ -19,8 +21,8 @@ returns-clause-found c =
 pub returns-clause-refused : goal.returns-clause-refused
 returns-clause-refused c =
     let new = c.next_record.new in
-    let P = λ n e. HoldsBehindFirst (fields_in new.fields) new.records (λ text. IsFirstFaultOfTableau text n e) in
-    let Q = λ n e. HoldsOfText c.args.records.now (λ text. IsFirstFaultOfTableau text n e) in
+    let P : ℕ → RowReason → Type 0 = λ n e. HoldsBehindFirst (fields_in new.fields) new.records (λ text. IsFirstFaultOfTableau text n e) in
+    let Q : ℕ → RowReason → Type 0 = λ n e. HoldsOfText c.args.records.now (λ text. IsFirstFaultOfTableau text n e) in
     IfErr-weaker _ (NamesRecord P) (NamesRecord Q)
     (λ fault. records_weaker P Q fault
     (λ n e h text start. h text (c.in_ok-next_record.ensures.some c.if-not-branch.false text _ start)))
