@@ -4,7 +4,7 @@ use Rattle.gj_lex.specs.declared.fault.PartFault.{PartFault}
 use Rattle.gj_lex.specs.declared.fault.PartFault.TheVariants.{Refused, Memory}
 use Rattle.gj_lex.specs.declared.reason.Reason.TheVariants.{Form, Number}
 use Rattle.gj_lex.specs.Parts.{IsFaultOf}
-use Rattle.gj_forms.specs.LineForms.{words_of, with_numbers, LineForm, AreOfForm}
+use Rattle.gj_forms.specs.LineForms.{words_of, first_of, others_of, with_numbers, LineForm, AreOfForm}
 use Rattle.gj_forms.proofs.LineLaws.{no_such_numbers}
 use Rattle.gj_shape.specs.declared.faces.FaceKind.{FaceKind}
 use Rattle.gj_shape.specs.declared.faces.FaceKind.TheVariants.{Vertex}
@@ -18,19 +18,23 @@ HasFields form name n =
     (words : List (List ℕ)) → AreOfForm form words → (fields : List (List ℕ)) × (length fields ≡ n) × (words ≡ name ∷ fields)
 
 pub cover_has : (q : ℕ) → HasFields (cover_form q) (codes "cover") 5
-cover_has q words (l, is, h) = (_, refl, is)
+cover_has q words (l, is, h) =
+    let first = others_of words in
+    let second = others_of first in
+    let fourth = others_of (others_of second) in
+    (first_of first ∷ first_of second ∷ face_word l.face.kind ∷ first_of fourth ∷ first_of (others_of fourth) ∷ [], refl, is)
 
 pub modulus_has : HasFields modulus_form (codes "modulus") 1
-modulus_has words (t, is, h) = (_, refl, is)
+modulus_has words (t, is, h) = (first_of (others_of words) ∷ [], refl, is)
 
 pub column_has : (name : List ℕ) → HasFields (column_form name) name 1
-column_has name words (c, is, h) = (_, refl, is)
+column_has name words (c, is, h) = (first_of (others_of words) ∷ [], refl, is)
 
 pub halves_has : HasFields halves_form (codes "halves") 2
-halves_has words (p, is, h) = (_, refl, is)
+halves_has words (p, is, h) = (first_of (others_of words) ∷ first_of (others_of (others_of words)) ∷ [], refl, is)
 
 pub pair_has : HasFields pair_form (codes "pair") 2
-pair_has words (p, is, h) = (_, refl, is)
+pair_has words (p, is, h) = (first_of (others_of words) ∷ first_of (others_of (others_of words)) ∷ [], refl, is)
 
 module _ {A : Type 0} (form : LineForm A) (name : List ℕ) (n : ℕ) (text : List ℕ) where
   -- other words are of no such form
@@ -40,28 +44,22 @@ module _ {A : Type 0} (form : LineForm A) (name : List ℕ) (n : ℕ) (text : Li
   no_fields has (Refused left e) (start, at, inr no_line) = (start, at, inr no_line)
   no_fields has (Memory a) h = tt
 
-  module _ (fields known : List (List ℕ)) (rest : List ℕ) (e : PartFault) (reads : (fields_part name n).Reads text fields rest)
-      (is : name ∷ fields ≡ known) where
-    -- they are of no such form
-    pub fields_broken : (AreOfForm form known → ⊥) → e ≡ Refused (length text) Form → IsFaultOf (form_part form) text e
-    fields_broken none at = subst (IsFaultOf (form_part form) text) (sym at) (by reads)
-      where
-        P : List (List ℕ) → Type 0
-        P ws = AreOfForm form ws → ⊥
+  -- words that are of no such form
+  pub fields_broken : (fields : List (List ℕ)) (rest : List ℕ) (e : PartFault) → (fields_part name n).Reads text fields rest →
+      (length fields ≡ n → AreOfForm form (name ∷ fields) → ⊥) → e ≡ Refused (length text) Form → IsFaultOf (form_part form) text e
+  fields_broken fields rest e (start, words, (here, strict), (same, count)) none at =
+      let P : List (List ℕ) → Type 0 = λ ws. AreOfForm form ws → ⊥ in
+      subst (IsFaultOf (form_part form) text) (sym at)
+      (text, refl, inl (words, rest, (refl, strict), inl (refl, subst P (sym same) (none count))))
 
-        by : (fields_part name n).Reads text fields rest → IsFaultOf (form_part form) text (Refused (length text) Form)
-        by (start, words, (here, strict), (same, count)) =
-            (text, refl, inl (words, rest, (refl, strict), inl (refl, subst P (sym (same ∙ is)) none)))
-
-    -- they are, but no such numbers
-    pub no_numbers : (a : A) → known ≡ with_numbers (form.fields a) known → form.HasForm a →
-        ((b : A) → known ≡ words_of (form.fields b) → form.HasLine b → ⊥) → e ≡ Refused (length text) Number →
-        IsFaultOf (form_part form) text e
-    no_numbers a of has none at = subst (IsFaultOf (form_part form) text) (sym at) (by reads)
-      where
-        by : (fields_part name n).Reads text fields rest → IsFaultOf (form_part form) text (Refused (length text) Number)
-        by (start, words, (here, strict), (same, count)) =
-            (text, refl, inl (words, rest, (refl, strict), no_such_numbers form words known a Number (same ∙ is) of has refl none))
+  -- words that are, but have no such numbers
+  pub no_numbers : (fields known : List (List ℕ)) (rest : List ℕ) (e : PartFault) (a : A) →
+      (fields_part name n).Reads text fields rest → ((b : A) → known ≡ words_of (form.fields b) → form.HasLine b → ⊥) →
+      e ≡ Refused (length text) Number → name ∷ fields ≡ known → known ≡ with_numbers (form.fields a) known → form.HasForm a →
+      IsFaultOf (form_part form) text e
+  no_numbers fields known rest e a (start, words, (here, strict), (same, count)) none at is of has =
+      subst (IsFaultOf (form_part form) text) (sym at)
+      (text, refl, inl (words, rest, (refl, strict), no_such_numbers form words known a Number (same ∙ is) of has refl none))
 
 -- five words with none of a face in the middle
 pub no_face : (q : ℕ) (fields : List (List ℕ)) (w : List ℕ) → length fields ≡ 5 → get_or fields 2 [] ≡ w →

@@ -23,12 +23,12 @@ returns-in_err-interval-clause-fault c =
 
 pub returns-in_default-face_kind-clause-fault : goal.returns-in_default-face_kind-clause-fault
 returns-in_default-face_kind-clause-fault c =
-    fields_broken (cover_form c.args.order) (codes "cover") 5 c.args.text.now _ _ _ c.at.result c.in_ok-interval.ensures.found refl
-    (no_face c.args.order _ _ (search rules) (search rules) c.in_default-face_kind.ensures.none) c.at.ensures
+    fields_broken (cover_form c.args.order) (codes "cover") 5 c.args.text.now _ _ c.at.result c.in_ok-interval.ensures.found
+    (λ few. no_face c.args.order _ _ few (search rules) c.in_default-face_kind.ensures.none) c.at.ensures
 
 pub returns-in-None-clause-fault : goal.returns-in-None-clause-fault
 returns-in-None-clause-fault c =
     let kind = c.in-Some-face_kind.kind in
-    no_numbers (cover_form c.args.order) (codes "cover") 5 c.args.text.now _ _ _ c.at-in-None.result c.in_ok-interval.ensures.found
-    (search rules) (of_kind kind) refl c.in-Some-face_kind.ensures.found.1
-    (no_cover c.args.order kind _ _ _ _ c.in-None.ensures.none) c.at-in-None.ensures
+    no_numbers (cover_form c.args.order) (codes "cover") 5 c.args.text.now _ _ _ c.at-in-None.result (of_kind kind)
+    c.in_ok-interval.ensures.found (no_cover c.args.order kind _ _ _ _ c.in-None.ensures.none) c.at-in-None.ensures (search rules) refl
+    c.in-Some-face_kind.ensures.found.1

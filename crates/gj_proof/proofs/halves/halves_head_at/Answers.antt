@@ -15,5 +15,5 @@ returns-in_err-order-clause-fault c =
 
 pub returns-in-None-clause-fault : goal.returns-in-None-clause-fault
 returns-in-None-clause-fault c =
-    no_numbers halves_form (codes "halves") 2 c.args.text.now _ _ _ c.at.result c.in_ok-order.ensures.found (search rules)
-    (record { order = 0; scale = pos 0 }) refl tt (no_halves _ _ c.in-None.ensures.none) c.at.ensures
+    no_numbers halves_form (codes "halves") 2 c.args.text.now _ _ _ c.at.result (record { order = 0; scale = pos 0 })
+    c.in_ok-order.ensures.found (no_halves _ _ c.in-None.ensures.none) c.at.ensures (search rules) refl tt

@@ -21,5 +21,5 @@ returns-in_err-first-clause-fault c =
 
 pub returns-in-None-clause-fault : goal.returns-in-None-clause-fault
 returns-in-None-clause-fault c =
-    no_numbers pair_form (codes "pair") 2 c.args.text.now _ _ _ c.at.result c.in_ok-first.ensures.found (search rules) (pos 0, pos 0)
-    refl tt (no_pair _ _ c.in-None.ensures.none) c.at.ensures
+    no_numbers pair_form (codes "pair") 2 c.args.text.now _ _ _ c.at.result (pos 0, pos 0) c.in_ok-first.ensures.found
+    (no_pair _ _ c.in-None.ensures.none) c.at.ensures (search rules) refl tt

@@ -18,8 +18,7 @@ returns-in_err-word-clause-fault c =
 
 pub returns-in_default-clause-fault : goal.returns-in_default-clause-fault
 returns-in_default-clause-fault c =
-    no_numbers modulus_form (codes "modulus") 1 c.args.text.now _ _ _ c.at.result c.in_ok-word.ensures.found (search rules) tt
-    refl tt
+    no_numbers modulus_form (codes "modulus") 1 c.args.text.now _ _ _ c.at.result tt c.in_ok-word.ensures.found
     (no_modulus _ (λ e.
     elim c.in_default.branch [
       | in_default-via-in-Some+else-n-eq-MODULUS w ↦
@@ -28,4 +27,4 @@ returns-in_default-clause-fault c =
           w.if-n-eq-MODULUS.false (rw same refl)
       | in_default-via-in_default w ↦ w.in_default.ensures.none (pos modulus) e (lit< tt)
     ]))
-    c.at.ensures
+    c.at.ensures (search rules) refl tt

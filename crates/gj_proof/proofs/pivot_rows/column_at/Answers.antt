@@ -17,5 +17,5 @@ returns-in_err-column-clause-fault c =
 pub returns-in-Err-clause-fault : goal.returns-in-Err-clause-fault
 returns-in-Err-clause-fault c =
     let fault = c.in-Err.ensures.fault in
-    no_numbers (column_form c.args.word.now) c.args.word.now 1 c.args.text.now _ _ _ c.at.result c.in_ok-column.ensures.found (search rules)
-    0 refl tt (no_column c.args.word.now _ fault.1) (c.at.ensures ∙ ap (Refused (length c.args.text.now)) fault.0)
+    no_numbers (column_form c.args.word.now) c.args.word.now 1 c.args.text.now _ _ _ c.at.result 0 c.in_ok-column.ensures.found
+    (no_column c.args.word.now _ fault.1) (c.at.ensures ∙ ap (λ e. Refused (length c.args.text.now) e) fault.0) (search rules) refl tt
