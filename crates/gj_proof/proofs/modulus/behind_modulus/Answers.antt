@@ -1,4 +1,4 @@
-use Rattle.std.proofs.Common.{◌≡◌, pos, codes, refl, sym, ◌∙◌, lit<, rules}
+use Rattle.std.proofs.Common.{◌≡◌, pos, codes, refl, sym, ◌∙◌, lit<, ℕ, List, ◌∷◌, Bor, ap}
 use Rattle.std.proofs.lemmas.Result.{err_from_is_err_and}
 use Rattle.gj_lex.specs.Parts.{IsFaultOf}
 use Rattle.gj_lex.proofs.PartLaws.{passed_on}
@@ -6,7 +6,7 @@ use Rattle.gj_theory.specs.Modulus.{modulus}
 use Rattle.gj_forms.proofs.WholeNumbers.{same_from_whole}
 use Rattle.gj_proof.specs.ProofGrammar.{modulus_form, form_part}
 use Rattle.gj_proof.proofs.BrokenLines.{no_modulus}
-use Rattle.gj_proof.proofs.FieldLines.{modulus_has, no_fields, no_numbers}
+use Rattle.gj_proof.proofs.FieldLines.{modulus_has, no_fields, no_numbers, one_taken}
 use Rattle.gj_proof.proofs.modulus.behind_modulus.Goals as goal
 use Rattle.gj_proof.proofs.modulus.behind_modulus.Goals.{in_default-via-in-Some+else-n-eq-MODULUS, in_default-via-in_default}
 
@@ -27,4 +27,4 @@ returns-in_default-clause-fault c =
           w.if-n-eq-MODULUS.false (rw same refl)
       | in_default-via-in_default w ↦ w.in_default.ensures.none (pos modulus) e (lit< tt)
     ]))
-    c.at.ensures (search rules) refl tt
+    c.at.ensures (λ few. ap (λ fs. codes "modulus" ∷ fs) (one_taken (λ (w : Bor (List ℕ)). w.now) _ _ few)) refl tt
