@@ -19,6 +19,6 @@ pub all_fields : {A : Type 0} (f : A → List ℕ) (words : List (List ℕ)) (na
     (words ≡ name ∷ take n (map f fields)) × (length (take n (map f fields)) ≡ n)
 all_fields f words name fields i n rest e h same few = (
   e ∙ ap (λ r. name ∷ (take i (map f fields) ++ r)) h ∙ ap (λ t. name ∷ t) (append-nil (take i (map f fields)))
-  ∙ ap (λ k. name ∷ take k (map f fields)) same,
+      ∙ ap (λ k. name ∷ take k (map f fields)) same,
   omega (arith, length-take n (map f fields), length-map fields f),
 )

@@ -18,7 +18,10 @@ returns-clause-found c =
     let over = c.loop-place-test.false in
     let end = c.loop-place.auto.place-end in
     let few = c.requires in
-    let five = c.loop-place.invariant.1 in
-    (_, _, c.in_ok-line.ensures.found,
+    let five = c.loop-place.invariant.1 in (
+      _,
+      _,
+      c.in_ok-line.ensures.found,
       all_fields (λ (w : Bor (List ℕ)). w.now) _ _ c.loop-place.fields c.loop-place.place c.args.count _
-      c.loop-place.invariant.0 (c.has_no_word.ensures.0 c.if-not-has_no_word.false) (omega (arith, over, end)) (omega (arith, few, five)))
+          c.loop-place.invariant.0 (c.has_no_word.ensures.0 c.if-not-has_no_word.false) (omega (arith, over, end)) (omega (arith, few, five)),
+    )
