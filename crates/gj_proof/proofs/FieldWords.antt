@@ -1,5 +1,5 @@
 -- The words behind the name of a line, one after another.
-use Rattle.std.proofs.Common.{◌≡◌, ℕ, ◌+◌, ◌<◌, ◌≤◌, List, [], ◌∷◌, ◌++◌, length, map, take, slice_set, refl, sym, ap, ◌∙◌, arith, append-nil, append_assoc, length-take}
+use Rattle.std.proofs.Common.{◌≡◌, ℕ, ◌+◌, ◌<◌, ◌≤◌, List, [], ◌∷◌, ◌++◌, length, map, take, slice_set, sym, ap, ◌∙◌, arith, append-nil, append_assoc, length-take}
 use Rattle.std.proofs.lemmas.List.{take-map, take_more_set, map-append, length-map}
 
 -- one more word
