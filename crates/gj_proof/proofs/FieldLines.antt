@@ -1,5 +1,5 @@
 -- A line of a name and so many words behind it, as a line of a form.
-use Rattle.std.proofs.Common.{◌≡◌, ◌≢◌, inl, inr, ℕ, List, [], ◌∷◌, length, map, take, get_or, codes, refl, sym, ap, subst, ◌∙◌, arith}
+use Rattle.std.proofs.Common.{◌≡◌, ◌≢◌, inl, inr, ℕ, List, [], ◌∷◌, length, map, take, get_or, codes, Bor, refl, sym, ap, subst, ◌∙◌, arith}
 use Rattle.gj_lex.specs.declared.fault.PartFault.{PartFault}
 use Rattle.gj_lex.specs.declared.fault.PartFault.TheVariants.{Refused, Memory}
 use Rattle.gj_lex.specs.declared.reason.Reason.TheVariants.{Form, Number}
@@ -55,7 +55,8 @@ module _ {A : Type 0} (form : LineForm A) (name : List ℕ) (n : ℕ) (text : Li
   -- words that are, but have no such numbers
   pub no_numbers : (fields known : List (List ℕ)) (rest : List ℕ) (e : PartFault) (a : A) →
       (fields_part name n).Reads text fields rest → ((b : A) → known ≡ words_of (form.fields b) → form.HasLine b → ⊥) →
-      e ≡ Refused (length text) Number → (length fields ≡ n → name ∷ fields ≡ known) → known ≡ with_numbers (form.fields a) known → form.HasForm a →
+      e ≡ Refused (length text) Number → (length fields ≡ n → name ∷ fields ≡ known) →
+      known ≡ with_numbers (form.fields a) known → form.HasForm a →
       IsFaultOf (form_part form) text e
   no_numbers fields known rest e a (start, words, (here, strict), (same, count)) none at is of has =
       subst (IsFaultOf (form_part form) text) (sym at)
@@ -72,23 +73,27 @@ no_face q (i ∷ j ∷ v ∷ fields) w few is none (l, of, other) =
 
 -- ---- the words by their places
 
-module _ {A : Type 0} (f : A → List ℕ) where
-  pub one_taken : (xs : List A) (d : A) → length (take 1 (map f xs)) ≡ 1 → take 1 (map f xs) ≡ f (get_or xs 0 d) ∷ []
+abbrev pub texts : List (Bor (List ℕ)) → List (List ℕ)
+texts words = map (λ w. w.now) words
+
+module _ (name : List ℕ) where
+  pub one_taken : (xs : List (Bor (List ℕ))) (d : Bor (List ℕ)) → length (take 1 (texts xs)) ≡ 1 →
+      name ∷ take 1 (texts xs) ≡ name ∷ (get_or xs 0 d).now ∷ []
   one_taken [] d few = let no : 0 ≡ 1 = few in absurd (omega (arith, no))
   one_taken (x ∷ xs) d few = refl
 
-  pub two_taken : (xs : List A) (d : A) → length (take 2 (map f xs)) ≡ 2 →
-      take 2 (map f xs) ≡ f (get_or xs 0 d) ∷ f (get_or xs 1 d) ∷ []
+  pub two_taken : (xs : List (Bor (List ℕ))) (d : Bor (List ℕ)) → length (take 2 (texts xs)) ≡ 2 →
+      name ∷ take 2 (texts xs) ≡ name ∷ (get_or xs 0 d).now ∷ (get_or xs 1 d).now ∷ []
   two_taken [] d few = let no : 0 ≡ 2 = few in absurd (omega (arith, no))
   two_taken (x ∷ []) d few = let no : 1 ≡ 2 = few in absurd (omega (arith, no))
   two_taken (x ∷ y ∷ xs) d few = refl
 
   -- of five, with another text for the third
-  pub five_taken : (xs : List A) (d : A) (w : List ℕ) → f (get_or xs 2 d) ≡ w → length (take 5 (map f xs)) ≡ 5 →
-      take 5 (map f xs) ≡ f (get_or xs 0 d) ∷ f (get_or xs 1 d) ∷ w ∷ f (get_or xs 3 d) ∷ f (get_or xs 4 d) ∷ []
+  pub five_taken : (xs : List (Bor (List ℕ))) (d : Bor (List ℕ)) (w : List ℕ) → (get_or xs 2 d).now ≡ w → length (take 5 (texts xs)) ≡ 5 →
+      name ∷ take 5 (texts xs) ≡ name ∷ (get_or xs 0 d).now ∷ (get_or xs 1 d).now ∷ w ∷ (get_or xs 3 d).now ∷ (get_or xs 4 d).now ∷ []
   five_taken [] d w is few = let no : 0 ≡ 5 = few in absurd (omega (arith, no))
   five_taken (x ∷ []) d w is few = let no : 1 ≡ 5 = few in absurd (omega (arith, no))
   five_taken (x ∷ y ∷ []) d w is few = let no : 2 ≡ 5 = few in absurd (omega (arith, no))
   five_taken (x ∷ y ∷ z ∷ []) d w is few = let no : 3 ≡ 5 = few in absurd (omega (arith, no))
   five_taken (x ∷ y ∷ z ∷ u ∷ []) d w is few = let no : 4 ≡ 5 = few in absurd (omega (arith, no))
-  five_taken (x ∷ y ∷ z ∷ u ∷ v ∷ xs) d w is few = ap (λ t. f x ∷ f y ∷ t ∷ f u ∷ f v ∷ []) is
+  five_taken (x ∷ y ∷ z ∷ u ∷ v ∷ xs) d w is few = ap (λ t. name ∷ x.now ∷ y.now ∷ t ∷ u.now ∷ v.now ∷ []) is

@@ -1,4 +1,4 @@
-use Rattle.std.proofs.Common.{codes, refl, ℕ, List, [], ◌∷◌, Bor, get_or, ap}
+use Rattle.std.proofs.Common.{[], codes, get_or, refl, ap}
 use Rattle.std.proofs.lemmas.Result.{err_from_is_err_and}
 use Rattle.gj_lex.specs.Parts.{IsFaultOf}
 use Rattle.gj_lex.proofs.PartLaws.{passed_on}
@@ -24,7 +24,7 @@ returns-in_err-interval-clause-fault c =
 pub returns-in_default-face_kind-clause-fault : goal.returns-in_default-face_kind-clause-fault
 returns-in_default-face_kind-clause-fault c =
     fields_broken (cover_form c.args.order) (codes "cover") 5 c.args.text.now _ _ c.at.result c.in_ok-interval.ensures.found
-    (λ few. no_face c.args.order _ _ few (ap (λ fs. get_or fs 2 []) (five_taken (λ (w : Bor (List ℕ)). w.now) _ _ _ refl few))
+    (λ few. no_face c.args.order _ _ few (ap (λ ws. get_or ws 3 []) (five_taken (codes "cover") _ _ _ refl few))
     c.in_default-face_kind.ensures.none) c.at.ensures
 
 pub returns-in-None-clause-fault : goal.returns-in-None-clause-fault
@@ -32,5 +32,5 @@ returns-in-None-clause-fault c =
     let kind = c.in-Some-face_kind.kind in
     no_numbers (cover_form c.args.order) (codes "cover") 5 c.args.text.now _ _ _ c.at-in-None.result (of_kind kind)
     c.in_ok-interval.ensures.found (no_cover c.args.order kind _ _ _ _ c.in-None.ensures.none) c.at-in-None.ensures
-    (λ few. ap (λ fs. codes "cover" ∷ fs) (five_taken (λ (w : Bor (List ℕ)). w.now) _ _ _ c.in-Some-face_kind.ensures.found.0 few)) refl
+    (five_taken (codes "cover") _ _ _ c.in-Some-face_kind.ensures.found.0) refl
     c.in-Some-face_kind.ensures.found.1

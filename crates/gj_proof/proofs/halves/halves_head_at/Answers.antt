@@ -1,4 +1,4 @@
-use Rattle.std.proofs.Common.{pos, codes, refl, ℕ, List, ◌∷◌, Bor, ap}
+use Rattle.std.proofs.Common.{pos, codes, refl}
 use Rattle.std.proofs.lemmas.Result.{err_from_is_err_and}
 use Rattle.gj_lex.specs.Parts.{IsFaultOf}
 use Rattle.gj_lex.proofs.PartLaws.{passed_on}
@@ -16,4 +16,4 @@ returns-in_err-order-clause-fault c =
 pub returns-in-None-clause-fault : goal.returns-in-None-clause-fault
 returns-in-None-clause-fault c =
     no_numbers halves_form (codes "halves") 2 c.args.text.now _ _ _ c.at.result (record { order = 0; scale = pos 0 })
-    c.in_ok-order.ensures.found (no_halves _ _ c.in-None.ensures.none) c.at.ensures (λ few. ap (λ fs. codes "halves" ∷ fs) (two_taken (λ (w : Bor (List ℕ)). w.now) _ _ few)) refl tt
+    c.in_ok-order.ensures.found (no_halves _ _ c.in-None.ensures.none) c.at.ensures (two_taken (codes "halves") _ _) refl tt

@@ -1,4 +1,4 @@
-use Rattle.std.proofs.Common.{pos, codes, refl, ℕ, List, ◌∷◌, Bor, ap}
+use Rattle.std.proofs.Common.{pos, codes, refl}
 use Rattle.std.proofs.lemmas.Result.{err_from_is_err_and}
 use Rattle.gj_lex.specs.Parts.{IsFaultOf}
 use Rattle.gj_lex.proofs.PartLaws.{passed_on}
@@ -22,4 +22,4 @@ returns-in_err-first-clause-fault c =
 pub returns-in-None-clause-fault : goal.returns-in-None-clause-fault
 returns-in-None-clause-fault c =
     no_numbers pair_form (codes "pair") 2 c.args.text.now _ _ _ c.at.result (pos 0, pos 0) c.in_ok-first.ensures.found
-    (no_pair _ _ c.in-None.ensures.none) c.at.ensures (λ few. ap (λ fs. codes "pair" ∷ fs) (two_taken (λ (w : Bor (List ℕ)). w.now) _ _ few)) refl tt
+    (no_pair _ _ c.in-None.ensures.none) c.at.ensures (two_taken (codes "pair") _ _) refl tt

@@ -1,4 +1,4 @@
-use Rattle.std.proofs.Common.{◌≡◌, pos, codes, refl, sym, ◌∙◌, lit<, ℕ, List, ◌∷◌, Bor, ap}
+use Rattle.std.proofs.Common.{◌≡◌, pos, codes, refl, sym, ◌∙◌, lit<}
 use Rattle.std.proofs.lemmas.Result.{err_from_is_err_and}
 use Rattle.gj_lex.specs.Parts.{IsFaultOf}
 use Rattle.gj_lex.proofs.PartLaws.{passed_on}
@@ -27,4 +27,4 @@ returns-in_default-clause-fault c =
           w.if-n-eq-MODULUS.false (rw same refl)
       | in_default-via-in_default w ↦ w.in_default.ensures.none (pos modulus) e (lit< tt)
     ]))
-    c.at.ensures (λ few. ap (λ fs. codes "modulus" ∷ fs) (one_taken (λ (w : Bor (List ℕ)). w.now) _ _ few)) refl tt
+    c.at.ensures (one_taken (codes "modulus") _ _) refl tt

@@ -1,4 +1,4 @@
-use Rattle.std.proofs.Common.{◌∙◌, ap, length, refl, ℕ, List, ◌∷◌, Bor}
+use Rattle.std.proofs.Common.{◌∙◌, ap, length, refl}
 use Rattle.std.proofs.lemmas.Result.{err_from_is_err_and}
 use Rattle.gj_lex.specs.Parts.{IsFaultOf}
 use Rattle.gj_lex.proofs.PartLaws.{passed_on}
@@ -18,4 +18,5 @@ pub returns-in-Err-clause-fault : goal.returns-in-Err-clause-fault
 returns-in-Err-clause-fault c =
     let fault = c.in-Err.ensures.fault in
     no_numbers (column_form c.args.word.now) c.args.word.now 1 c.args.text.now _ _ _ c.at.result 0 c.in_ok-column.ensures.found
-    (no_column c.args.word.now _ fault.1) (c.at.ensures ∙ ap (λ e. Refused (length c.args.text.now) e) fault.0) (λ few. ap (λ fs. c.args.word.now ∷ fs) (one_taken (λ (w : Bor (List ℕ)). w.now) _ _ few)) refl tt
+    (no_column c.args.word.now _ fault.1) (c.at.ensures ∙ ap (λ e. Refused (length c.args.text.now) e) fault.0)
+    (one_taken c.args.word.now _ _) refl tt
