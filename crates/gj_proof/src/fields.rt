@@ -36,7 +36,7 @@ pub(crate) fn fields_at<'a>(
     ensures fault { IfErr result (IsFaultOf (fields_part name.now count) text.now) }
 {
     let line = line_at(Spelling::Strict, text)?;
-    let refused = PartFault::Refused(text.len(), Reason::Form);
+    let refused = PartFault::at(text, Reason::Form);
     let mut fields: [&'a [u8]; MOST_FIELDS] = [b""; MOST_FIELDS];
     let Some(mut rest) = behind_name(line.bytes, name) else {
         return Err(refused);
