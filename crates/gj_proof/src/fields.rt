@@ -23,8 +23,8 @@ const FEW_DIGITS: usize = 10;
 const MOST_FIELDS: usize = 5;
 
 /// The words behind the name in the next line, if the line has the name and so many words behind
-/// it, and what follows the line. They are the first ones of the array, and its others are empty.
-/// If the line is another, or there is none, the fault is `Form`. It takes no memory.
+/// it, and what follows the line. They are the first ones of the array. If the line is another, or
+/// there is none, the fault is `Form`. It takes no memory.
 pub(crate) fn fields_at<'a>(
     text: &'a [u8],
     name: &[u8],
