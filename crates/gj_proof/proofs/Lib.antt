@@ -19,3 +19,5 @@ pub mod ProofWritten
 pub mod GridCoordinates
 pub mod AtPlaces
 pub mod LineCounts
+mod FieldWords
+mod FieldLines
