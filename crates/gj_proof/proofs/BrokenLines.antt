@@ -14,7 +14,6 @@ use Rattle.gj_forms.specs.LineForms.{words_of, with_numbers, AreOfForm}
 use Rattle.gj_forms.proofs.WholeNumbers.{whole, same_from_whole}
 use Rattle.gj_function_lines.specs.FaceLines.{face_word, cover_fields}
 use Rattle.gj_theory.specs.Modulus.{modulus}
-use Rattle.gj_shape.specs.Limits.{greatest_order}
 use Rattle.gj_shape.specs.declared.extremality.CoverLine.{CoverLine}
 use Rattle.gj_shape.specs.declared.extremality.RowName.{RowName}
 use Rattle.gj_shape.specs.declared.extremality.RowName.TheVariants.{Period, F, Pair}
@@ -23,7 +22,7 @@ use Rattle.gj_shape.specs.declared.violations.Violation.{Violation}
 use Rattle.gj_shape.specs.declared.violations.Violation.TheVariants as violation
 use Rattle.gj_proof.specs.HeadWords.{texts_of_head}
 use Rattle.gj_proof.specs.ProofText.{violation_fields, IsCoverLineBelow, IsRowNameBelow, row_name_fields}
-use Rattle.gj_proof.specs.ProofGrammar.{violation_form, head_fields, head_form, term_form, modulus_form, column_form, IsHeadInBounds, halves_form, pair_form}
+use Rattle.gj_proof.specs.ProofGrammar.{violation_form, head_fields, head_form, term_form, modulus_form, IsHeadInBounds, halves_form, pair_form}
 use Rattle.gj_proof.specs.declared.cut.CutTerm.{CutTerm}
 use Rattle.gj_proof.specs.declared.cut_rows.RowHead.{RowHead}
 use Rattle.gj_proof.specs.declared.cut_rows.RowKind.{RowKind}
@@ -119,13 +118,6 @@ no_pair_name q x y none (Pair a b) e h =
     let first : x ≡ decimal a = cc in
     let second : y ≡ decimal b = cc in
     none a b first second h
-
-pub no_column : (word column : List ℕ) → ((n : ℕ) → n < greatest_order → column ≡ decimal n → ⊥) → (n : ℕ) →
-    word ∷ column ∷ [] ≡ words_of ((column_form word).fields n) → n < greatest_order → ⊥
-no_column word column none n e below = none n below (second e)
-  where
-    second : {v w : List ℕ} → word ∷ v ∷ [] ≡ word ∷ w ∷ [] → v ≡ w
-    second e = cc
 
 -- ---- halves
 

@@ -19,5 +19,3 @@ pub mod ProofWritten
 pub mod GridCoordinates
 pub mod AtPlaces
 pub mod LineCounts
-mod FieldWords
-mod FieldLines

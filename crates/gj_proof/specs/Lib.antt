@@ -2,7 +2,6 @@ pub mod PresentRows
 pub mod ProofText
 pub mod ProofGrammar
 pub mod HeadWords
-pub mod LineFields
 pub mod FirstFault
 pub mod Rules
 pub mod Meaning
