@@ -2,7 +2,7 @@
 //!
 //! There may be hundreds of thousands of lines, so the piece up to the row is put together once a
 //! row, and the piece behind it once a column.
-ghost use Rattle.std.specs.Prelude.{◌≡◌, ◌+◌, ◌<◌, ◌≤◌, [], ◌++◌, All, codes, flat_map, length, IfOk, OnOk};
+ghost use Rattle.std.specs.Prelude.{◌≡◌, ◌+◌, ◌<◌, ◌≤◌, [], ◌++◌, All, codes, decimal, flat_map, length, IfOk, OnOk};
 ghost use Rattle.gj_function_lines.specs.FunctionLines.{line};
 ghost use Rattle.gj_function_lines.specs.FaceLines.{face_text, face_word};
 ghost use Rattle.gj_listings.specs.FacePieces.{text_of, AreStarts, AreEnds, HasPieces};
@@ -60,9 +60,7 @@ pub(crate) fn ends_below(alloc: Global, n: u32) -> Result<Vec<Piece>, AllocError
 {
     let mut ends = Vec::new(alloc);
     for column in 0..n {
-        let mut buffer = Buffer::new();
-        let digits = buffer.format(column).as_bytes();
-        ends.push(joined(joined(joined(empty(), b" "), digits), b"\n"))?;
+        ends.push(end(column))?;
     }
     Ok(ends)
 }
@@ -81,10 +79,25 @@ pub(crate) fn push_face_lines(
         (λ face. line (face_text face)) faces.now) }
 {
     for face in faces {
-        push_piece(out, &starts.pieces[face.kind.position() as usize])?;
-        push_piece(out, &ends[face.b as usize])?;
+        push_face_line(out, starts, ends, *face)?;
     }
     Ok(())
+}
+
+/// Appends the line of a face.
+fn push_face_line(
+    out: &mut Vec<u8>,
+    starts: &Starts,
+    ends: &[Piece],
+    face: Face,
+) -> Result<(), AllocError>
+    requires starts { AreStarts starts.now }
+    requires ends { AreEnds ends.now }
+    requires face { HasPieces starts.now ends.now face }
+    ensures { OnOk result (out.new.items ≡ out.old.items ++ line (face_text face)) }
+{
+    push_piece(out, &starts.pieces[face.kind.position() as usize])?;
+    push_piece(out, &ends[face.b as usize])
 }
 
 /// Appends the text of a piece.
@@ -104,6 +117,15 @@ fn start(kind: FaceKind, digits: &[u8]) -> Piece
     ensures { text_of result ≡ face_word kind ++ codes " " ++ digits.now }
 {
     joined(joined(joined(empty(), face_word(kind)), b" "), digits)
+}
+
+/// The end for a column.
+fn end(column: u32) -> Piece
+    ensures { text_of result ≡ line (codes " " ++ decimal column) }
+{
+    let mut buffer = Buffer::new();
+    let digits = buffer.format(column).as_bytes();
+    joined(joined(joined(empty(), b" "), digits), b"\n")
 }
 
 /// No text.
