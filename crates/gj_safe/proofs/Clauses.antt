@@ -1,19 +1,19 @@
 -- Why a run ends as it does, and what it then wrote.
-use Rattle.std.proofs.Common.{◌≡◌, ◌⊎◌, ◌<◌, ◌≤◌, length, inl, inr, arith, ℕ, List, [], ◌++◌, codes, flat_map, IfSome, Option, Some, String, refl, sym, ap, subst, ◌∙◌}
+use Rattle.std.proofs.Common.{◌≡◌, ◌≢◌, ◌⊎◌, ◌<◌, ◌≤◌, inl, inr, ℕ, List, [], length, IfSome, Option, Some, String, refl, sym, subst, arith}
 use Rattle.std.proofs.lemmas.Option.{IfSome_then}
 use Rattle.std.specs.declared.alloc.Global.{Global}
-use Rattle.gj_function_lines.specs.FunctionLines.{line}
 use Rattle.gj_port.specs.Runs.{Gains}
 use Rattle.gj_lex.specs.declared.reason.Reason.{Reason}
-use Rattle.gj_problem_text.specs.CutText.{cut_lines}
-use Rattle.gj_problem_text.specs.ProblemText.{IsProblemText, IsFirstFault}
-use Rattle.gj_problem_text.specs.declared.task.Task.{Task}
-use Rattle.gj_problem_text.proofs.ExactText.{no_fault, one_fault}
-use Rattle.gj_safe.specs.Answers.{IsTrueAnswer, IsCutsOf, refused_line}
-use Rattle.gj_safe.specs.Told.{input_limit, IsReadWhole, IsRefused, IsTold, IsToldOf}
-use Rattle.gj_safe.specs.Runs.{IsTrueRun, IsDoneRun, IsCause}
+use Rattle.gj_problem_text.specs.SafeInputs.{IsSafeInput, IsFirstFaultOfInput}
+use Rattle.gj_problem_text.specs.declared.input.SafeInput.{SafeInput}
+use Rattle.gj_problem_text.proofs.InputParts.{one_input, no_fault}
+use Rattle.gj_safe.specs.Answers.{IsTrueAnswer, IsReplyBy, IsReplyTo, IsCutsOf}
+use Rattle.gj_safe.specs.Told.{IsReadWhole, IsRefused, IsTold, IsToldOf, IsStatusBy, input_limit, status_of}
+use Rattle.gj_safe.specs.Runs.{IsTrueRun, IsDoneRun, IsCause, IsOutcome}
+use Rattle.gj_safe.specs.declared.answer.End.{End}
+use Rattle.gj_safe.specs.declared.answer.End.TheVariants as end
 use Rattle.gj_safe.specs.declared.status.Status.{Status}
-use Rattle.gj_safe.specs.declared.status.Status.TheVariants.{Done, Words, Input, ReadFault, WriteFault, Memory}
+use Rattle.gj_safe.specs.declared.status.Status.TheVariants.{Done, Words, Input, ReadFault, WriteFault, Memory, NotContinuous, NoFunction}
 
 -- what was told of an input that was read whole is told of the one that the source told
 of_input : (input own : List ℕ) (left after : Option (List ℕ)) (s : Status) (text : List ℕ) → left ≡ Some input → IsReadWhole own left after →
@@ -32,55 +32,83 @@ cause_of_told words Fault left after Done text none input is t =
     inr (inr (inr (text, of_input input t.1.0 left after Done text is t.1.1 t.1.2)))
 cause_of_told words Fault left after Input text none input is t =
     inr (inr (inr (text, of_input input t.1.0 left after Input text is t.1.1 t.1.2)))
+cause_of_told words Fault left after NotContinuous text none input is t =
+    inr (inr (inr (text, of_input input t.1.0 left after NotContinuous text is t.1.1 t.1.2)))
+cause_of_told words Fault left after NoFunction text none input is t =
+    inr (inr (inr (text, of_input input t.1.0 left after NoFunction text is t.1.1 t.1.2)))
 
--- a text has one first fault, so one line refuses it
-pub same_line : (text : List ℕ) (n m : ℕ) (e d : Reason) → IsFirstFault text n e → IsFirstFault text m d → refused_line n e ≡ refused_line m d
-same_line text n m e d h k =
-    let same = one_fault text n m e d h k in
-    ap (λ k. refused_line k e) same.0 ∙ ap (refused_line m) same.1
+-- what the sink took, all of it, is what was told
+pub outcome_of_told : (words : List (String Global)) (Fault : Type 0) (left after written written' : Option (List ℕ)) (sure : ℕ) (s : Status)
+    (text : List ℕ) → IsTold words Fault left after s text → Gains written written' text →
+    IsOutcome words Fault left after written written' sure s
+outcome_of_told words Fault left after written written' sure Done text t gain = (text, t, gain)
+outcome_of_told words Fault left after written written' sure Words text t gain = (text, t, gain)
+outcome_of_told words Fault left after written written' sure Input text t gain = (text, t, gain)
+outcome_of_told words Fault left after written written' sure ReadFault text t gain = (text, t, gain)
+outcome_of_told words Fault left after written written' sure WriteFault text t gain = absurd t.1.2
+outcome_of_told words Fault left after written written' sure Memory text t gain = absurd t.1.2
+outcome_of_told words Fault left after written written' sure NotContinuous text t gain = (text, t, gain)
+outcome_of_told words Fault left after written written' sure NoFunction text t gain = (text, t, gain)
 
--- the text of a problem is not refused, and one with a fault, or that is too long, is not answered
-not_refused : (input text : List ℕ) (task : Task) → length input ≤ input_limit → IsProblemText input task → IsRefused input text → ⊥
-not_refused input text task within spelled (inl (more, is)) = omega arith
-not_refused input text task within spelled (inr (few, (n, e, fault, is))) = no_fault input task n e spelled fault
+-- an input that is too long, or at fault, is refused
+no_reply : (input : List ℕ) (n : ℕ) (e : Reason) (asked : SafeInput) → (input_limit < length input) ⊎ IsFirstFaultOfInput input n e →
+    length input ≤ input_limit → IsSafeInput input asked → ⊥
+no_reply input n e asked (inl long) small spelled = omega arith
+no_reply input n e asked (inr fault) small spelled = no_fault input asked n e spelled fault
 
-not_answered : (input text : List ℕ) (n : ℕ) (e : Reason) → (input_limit < length input) ⊎ IsFirstFault input n e → length input ≤ input_limit →
-    IsCutsOf input text → ⊥
-not_answered input text n e (inl more) within (task, spelled, are) = omega arith
-not_answered input text n e (inr fault) within (task, spelled, are) = no_fault input task n e spelled fault
+module _ (input : List ℕ) (n : ℕ) (e : Reason) (bad : (input_limit < length input) ⊎ IsFirstFaultOfInput input n e) where
+  pub refused_of_told : (words : List (String Global)) (Fault : Type 0) (left after : Option (List ℕ)) (s : Status) (text : List ℕ) →
+      words ≡ [] → (Fault → ⊥) → left ≡ Some input → IsTold words Fault left after s text → s ≡ Input
+  refused_of_told words Fault left after Words text none unfailed is t = absurd (t.0 none)
+  refused_of_told words Fault left after ReadFault text none unfailed is t = absurd (unfailed t.1)
+  refused_of_told words Fault left after WriteFault text none unfailed is t = absurd t.1.2
+  refused_of_told words Fault left after Memory text none unfailed is t = absurd t.1.2
+  refused_of_told words Fault left after Input text none unfailed is t = refl
+  refused_of_told words Fault left after Done text none unfailed is t =
+      let own = of_input input t.1.0 left after Done text is t.1.1 t.1.2 in
+      absurd (no_reply input n e own.1.0 bad own.0 own.1.1)
+  refused_of_told words Fault left after NotContinuous text none unfailed is t =
+      let own = of_input input t.1.0 left after NotContinuous text is t.1.1 t.1.2 in
+      absurd (no_reply input n e own.1.0 bad own.0 own.1.1)
+  refused_of_told words Fault left after NoFunction text none unfailed is t =
+      let own = of_input input t.1.0 left after NoFunction text is t.1.1 t.1.2 in
+      absurd (no_reply input n e own.1.0 bad own.0 own.1.1)
 
-pub done_of_problem : (words : List (String Global)) (Fault : Type 0) (left after : Option (List ℕ)) (s : Status) (text : List ℕ) → words ≡ [] →
-    (Fault → ⊥) → (input : List ℕ) (task : Task) → left ≡ Some input → length input ≤ input_limit → IsProblemText input task →
-    IsTold words Fault left after s text → s ≡ Done
-done_of_problem words Fault left after Words text none sure input task is within spelled t = absurd (t.0 none)
-done_of_problem words Fault left after ReadFault text none sure input task is within spelled t = absurd (sure t.1)
-done_of_problem words Fault left after WriteFault text none sure input task is within spelled t = absurd t.1.2
-done_of_problem words Fault left after Memory text none sure input task is within spelled t = absurd t.1.2
-done_of_problem words Fault left after Done text none sure input task is within spelled t = refl
-done_of_problem words Fault left after Input text none sure input task is within spelled t =
-    absurd (not_refused input text task within spelled (of_input input t.1.0 left after Input text is t.1.1 t.1.2))
+-- a run over an input that spells a rule and a problem ends as they are answered
+module _ (input : List ℕ) (asked : SafeInput) (within : length input ≤ input_limit) (spelled : IsSafeInput input asked) where
+  of_reply : (e : End) (text : List ℕ) → IsReplyTo input e text → IsStatusBy asked (status_of e)
+  of_reply e text (own, other, are) =
+      (e, text, refl, subst (λ (a : SafeInput). IsReplyBy a e text) (one_input input own asked other spelled) are)
 
-pub input_of_fault : (words : List (String Global)) (Fault : Type 0) (left after : Option (List ℕ)) (s : Status) (text : List ℕ) → words ≡ [] →
-    (Fault → ⊥) → (input : List ℕ) (n : ℕ) (e : Reason) → left ≡ Some input → (input_limit < length input) ⊎ IsFirstFault input n e →
-    IsTold words Fault left after s text → s ≡ Input
-input_of_fault words Fault left after Words text none sure input n e is wrong t = absurd (t.0 none)
-input_of_fault words Fault left after ReadFault text none sure input n e is wrong t = absurd (sure t.1)
-input_of_fault words Fault left after WriteFault text none sure input n e is wrong t = absurd t.1.2
-input_of_fault words Fault left after Memory text none sure input n e is wrong t = absurd t.1.2
-input_of_fault words Fault left after Input text none sure input n e is wrong t = refl
-input_of_fault words Fault left after Done text none sure input n e is wrong t =
-    let told = of_input input t.1.0 left after Done text is t.1.1 t.1.2 in
-    absurd (not_answered input text n e wrong told.0 told.1)
+  of_refusal : (text : List ℕ) → IsRefused input text → ⊥
+  of_refusal text (inl (long, is)) = omega arith
+  of_refusal text (inr (small, (n, e, fault, is))) = no_fault input asked n e spelled fault
+
+  pub status_by : (words : List (String Global)) (Fault : Type 0) (left after : Option (List ℕ)) (s : Status) (text : List ℕ) → words ≡ [] →
+      (Fault → ⊥) → left ≡ Some input → IsTold words Fault left after s text → IsStatusBy asked s
+  status_by words Fault left after Words text none unfailed is t = absurd (t.0 none)
+  status_by words Fault left after ReadFault text none unfailed is t = absurd (unfailed t.1)
+  status_by words Fault left after WriteFault text none unfailed is t = absurd t.1.2
+  status_by words Fault left after Memory text none unfailed is t = absurd t.1.2
+  status_by words Fault left after Done text none unfailed is t =
+      of_reply end.Done text (of_input input t.1.0 left after Done text is t.1.1 t.1.2).1
+  status_by words Fault left after NotContinuous text none unfailed is t =
+      of_reply end.NotContinuous text (of_input input t.1.0 left after NotContinuous text is t.1.1 t.1.2).1
+  status_by words Fault left after NoFunction text none unfailed is t =
+      of_reply end.NoFunction text (of_input input t.1.0 left after NoFunction text is t.1.1 t.1.2).1
+  status_by words Fault left after Input text none unfailed is t =
+      absurd (of_refusal text (of_input input t.1.0 left after Input text is t.1.1 t.1.2))
 
 -- the text of the cuts that an input asks for is one of cuts that hold
 pub true_answer : (input text : List ℕ) → IsCutsOf input text → IsTrueAnswer input text
-true_answer input text (task, spelled, are) = record {
-  task = task;
+true_answer input text (asked, spelled, (makes, are)) = record {
+  asked = asked;
   spelled = spelled;
   cuts = are.cuts;
   hold = are.hold;
-  text_is = are.text_is
-      ∙ ap (λ lines. line (codes "gj-safe 1") ++ lines ++ flat_map (cut_lines task.names) are.cuts ++ line (codes "end")) are.rule_lines_are;
+  rule_lines = are.rule_lines;
+  rule_lines_are = are.rule_lines_are;
+  text_is = are.text_is;
 }
 
 module _ (words : List (String Global)) (Fault : Type 0) (left after written written' : Option (List ℕ)) (s : Status) (text : List ℕ) where

@@ -9,7 +9,7 @@ use Rattle.gj_port.specs.declared.fault.ReadError.TheVariants.{TooLong}
 use Rattle.gj_safe.specs.Answers.{IsAnswer}
 use Rattle.gj_safe.specs.Told.{IsReadWhole, IsTold, IsToldOf, input_limit, long_line, status_of}
 use Rattle.gj_safe.specs.declared.answer.End.{End}
-use Rattle.gj_safe.specs.declared.answer.End.TheVariants.{Done, Refused}
+use Rattle.gj_safe.specs.declared.answer.End.TheVariants.{Done, Refused, NotContinuous, NoFunction}
 use Rattle.gj_safe.specs.declared.status.Status.TheVariants.{Input}
 
 -- there are no words if they are empty
@@ -31,6 +31,10 @@ told_of_read words Fault left after bytes Done text none within t a =
     (none, (bytes.items, read_whole left after bytes within t, (omega (arith, bytes.ok), a)))
 told_of_read words Fault left after bytes Refused text none within t a =
     (none, (bytes.items, read_whole left after bytes within t, inr (omega (arith, bytes.ok), a)))
+told_of_read words Fault left after bytes NotContinuous text none within t a =
+    (none, (bytes.items, read_whole left after bytes within t, (omega (arith, bytes.ok), a)))
+told_of_read words Fault left after bytes NoFunction text none within t a =
+    (none, (bytes.items, read_whole left after bytes within t, (omega (arith, bytes.ok), a)))
 
 -- some input is longer
 longer : (n : ℕ) → (input : List ℕ) × (n < length input)

@@ -1,2 +1,3 @@
 pub mod InputRead
 pub mod Clauses
+pub mod AnswerOfReply

@@ -1,27 +1,44 @@
--- How the text of a problem is answered (own).
+-- How the text of a problem with its rule is answered (own).
 use Rattle.std.specs.Prelude.{ℕ, ◌≡◌, List, ◌++◌, All, codes, decimal, flat_map}
 use Rattle.gj_lex.specs.Reason.{reason_word}
 use Rattle.gj_lex.specs.declared.reason.Reason.{Reason}
 use Rattle.gj_function_lines.specs.FunctionLines.{line}
 use Rattle.gj_safe_cut.specs.SafeCuts.{HoldsFor}
 use Rattle.gj_safe_cut.specs.declared.cut.SafeCut.{SafeCut}
-use Rattle.gj_problem_text.specs.CutText.{cut_lines, IsCutsTextOf}
-use Rattle.gj_problem_text.specs.ProblemText.{IsProblemText, IsFirstFault}
-use Rattle.gj_problem_text.specs.declared.task.Task.{Task}
+use Rattle.gj_proof.specs.ProofText.{AreSubjectLines, subject_of_rule}
+use Rattle.gj_problem_text.specs.CutText.{cut_lines, IsCutsTextBy}
+use Rattle.gj_problem_text.specs.SafeInputs.{IsSafeInput, IsFirstFaultOfInput}
+use Rattle.gj_problem_text.specs.SafeReplies.{MakesSafeCuts, NamesViolation, NamesJump}
+use Rattle.gj_problem_text.specs.declared.input.SafeInput.{SafeInput}
 use Rattle.gj_safe.specs.declared.answer.End.{End}
-use Rattle.gj_safe.specs.declared.answer.End.TheVariants.{Done, Refused}
+use Rattle.gj_safe.specs.declared.answer.End.TheVariants.{Done, Refused, NotContinuous, NoFunction}
 
--- the input spells a problem, and the text is one of cuts that each hold at all its feasible points
+-- the input spells a rule and a problem, and the text has the lines of the rule and those of cuts
+-- that each hold at all feasible points of the problem
 pub record IsTrueAnswer (input text : List ℕ) : Type 0 where
-  pub task : Task
-  pub spelled : IsProblemText input task
+  pub asked : SafeInput
+  pub spelled : IsSafeInput input asked
   pub cuts : List SafeCut
-  pub hold : All (HoldsFor task.problem) cuts
-  pub text_is : text ≡ line (codes "gj-safe 1") ++ line (codes "rule gmic") ++ flat_map (cut_lines task.names) cuts ++ line (codes "end")
+  pub hold : All (HoldsFor asked.task.problem) cuts
+  pub rule_lines : List ℕ
+  pub rule_lines_are : AreSubjectLines (subject_of_rule asked.rule) rule_lines
+  pub text_is : text ≡ line (codes "gj-safe 1") ++ rule_lines ++ flat_map (cut_lines asked.task.names) cuts ++ line (codes "end")
 
--- the input spells a problem, and the text is that of the cuts that it asks for
+-- what is asked is answered so: by the text of the cuts if the rule makes cuts, and else by the line
+-- that names the first violation of its function, or the first jump
+abbrev pub IsReplyBy : SafeInput → End → List ℕ → Type 0
+IsReplyBy asked Done text = MakesSafeCuts asked.rule × IsCutsTextBy asked.rule asked.task text
+IsReplyBy asked NoFunction text = NamesViolation asked.rule text
+IsReplyBy asked NotContinuous text = NamesJump asked.rule text
+IsReplyBy asked Refused text = ⊥
+
+-- the input spells a rule and a problem, and they are answered so
+abbrev pub IsReplyTo : List ℕ → End → List ℕ → Type 0
+IsReplyTo input end text = (asked : SafeInput) × IsSafeInput input asked × IsReplyBy asked end text
+
+-- the text is that of the cuts that the input asks for
 abbrev pub IsCutsOf : List ℕ → List ℕ → Type 0
-IsCutsOf input text = (task : Task) × IsProblemText input task × IsCutsTextOf task text
+IsCutsOf input text = IsReplyTo input Done text
 
 -- the line that refuses an input for its n-th line
 abbrev pub refused_line : ℕ → Reason → List ℕ
@@ -29,8 +46,8 @@ refused_line n reason = line (codes "refused line " ++ decimal n ++ codes " " ++
 
 -- the text refuses the input for its first fault
 abbrev pub IsRefusal : List ℕ → List ℕ → Type 0
-IsRefusal input text = (n : ℕ) × (e : Reason) × IsFirstFault input n e × (text ≡ refused_line n e)
+IsRefusal input text = (n : ℕ) × (e : Reason) × IsFirstFaultOfInput input n e × (text ≡ refused_line n e)
 
 abbrev pub IsAnswer : List ℕ → End → List ℕ → Type 0
-IsAnswer input Done text = IsCutsOf input text
 IsAnswer input Refused text = IsRefusal input text
+IsAnswer input end text = IsReplyTo input end text

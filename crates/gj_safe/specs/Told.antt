@@ -3,13 +3,14 @@ use Rattle.std.specs.Prelude.{ℕ, ◌≡◌, ◌≢◌, ◌⊎◌, ◌+◌, ◌
 use Rattle.std.specs.declared.alloc.Global.{Global}
 use Rattle.gj_port.specs.Whole.{TakesUpTo}
 use Rattle.gj_function_lines.specs.FunctionLines.{line}
+use Rattle.gj_problem_text.specs.declared.input.SafeInput.{SafeInput}
 use Rattle.gj_safe.specs.declared.answer.End.{End}
 use Rattle.gj_safe.specs.declared.answer.End.TheVariants as end
 use Rattle.gj_safe.specs.declared.status.Status.{Status}
-use Rattle.gj_safe.specs.declared.status.Status.TheVariants.{Done, Words, Input, ReadFault}
+use Rattle.gj_safe.specs.declared.status.Status.TheVariants.{Done, Words, Input, ReadFault, NotContinuous, NoFunction}
 use Rattle.gj_safe.specs.declared.told.Told.{Told}
 use Rattle.gj_safe.specs.declared.told.Told.TheVariants as told
-use Rattle.gj_safe.specs.Answers.{IsCutsOf, IsRefusal}
+use Rattle.gj_safe.specs.Answers.{IsReplyBy, IsReplyTo, IsRefusal}
 
 -- the most bytes that are read of an input
 abbrev pub input_limit : ℕ
@@ -45,7 +46,9 @@ IsRefused input text =
 
 -- what is told of an input that was read whole
 abbrev pub IsToldOf : List ℕ → Status → List ℕ → Type 0
-IsToldOf input Done text = (length input ≤ input_limit) × IsCutsOf input text
+IsToldOf input Done text = (length input ≤ input_limit) × IsReplyTo input end.Done text
+IsToldOf input NotContinuous text = (length input ≤ input_limit) × IsReplyTo input end.NotContinuous text
+IsToldOf input NoFunction text = (length input ≤ input_limit) × IsReplyTo input end.NoFunction text
 IsToldOf input Input text = IsRefused input text
 IsToldOf input status text = ⊥
 
@@ -61,6 +64,12 @@ IsTold words Fault left after status text =
 abbrev pub status_of : End → Status
 status_of end.Done = Done
 status_of end.Refused = Input
+status_of end.NotContinuous = NotContinuous
+status_of end.NoFunction = NoFunction
+
+-- a run that answers what is asked ends so
+abbrev pub IsStatusBy : SafeInput → Status → Type 0
+IsStatusBy asked status = (e : End) × (text : List ℕ) × (status ≡ status_of e) × IsReplyBy asked e text
 
 abbrev pub told_status : Told → Status
 told_status told.NoWords = Words

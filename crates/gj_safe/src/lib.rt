@@ -5,9 +5,9 @@ ghost use Rattle.std.specs.Prelude.{◌≡◌, ◌≢◌, ◌⊎◌, ◌≤◌, 
 ghost use Rattle.gj_lex.specs.declared.reason.Reason.{Reason};
 ghost use Rattle.gj_port.specs.Faults.{HasFailed};
 ghost use Rattle.gj_port.specs.Runs.{IsSourceFault, Gains};
-ghost use Rattle.gj_problem_text.specs.ProblemText.{IsProblemText, IsFirstFault};
-ghost use Rattle.gj_problem_text.specs.declared.task.Task.{Task};
-ghost use Rattle.gj_safe.specs.Told.{input_limit, words_line, fault_line};
+ghost use Rattle.gj_problem_text.specs.SafeInputs.{IsSafeInput, IsFirstFaultOfInput};
+ghost use Rattle.gj_problem_text.specs.declared.input.SafeInput.{SafeInput};
+ghost use Rattle.gj_safe.specs.Told.{input_limit, words_line, fault_line, IsStatusBy};
 ghost use Rattle.gj_safe.specs.Runs.{IsTrueRun, IsDoneRun, IsOutcome, IsCause};
 
 use gj_port::{Sink, Source, write_all};
@@ -26,8 +26,9 @@ use told::told_to;
 /// the sink. No word is taken. The whole input is read first, at most 2^24 bytes of it, and the
 /// whole answer is made before its first byte is written.
 ///
-/// `Words` comes if there is a word, `Input` if the input is no problem text or is longer. The sink
-/// has then taken a line that says so.
+/// `Words` comes if there is a word, `Input` if the input is no problem text or is longer,
+/// `NoFunction` if its function is not minimal, and `NotContinuous` if it is, and jumps. The sink has
+/// then taken a line that says so.
 pub fn run<S: Source, K: Sink>(
     alloc: Global,
     words: &[String],
@@ -54,17 +55,17 @@ pub fn run<S: Source, K: Sink>(
     ensures unread { words.now ≢ [] → S.left source.new ≡ S.left source.old }
     ensures no_words { words.now ≡ [] → result ≢ Status.Words }
 
-    // If the source tells its bytes, each status has its cause in them, and a problem text is
-    // answered, another one refused, unless there is no memory.
+    // If the source tells its bytes, each status has its cause in them. A problem text is answered
+    // as its rule asks, and another one is refused, unless there is no memory.
     ensures cause { words.now ≡ [] → (input : List ℕ) → S.left source.old ≡ Some input →
         IsCause input result }
-    ensures complete { words.now ≡ [] → (input : List ℕ) (task : Task) →
-        S.left source.old ≡ Some input → length input ≤ input_limit → IsProblemText input task →
+    ensures complete { words.now ≡ [] → (input : List ℕ) (asked : SafeInput) →
+        S.left source.old ≡ Some input → length input ≤ input_limit → IsSafeInput input asked →
         (HasFailed (S.faults source.old) (S.faults source.new) → ⊥) →
         (HasFailed (K.faults sink.old) (K.faults sink.new) → ⊥) →
-        (result ≡ Status.Memory) ⊎ (result ≡ Status.Done) }
+        (result ≡ Status.Memory) ⊎ IsStatusBy asked result }
     ensures refused { words.now ≡ [] → (input : List ℕ) (n : ℕ) (e : Reason) →
-        S.left source.old ≡ Some input → (input_limit < length input) ⊎ IsFirstFault input n e →
+        S.left source.old ≡ Some input → (input_limit < length input) ⊎ IsFirstFaultOfInput input n e →
         (HasFailed (S.faults source.old) (S.faults source.new) → ⊥) →
         (HasFailed (K.faults sink.old) (K.faults sink.new) → ⊥) →
         (result ≡ Status.Memory) ⊎ (result ≡ Status.Input) }

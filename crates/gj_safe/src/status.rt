@@ -17,6 +17,10 @@ pub enum Status {
     WriteFault,
     /// There was no memory.
     Memory,
+    /// The function is minimal and not continuous.
+    NotContinuous,
+    /// The function is not minimal.
+    NoFunction,
 }
 
 impl Status {
@@ -31,6 +35,8 @@ impl Status {
             Status::ReadFault => 4,
             Status::WriteFault => 5,
             Status::Memory => 6,
+            Status::NotContinuous => 8,
+            Status::NoFunction => 9,
         }
     }
 }

@@ -57,6 +57,8 @@ fn status_of(end: End) -> Status
     match end {
         End::Done => Status::Done,
         End::Refused => Status::Input,
+        End::NotContinuous => Status::NotContinuous,
+        End::NoFunction => Status::NoFunction,
     }
 }
 
