@@ -1,4 +1,4 @@
-/* The library of gjcut: one call, over memory. docs/library.md says how to build and link it, and
+/* The library of gjcut: two calls, over memory. docs/library.md says how to build and link it, and
  * what is proved of it. */
 #ifndef GJCUT_H
 #define GJCUT_H
@@ -55,6 +55,15 @@ enum gjcut_status {
 uint8_t gjcut_answer(const uint8_t *words, size_t words_length, const uint8_t *input,
                      size_t input_length, uint8_t *output, size_t output_length, size_t *written);
 
+/* Answers the text of a problem, `gj-problem 1`, with the text of the cuts that it asks for,
+ * `gj-safe 1`: each holds at all feasible points of the problem. The result is GJCUT_DONE;
+ * GJCUT_INPUT if the input is no problem text, and the answer is then the line that refuses it;
+ * GJCUT_NO_ROOM or GJCUT_NO_MEMORY. What these two mean, what is put into `output` and `*written`,
+ * and what a caller owes is as for `gjcut_answer`. `gjcut_safe_room` says how much room is always
+ * enough. */
+uint8_t gjcut_safe_cut(const uint8_t *input, size_t input_length, uint8_t *output,
+                       size_t output_length, size_t *written);
+
 /* A call needs at most so many bytes of stack, by measurement: no example, none of the largest
  * inputs and no JSON, however deep it nests, was seen to use more than 140,000. Give a thread that
  * calls as much, and what your own functions need: 128 KB, the default of musl, is too little. With
@@ -96,6 +105,25 @@ static inline size_t gjcut_room(const uint8_t *words, size_t words_length, size_
     }
     if (gjcut_has_word(words, words_length, "fill")) return 400000; /* 2,000 points of 170 bytes */
     return function;
+}
+
+/* How often a word stands in a text, also as a part of others. */
+static inline size_t gjcut_count(const uint8_t *text, size_t length, const char *word) {
+    size_t word_length = strlen(word), count = 0, i;
+    for (i = 0; i + word_length <= length; i++)
+        count += memcmp(text + i, word, word_length) == 0;
+    return count;
+}
+
+/* An output of so many bytes has room for the answer of `gjcut_safe_cut` to this input, as reckoned
+ * from the form of the texts, and tested. */
+static inline size_t gjcut_safe_room(const uint8_t *input, size_t input_length) {
+    /* The lines of a function. For each line `sum` a cut of 85 bytes, and in it for each column 87
+     * and its name. */
+    size_t sums = gjcut_count(input, input_length, "sum");
+    size_t columns = gjcut_count(input, input_length, "column");
+    if (columns > 10000) columns = 10000;
+    return 100000 + sums * (85 + 87 * columns + input_length);
 }
 
 #ifdef __cplusplus

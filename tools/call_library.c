@@ -1,6 +1,7 @@
 /* Calls the library on examples and compares what it says, byte for byte. docs/library.md has a shorter program.
  *
- * library FOLDER..            each example, with a room that is large and with one that is a byte too short, and calls that no folder has
+ * library FOLDER..            each example, with a room that is large and with one that is a byte too short, each problem also with each
+ *                             smaller one, and calls that no folder has
  * library -threads FOLDER..   the examples from four threads at once
  * library -stack FOLDER..     how much stack the calls on the examples, on nested JSON and on large inputs use at most, against GJCUT_STACK
  * library -refuse FOLDER..    the short examples, with each allocation refused in turn
@@ -8,8 +9,9 @@
  *                             of docs/library.md, and that all are given back
  * library -time N FOLDER      N calls on one example, with the time that a call takes and by how much the memory grew
  *
- * An example is a folder with the files words (one a line), input, output and status. The program is linked with
- * --wrap for malloc, realloc and free, so that it sees what a call asks for.
+ * An example is a folder with the files words (one a line), input, output and status. One without words is a problem,
+ * for gjcut_safe_cut, and all others are for gjcut_answer. The program is linked with --wrap for malloc, realloc and
+ * free, so that it sees what a call asks for.
  */
 #include <malloc.h>
 #include <pthread.h>
@@ -81,12 +83,16 @@ static void *memory(size_t size) {
     return block;
 }
 
-static struct text read_file(const char *folder, const char *name) {
+static FILE *open_file(const char *folder, const char *name) {
     char path[4096];
     snprintf(path, sizeof path, "%s/%s", folder, name);
-    FILE *file = fopen(path, "rb");
+    return fopen(path, "rb");
+}
+
+static struct text read_file(const char *folder, const char *name) {
+    FILE *file = open_file(folder, name);
     if (!file) {
-        perror(path);
+        fprintf(stderr, "library: %s has no %s\n", folder, name);
         exit(2);
     }
     fseek(file, 0, SEEK_END);
@@ -98,12 +104,20 @@ static struct text read_file(const char *folder, const char *name) {
     return text;
 }
 
-/* The words stand one a line, and a call takes them with one blank between two. */
+/* The words stand one a line, and a call takes them with one blank between two. A problem has none. */
+static struct text read_words(const char *folder) {
+    FILE *file = open_file(folder, "words");
+    if (!file) return (struct text){NULL, 0};
+    fclose(file);
+    struct text words = read_file(folder, "words");
+    if (words.length) words.length--;
+    for (size_t i = 0; i < words.length; i++)
+        if (words.bytes[i] == '\n') words.bytes[i] = ' ';
+    return words;
+}
+
 static struct example read_example(const char *folder) {
-    struct example example = {folder, read_file(folder, "words"), read_file(folder, "input"), read_file(folder, "output"), 0};
-    if (example.words.length) example.words.length--;
-    for (size_t i = 0; i < example.words.length; i++)
-        if (example.words.bytes[i] == '\n') example.words.bytes[i] = ' ';
+    struct example example = {folder, read_words(folder), read_file(folder, "input"), read_file(folder, "output"), 0};
     struct text status = read_file(folder, "status");
     for (size_t i = 0; i < status.length && status.bytes[i] != '\n'; i++) example.status = 10 * example.status + status.bytes[i] - '0';
     free(status.bytes);
@@ -116,12 +130,24 @@ static void free_example(struct example example) {
     free(example.output.bytes);
 }
 
+/* The call of the library: without words it is that for problems. */
+static int call(struct text words, struct text input, struct text output, size_t *written) {
+    if (!words.bytes) return gjcut_safe_cut(input.bytes, input.length, output.bytes, output.length, written);
+    return gjcut_answer(words.bytes, words.length, input.bytes, input.length, output.bytes, output.length, written);
+}
+
+/* The room that the header says is always enough. */
+static size_t room_for(const struct example *example) {
+    if (!example->words.bytes) return gjcut_safe_room(example->input.bytes, example->input.length);
+    return gjcut_room(example->words.bytes, example->words.length, example->input.length);
+}
+
 /* Whether a call with this room ends with the status, writes these bytes, and leaves those behind them as they were. */
 static int answers(const struct example *example, size_t room, int status, size_t length) {
     uint8_t *output = memory(room + BEHIND);
     size_t written = (size_t)-1;
     memset(output, MARK, room + BEHIND);
-    int ended = gjcut_answer(example->words.bytes, example->words.length, example->input.bytes, example->input.length, output, room, &written);
+    int ended = call(example->words, example->input, (struct text){output, room}, &written);
     int good = ended == status && written == length && !memcmp(output, example->output.bytes, length);
     for (size_t i = length; good && i < room + BEHIND; i++) good = output[i] == MARK;
     if (!good) printf("library: %s with %zu bytes of room ended with %d and wrote %zu bytes\n", example->name, room, ended, written);
@@ -130,13 +156,18 @@ static int answers(const struct example *example, size_t room, int status, size_
 }
 
 static int is_answered(const struct example *example) {
-    size_t length = example->output.length;
-    return answers(example, length + 1000, example->status, length) && answers(example, length, example->status, length)
-           && (!length || answers(example, length - 1, GJCUT_NO_ROOM, length - 1));
+    size_t length = example->output.length, least = example->words.bytes && length ? length - 1 : 0;
+    int good = answers(example, length + 1000, example->status, length) && answers(example, length, example->status, length);
+    for (size_t room = least; good && room < length; room++) good = answers(example, room, GJCUT_NO_ROOM, room);
+    if (good && length > room_for(example)) {
+        printf("library: %s has an answer of %zu bytes, and the header says %zu\n", example->name, length, room_for(example));
+        return 0;
+    }
+    return good;
 }
 
 static struct text text_of(const char *bytes) {
-    return (struct text){(uint8_t *)bytes, strlen(bytes)};
+    return (struct text){(uint8_t *)bytes, bytes ? strlen(bytes) : 0};
 }
 
 /* Calls that no example has: the whole words, the length of an input of bytes that are 0, the status and the answer. */
@@ -156,12 +187,15 @@ static int others(void) {
         {"show", 0, GJCUT_INPUT, "refused line 1 form\n"},
         {"minimal", 16777216, GJCUT_INPUT, "refused line 1 form\n"},
         {"minimal", 16777217, GJCUT_INPUT, "refused long\n"},
+        {NULL, 0, GJCUT_INPUT, "refused line 1 form\n"},
+        {NULL, 16777217, GJCUT_INPUT, "refused line 1 form\n"},
     };
     int good = 1;
     for (size_t i = 0; i < sizeof calls / sizeof *calls; i++) {
         struct text zeros = {memory(calls[i].zeros), calls[i].zeros};
         memset(zeros.bytes, 0, zeros.length);
-        struct example example = {calls[i].words, text_of(calls[i].words), zeros, text_of(calls[i].output), calls[i].status};
+        const char *name = calls[i].words ? calls[i].words : "a problem";
+        struct example example = {name, text_of(calls[i].words), zeros, text_of(calls[i].output), calls[i].status};
         good = is_answered(&example) && good;
         free(zeros.bytes);
     }
@@ -202,9 +236,7 @@ struct stacked {
 static void *call_stacked(void *given) {
     struct stacked *stacked = given;
     size_t written;
-    if (stacked)
-        gjcut_answer(stacked->words.bytes, stacked->words.length, stacked->input.bytes, stacked->input.length, stacked->output.bytes,
-                     stacked->output.length, &written);
+    if (stacked) call(stacked->words, stacked->input, stacked->output, &written);
     return NULL;
 }
 
@@ -233,6 +265,27 @@ static struct text repeated(const char *front, const char *line, int times, cons
     return text;
 }
 
+/* A dense problem, of whole and continuous columns in turn, each name filled up to a width. */
+static struct text problem(int constraints, int columns, int width, int sums) {
+    size_t lines = (size_t)(constraints + 1) * (size_t)columns;
+    struct text text = {memory(lines * (size_t)(width + 40) + (size_t)(constraints * 40 + sums * (constraints * 12 + 8) + 64)), 0};
+    char *at = (char *)text.bytes;
+    at += sprintf(at, "gj-problem 1\nrule gmic\n");
+    for (int j = 0; j < columns; j++) at += sprintf(at, "column x%0*d %s 0 -\n", width, j, j % 2 ? "continuous" : "whole");
+    for (int i = 0; i < constraints; i++) {
+        at += sprintf(at, "constraint c <= %d\n", 1000 + i);
+        for (int j = 0; j < columns; j++) at += sprintf(at, "entry x%0*d %d\n", width, j, (7 * i + 11 * j) % 1000 - 300);
+    }
+    for (int i = 0; i < sums; i++) {
+        at += sprintf(at, "sum");
+        for (int j = 0; j < constraints; j++) at += sprintf(at, " %d/%d", (i + j) % 9 - 4, 7 + i % 5);
+        at += sprintf(at, "\n");
+    }
+    at += sprintf(at, "end\n");
+    text.length = (size_t)(at - (char *)text.bytes);
+    return text;
+}
+
 static int stack_is_enough(const struct example *examples, int count) {
     static uint8_t output[1 << 16];
     struct text room = {output, sizeof output};
@@ -245,6 +298,8 @@ static int stack_is_enough(const struct example *examples, int count) {
         {"extreme", repeated("gj-function 1\norder 996\nf 499/996\n", "point 0\npoint 2/3\npoint 1/3\npoint 1\npoint 1/3\npoint 2/3\n", 166, "end\n")},
         {"faces", repeated("gj-function 2\nf 1/1000\npoint 0 0\nend\n", "", 0, "")},
         {"mixed", repeated("gj-rule 1\ngmic\nend\nbasic,rhs,c:z\nx,1/2,", "1", 9, "\n")},
+        {NULL, problem(100, 1000, 6, 5)},
+        {NULL, problem(10, 10000, 6, 1)},
     };
     size_t base = stack_of(NULL), most = 0;
     for (int i = 0; i < count; i++) {
@@ -263,7 +318,7 @@ static int stack_is_enough(const struct example *examples, int count) {
 /* The call on an input, watched, with the block of this number refused. */
 static int watched(struct text words, struct text input, struct text output, long refused, size_t *written) {
     heap.asked = 0, heap.held = heap.most = 0, heap.refused = refused, heap.watched = 1;
-    int status = gjcut_answer(words.bytes, words.length, input.bytes, input.length, output.bytes, output.length, written);
+    int status = call(words, input, output, written);
     heap.watched = 0;
     return status;
 }
@@ -342,11 +397,17 @@ static int heap_is_enough(const struct example *examples, int count) {
         {"group", repeated("gj-function 1\nfamily gmic 59/120\nend\n", "", 0, "")},
         {"minimal", repeated("", "\n", 16777216, "")},
         {"extreme --json", repeated("{\"value\":[", "1,", 8000000, "1]}")},
+        {NULL, problem(100, 1000, 6, 5)},
+        {NULL, problem(10, 10000, 6, 10)},
+        {NULL, problem(10, 10000, 250, 10)},
+        {NULL, problem(10000, 0, 6, 100)},
+        {NULL, repeated("gj-problem 1\nrule gmic\n", "\n", 16777216, "end\n")},
     };
     int good = 1;
     for (int i = 0; i < count; i++) good = holds_at_most(examples[i].name, examples[i].words, examples[i].input, output) && good;
     for (size_t i = 0; i < sizeof large / sizeof *large; i++) {
-        good = holds_at_most(large[i].words, text_of(large[i].words), large[i].input, output) && good;
+        const char *name = large[i].words ? large[i].words : "a problem";
+        good = holds_at_most(name, text_of(large[i].words), large[i].input, output) && good;
         free(large[i].input.bytes);
     }
     free(output.bytes);
@@ -376,7 +437,7 @@ static int take_time(long calls, const struct example *example) {
     double begun = 0;
     for (long i = -100; i < calls; i++) {
         if (!i) before = resident(), begun = seconds();
-        int ended = gjcut_answer(example->words.bytes, example->words.length, example->input.bytes, example->input.length, output, room, &written);
+        int ended = call(example->words, example->input, (struct text){output, room}, &written);
         good = good && ended == example->status && written == room;
     }
     printf("%s: %.1f microseconds a call, %ld pages more after %ld calls\n", example->name, 1e6 * (seconds() - begun) / (double)calls,

@@ -7,6 +7,7 @@ use Rattle.gj_frac.specs.Fraction.{Fits}
 use Rattle.gj_shape.specs.Perturbation.{AreHalvesInBounds}
 use Rattle.gj_lemmas.proofs.Ring.{by_ring, ring}
 use Rattle.gj_shape.specs.FunctionData.{FunctionData, IsWithinBounds, IsContinuous, at}
+use Rattle.gj_shape.specs.Limits.{IsNumerator}
 use Rattle.gj_shape.specs.Table.{table, entry, IsMinimalTable}
 use Rattle.gj_shape.specs.declared.extremality.Halves.{Halves}
 use Rattle.gj_shape.proofs.AtLemmas.{at_below}
@@ -131,7 +132,7 @@ same_everywhere xs ys some len same i =
 -- ---- what the code reads
 
 -- a sum of two products
-pub sum_of_parts : (x y p q a b : ℤ) (u s : ℕ) → unsigned_abs a < 2 ^ 51 → unsigned_abs b < 2 ^ 51 → x ≡ a → y ≡ b →
+pub sum_of_parts : (x y p q a b : ℤ) (u s : ℕ) → IsNumerator a → IsNumerator b → x ≡ a → y ≡ b →
     p ≡ to_z w128 (of_z w128 x) *ℤ pos u → q ≡ to_z w128 (of_z w128 y) *ℤ pos s → unsigned_abs p ≤ 2 ^ 94 → unsigned_abs q ≤ 2 ^ 94 →
     to_z w128 (of_z w128 (to_z w128 (of_z w128 p) +ℤ to_z w128 (of_z w128 q))) ≡ a *ℤ pos u +ℤ b *ℤ pos s
 sum_of_parts x y p q a b u s a_small b_small x_is y_is p_is q_is p_fits q_fits =

@@ -1,38 +1,13 @@
--- The numbers of a function are written into lanes, and read from there by pieces.
-use Rattle.std.proofs.Common.{◌≡◌, ◌↔◌, ℕ, ◌+◌, ◌*◌, ◌<◌, ◌≤◌, ℤ, pos, ◌≤ℤ◌, List, length, get_or, sym, subst, ◌∙◌, arith}
+-- The numbers of a function, read from lanes by pieces.
+use Rattle.std.proofs.Common.{◌≡◌, ◌↔◌, ℕ, ◌+◌, ◌*◌, ◌<◌, ◌≤◌, ℤ, pos, List, length, get_or, sym, subst, ◌∙◌, arith}
 use Rattle.std.proofs.lemmas.Int.{ints}
 use Rattle.gj_shape.specs.FunctionData.{FunctionData, IsWithinBounds, at}
-use Rattle.gj_theory.specs.EarlierTests.{PassesSymmetry}
-use Rattle.gj_theory.proofs.Lanes.{are_bounded}
-use Rattle.gj_lanes.specs.Lanes.{IsInRange, AreInRange, ArePeriods}
+use Rattle.gj_lanes.specs.Lanes.{ArePeriods}
 use Rattle.gj_check.specs.declared.squares.Lanes.{Lanes}
 use Rattle.gj_check.specs.declared.squares.Part.{Part}
 use Rattle.gj_check.specs.Lanes.{AreLanesOf, HasPart, IsPartBelow, HasNoExcess, part_at}
 use Rattle.gj_check.specs.Tests.{IsSubadditiveAt}
 use Rattle.gj_check.proofs.RowTests.{square_read}
-
--- ---- written
-
-up_to_scale : (least : ℤ) (bound scale : ℕ) (x : ℤ) → least ≡ pos 0 → scale < bound → pos 0 ≤ℤ x → x ≤ℤ pos scale → IsInRange least bound x
-up_to_scale least bound scale x zero fits low high = (omega (arith, ints), omega (arith, ints))
-
--- the numbers of a function are in the range of lanes from 0 on in which its scale fits
-pub record AreAllInRange (least : ℤ) (bound : ℕ) (f : FunctionData) : Type 0 where
-  pub values : AreInRange least bound f.value
-  pub rights : AreInRange least bound f.right
-  pub lefts : AreInRange least bound f.left
-
-pub all_in_range : {least : ℤ} (bound : ℕ) (f : FunctionData) → least ≡ pos 0 → IsWithinBounds f → PassesSymmetry f → f.scale < bound →
-    AreAllInRange least bound f
-all_in_range bound f zero l h fits =
-    let b = are_bounded f l h in
-    record {
-      values = λ i. up_to_scale _ bound f.scale _ zero fits (b.value_low i) (b.value_high i);
-      rights = λ i. up_to_scale _ bound f.scale _ zero fits (b.right_low i) (b.right_high i);
-      lefts = λ i. up_to_scale _ bound f.scale _ zero fits (b.left_low i) (b.left_high i);
-    }
-
--- ---- read
 
 -- a lane is below the bound
 lane_below : {L : Type 0} (number : L → ℤ) (natural : L → ℕ) (least : ℤ) (bound : ℕ) (lanes : List L) (numbers : List ℤ) (i : ℕ) (e : L) →

@@ -4,6 +4,7 @@ use Rattle.std.proofs.Common.{◌≤◌, inl, inr, ◌≡◌, ◌↔◌, ℕ, �
 use Rattle.std.proofs.lemmas.Int.{ints}
 use Rattle.std.proofs.Math.Nat.{add-mod_right, mod-lt}
 use Rattle.gj_shape.specs.FunctionData.{FunctionData, IsWithinBounds, at}
+use Rattle.gj_shape.specs.Limits.{IsNumerator}
 use Rattle.gj_shape.proofs.AtLemmas.{at_below, at_wrapped, at_plus_length}
 use Rattle.gj_shape.proofs.NumeratorReadings.{small_read, left_below, value_below, right_below}
 use Rattle.gj_theory.proofs.Everywhere.{at_same, everywhere, opposite_index}
@@ -105,13 +106,13 @@ lefts_small f xs l e = subst AreSmall (sym e) (λ i. left_below f i l)
 -- a number of 51 bits is read
 abbrev IsRead : List ℤ → ℕ → ℕ → Type 0
 IsRead xs k i =
-    (to_z w64 (of_z w64 (get_or xs k (pos 0))) ≡ at xs i) × (unsigned_abs (to_z w64 (of_z w64 (get_or xs k (pos 0)))) < 2 ^ 51)
+    (to_z w64 (of_z w64 (get_or xs k (pos 0))) ≡ at xs i) × IsNumerator (to_z w64 (of_z w64 (get_or xs k (pos 0))))
 
 is_read : (xs : List ℤ) (k i : ℕ) → get_or xs k (pos 0) ≡ at xs i → AreSmall xs → IsRead xs k i
 is_read xs k i here small =
     let value : to_z w64 (of_z w64 (get_or xs k (pos 0))) ≡ at xs i =
     ap (λ z. to_z w64 (of_z w64 z)) here ∙ small_read (at xs i) (small i) in
-    (value, subst (λ z. unsigned_abs z < 2 ^ 51) (sym value) (small i))
+    (value, subst IsNumerator (sym value) (small i))
 
 -- at an index below the length
 pub number_below : (xs : List ℤ) (i : ℕ) → i < length xs → AreSmall xs → IsRead xs i i

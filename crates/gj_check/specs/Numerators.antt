@@ -1,6 +1,7 @@
 -- What is asked of the numerators of a function, by their lists (own).
-use Rattle.std.specs.Prelude.{ℕ, ℤ, pos, ◌≡◌, ◌+◌, ◌-◌, ◌<◌, ◌≤◌, ◌^◌, ◌+ℤ◌, ◌≤ℤ◌, List, length, unsigned_abs}
+use Rattle.std.specs.Prelude.{ℕ, ℤ, pos, ◌≡◌, ◌+◌, ◌-◌, ◌<◌, ◌≤◌, ◌+ℤ◌, ◌≤ℤ◌, List, length}
 use Rattle.gj_shape.specs.FunctionData.{at}
+use Rattle.gj_shape.specs.Limits.{IsNumerator}
 
 -- none of them is negative
 abbrev pub HasNoNegative : List ℤ → Type 0
@@ -8,7 +9,7 @@ HasNoNegative xs = (i : ℕ) → i < length xs → pos 0 ≤ℤ at xs i
 
 -- each has 51 bits
 abbrev pub AreSmall : List ℤ → Type 0
-AreSmall xs = (i : ℕ) → unsigned_abs (at xs i) < 2 ^ 51
+AreSmall xs = (i : ℕ) → IsNumerator (at xs i)
 
 -- each adds up to the total with that of the others at the place less its index, modulo their count
 abbrev pub IsOpposite : List ℤ → List ℤ → ℕ → ℤ → ℕ → Type 0

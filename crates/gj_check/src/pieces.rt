@@ -1,5 +1,6 @@
 //! The pieces of a function between neighbouring grid points.
-ghost use Rattle.std.specs.Prelude.{◌≡◌, ◌+ℤ◌, ◌*◌, ◌<◌, ◌%◌, ◌^◌, ◌↔◌, IsTrue, unsigned_abs};
+ghost use Rattle.std.specs.Prelude.{◌≡◌, ◌+ℤ◌, ◌*◌, ◌<◌, ◌%◌, ◌↔◌, IsTrue};
+ghost use Rattle.gj_shape.specs.Limits.{IsNumerator};
 
 use gj_shape::Shape;
 
@@ -12,9 +13,9 @@ pub(crate) struct Piece {
     pub(crate) right: i64,
     /// The limit from the left at (i + 1)/q.
     pub(crate) left: i64,
-    ghost value_small: { unsigned_abs value < 2 ^ 51 },
-    ghost right_small: { unsigned_abs right < 2 ^ 51 },
-    ghost left_small: { unsigned_abs left < 2 ^ 51 },
+    ghost value_small: { IsNumerator value },
+    ghost right_small: { IsNumerator right },
+    ghost left_small: { IsNumerator left },
 }
 
 impl Piece {
@@ -38,8 +39,8 @@ impl Piece {
 
 /// Whether x + y is the total.
 pub(crate) fn adds_up(x: i64, y: i64, total: i64) -> bool
-    requires first { unsigned_abs x < 2 ^ 51 }
-    requires second { unsigned_abs y < 2 ^ 51 }
+    requires first { IsNumerator x }
+    requires second { IsNumerator y }
     ensures { IsTrue result ↔ (x +ℤ y ≡ total) }
 {
     x + y == total

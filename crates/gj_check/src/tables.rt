@@ -126,7 +126,7 @@ pub(crate) fn has_subadditive_totals<E: Entry>(entries: &[E], count: usize, plac
 fn has_subadditive_total<E: Entry>(entries: &[E], count: usize, total: usize) -> bool
     requires periods { HaveTwoPeriods E.number entries.now count }
     requires few { count ≤ greatest_halves_order }
-    requires total { total < 12000 }
+    requires total { total < 3 * greatest_halves_order }
     ensures { (values : List ℤ) → length values ≡ count → AreTwoPeriods E.number entries.now values
         → IsTrue result ↔ HasSubadditiveTotal values total }
 {
@@ -145,7 +145,7 @@ fn has_subadditive_total<E: Entry>(entries: &[E], count: usize, total: usize) ->
 fn is_subadditive_part<E: Entry>(entries: &[E], count: usize, total: usize, i: usize) -> bool
     requires periods { HaveTwoPeriods E.number entries.now count }
     requires few { count ≤ greatest_halves_order }
-    requires total { total < 12000 }
+    requires total { total < 3 * greatest_halves_order }
     requires within { i < count }
     requires least { 3 * i ≤ total }
     requires greatest { total + 2 ≤ i + 2 * count }

@@ -31,22 +31,12 @@ fn is_narrow(n: i128) -> bool
     n > -NARROW_END
 }
 
-/// The product of two narrow numbers, by one multiplication of 64 bits.
-fn narrow_product(n: i64, m: i64) -> i128
-    requires first { unsigned_abs n < 2 ^ 63 }
-    requires second { unsigned_abs m < 2 ^ 63 }
-    ensures value { result ≡ n *ℤ m }
-    ensures fits { Fits (n *ℤ m) }
-{
-    i128::from(n) * i128::from(m)
-}
-
-/// The product of two numbers.
+/// The product of two numbers: of narrow ones, by one multiplication of 64 bits.
 pub(crate) fn product(n: i128, m: i128) -> Result<i128, TooWide>
     ensures { OkIff result (Fits (n *ℤ m)) (n *ℤ m) }
 {
     if is_narrow(n) && is_narrow(m) {
-        return Ok(narrow_product(n as i64, m as i64));
+        return Ok(i128::from(n as i64) * i128::from(m as i64));
     }
     fitting(n.checked_mul(m))
 }

@@ -1,7 +1,6 @@
 //! The rules on one group.
 ghost use Rattle.std.specs.Prelude.{pos, ◌≡◌, ◌<◌, ◌↔◌, List, All, IfNone, IfSome, IsTrue, get_or, length};
 ghost use Rattle.std.specs.declared.option.Option.TheVariants.{Some, None};
-ghost use Rattle.gj_shape.specs.Additive.{IsTight};
 ghost use Rattle.gj_shape.specs.Elimination.{KeptRow};
 ghost use Rattle.gj_check_groups.specs.RowNumbers.{AreRowNumbers};
 ghost use Rattle.gj_check_groups.specs.KeptTable.{IsTable, AreRowsAt};
@@ -57,18 +56,11 @@ fn meets_row(shape: &Shape, name: RowName) -> bool
 {
     match name {
         RowName::Period | RowName::F => true,
-        RowName::Pair(a, b) => is_tight(shape, a, b),
+        RowName::Pair(a, b) => {
+            let first = shape.value_numerator(a);
+            first + shape.value_numerator(b) == shape.value_numerator(a + b)
+        }
     }
-}
-
-/// Whether the pair is tight.
-fn is_tight(shape: &Shape, a: u32, b: u32) -> bool
-    requires first { a < shape.now.order }
-    requires second { b < shape.now.order }
-    ensures { IsTrue result ↔ IsTight shape.now a b }
-{
-    let first = shape.value_numerator(a);
-    first + shape.value_numerator(b) == shape.value_numerator(a + b)
 }
 
 /// Reduces a row at these columns in turn. The answer is the first rule that fails; the row is no

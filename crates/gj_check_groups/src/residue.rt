@@ -30,19 +30,7 @@ pub(crate) fn less_product(x: i128, u: i128, e: i128) -> i128
     requires second { IsResidue e }
     ensures { result ≡ residue modulus (x -ℤ u *ℤ e) }
 {
-    difference(x, exact_product(u, e))
-}
-
-/// The product of a residue or the modulus and a residue.
-fn exact_product(u: i128, e: i128) -> i128
-    requires low { pos 0 ≤ℤ u }
-    requires high { u ≤ℤ pos modulus }
-    requires second { IsResidue e }
-    ensures value { result ≡ u *ℤ e }
-    ensures low { pos 0 ≤ℤ result }
-    ensures high { result <ℤ pos (2 ^ 123) }
-{
-    u * e
+    difference(x, u * e)
 }
 
 /// The residue of x - y.

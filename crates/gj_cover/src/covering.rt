@@ -72,6 +72,6 @@ fn cover_of_table(alloc: Global, table: &Table) -> Result<Cover, AllocError>
     ensures { IfOk result (IsCoverOf table.now.order (IsTightInTable table.now)) }
 {
     let found = Progress::of(alloc, table)?;
-    let class = least_class(alloc, table, found.free())?;
+    let class = least_class(alloc, table, &found.free)?;
     Ok(found.with_class(class))
 }

@@ -58,21 +58,11 @@ fn is_mirrored(shape: &Shape) -> bool
     ensures { IsTrue result → AreMirrored shape.now }
 {
     for i in 0..shape.order() {
-        if !is_mirrored_at(shape, i) {
+        let opposite = shape.place() + (shape.order() - i);
+        let sum = shape.value_numerator(i) + shape.value_numerator(opposite);
+        if i128::from(sum) != shape.common_denominator() {
             return false;
         }
     }
     true
-}
-
-/// Whether the values at i/q and at f less i/q add up to 1.
-fn is_mirrored_at(shape: &Shape, i: u32) -> bool
-    requires { i < shape.now.order }
-    ensures { IsTrue result ↔
-        (at shape.now.value i +ℤ at shape.now.value (shape.now.place +
-        (shape.now.order - i)) ≡ pos shape.now.scale) }
-{
-    let opposite = shape.place() + (shape.order() - i);
-    let sum = shape.value_numerator(i) + shape.value_numerator(opposite);
-    i128::from(sum) == shape.common_denominator()
 }

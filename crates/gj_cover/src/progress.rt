@@ -19,7 +19,7 @@ pub(crate) struct Progress {
     /// The number of the component of each interval that has a line.
     component: Vec<Option<u32>>,
     /// The intervals that have no line.
-    free: IndexSet,
+    pub(crate) free: IndexSet,
     /// Those of them that are joined to an interval with a line, and perhaps some with a line.
     near: IndexSet,
     /// The lines.
@@ -46,7 +46,7 @@ impl Progress {
     {
         let order = table.order() as usize;
         Ok(Progress {
-            component: no_numbers(alloc, order)?,
+            component: vec![in alloc; None; order]?,
             free: IndexSet::below(order),
             near: IndexSet::empty(),
             lines: Vec::new(alloc),
@@ -66,13 +66,6 @@ impl Progress {
             progress.add(table, next.line, &next.joined)?;
         }
         Ok(progress)
-    }
-
-    /// The intervals that have no line.
-    pub(crate) fn free(&self) -> &IndexSet
-        ensures { result.now ≡ self.now.free }
-    {
-        &self.free
     }
 
     /// The cover with this class. It takes no memory.
@@ -186,11 +179,4 @@ impl Progress {
         self.searched = line.interval;
         Ok(())
     }
-}
-
-/// A list without numbers.
-fn no_numbers(alloc: Global, count: usize) -> Result<Vec<Option<u32>>, AllocError>
-    ensures { IfOk result (λ v. v.items ≡ replicate count None) }
-{
-    vec![in alloc; None; count]
 }

@@ -42,18 +42,8 @@ fn demo_values(alloc: Global, k: u32) -> Result<Vec<Frac>, AllocError>
     let order = 2 * k;
     let mut values = Vec::with_capacity(alloc, order as usize)?;
     for i in 0..order {
-        values.push(demo_value(k, i))?;
+        let numerator = i.min(order - i) + k * (i % 2);
+        values.push(Frac::ratio(i64::from(numerator), order))?;
     }
     Ok(values)
-}
-
-/// The value at i/(2 k), for this k.
-fn demo_value(k: u32, i: u32) -> Frac
-    requires low { 0 < k }
-    requires high { k < 500 }
-    requires within { i < 2 * k }
-    ensures { IsRatio result (pos (demo_number k i)) (pos (2 * k)) }
-{
-    let numerator = i.min(2 * k - i) + k * (i % 2);
-    Frac::ratio(i64::from(numerator), 2 * k)
 }

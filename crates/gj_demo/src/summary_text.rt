@@ -34,9 +34,13 @@ pub fn summary(alloc: Global, n: u32) -> Result<Vec<u8>, AllocError>
     let pairs = TightPairs::new(alloc, &shape)?;
     let triangles = count_additive_triangles(&shape, &pairs);
     let cover = cover_of_pairs(alloc, &shape, &pairs)?;
-    let covered = count_covered(cover.component.as_slice());
+    let component = cover.component.as_slice();
+    let covered = component.iter().filter(|number| number.is_some()).count() as u32;
     let components = cover.count;
     let proof = verdict(alloc, &shape, &pairs, cover, n)?;
+    let Claim::NotExtreme(_, halves) = proof.claim() else {
+        unreachable!();
+    };
     text_of(
         alloc,
         n,
@@ -44,7 +48,7 @@ pub fn summary(alloc: Global, n: u32) -> Result<Vec<u8>, AllocError>
         triangles,
         covered,
         components,
-        halves_of(&proof),
+        halves,
     )
 }
 
@@ -99,24 +103,4 @@ fn verdict(
         Err(DecideFault::NotContinuous(_index)) => unreachable!(),
         Err(DecideFault::Wide) => unreachable!(),
     }
-}
-
-/// The halves of a proof that a function is not extreme.
-fn halves_of(proof: &Proof) -> &Halves
-    requires { (f : FunctionData) × (h : Halves) × (proof.now ≡ NotExtreme f h) }
-    ensures halves { (f : FunctionData) (h : Halves) → proof.now ≡ NotExtreme f h → result.now ≡ h }
-    ensures bounds { AreHalvesInBounds result.now }
-{
-    match proof.claim() {
-        Claim::NotExtreme(_, halves) => halves,
-        _ => unreachable!(),
-    }
-}
-
-/// How many of the intervals have a component.
-fn count_covered(component: &[Option<u32>]) -> u32
-    requires { length component.now < 2 ^ 32 }
-    ensures { result ≡ count_by is_some component.now }
-{
-    component.iter().filter(|number| number.is_some()).count() as u32
 }

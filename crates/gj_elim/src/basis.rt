@@ -8,7 +8,7 @@ ghost use Rattle.gj_elim.specs.KeptRows.{log_row, answer_of, marked_in};
 
 use crate::extent::Extent;
 use crate::faults::ElimFault;
-use crate::keep::{keep, no_places};
+use crate::keep::{Origin, keep, no_places};
 use crate::log::{Inserted, LogRow};
 use crate::reduce::{free_column, reduce_row};
 use crate::solve::{solve_at, unit_row};
@@ -123,9 +123,11 @@ impl Basis {
                     &mut self.rows,
                     &mut self.extents,
                     self.places.as_mut_slice(),
-                    self.inserted,
-                    self.reduce.as_slice(),
-                    column,
+                    Origin {
+                        number: self.inserted,
+                        reduce: self.reduce.as_slice(),
+                        pivot: column,
+                    },
                     self.row.as_slice(),
                 )?;
                 self.inserted += 1;

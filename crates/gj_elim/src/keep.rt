@@ -11,6 +11,15 @@ use crate::step::make_kept;
 use gj_shape::List;
 use std::alloc::{AllocError, Global};
 
+/// Where a kept row comes from: its number among the inserted rows, the columns of the steps that
+/// reduced it, and the column of its pivot.
+#[derive(Clone, Copy)]
+pub(crate) struct Origin<'a> {
+    pub(crate) number: u64,
+    pub(crate) reduce: &'a [u32],
+    pub(crate) pivot: u32,
+}
+
 /// No column has a pivot.
 pub(crate) fn no_places(alloc: Global, columns: usize) -> Result<Vec<Option<u32>>, AllocError>
     ensures { IfOk result (λ v. ArePlaces columns [] v.items) }
@@ -26,23 +35,25 @@ pub(crate) fn keep(
     rows: &mut Vec<List<i128>>,
     extents: &mut Vec<Extent>,
     places: &mut [Option<u32>],
-    number: u64,
-    reduce: &[u32],
-    pivot: u32,
+    origin: Origin<'_>,
     row: &[i128],
 ) -> Result<(), AllocError>
-    requires within { pivot < length row.now }
+    requires within { origin.pivot < length row.now }
     requires fits { All Fits row.now }
     requires lines { length log.old.items ≡ length rows.old.items }
     requires count { length log.old.items < 2 ^ 32 }
     requires extents { AreExtents rows.old.items extents.old.items }
     requires places { ArePlaces (length places.old) log.old.items places.old }
-    requires free { IsFreeColumn (length places.old) log.old.items pivot }
+    requires free { IsFreeColumn (length places.old) log.old.items origin.pivot }
     ensures line { OnOk result (log.new.items
-        ≡ log.old.items ++ record { number = number; reduce = reduce.now; pivot = pivot } ∷ []) }
+        ≡ log.old.items ++ record {
+          number = origin.entry.number;
+          reduce = origin.entry.reduce.now;
+          pivot = origin.entry.pivot;
+        } ∷ []) }
     ensures entries { OnOk result
-        (rows.new.items ≡ rows.old.items ++ kept_entries row.now pivot ∷ []) }
-    ensures fits { OnOk result (All Fits (kept_entries row.now pivot)) }
+        (rows.new.items ≡ rows.old.items ++ kept_entries row.now origin.entry.pivot ∷ []) }
+    ensures fits { OnOk result (All Fits (kept_entries row.now origin.entry.pivot)) }
     ensures extents { OnOk result (AreExtents rows.new.items extents.new.items) }
     ensures places { OnOk result (ArePlaces (length places.old) log.new.items places.new) }
     ensures same_extents { OnErr result (extents.new.items ≡ extents.old.items) }
@@ -51,20 +62,20 @@ pub(crate) fn keep(
     ensures same_rows { OnErr result (rows.new.items ≡ rows.old.items) }
 {
     let mut entries = Vec::from_slice(alloc, row)?;
-    make_kept(entries.as_mut_slice(), pivot as usize);
+    make_kept(entries.as_mut_slice(), origin.pivot as usize);
     let extent = extent_of(entries.as_slice());
     let place = log.len() as u32;
-    let reduce = Vec::from_slice(alloc, reduce)?;
+    let reduce = Vec::from_slice(alloc, origin.reduce)?;
     log.reserve(1)?;
     rows.reserve(1)?;
     extents.reserve(1)?;
     log.push_reserved(LogRow {
-        number,
+        number: origin.number,
         reduce: List::of(reduce),
-        pivot,
+        pivot: origin.pivot,
     });
     rows.push_reserved(List::of(entries));
     extents.push_reserved(extent);
-    places[pivot as usize] = Some(place);
+    places[origin.pivot as usize] = Some(place);
     Ok(())
 }

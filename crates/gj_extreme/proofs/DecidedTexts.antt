@@ -11,7 +11,7 @@ use Rattle.gj_shape.specs.FunctionData.{FunctionData, IsWithinBounds}
 use Rattle.gj_shape.specs.SlopeRows.{row_names}
 use Rattle.gj_shape.specs.declared.extremality.CoverLine.{CoverLine}
 use Rattle.gj_proof.specs.PresentRows.{arithmetic_of, named_row}
-use Rattle.gj_proof.specs.ProofText.{IsBounded, HaveFewSteps, IsProofText}
+use Rattle.gj_proof.specs.ProofText.{IsBounded, HaveFewSteps, longest_extreme_text, IsProofText}
 use Rattle.gj_proof.specs.declared.claim.Claim.{Claim}
 use Rattle.gj_proof.specs.declared.claim.Claim.TheVariants.{Minimal, NotMinimal, Cut, Extreme, ExtremeByResidues, NotExtreme}
 use Rattle.gj_proof.specs.declared.numbers.Numbers.{Numbers}
@@ -99,7 +99,7 @@ decided_is_bounded f (Cut r rows) within d = absurd d
 decided_is_bounded f (ExtremeByResidues g lines rows) within d = subst IsWithinBounds (sym d.0) within
 
 pub decided_text_is_short : (f : FunctionData) (c : Claim) (text : List ℕ) → IsWithinBounds f → IsDecided f c → IsProofText c text →
-    length text ≤ 12000000
+    length text ≤ longest_extreme_text
 decided_text_is_short f (Extreme g lines rows) text within d p =
     extreme_text_is_short g lines rows text (decided_is_bounded f (Extreme g lines rows) within d)
     (extreme_has_few_steps Whole f lines rows within d.3) p

@@ -1,4 +1,5 @@
 pub mod Faults
 pub mod Decision
+pub mod Decided
 pub mod SeenPairs
 pub mod RowsToCome

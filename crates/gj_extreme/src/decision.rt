@@ -12,6 +12,7 @@ ghost use Rattle.gj_proof.specs.Meaning.{ClaimHolds};
 ghost use Rattle.gj_proof.specs.ProofText.{HasText, IsBounded};
 ghost use Rattle.gj_proof.specs.Rules.{MeetsRules};
 ghost use Rattle.gj_extreme.specs.Decision.{AreAllCovered, IsDecided, IsExtremeClaim, IsByTable, IsExtremeOnGrid4, IsTooWide};
+ghost use Rattle.gj_extreme.specs.Decided.{IsDecision};
 ghost use Rattle.gj_extreme.specs.Faults.{IsMemoryFault};
 
 use crate::covered::extreme_or_slopes;
@@ -124,10 +125,7 @@ fn claim_by_cover(
     requires continuous { IsContinuous shape.now }
     requires pairs { AreTightPairsOf shape.now pairs.now }
     requires cover { IsCoverOf shape.now.order (IsTight shape.now) cover }
-    ensures decided { IfOk result (IsDecided shape.now) }
-    ensures text { IfOk result HasText }
-    ensures no_jump { (i : ℕ) → ¬ IsErrOf result (DecideFault.NotContinuous i) }
-    ensures wide { IsErrOf result DecideFault.Wide → IsTooWide shape.now }
+    ensures { IsDecision shape.now result }
 {
     if cover.class.as_slice().is_empty() {
         return extreme_or_slopes(alloc, shape, pairs, cover);

@@ -5,7 +5,7 @@ ghost use Rattle.gj_shape.specs.Table.{IsMinimal};
 ghost use Rattle.gj_shape.specs.TwoSlopes.{HasTwoSlopes};
 ghost use Rattle.gj_shape.specs.declared.extremality.CoverLine.{CoverLine};
 ghost use Rattle.gj_proof.specs.Meaning.{ClaimHolds};
-ghost use Rattle.gj_proof.specs.ProofText.{HasText, IsProofText, numbers_of};
+ghost use Rattle.gj_proof.specs.ProofText.{HasText, longest_extreme_text, IsProofText, numbers_of};
 ghost use Rattle.gj_proof.specs.declared.claim.Claim.{Claim};
 ghost use Rattle.gj_proof.specs.declared.numbers.Numbers.TheVariants.{Whole};
 ghost use Rattle.gj_extreme.specs.Decision.{AreAllCovered, IsDecided, IsExtremeClaim, IsTooWide};
@@ -27,7 +27,7 @@ pub fn decided_claims()
 pub fn decided_texts_are_short()
     ensures { (f : FunctionData) (c : Claim) (text : List ℕ) → IsWithinBounds f → IsDecided f c →
         IsProofText c text →
-        length text ≤ 12_000_000 }
+        length text ≤ longest_extreme_text }
 {}
 
 /// With at most four components no number is too wide, and a proof is never by residues.

@@ -1,6 +1,6 @@
 //! The decision on a function whose intervals are all covered, if a number of the plain elimination
 //! passes.
-ghost use Rattle.std.specs.Prelude.{ℕ, ◌≡◌, ◌<◌, ◌++◌, List, length, map, All, IfOk, OnOk, IsErrOf};
+ghost use Rattle.std.specs.Prelude.{ℕ, ◌≡◌, ◌<◌, ◌++◌, List, length, map, All, IfOk, OnOk};
 ghost use Rattle.gj_faces.specs.TightPairs.{AreTightPairsOf};
 ghost use Rattle.gj_shape.specs.Elimination.{KeptRow, Passes};
 ghost use Rattle.gj_shape.specs.FunctionData.{FunctionData, IsContinuous, IsWithinBounds};
@@ -8,9 +8,9 @@ ghost use Rattle.gj_shape.specs.SlopeRows.{row_of, row_names, component_in};
 ghost use Rattle.gj_shape.specs.Table.{IsMinimal};
 ghost use Rattle.gj_shape.specs.declared.extremality.RowName.{RowName};
 ghost use Rattle.gj_elim.specs.KeptRows.{log_row};
-ghost use Rattle.gj_proof.specs.ProofText.{HasText};
 ghost use Rattle.gj_system.specs.Components.{IsNameBelow};
-ghost use Rattle.gj_extreme.specs.Decision.{AreAllCovered, IsDecided, IsTooWide, group_of, slope_elimination};
+ghost use Rattle.gj_extreme.specs.Decision.{AreAllCovered, group_of, slope_elimination};
+ghost use Rattle.gj_extreme.specs.Decided.{IsDecision};
 ghost use Rattle.gj_extreme.specs.RowsToCome.{pairs_from};
 
 use crate::faults::DecideFault;
@@ -41,10 +41,7 @@ pub(crate) fn extreme_by_residues(
         (component_in system.now.component) system.now.columns }
     requires passes { Passes (slope_elimination shape.now
         (component_in system.now.component) system.now.columns).marked }
-    ensures decided { IfOk result (IsDecided shape.now) }
-    ensures text { IfOk result HasText }
-    ensures wide { IsErrOf result DecideFault.Wide → IsTooWide shape.now }
-    ensures no_jump { (i : ℕ) → ¬ IsErrOf result (DecideFault.NotContinuous i) }
+    ensures { IsDecision shape.now result }
 {
     let names = names_of(alloc, shape, pairs)?;
     let mut rows = rows_of(alloc, shape.place(), system, names.as_slice())?;

@@ -42,9 +42,12 @@ impl SeenPairs {
             (λ p. p ≡ record { a = 0; b = 0 }) seen.pairs.items) }
     {
         let places = (PLACES_OF_INTERVAL * component.len()).min(MOST_PLACES);
+        let mut codes = Vec::with_capacity(alloc, 2 * component.len())?;
+        push_codes(&mut codes, component)?;
+        push_codes(&mut codes, component)?;
         Ok(SeenPairs {
             pairs: vec![in alloc; SeenPair { a: 0, b: 0 }; places]?,
-            codes: codes_of(alloc, component)?,
+            codes,
         })
     }
 
@@ -63,32 +66,16 @@ impl SeenPairs {
     }
 }
 
-/// For each grid point, below the order twice, the code of the counts of the intervals before it:
-/// the sum of the codes of their components.
-fn codes_of(alloc: Global, component: &[u32]) -> Result<Vec<u64>, AllocError>
-    requires { length component.now < 2 ^ 31 }
-    ensures { IfOk result (λ v. length v.items ≡ 2 * length component.now) }
-{
-    let mut codes = Vec::with_capacity(alloc, 2 * component.len())?;
-    push_codes(&mut codes, component)?;
-    push_codes(&mut codes, component)?;
-    Ok(codes)
-}
-
-/// Appends the codes of the counts for the grid points below the order.
+/// Appends the codes of the counts for the grid points below the order: the sums of the codes of
+/// the components, each its number, scattered.
 fn push_codes(codes: &mut Vec<u64>, component: &[u32]) -> Result<(), AllocError>
     ensures { OnOk result (length codes.new.items ≡ length codes.old.items + length component.now) }
 {
     let mut code: u64 = 0;
     for number in component {
         codes.push(code)?;
-        code = code.wrapping_add(code_of(*number));
+        let spread = (u64::from(*number) + 1).wrapping_mul(SPREAD);
+        code = code.wrapping_add((spread ^ spread >> 29).wrapping_mul(SPREAD));
     }
     Ok(())
-}
-
-/// The code of a component: its number, scattered.
-fn code_of(number: u32) -> u64 {
-    let spread = (u64::from(number) + 1).wrapping_mul(SPREAD);
-    (spread ^ spread >> 29).wrapping_mul(SPREAD)
 }

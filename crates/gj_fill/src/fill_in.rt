@@ -91,7 +91,8 @@ fn push_points(
         (points_from shape.now steps.rise steps.fall a) more
         × (points.new.items ≡ points.old.items ++ more)) }
 {
-    points.push(pair_at(shape, a))?;
+    let x = Frac::ratio(i64::from(a), shape.order());
+    points.push((x, shape.value(a)))?;
     if crosses(shape, steps, a) {
         points.push(crossing_pair(shape, steps, a))?;
     }
@@ -106,15 +107,6 @@ fn crosses(shape: &Shape, steps: Steps, a: u32) -> bool
 {
     let rise = rise_at(shape, a);
     -steps.fall < rise && rise < steps.rise
-}
-
-/// The point at a/q.
-fn pair_at(shape: &Shape, a: u32) -> (Frac, Frac)
-    requires { a < shape.now.order }
-    ensures { IsPairOf (value_point shape.now a) result }
-{
-    let x = Frac::ratio(i64::from(a), shape.order());
-    (x, shape.value(a))
 }
 
 /// The point behind a/q at which the two lines cross.

@@ -58,8 +58,9 @@ words_are_plain (f ∷ g ∷ fs) h = All-cons IsPlain (word_of f) (words_of (g �
 
 -- ---- and tell the fields
 
-head_and_tail : (v w : List ℕ) (vs ws : List (List ℕ)) → v ∷ vs ≡ w ∷ ws → (v ≡ w) × (vs ≡ ws)
-head_and_tail v w vs ws e = (cc, cc)
+-- equal lists have equal heads and equal tails
+pub head_and_tail : {A : Type 0} (a b : A) (xs ys : List A) → a ∷ xs ≡ b ∷ ys → (a ≡ b) × (xs ≡ ys)
+head_and_tail a b xs ys e = (cc, cc)
 
 same_field : (f g : Field) (P : Type 0) → IfAlike f g P → IsGood f → IsGood g → word_of f ≡ word_of g → (f ≡ g) × P
 same_field (word v) (word w) P k h i e = (ap word e, k)

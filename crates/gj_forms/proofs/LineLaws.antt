@@ -1,6 +1,6 @@
 -- The lines of a form: the words of a line spell one thing or break the form for one reason, and
 -- what is printed is read again as the same.
-use Rattle.std.proofs.Common.{◌≡◌, ◌≢◌, inl, inr, Result, Err, IfErr, ℕ, List, [], ◌∷◌, ◌++◌, refl, sym, ap, subst, ◌∙◌}
+use Rattle.std.proofs.Common.{◌≡◌, ◌≢◌, inl, inr, ℕ, List, [], ◌∷◌, ◌++◌, refl, sym, ap, subst, ◌∙◌}
 use Rattle.std.specs.List.{join_with_byte}
 use Rattle.std.proofs.lemmas.List.{append_assoc}
 use Rattle.gj_lex.specs.declared.spelling.Spelling.TheVariants.{Strict}
@@ -100,7 +100,3 @@ module _ {A : Type 0} (form : LineForm A) (clear : IsClear form) where
   begins_not a w v more rest has is other =
       other_word Strict (line_of form a ++ rest) (line_of form a ++ rest) (words_of (form.fields a)) v rest (refl, strict_line a rest has)
       (λ others e. other (let both : w ∷ more ≡ v ∷ others = sym is ∙ e in cc))
-
--- an error that is passed on has what the callee's has
-pub passed_on : {T E : Type 0} (Q : E → Type 0) (e y : E) (r : Result T E) → r ≡ Err y → y ≡ e → Q e → IfErr r Q
-passed_on Q e y r is same h = rw (is, same) h

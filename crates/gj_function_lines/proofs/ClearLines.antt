@@ -13,7 +13,7 @@ use Rattle.gj_lex.proofs.CanonicalTexts.{same_from_fraction_text}
 use Rattle.gj_forms.specs.LineForms.{Field, word_of, words_of, with_numbers, bytes_of}
 use Rattle.gj_forms.specs.LineForms.Field.{fraction}
 use Rattle.gj_forms.specs.SpelledForms.{Spell}
-use Rattle.gj_forms.proofs.FieldWords.{AreGood, AreAlike}
+use Rattle.gj_forms.proofs.FieldWords.{AreGood, AreAlike, head_and_tail}
 use Rattle.gj_forms.proofs.PlainWords.{known}
 use Rattle.gj_forms.proofs.SpelledLaws.{IsClearForm}
 use Rattle.gj_forms.proofs.SpelledLines.{strict_words_are, clear_form}
@@ -50,20 +50,17 @@ one_numbers (three p) (three q) e =
 one_numbers (one x) (three q) e = absurd cc
 one_numbers (three p) (one y) e = absurd cc
 
-behind : {A : Type 0} (a b : A) (xs ys : List A) → a ∷ xs ≡ b ∷ ys → (a ≡ b) × (xs ≡ ys)
-behind a b xs ys e = (cc, cc)
-
 pub point_is_clear : IsClearForm point_form
 point_is_clear =
-    clear_form point_form.fields (λ a b words e. alike_numbers a b _ (behind _ _ _ _ e).1) (λ a b e. one_numbers a b (behind _ _ _ _ e).1)
+    clear_form point_form.fields (λ a b words e. alike_numbers a b _ (head_and_tail _ _ _ _ e).1) (λ a b e. one_numbers a b (head_and_tail _ _ _ _ e).1)
 
 pub break_is_clear : IsClearForm break_form
 break_is_clear =
-    clear_form break_form.fields (λ a b words e. alike_numbers a.1 b.1 _ (behind _ _ _ _ (behind _ _ _ _ e).1).1) one_break
+    clear_form break_form.fields (λ a b words e. alike_numbers a.1 b.1 _ (head_and_tail _ _ _ _ (head_and_tail _ _ _ _ e).1).1) one_break
   where
     one_break : (a b : Frac × PointNumbers) → break_form.fields a ≡ break_form.fields b → a ≡ b
     one_break a b e =
-        let p = behind _ _ _ _ (behind _ _ _ _ e).1 in
+        let p = head_and_tail _ _ _ _ (head_and_tail _ _ _ _ e).1 in
         let place : a.0 ≡ b.0 = (let h : fraction a.0 ≡ fraction b.0 = p.0 in cc) in
         let numbers = one_numbers a.1 b.1 p.1 in
         λ i. (place i, numbers i)

@@ -8,7 +8,7 @@ use Rattle.gj_lex.proofs.PartLaws.{line_part_is_exact}
 use Rattle.gj_lex.specs.declared.reason.Reason.TheVariants as reason
 use Rattle.gj_forms.specs.LineForms.{with_numbers}
 use Rattle.gj_forms.specs.SpelledForms.{rule_in}
-use Rattle.gj_forms.proofs.FieldWords.{AreAlike}
+use Rattle.gj_forms.proofs.FieldWords.{AreAlike, head_and_tail}
 use Rattle.gj_forms.proofs.PlainWords.{apart}
 use Rattle.gj_forms.proofs.SpelledLaws.{rule_in_is_exact, made_rule_is_exact}
 use Rattle.gj_forms.proofs.SpelledLines.{clear_form}
@@ -32,21 +32,14 @@ one_sign true false e = absurd (omega arith)
 one_sign false true e = absurd (omega arith)
 one_sign false false e = refl
 
--- words with different first bytes differ
-first_bytes : (a b : ℕ) (v w : List ℕ) → a ∷ v ≡ b ∷ w → a ≡ b
-first_bytes a b v w e = cc
-
-other_bytes : (a b : ℕ) (v w : List ℕ) → a ∷ v ≡ b ∷ w → v ≡ w
-other_bytes a b v w e = cc
-
 -- bytes spell one list of signs
 one_signs : (a b : List Bool) → map sign_byte a ≡ map sign_byte b → a ≡ b
 one_signs [] [] e = refl
 one_signs [] (y ∷ b) e = absurd (no_byte (sign_byte y) (map sign_byte b) e)
 one_signs (x ∷ a) [] e = absurd (no_byte (sign_byte x) (map sign_byte a) (sym e))
 one_signs (x ∷ a) (y ∷ b) e =
-    ap₂ (λ sign signs. sign ∷ signs) (one_sign x y (first_bytes (sign_byte x) (sign_byte y) (map sign_byte a) (map sign_byte b) e))
-    (one_signs a b (other_bytes (sign_byte x) (sign_byte y) (map sign_byte a) (map sign_byte b) e))
+    let same = head_and_tail (sign_byte x) (sign_byte y) (map sign_byte a) (map sign_byte b) e in
+    ap₂ (λ sign signs. sign ∷ signs) (one_sign x y same.0) (one_signs a b same.1)
 
 -- ---- the form
 

@@ -5,10 +5,14 @@ use Rattle.gj_lex.specs.declared.reason.Reason.{Reason}
 use Rattle.gj_lex.specs.declared.spelling.Spelling.TheVariants.{Lenient}
 use Rattle.std.proofs.lemmas.Int.{ints}
 use Rattle.gj_frac.specs.declared.Frac.{Frac}
+use Rattle.gj_lex.specs.LineFaults.{IsRefusedFor}
+use Rattle.gj_lex.specs.declared.line_fault.LineFault.{LineFault}
+use Rattle.gj_lex.proofs.PartLaws.{refused_for}
 use Rattle.gj_lex.specs.SpelledNumbers.{IsCountWord, IsFractionWord}
 use Rattle.gj_lex.specs.declared.reason.Reason.TheVariants as reason
 use Rattle.gj_forms.specs.LineForms.{AreOfForm}
 use Rattle.gj_forms.specs.SpelledForms.{rule_in}
+use Rattle.gj_forms.proofs.FieldWords.{head_and_tail}
 use Rattle.gj_forms.proofs.PlainWords.{apart}
 use Rattle.gj_forms.proofs.WholeNumbers.{whole}
 use Rattle.gj_shape.specs.FunctionData.{FunctionData, IsWithinBounds}
@@ -17,14 +21,9 @@ use Rattle.gj_family.specs.Faults.{HasTwoSlopeFault, HasNoTwoSlopeFault}
 use Rattle.gj_family.specs.declared.faults.FamilyFault.{FamilyFault}
 use Rattle.gj_family.specs.declared.faults.FamilyFault.TheVariants as fault
 use Rattle.gj_function_text.specs.FamilyLine.{Family, gmic, half, two_slope, family_form, sign_byte, AreSigns, IsFaultOfFamily, IsReasonOf, family_rule}
-use Rattle.gj_function_text.specs.FamilyRead.{gmic_words, half_words, two_slope_words, IsRefusedFor, IsSign, IsCut}
-use Rattle.gj_function_text.specs.declared.family.LineFault.{LineFault}
-use Rattle.gj_function_text.specs.declared.family.LineFault.TheVariants.{Broken, Memory}
+use Rattle.gj_function_text.specs.FamilyRead.{gmic_words, half_words, two_slope_words, IsSign, IsCut}
 
 -- ---- words
-
-behind : (v w : List ℕ) (vs ws : List (List ℕ)) → v ∷ vs ≡ w ∷ ws → vs ≡ ws
-behind v w vs ws e = cc
 
 -- a number for a word that spells none
 zero : Frac
@@ -34,9 +33,9 @@ zero = whole (pos 0) (omega (arith, ints))
 pub no_line_words : (line rest : List (List ℕ)) → line ≡ codes "family" ∷ rest → ((v : List ℕ) → rest ≡ codes "gmic" ∷ v ∷ [] → ⊥) →
     ((v : List ℕ) → rest ≡ codes "half" ∷ v ∷ [] → ⊥) → ((v w : List ℕ) → rest ≡ codes "two-slope" ∷ v ∷ w ∷ [] → ⊥) →
     AreOfForm family_form line → ⊥
-no_line_words line rest e no_gmic no_half no_slopes (gmic f, is, t) = no_gmic _ (behind _ _ _ _ (sym e ∙ is))
-no_line_words line rest e no_gmic no_half no_slopes (half f, is, t) = no_half _ (behind _ _ _ _ (sym e ∙ is))
-no_line_words line rest e no_gmic no_half no_slopes (two_slope k w, is, t) = no_slopes _ _ (behind _ _ _ _ (sym e ∙ is))
+no_line_words line rest e no_gmic no_half no_slopes (gmic f, is, t) = no_gmic _ (head_and_tail _ _ _ _ (sym e ∙ is)).1
+no_line_words line rest e no_gmic no_half no_slopes (half f, is, t) = no_half _ (head_and_tail _ _ _ _ (sym e ∙ is)).1
+no_line_words line rest e no_gmic no_half no_slopes (two_slope k w, is, t) = no_slopes _ _ (head_and_tail _ _ _ _ (sym e ∙ is)).1
 
 -- what words spell
 pub gmic_spelled : (w : List ℕ) (f : Frac) → IsFractionWord Lenient w f → (rule_in Lenient family_form).Spells (gmic_words w) (gmic f)
@@ -89,11 +88,6 @@ only_signs word signs e =
     is_sign false = inr refl
 
 -- ---- refusals
-
--- a refusal for one reason is one for another that follows from it
-pub refused_for : (P Q : Reason → Type 0) (e : LineFault) → ((d : Reason) → P d → Q d) → IsRefusedFor P e → IsRefusedFor Q e
-refused_for P Q (Broken d) step h = step d h
-refused_for P Q (Memory a) step h = tt
 
 -- the family that the words spell has a fault
 pub family_refused : (words : List (List ℕ)) (a : Family) (x : FamilyFault) (e : LineFault) →

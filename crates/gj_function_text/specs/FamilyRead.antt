@@ -1,10 +1,7 @@
 -- What the readers of the parts of a family line find (own).
 use Rattle.std.specs.Prelude.{ℕ, ◌≡◌, ◌⊎◌, ◌+◌, ◌<◌, ◌≤◌, ◌^◌, List, [], ◌∷◌, codes}
-use Rattle.gj_lex.specs.declared.reason.Reason.{Reason}
 use Rattle.gj_function_text.specs.declared.family.LineWords.{LineWords}
 use Rattle.gj_function_text.specs.declared.family.LineWords.TheVariants.{Gmic, Half, TwoSlope}
-use Rattle.gj_function_text.specs.declared.family.LineFault.{LineFault}
-use Rattle.gj_function_text.specs.declared.family.LineFault.TheVariants.{Broken, Memory}
 
 -- the words of a line, by those that differ from line to line
 abbrev pub gmic_words : List ℕ → List (List ℕ)
@@ -20,11 +17,6 @@ abbrev pub texts_of : LineWords → List (List ℕ)
 texts_of (Gmic word) = gmic_words word.now
 texts_of (Half word) = half_words word.now
 texts_of (TwoSlope count signs) = two_slope_words count.now signs.now
-
--- a line is refused for a reason of which Q holds, or there was no memory
-abbrev pub IsRefusedFor : (Reason → Type 0) → LineFault → Type 0
-IsRefusedFor Q (Broken e) = Q e
-IsRefusedFor Q (Memory a) = Unit {0}
 
 -- `+` or `-`
 abbrev pub IsSign : ℕ → Type 0

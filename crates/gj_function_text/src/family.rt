@@ -1,24 +1,25 @@
 //! Lines that name a function of a family, read.
 ghost use Rattle.std.specs.Prelude.{◌≡◌, ◌↔◌, All, IfSome, IfNone, IfOk, IfErr, IsTrue};
 ghost use Rattle.std.specs.Str.Parse.{digits_value};
+ghost use Rattle.gj_lex.specs.LineFaults.{IsRefusedFor};
 ghost use Rattle.gj_lex.specs.Words.{word_texts};
 ghost use Rattle.gj_lex.specs.Parts.{IsFaultOf};
 ghost use Rattle.gj_lex.specs.SpelledNumbers.{IsCountWord};
 ghost use Rattle.gj_forms.specs.LineForms.{AreOfForm};
 ghost use Rattle.gj_function_text.specs.FamilyLine.{family_form, AreSigns, IsReasonOf, family_rule};
-ghost use Rattle.gj_function_text.specs.FamilyRead.{gmic_words, half_words, two_slope_words, texts_of, IsRefusedFor, IsSign, IsCut};
+ghost use Rattle.gj_function_text.specs.FamilyRead.{gmic_words, half_words, two_slope_words, texts_of, IsSign, IsCut};
 ghost use Rattle.gj_function_text.specs.FunctionText.{family_part};
 
 use gj_family::{FamilyFault, gmic, half, two_slope};
 use gj_lex::{
-    PartFault, Reason, Spelling, behind_name, count_of, field_of, fraction_of, is_count, line_at,
+    LineFault, PartFault, Reason, Spelling, behind_name, count_of, field_of, fraction_of, is_count, line_at,
     two_fields_of,
 };
 use gj_shape::Shape;
 use std::alloc::{AllocError, Global};
 
 /// The words of a line that names a function of a family.
-#[derive(Clone, Copy, Debug)]
+#[derive(Clone, Copy)]
 pub(crate) enum LineWords<'a> {
     /// `family gmic F`.
     Gmic(&'a [u8]),
@@ -26,15 +27,6 @@ pub(crate) enum LineWords<'a> {
     Half(&'a [u8]),
     /// `family two-slope K SIGNS`.
     TwoSlope(&'a [u8], &'a [u8]),
-}
-
-/// Why a line names no function.
-#[derive(Debug, Drop)]
-pub(crate) enum LineFault {
-    /// It is refused for this reason.
-    Broken(Reason),
-    /// There was no memory.
-    Memory(AllocError),
 }
 
 /// The function of a family that the next line names, and what follows the line.

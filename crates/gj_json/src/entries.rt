@@ -42,16 +42,8 @@ pub(crate) fn fraction(value: &Value) -> Option<Frac>
 {
     match value.as_str() {
         Some(word) => fraction_of(Spelling::Lenient, word.as_bytes()),
-        None => whole(integer(value)?),
+        None => Frac::new(integer(value)?, 1),
     }
-}
-
-/// The whole number as a fraction.
-fn whole(n: i128) -> Option<Frac>
-    ensures found { IfSome result (λ x. IsRatio x n (pos 1)) }
-    ensures none { IfNone result ((x : Frac) → IsRatio x n (pos 1) → ⊥) }
-{
-    Frac::new(n, 1)
 }
 
 /// The fractions that the entries spell.

@@ -29,7 +29,7 @@ pub(crate) fn form_of(value: &Value) -> Option<Form<'_>>
         HasForm (view value.now) p ls vs rs → ⊥) }
 {
     let place = value.get("f")?;
-    let values = list_at(value, "value")?;
+    let values = list(value.get("value")?)?;
     let (left, right) = limits_of(value, values)?;
     let count = values.len();
     if has_only_keys(value)
@@ -63,13 +63,6 @@ fn limits_of<'a>(value: &'a Value, values: &'a [Value]) -> Option<(&'a [Value], 
     }
 }
 
-/// The list at the key.
-fn list_at<'a>(value: &'a Value, key: &str) -> Option<&'a [Value]>
-    ensures { option_map (λ v. map view v.now) result ≡ list_at key.now (view value.now) }
-{
-    list(value.get(key)?)
-}
-
 /// The list that the value is.
 fn list(value: &Value) -> Option<&[Value]>
     ensures { option_map (λ v. map view v.now) result ≡ option_map list_of
@@ -94,14 +87,10 @@ fn has_only_keys(value: &Value) -> bool
     ensures { IsTrue result ↔ HasOnlyKeys (view value.now) }
 {
     match value.as_object() {
-        Some(members) => members.keys().all(|key| is_key(key.as_str())),
+        Some(members) => members.keys().all(|key| {
+            let key = key.as_str();
+            key == "f" || key == "left" || key == "order" || key == "right" || key == "value"
+        }),
         None => false,
     }
-}
-
-/// Whether a function has the key.
-fn is_key(key: &str) -> bool
-    ensures { IsTrue result ↔ IsKey key.now }
-{
-    key == "f" || key == "left" || key == "order" || key == "right" || key == "value"
 }

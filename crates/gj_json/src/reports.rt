@@ -44,19 +44,12 @@ fn line_values(alloc: Global, text: &[u8]) -> Result<Value, AllocError>
     let mut line = Vec::new(alloc);
     for byte in text {
         if *byte == b'\n' {
-            values.push(text_value(alloc, line.as_slice())?)?;
+            let text = str::from_utf8(line.as_slice()).unwrap();
+            values.push(Value::try_from_str(alloc, text)?)?;
             line.clear();
         } else {
             line.push(*byte)?;
         }
     }
     Ok(Value::Array(values))
-}
-
-/// The bytes as a string.
-fn text_value(alloc: Global, bytes: &[u8]) -> Result<Value, AllocError>
-    requires { All IsPrintable bytes.now }
-    ensures { IfOk result (λ v. view v ≡ string bytes.now) }
-{
-    Value::try_from_str(alloc, str::from_utf8(bytes).unwrap())
 }

@@ -1,5 +1,5 @@
 -- Numbers are laid into lanes, one after the other.
-use Rattle.std.proofs.Common.{◌≡◌, ◌≢◌, inl, inr, ℕ, ◌+◌, ◌-◌, ◌*◌, ◌<◌, ℤ, pos, List, length, get_or, set, ap, subst, refl, sym, ◌∙◌, get_or-set_other, get_or-set_same, below_more, w64, to_z, of_z, arith}
+use Rattle.std.proofs.Common.{◌≡◌, ◌≢◌, inl, inr, ℕ, ◌+◌, ◌-◌, ◌*◌, ◌<◌, ℤ, pos, ◌≤ℤ◌, List, length, get_or, set, ap, subst, refl, sym, ◌∙◌, get_or-set_other, get_or-set_same, below_more, w64, to_z, of_z, arith}
 use Rattle.std.proofs.lemmas.Int.{ints, to_z-of_z}
 use Rattle.std.proofs.Math.ListN.{length-set}
 use Rattle.std.proofs.lemmas.Bool.{cases_lt}
@@ -22,6 +22,13 @@ read_number {least} {bound} narrow numbers i below range =
         let bound_low = narrow.1 in
         let read = to_z-of_z w64 x (omega (arith, ints)) in
         rw read ((omega (arith, ints), omega (arith, ints)), e)
+
+-- numbers from 0 to a scale are in a range that begins at 0, if the scale is
+pub up_to_scale : {least : ℤ} (bound scale : ℕ) (numbers known : List ℤ) → numbers ≡ known → least ≡ pos 0 → scale < bound →
+    ((i : ℕ) → pos 0 ≤ℤ at known i) → ((i : ℕ) → at known i ≤ℤ pos scale) → AreInRange least bound numbers
+up_to_scale {least} bound scale numbers known is zero fits low high =
+    subst (AreInRange least bound) (sym is)
+    (λ i. let above = low i in let below = high i in (omega (arith, ints), omega (arith, ints)))
 
 -- the first n numbers lie in the lanes twice: from lane 0 on, and behind the last number
 pub record AreLaid {L : Type 0} (number : L → ℤ) (lanes : List L) (numbers : List ℤ) (n : ℕ) : Type 0 where

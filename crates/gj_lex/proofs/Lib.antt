@@ -1,5 +1,6 @@
 pub mod Decimals
 pub mod FirstPlaces
+pub mod LeadingDigits
 pub mod LineEnds
 pub mod LineWords
 pub mod Places

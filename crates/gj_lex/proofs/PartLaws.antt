@@ -5,6 +5,10 @@ use Rattle.gj_lex.specs.declared.spelling.Spelling.TheVariants.{Lenient, Strict}
 use Rattle.gj_lex.specs.declared.reason.Reason.{Reason}
 use Rattle.gj_lex.specs.declared.fault.PartFault.{PartFault}
 use Rattle.gj_lex.specs.declared.fault.PartFault.TheVariants.{Refused, Memory}
+use Rattle.gj_lex.specs.declared.line_fault.LineFault.{LineFault}
+use Rattle.gj_lex.specs.declared.line_fault.LineFault.TheVariants.{Broken}
+use Rattle.gj_lex.specs.declared.line_fault.LineFault.TheVariants as of_line
+use Rattle.gj_lex.specs.LineFaults.{IsRefusedFor}
 use Rattle.gj_lex.specs.TextLines.{HasLine, HasNoLine, HasNothing, HasSomething}
 use Rattle.gj_lex.specs.Parts.{LineRule, words_rule, Part, line_part, empty_part, then_part, made_part, framed_part, end_part, IsExactRule, IsExactPart, IsFaultOf, IsNoLine, IsTail}
 use Rattle.gj_lex.proofs.LenientLines.{one_next_line, next_not_skipped, next_suffix}
@@ -218,9 +222,13 @@ end_part_is_exact sp a = record {
 -- ---- what readers answer
 
 -- an error that is passed on has what the callee's has
-pub passed_on : {T : Type 0} (Q : PartFault → Type 0) (e y : PartFault) (r : Result T PartFault) → r ≡ Err y → y ≡ e → Q e →
-    IfErr r Q
+pub passed_on : {T E : Type 0} (Q : E → Type 0) (e y : E) (r : Result T E) → r ≡ Err y → y ≡ e → Q e → IfErr r Q
 passed_on Q e y r is same h = rw (is, same) h
+
+-- a refusal for one reason is one for another that follows from it
+pub refused_for : (P Q : Reason → Type 0) (e : LineFault) → ((d : Reason) → P d → Q d) → IsRefusedFor P e → IsRefusedFor Q e
+refused_for P Q (Broken d) step h = step d h
+refused_for P Q (of_line.Memory a) step h = tt
 
 module _ {A : Type 0} (sp : Spelling) (rule : LineRule A) where
   -- a line breaks the rule

@@ -30,13 +30,13 @@ digit_no_mark : (c : ℕ) → 48 ≤ c → is_mark c ≡ false
 digit_no_mark c h = grind (arith, nat_tests)
 
 -- digits have no mark among them
-mark_after_digits : (ds : List ℕ) (m : ℕ) (bs : List ℕ) → AllDigits 10 ds → is_mark m ≡ true → position_or_len is_mark (ds ++ m ∷ bs) ≡ length ds
+pub mark_after_digits : (ds : List ℕ) (m : ℕ) (bs : List ℕ) → AllDigits 10 ds → is_mark m ≡ true → position_or_len is_mark (ds ++ m ∷ bs) ≡ length ds
 mark_after_digits [] m bs d h = rw h refl
 mark_after_digits (c ∷ cs) m bs d h =
     let r = digit_from_value c d.0 in
     rw (digit_no_mark c (omega arith)) (omega (arith, mark_after_digits cs m bs d.1 h))
 
-no_mark_in_digits : (ds : List ℕ) → AllDigits 10 ds → position_or_len is_mark ds ≡ length ds
+pub no_mark_in_digits : (ds : List ℕ) → AllDigits 10 ds → position_or_len is_mark ds ≡ length ds
 no_mark_in_digits [] d = refl
 no_mark_in_digits (c ∷ cs) d =
     let r = digit_from_value c d.0 in

@@ -6,3 +6,4 @@ pub mod Words
 pub mod TextLines
 pub mod Parts
 pub mod SpelledNumbers
+pub mod LineFaults

@@ -1,6 +1,6 @@
 //! Whole numbers in digits, without a leading zero.
 
-ghost use Rattle.std.specs.Prelude.{◌≡◌, ◌↔◌, ◌+◌, ◌*◌, ◌^◌, ◌<◌, ◌≤◌, ℕ, ◌++◌, length, drop, slice_index, decimal, IfSome, IsTrue};
+ghost use Rattle.std.specs.Prelude.{◌≡◌, ◌↔◌, ◌+◌, ◌*◌, ◌^◌, ◌<◌, ◌≤◌, ◌-◌, ℕ, ◌++◌, length, take, drop, slice_index, decimal, IfSome, IsTrue};
 ghost use Rattle.std.specs.Option.{SomeIff};
 ghost use Rattle.std.specs.Char.{digit_value};
 ghost use Rattle.std.specs.Str.Parse.{AllDigits, IsNumeral, digits_value, digits_value_after};
@@ -9,7 +9,7 @@ ghost use Rattle.std.specs.Str.Parse.{AllDigits, IsNumeral, digits_value, digits
 const LIMIT: u128 = 0x7fff_ffff_ffff_ffff_ffff_ffff_ffff_ffff;
 
 /// So many digits make a number that fits 64 bits.
-const SHORT: usize = 19;
+pub(crate) const SHORT: usize = 19;
 
 /// The number that the word spells in digits, without a leading zero.
 ///
@@ -81,7 +81,7 @@ fn long_value(front: u128, word: &[u8]) -> Option<u128>
 }
 
 /// The same, if the number has at most 19 digits, so that it fits 64 bits.
-fn short_value(front: u64, word: &[u8]) -> Option<u128>
+pub(crate) fn short_value(front: u64, word: &[u8]) -> Option<u128>
     requires { (front + 1) * 10 ^ length word.now ≤ 10 ^ 19 }
     ensures { let value = digits_value_after 10 front word.now in
         SomeIff result (AllDigits 10 word.now × (value < 2 ^ 127)) value }
@@ -91,6 +91,26 @@ fn short_value(front: u64, word: &[u8]) -> Option<u128>
         value = value * 10 + digit_of(*byte)?;
     }
     Some(u128::from(value))
+}
+
+/// The number that the digits at the front of the bytes spell, and how many these are, if there are
+/// at most 19 bytes.
+pub(crate) fn leading_value(word: &[u8]) -> (u64, usize)
+    requires { length word.now ≤ 19 }
+    ensures digits { AllDigits 10 (take result.1 word.now) }
+    ensures value { result.0 ≡ digits_value 10 (take result.1 word.now) }
+    ensures within { result.1 ≤ length word.now }
+    ensures all { result.1 < length word.now → 10 ≤ digit_value (slice_index word.now result.1) }
+    ensures room { (result.0 + 1) * 10 ^ (length word.now - result.1) ≤ 10 ^ 19 }
+{
+    let mut value = 0;
+    for (place, byte) in word.iter().enumerate() {
+        let Some(digit) = digit_of(*byte) else {
+            return (value, place);
+        };
+        value = value * 10 + digit;
+    }
+    (value, word.len())
 }
 
 /// What the byte is worth, if it is a digit.

@@ -1,12 +1,12 @@
 //! Numbers read in any of their spellings.
 
-ghost use Rattle.std.specs.Prelude.{◌≡◌, ◌↔◌, ◌^◌, ◌<◌, ◌||◌, ◌==◌, ℕ, ℤ, pos, length, ◌++◌, slice_index, IfSome, IsSome, IsSomeAnd};
+ghost use Rattle.std.specs.Prelude.{◌≡◌, ◌↔◌, ◌^◌, ◌<◌, ◌||◌, ◌==◌, ◌+◌, ◌*◌, ◌≤◌, ℕ, ℤ, pos, length, ◌++◌, slice_index, IfSome, IsSome, IsSomeAnd};
 ghost use Rattle.std.specs.List.{position, position_or_len};
-ghost use Rattle.std.specs.Str.Parse.{IsNumeral, digits_value, without_leading_sign};
+ghost use Rattle.std.specs.Str.Parse.{IsNumeral, digits_value, digits_value_after, without_leading_sign};
 ghost use Rattle.gj_frac.specs.Fraction.{IsRatio};
 ghost use Rattle.gj_lex.specs.NumberText.{IsNumberText, IsWritten};
 
-use crate::digits::{read_run, value_after};
+use crate::digits::{SHORT, leading_value, read_run, short_value, value_after};
 use gj_frac::Frac;
 
 /// A number has at most so many digits behind its point: 10^38 is the greatest power of 10 below
@@ -51,6 +51,75 @@ fn begins_with(word: &[u8], byte: u8) -> bool
 
 /// The fraction that the word writes without a sign.
 fn read_written(word: &[u8]) -> Option<Frac>
+    ensures found { IfSome result (λ x. (n : ℕ) × (d : ℕ) ×
+        IsWritten word.now n d × (n < 2 ^ 127) × (d < 2 ^ 127) × (0 < d) ×
+        IsRatio x (pos n) (pos d)) }
+    ensures only { (n d : ℕ) → IsWritten word.now n d → n < 2 ^ 127 → d < 2 ^ 127 → 0 < d →
+        IsSomeAnd result (λ x. IsRatio x (pos n) (pos d)) }
+{
+    if word.len() <= SHORT {
+        return read_short(word);
+    }
+    read_long(word)
+}
+
+/// The same, if the word has at most 19 bytes, so that each number fits 64 bits.
+fn read_short(word: &[u8]) -> Option<Frac>
+    requires { length word.now ≤ 19 }
+    ensures found { IfSome result (λ x. (n : ℕ) × (d : ℕ) ×
+        IsWritten word.now n d × (n < 2 ^ 127) × (d < 2 ^ 127) × (0 < d) ×
+        IsRatio x (pos n) (pos d)) }
+    ensures only { (n d : ℕ) → IsWritten word.now n d → n < 2 ^ 127 → d < 2 ^ 127 → 0 < d →
+        IsSomeAnd result (λ x. IsRatio x (pos n) (pos d)) }
+{
+    let (top, place) = leading_value(word);
+    if place == 0 {
+        return None;
+    }
+    let (_, back) = word.split_at(place);
+    match back.split_first() {
+        None => Some(short_whole(top)),
+        Some((b'/', digits)) => short_ratio(top, digits),
+        Some((b'.', digits)) => short_point(top, digits),
+        Some((_, _)) => None,
+    }
+}
+
+/// The number as a fraction.
+fn short_whole(top: u64) -> Frac
+    ensures { IsRatio result (pos top) (pos 1) }
+{
+    Frac::decimal(i128::from(top), 0)
+}
+
+/// The number over that of the back, which is not 0.
+fn short_ratio(top: u64, back: &[u8]) -> Option<Frac>
+    ensures some { let bottom = digits_value 10 back.now in
+        IsSome result ↔ (IsNumeral 10 back.now × (bottom < 2 ^ 127) × (0 < bottom)) }
+    ensures value { IfSome result (λ x. IsRatio x (pos top) (pos (digits_value 10 back.now))) }
+{
+    Frac::new(i128::from(top), read_run(back)? as i128)
+}
+
+/// The number with the digits of the back behind its own, over 10 to the number of those.
+fn short_point(front: u64, back: &[u8]) -> Option<Frac>
+    requires room { (front + 1) * 10 ^ length back.now ≤ 10 ^ 19 }
+    requires few { length back.now ≤ 38 }
+    ensures some { let top = digits_value_after 10 front back.now in
+        IsSome result ↔
+        (IsNumeral 10 back.now × (top < 2 ^ 127) × (10 ^ length back.now < 2 ^ 127)) }
+    ensures value { IfSome result (λ x.
+        IsRatio x (pos (digits_value_after 10 front back.now)) (pos (10 ^ length back.now))) }
+{
+    if back.is_empty() {
+        return None;
+    }
+    let top = short_value(front, back)?;
+    Some(Frac::decimal(top as i128, back.len()))
+}
+
+/// The same for a word of any length.
+fn read_long(word: &[u8]) -> Option<Frac>
     ensures found { IfSome result (λ x. (n : ℕ) × (d : ℕ) ×
         IsWritten word.now n d × (n < 2 ^ 127) × (d < 2 ^ 127) × (0 < d) ×
         IsRatio x (pos n) (pos d)) }

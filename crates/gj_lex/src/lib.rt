@@ -18,6 +18,7 @@ mod digits;
 mod fault;
 mod laws;
 mod lenient;
+mod line_fault;
 mod name;
 mod print;
 mod reason;
@@ -35,7 +36,8 @@ pub use laws::{
     one_fraction_for_a_text, strict_line_is_lenient,
 };
 pub use lenient::read_number;
-pub use name::{Name, NameFault};
+pub use line_fault::LineFault;
+pub use name::{Name, NameFault, name_of};
 pub use print::{print_count, print_frac, push_count_line};
 pub use reason::Reason;
 pub use spelled::{count_of, fraction_of, is_count};

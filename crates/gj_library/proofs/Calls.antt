@@ -1,8 +1,8 @@
--- From the outcome of a run to what a call says.
-use Rattle.std.proofs.Common.{◌≡◌, ◌≢◌, ◌⊎◌, inl, inr, ℕ, ◌-◌, ◌^◌, ◌<◌, ◌≤◌, Bool, true, false, List, [], ◌∷◌, ◌++◌, length, take, drop}
-use Rattle.std.proofs.Common.{Option, Some, String, refl, sym, ap, subst, ◌∙◌, arith}
-use Rattle.std.proofs.lemmas.List.{length-take-le, take-append-le, take_all}
+-- From the outcome of a run, and what was handed over of its answer, to what a call says.
+use Rattle.std.proofs.Common.{◌≡◌, ◌≢◌, ◌⊎◌, inl, inr, ℕ, ◌-◌, ◌^◌, ◌<◌, ◌≤◌, Bool, true, false, List, [], ◌∷◌, ◌++◌, length}
+use Rattle.std.proofs.Common.{Option, Some, String, Result, Ok, Err, IfOk, IfErr, refl, sym, ap, subst, ◌∙◌, arith}
 use Rattle.std.specs.Str.{IsUtf8}
+use Rattle.std.specs.declared.alloc.AllocError.{AllocError}
 use Rattle.std.specs.declared.alloc.Global.{Global}
 use Rattle.gj_port.specs.Faults.{HasFailed}
 use Rattle.gj_port.specs.MemorySource.{MemorySource, never_fails}
@@ -24,13 +24,16 @@ use Rattle.gj_top.specs.Asked.{AskIfExtreme}
 use Rattle.gj_top.specs.Narrow.{HasUncoveredInterval, HasAtMostComponents}
 use Rattle.gj_top.specs.Decisive.{IsDecisive, IsCalledExtreme}
 use Rattle.gj_top.specs.Outcome.{IsOutcome, IsTold}
-use Rattle.gj_top.specs.Outcome.IsOutcome.{silent, told, cut_off}
+use Rattle.gj_top.specs.Outcome.IsOutcome.{silent, told, cut_off as cut}
 use Rattle.gj_top.proofs.Clauses.{no_write_fault, failed_source, headline_clause, reply_clause, cause_clause, complete_clause}
 use Rattle.gj_top.proofs.Ends.{not_answered}
 use Rattle.gj_top.proofs.ByOrder4q.{order_4q_clause}
 use Rattle.gj_top.proofs.NeverWide.{narrow_clause}
 use Rattle.gj_top.proofs.TwoSlopeAnswers.{two_slopes_clause, called_extreme_clause}
 use Rattle.gj_library.specs.Call.{AreWordsOf, OfWords, IsAnswered, IsCall, IsTooSmall}
+use Rattle.gj_library.specs.Handing.{IsHandedOver}
+use Rattle.gj_library.specs.Handing.IsHandedOver.{whole, cut_off}
+use Rattle.gj_library.specs.declared.answer.Answer.{Answer}
 use Rattle.gj_library.proofs.Codes.{status_is}
 
 -- ---- words
@@ -98,7 +101,7 @@ answered : (bytes input : List ℕ) (words : List (String Global)) (Fault : Type
     (s : Status) → AreWordsOf bytes words → (Fault → ⊥) → written ≡ Some text → (s ≡ Memory → ⊥) → (s ≡ WriteFault → ⊥) →
     IsOutcome words Fault (Some input) left (Some []) written sure s → IsAnswered bytes input s text
 answered bytes input words Fault left written text sure s are steady is m w (silent o) = absurd (m o.status_is)
-answered bytes input words Fault left written text sure s are steady is m w (cut_off o) = absurd (w o.status_is)
+answered bytes input words Fault left written text sure s are steady is m w (cut o) = absurd (w o.status_is)
 answered bytes input words Fault left written text sure s are steady is m w (told o) =
     told_answer bytes input words Fault left written text s are steady is o
 
@@ -128,64 +131,68 @@ answered_run bytes input words given before written ended f g h sure s are given
 -- ---- the call
 
 module _ (bytes input : List ℕ) (s : Status) (text : List ℕ) (a : IsAnswered bytes input s text) where
-  -- there is room for the answer
-  pub whole : (room : ℕ) → IsCall bytes input room text (code_of s)
-  whole room = record {
+  -- what was handed over is what the call says
+  called : (room : ℕ) (front : List ℕ) (code : ℕ) → IsHandedOver s text room front code → IsCall bytes input room front code
+  called room front code (whole fits is own) = record {
     words = a.words;
     are_words = a.are_words;
     status = s;
-    code_is = refl;
+    code_is = own;
     left = a.left;
-    outcome = told (record { text = text; answer = a.answer; gain = refl });
+    outcome = told (record { text = text; answer = a.answer; gain = ap Some is });
   }
-
-  -- there is none
-  pub front : (room : ℕ) → room < length text → IsCall bytes input room (take room text) 5
-  front room small = record {
+  called room front code (cut_off small is five) = record {
     words = a.words;
     are_words = a.are_words;
     status = WriteFault;
-    code_is = refl;
+    code_is = five;
     left = a.left;
-    outcome = cut_off (record { status_is = refl; status = s; text = text; answer = a.answer; unsure = small; gain = (room, small, refl) });
+    outcome = cut (record { status_is = refl; status = s; text = text; answer = a.answer; unsure = small; gain = (room, small, ap Some is) });
   }
 
-  pub no_memory_code : code_of s ≢ 6
+  no_memory_code : code_of s ≢ 6
   no_memory_code e = no_memory a.words ⊥ (Some input) a.left s text a.answer (status_is s 6 e)
 
-  pub no_room_code : code_of s ≢ 5
+  no_room_code : code_of s ≢ 5
   no_room_code e = no_write_fault a.words ⊥ (Some input) a.left s text a.answer (status_is s 5 e)
 
--- ---- what stands in the output
+-- ---- the answer, or none, and what was handed over of it
 
-module _ (bytes input : List ℕ) (s : Status) (text : List ℕ) (a : IsAnswered bytes input s text) (out taken : List ℕ) (count code : ℕ) where
-  front_is : count ≤ length text → taken ≡ take count text → take count (taken ++ drop count out) ≡ take count text
-  front_is h e =
-      let whole : length taken ≡ count = ap length e ∙ length-take-le count text h in
-      let kept : take count (taken ++ drop count out) ≡ take count taken = take-append-le count taken (drop count out) (omega arith) in
-      let all : take count taken ≡ taken = take_all count taken (omega arith) in
-      kept ∙ all ∙ e
+module _ (bytes input : List ℕ) (room : ℕ) (front : List ℕ) (written code : ℕ) where
+  -- there was no memory, or the call says what was handed over
+  pub call_of : (r : Result Answer AllocError) → IfOk r (λ a. IsAnswered bytes input a.status a.text.items) →
+      IfOk r (λ a. IsHandedOver a.status a.text.items room front code) → IfErr r (λ e. (code ≡ 6) × (written ≡ 0)) →
+      (code ≡ 6) ⊎ IsCall bytes input room front code
+  call_of (Ok a) answered put none = inr (called bytes input a.status a.text.items answered room front code put)
+  call_of (Err e) answered put none = inl none.0
 
-  -- there was no room for all of the answer
-  pub front_call : count ≡ length out → count < length text → taken ≡ take count text → code ≡ 5 →
-      IsCall bytes input (length out) (take count (taken ++ drop count out)) code
-  front_call room small e five =
-      let written = front_is (omega arith) e in
-      let call : IsCall bytes input (length out) (take count text) 5 =
-      subst (λ (n : ℕ). IsCall bytes input (length out) (take n text) 5) (sym room) (front bytes input s text a (length out) (omega arith)) in
-      let same : IsCall bytes input (length out) (take count (taken ++ drop count out)) 5 =
-      subst (λ (t : List ℕ). IsCall bytes input (length out) t 5) (sym written) call in
-      subst (λ (n : ℕ). IsCall bytes input (length out) (take count (taken ++ drop count out)) n) (sym five) same
+  pub memory_of : (r : Result Answer AllocError) → IfOk r (λ a. IsAnswered bytes input a.status a.text.items) →
+      IfOk r (λ a. IsHandedOver a.status a.text.items room front code) → IfErr r (λ e. (code ≡ 6) × (written ≡ 0)) → code ≡ 6 → written ≡ 0
+  memory_of (Ok a) answered (whole fits is own) none six =
+      absurd (no_memory_code bytes input a.status a.text.items answered (sym own ∙ six))
+  memory_of (Ok a) answered (cut_off small is five) none six = absurd (let both : 5 ≡ 6 = sym five ∙ six in cc)
+  memory_of (Err e) answered put none six = none.1
 
-  -- there was
-  pub whole_call : count ≡ length text → taken ≡ take count text → code ≡ code_of s →
-      IsCall bytes input (length out) (take count (taken ++ drop count out)) code
-  whole_call all e is =
-      let written = front_is (omega arith) e in
-      let full : take count text ≡ text = take_all count text (omega arith) in
-      let same : IsCall bytes input (length out) (take count (taken ++ drop count out)) (code_of s) =
-      subst (λ (t : List ℕ). IsCall bytes input (length out) t (code_of s)) (sym (written ∙ full)) (whole bytes input s text a (length out)) in
-      subst (λ (n : ℕ). IsCall bytes input (length out) (take count (taken ++ drop count out)) n) (sym is) same
+  pub full_of : (r : Result Answer AllocError) → IfOk r (λ a. IsAnswered bytes input a.status a.text.items) →
+      IfOk r (λ a. IsHandedOver a.status a.text.items room front code) → IfErr r (λ e. (code ≡ 6) × (written ≡ 0)) →
+      IfOk r (λ a. room < length a.text.items → written ≡ room) → code ≡ 5 → written ≡ room
+  full_of (Ok a) answered (whole fits is own) none full five =
+      absurd (no_room_code bytes input a.status a.text.items answered (sym own ∙ five))
+  full_of (Ok a) answered (cut_off small is e) none full five = full small
+  full_of (Err e) answered put none full five = absurd (let both : 5 ≡ 6 = sym five ∙ none.0 in cc)
+
+-- ---- of a call that may have had no memory
+
+module _ {bytes input : List ℕ} {room : ℕ} {text : List ℕ} {code : ℕ} {P : Type 0} (call : (code ≡ 6) ⊎ IsCall bytes input room text code) where
+  pub unless : (IsCall bytes input room text code → P) → code ≢ 6 → P
+  unless says memory = elim call [
+    | inl six ↦ absurd (memory six)
+    | inr c ↦ says c
+  ]
+
+  -- by another code
+  pub by : (n : ℕ) → n ≢ 6 → (IsCall bytes input room text code → code ≡ n → P) → code ≡ n → P
+  by n other says e = unless (λ c. says c e) (λ six. other (sym e ∙ six))
 
 -- ---- its clauses
 
@@ -268,7 +275,7 @@ module _ (bytes input : List ℕ) (room : ℕ) (text : List ℕ) (code : ℕ) (c
       let is : c.status ≡ ReadFault = status_is c.status 4 (sym c.code_is ∙ e) in
       elim c.outcome [
         | silent o ↦ let memory = o.status_is in cc
-        | cut_off o ↦ let fault = o.status_is in cc
+        | cut o ↦ let fault = o.status_is in cc
         | told o ↦ failed_source c.words ⊥ (Some input) c.left c.status o.text o.answer is
       ]
 
@@ -277,7 +284,7 @@ module _ (bytes input : List ℕ) (room : ℕ) (text : List ℕ) (code : ℕ) (c
       let is : c.status ≡ WriteFault = status_is c.status 5 (sym c.code_is ∙ e) in
       elim c.outcome [
         | silent o ↦ absurd (let memory = o.status_is in cc)
-        | cut_off o ↦ (c.words, c.are_words, (c.left, (o.status, o.text, o.answer, o.unsure)))
+        | cut o ↦ (c.words, c.are_words, (c.left, (o.status, o.text, o.answer, o.unsure)))
         | told o ↦ absurd (no_write_fault c.words ⊥ (Some input) c.left c.status o.text o.answer is)
       ]
 
@@ -308,6 +315,6 @@ module _ (bytes input : List ℕ) (room : ℕ) (text : List ℕ) (code : ℕ) (c
   pub no_text_of : (IsUtf8 bytes → ⊥) → (code ≡ 2) ⊎ (code ≡ 5) ⊎ (code ≡ 6)
   no_text_of other = elim c.outcome [
     | silent o ↦ inr (inr (c.code_is ∙ ap code_of o.status_is))
-    | cut_off o ↦ inr (inl (c.code_is ∙ ap code_of o.status_is))
+    | cut o ↦ inr (inl (c.code_is ∙ ap code_of o.status_is))
     | told o ↦ inl (c.code_is ∙ ap code_of (unanswered c.status o.text (refused other c.are_words) o.answer))
   ]

@@ -1,4 +1,4 @@
-//! The answer to words and an input in memory, before it is put into the output.
+//! The answer to words and an input in memory, before it is put into an output.
 ghost use Rattle.std.specs.Prelude.{◌≡◌, ◌≢◌, true, IfOk};
 ghost use Rattle.gj_library.specs.Call.{IsAnswered};
 
@@ -8,7 +8,7 @@ use gj_port::MemSource;
 use gj_top::{Status, run};
 use std::alloc::{AllocError, Global};
 
-/// An answer, and the status with which the program ends once it is written.
+/// An answer, and the status with which a program ends once it is written.
 #[derive(Drop)]
 pub(crate) struct Answer {
     pub(crate) status: Status,

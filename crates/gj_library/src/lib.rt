@@ -1,5 +1,5 @@
-//! The top call for programs in C and in other languages: words and an input in memory, the answer
-//! and its status in memory.
+//! The calls for programs in C and in other languages: what they read and what they answer is in
+//! memory.
 #![tactic(auto)]
 
 ghost use Rattle.std.specs.Prelude.{◌≡◌, ◌≢◌, ◌⊎◌, ◌≤◌, Bool, [], length, take, drop, Some};
@@ -14,16 +14,23 @@ ghost use Rattle.gj_top.specs.Asked.{AskIfExtreme};
 ghost use Rattle.gj_top.specs.Narrow.{HasUncoveredInterval, HasAtMostComponents};
 ghost use Rattle.gj_top.specs.Decisive.{IsDecisive, IsCalledExtreme};
 ghost use Rattle.gj_top.specs.Causes.{IsTrueRun, IsDoneRun, IsCause, IsGoodInput, IsStatusOfReply};
+ghost use Rattle.gj_problem_text.specs.ProblemText.{IsProblemText};
+ghost use Rattle.gj_problem_text.specs.declared.task.Task.{Task};
+ghost use Rattle.gj_safe.specs.Answers.{IsTrueAnswer, IsCutsOf, IsRefusal};
 ghost use Rattle.gj_library.specs.Call.{OfWords, IsCall, IsTooSmall};
+ghost use Rattle.gj_library.specs.SafeCall.{IsSafeFront};
 
-use gj_top::Status;
 use std::alloc::Global;
 
 mod answer;
+mod handing;
+mod safe;
 mod sink;
 mod words;
 
 use answer::answer_to;
+use handing::hand_over;
+use safe::safe_answer_to;
 
 /// Answers the request that the words name, over the input, as the program does. The words stand
 /// behind one another with one blank between two; bytes that are not UTF-8 are no words. The answer
@@ -84,16 +91,38 @@ pub extern "C" fn gjcut_answer(
         (status : Status) × (result ≡ code_of status) × IsStatusOfReply
         (task_for r) input.now status) }
 {
-    let Ok(answer) = answer_to(alloc, words, input) else {
-        *written = 0;
-        return Status::Memory.code();
-    };
-    let text = answer.text.as_slice();
-    let count = text.len().min(output.len());
-    output[..count].copy_from_slice(&text[..count]);
-    *written = count;
-    if count < text.len() {
-        return Status::WriteFault.code();
-    }
-    answer.status.code()
+    hand_over(answer_to(alloc, words, input), output, written)
+}
+
+/// Answers the text of a problem with the text of the cuts that it asks for. The output and
+/// `written` are as for `gjcut_answer`, and so are the meanings of the results: 0, the answer was
+/// written; 3, the input is no problem text, and what was written is the line that refuses it; 5
+/// and 6, there is no room, or no memory.
+#[unsafe(no_mangle)]
+pub extern "C" fn gjcut_safe_cut(
+    alloc: Global,
+    input: &[u8],
+    output: &mut [u8],
+    written: &mut usize,
+) -> u8
+    // The headline: each cut that was written holds at all feasible points of the problem.
+    ensures headline { result ≡ 0 → IsTrueAnswer input.now (take written.new output.new) }
+
+    // And what was written then is the text of the cuts that the input asks for.
+    ensures reply { result ≡ 0 → IsCutsOf input.now (take written.new output.new) }
+
+    // A refusal names the first fault of the input. A problem text is never refused.
+    ensures refused { result ≡ 3 → IsRefusal input.now (take written.new output.new) }
+    ensures complete { (task : Task) → IsProblemText input.now task → result ≢ 3 }
+
+    // Without room the front of the answer fills the output; without memory nothing is written.
+    ensures room { result ≡ 5 → IsSafeFront input.now (length output.old)
+        (take written.new output.new) }
+    ensures full { result ≡ 5 → written.new ≡ length output.old }
+    ensures memory { result ≡ 6 → written.new ≡ 0 }
+    ensures within { written.new ≤ length output.old }
+    ensures behind { drop written.new output.new ≡ drop written.new output.old }
+    ensures ends { (result ≡ 0) ⊎ (result ≡ 3) ⊎ (result ≡ 5) ⊎ (result ≡ 6) }
+{
+    hand_over(safe_answer_to(alloc, input), output, written)
 }

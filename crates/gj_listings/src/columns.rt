@@ -14,14 +14,7 @@ pub(crate) fn continuous_columns(alloc: Global, columns: &[Name]) -> Result<Vec<
 {
     let mut flags = Vec::with_capacity(alloc, columns.len())?;
     for column in columns {
-        flags.push(begins_with_c(column.bytes()))?;
+        flags.push(column.bytes().starts_with(CONTINUOUS))?;
     }
     Ok(flags)
-}
-
-/// Whether the name begins with `c:`.
-fn begins_with_c(name: &[u8]) -> bool
-    ensures { result ≡ begins_with_c name.now }
-{
-    name.starts_with(CONTINUOUS)
 }

@@ -60,7 +60,9 @@ pub(crate) fn ends_below(alloc: Global, n: u32) -> Result<Vec<Piece>, AllocError
 {
     let mut ends = Vec::new(alloc);
     for column in 0..n {
-        ends.push(end(column))?;
+        let mut buffer = Buffer::new();
+        let digits = buffer.format(column).as_bytes();
+        ends.push(joined(joined(joined(empty(), b" "), digits), b"\n"))?;
     }
     Ok(ends)
 }
@@ -79,25 +81,10 @@ pub(crate) fn push_face_lines(
         (λ face. line (face_text face)) faces.now) }
 {
     for face in faces {
-        push_face_line(out, starts, ends, *face)?;
+        push_piece(out, &starts.pieces[face.kind.position() as usize])?;
+        push_piece(out, &ends[face.b as usize])?;
     }
     Ok(())
-}
-
-/// Appends the line of a face.
-fn push_face_line(
-    out: &mut Vec<u8>,
-    starts: &Starts,
-    ends: &[Piece],
-    face: Face,
-) -> Result<(), AllocError>
-    requires starts { AreStarts starts.now }
-    requires ends { AreEnds ends.now }
-    requires face { HasPieces starts.now ends.now face }
-    ensures { OnOk result (out.new.items ≡ out.old.items ++ line (face_text face)) }
-{
-    push_piece(out, &starts.pieces[face.kind.position() as usize])?;
-    push_piece(out, &ends[face.b as usize])
 }
 
 /// Appends the text of a piece.
@@ -117,15 +104,6 @@ fn start(kind: FaceKind, digits: &[u8]) -> Piece
     ensures { text_of result ≡ face_word kind ++ codes " " ++ digits.now }
 {
     joined(joined(joined(empty(), face_word(kind)), b" "), digits)
-}
-
-/// The end for a column.
-fn end(column: u32) -> Piece
-    ensures { text_of result ≡ line (codes " " ++ decimal column) }
-{
-    let mut buffer = Buffer::new();
-    let digits = buffer.format(column).as_bytes();
-    joined(joined(joined(empty(), b" "), digits), b"\n")
 }
 
 /// No text.

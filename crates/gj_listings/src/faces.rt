@@ -8,7 +8,7 @@ use crate::face_lines::{ends_below, push_face_lines, starts_of};
 use gj_cover::cover_of_pairs;
 use gj_faces::{TightPairs, push_maximal_row};
 use gj_function_lines::{push_cover_lines, push_order_line};
-use gj_lex::print_count;
+use gj_lex::push_count_line;
 use gj_shape::Shape;
 use std::alloc::{AllocError, Global};
 
@@ -63,18 +63,8 @@ fn push_uncovered_lines(
 {
     for interval in 0..order {
         if component[interval as usize].is_none() {
-            push_uncovered_line(out, interval)?;
+            push_count_line(out, b"uncovered ", interval)?;
         }
     }
-    Ok(())
-}
-
-/// Appends the line of an uncovered interval.
-fn push_uncovered_line(out: &mut Vec<u8>, interval: u32) -> Result<(), AllocError>
-    ensures { OnOk result (out.new.items ≡ out.old.items ++ uncovered_line interval) }
-{
-    out.extend_from_slice(b"uncovered ")?;
-    print_count(out, interval)?;
-    out.push(b'\n')?;
     Ok(())
 }

@@ -56,15 +56,8 @@ fn push_weights(alloc: Global, out: &mut Vec<u8>, weights: &[CutTerm]) -> Result
     ensures { OnOk result (out.new.items ≡ out.old.items ++ flat_map weight_line weights.now) }
 {
     for term in weights {
-        push_weight(alloc, out, term)?;
+        push_named(alloc, out, b"weight ", &term.name, term.entry)?;
+        push_fraction_line(alloc, out, b" ", term.cut)?;
     }
     Ok(())
-}
-
-/// Appends the line of a continuous column.
-fn push_weight(alloc: Global, out: &mut Vec<u8>, term: &CutTerm) -> Result<(), AllocError>
-    ensures { OnOk result (out.new.items ≡ out.old.items ++ weight_line term.now) }
-{
-    push_named(alloc, out, b"weight ", &term.name, term.entry)?;
-    push_fraction_line(alloc, out, b" ", term.cut)
 }

@@ -55,7 +55,7 @@ pub fn named_terms(
 {
     let mut named = Vec::with_capacity(alloc, terms.len())?;
     for term in terms {
-        let name = name_of(alloc, columns, term.column)?;
+        let name = columns[term.column as usize].copy(alloc)?;
         named.push(CutTerm {
             name,
             entry: term.entry,
@@ -63,12 +63,4 @@ pub fn named_terms(
         })?;
     }
     Ok(named)
-}
-
-/// The name of a column.
-fn name_of(alloc: Global, columns: &[Name], column: u32) -> Result<Name, AllocError>
-    requires { column < length columns.now }
-    ensures { IfOk result (λ name. name ≡ get_or columns.now column []) }
-{
-    columns[column as usize].copy(alloc)
 }

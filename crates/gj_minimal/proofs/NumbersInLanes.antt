@@ -1,9 +1,7 @@
 -- The numbers of a function, as they lie in lanes and are read from there.
-use Rattle.std.proofs.Common.{◌≡◌, ℕ, ◌*◌, ◌<◌, ◌≤◌, ℤ, pos, ◌≤ℤ◌, ◌<ℤ◌, unsigned_abs, List, length, get_or, ap, sym, subst, ◌∙◌, arith}
+use Rattle.std.proofs.Common.{◌≡◌, ℕ, ◌*◌, ◌<◌, ◌≤◌, ℤ, pos, unsigned_abs, List, length, get_or, ap, sym, subst, ◌∙◌, arith}
 use Rattle.std.proofs.lemmas.Int.{ints}
-use Rattle.gj_shape.specs.FunctionData.{FunctionData, IsWithinBounds, at}
-use Rattle.gj_theory.specs.EarlierTests.{PassesSymmetry}
-use Rattle.gj_theory.proofs.Lanes.{are_bounded}
+use Rattle.gj_shape.specs.FunctionData.{at}
 use Rattle.gj_lanes.specs.Lanes.{AreInRange, ArePeriods}
 
 -- the numbers from 0 on, as naturals
@@ -32,25 +30,3 @@ read_at {x = x} number natural i zero natural_of h most is =
     let low = range.0 in
     let high = range.1 in
     record { is = ap unsigned_abs whole; small = omega (arith, ints) }
-
--- ---- of a function
-
--- the limits and values are in the range
-pub record AreAllInRange (least : ℤ) (bound : ℕ) (f : FunctionData) : Type 0 where
-  pub lefts : AreInRange least bound f.left
-  pub values : AreInRange least bound f.value
-  pub rights : AreInRange least bound f.right
-
--- if the tests of signs and of symmetry pass, the range begins at 0 and the scale is in it
-pub all_in_range : {least : ℤ} (bound : ℕ) (f : FunctionData) → least ≡ pos 0 → IsWithinBounds f → PassesSymmetry f → f.scale < bound →
-    AreAllInRange least bound f
-all_in_range {least = least} bound f zero limits h above =
-    let b = are_bounded f limits h in
-    record {
-      lefts = λ i. up_to_scale least (at f.left i) f.scale bound zero above (b.left_low i) (b.left_high i);
-      values = λ i. up_to_scale least (at f.value i) f.scale bound zero above (b.value_low i) (b.value_high i);
-      rights = λ i. up_to_scale least (at f.right i) f.scale bound zero above (b.right_low i) (b.right_high i);
-    }
-  where
-    up_to_scale : (least n : ℤ) (s bound : ℕ) → least ≡ pos 0 → s < bound → pos 0 ≤ℤ n → n ≤ℤ pos s → (least ≤ℤ n) × (n <ℤ pos bound)
-    up_to_scale least n s bound zero above low high = (omega (arith, ints), omega (arith, ints))

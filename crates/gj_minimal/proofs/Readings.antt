@@ -1,10 +1,11 @@
 -- What tests on numerators of the code say of them.
-use Rattle.std.proofs.Common.{◌≡◌, ◌<◌, ◌^◌, ℤ, pos, ◌+ℤ◌, unsigned_abs, IsTrue, ◌↔◌, eqb, eqb-true, eq-eqb, ◌*ℤ◌, ap, sym, ◌∙◌, to_z, of_z, FitsSigned, w64, arith}
+use Rattle.std.proofs.Common.{◌≡◌, ℤ, pos, ◌+ℤ◌, IsTrue, ◌↔◌, eqb, eqb-true, eq-eqb, ◌*ℤ◌, ap, sym, ◌∙◌, to_z, of_z, FitsSigned, w64, arith}
 use Rattle.std.proofs.lemmas.Int.{ints, to_z-of_z}
+use Rattle.gj_shape.specs.Limits.{IsNumerator}
 use Rattle.gj_shape.proofs.NumeratorReadings.{small_read}
 
 -- the sum of two numbers of 51 bits, as the code has it
-pub sum_read : (x y : ℤ) → unsigned_abs x < 2 ^ 51 → unsigned_abs y < 2 ^ 51 →
+pub sum_read : (x y : ℤ) → IsNumerator x → IsNumerator y →
     to_z w64 (of_z w64 (to_z w64 (of_z w64 x) +ℤ to_z w64 (of_z w64 y))) ≡ x +ℤ y
 sum_read x y h k =
     let first = small_read x h in
@@ -12,7 +13,7 @@ sum_read x y h k =
     rw (first, second) (to_z-of_z w64 (x +ℤ y) (omega (arith, ints)))
 
 -- a sum that is found to be a number
-pub same_read : (x y s : ℤ) → unsigned_abs x < 2 ^ 51 → unsigned_abs y < 2 ^ 51 → FitsSigned w64 s →
+pub same_read : (x y s : ℤ) → IsNumerator x → IsNumerator y → FitsSigned w64 s →
     of_z w64 (to_z w64 (of_z w64 x) +ℤ to_z w64 (of_z w64 y)) ≡ of_z w64 s → x +ℤ y ≡ s
 same_read x y s h k fits e = sym (sum_read x y h k) ∙ ap (to_z w64) e ∙ to_z-of_z w64 s fits
 
@@ -26,7 +27,7 @@ same_bits x s fits s_fits = (
 )
 
 -- whether the sum of two numbers is a third
-pub sum_bits : (x y s : ℤ) → unsigned_abs x < 2 ^ 51 → unsigned_abs y < 2 ^ 51 → FitsSigned w64 s →
+pub sum_bits : (x y s : ℤ) → IsNumerator x → IsNumerator y → FitsSigned w64 s →
     IsTrue (eqb (of_z w64 (to_z w64 (of_z w64 x) +ℤ to_z w64 (of_z w64 y))) (of_z w64 s)) ↔ (x +ℤ y ≡ s)
 sum_bits x y s h k fits =
     let first = small_read x h in
@@ -34,8 +35,8 @@ sum_bits x y s h k fits =
     rw (first, second) (same_bits (x +ℤ y) s (omega (arith, ints)) fits)
 
 -- whether the sum of four is twice a fifth
-pub double_bits : (x y u v s : ℤ) → unsigned_abs x < 2 ^ 51 → unsigned_abs y < 2 ^ 51 → unsigned_abs u < 2 ^ 51 →
-    unsigned_abs v < 2 ^ 51 → unsigned_abs s < 2 ^ 51 →
+pub double_bits : (x y u v s : ℤ) → IsNumerator x → IsNumerator y → IsNumerator u →
+    IsNumerator v → IsNumerator s →
     IsTrue (eqb (of_z w64 (to_z w64 (of_z w64 (to_z w64 (of_z w64 x) +ℤ to_z w64 (of_z w64 y)))
     +ℤ to_z w64 (of_z w64 (to_z w64 (of_z w64 u) +ℤ to_z w64 (of_z w64 v)))))
     (of_z w64 (pos 2 *ℤ to_z w64 (of_z w64 s))))

@@ -2,7 +2,7 @@
 use gj_shape::Face;
 
 /// A test of minimality that a function of order q fails. Each index i is below q.
-#[derive(Clone, Copy, Debug, PartialEq, Eq)]
+#[derive(Clone, Copy)]
 pub(crate) enum Failure {
     /// The value at 0 is not 0.
     Zero,

@@ -3,6 +3,7 @@ use Rattle.std.proofs.Common.{◌≡◌, ℕ, zero, suc, ◌+◌, ◌-◌, ◌*�
 use Rattle.std.proofs.lemmas.Int.{ints, to_z-of_z, unsigned_abs-mul, fits_signed_from_abs}
 use Rattle.gj_lemmas.proofs.Integers.{abs_add_z}
 use Rattle.gj_shape.specs.FunctionData.{FunctionData, IsContinuous, at}
+use Rattle.gj_shape.specs.Limits.{IsNumerator}
 use Rattle.gj_shape.specs.Table.{table, entry}
 use Rattle.gj_shape.proofs.TableLemmas.{left_is_value, right_is_value}
 
@@ -28,7 +29,7 @@ table_continuous f m i h = entry_continuous f m (i / m) (i % m) h
 abbrev pub read : ℤ → ℤ
 read z = to_z w64 (of_z w64 z)
 
-product_size : (k : ℕ) (x : ℤ) → k ≤ 4 → unsigned_abs x < 2 ^ 51 → unsigned_abs (pos k *ℤ x) < 2 ^ 53
+product_size : (k : ℕ) (x : ℤ) → k ≤ 4 → IsNumerator x → unsigned_abs (pos k *ℤ x) < 2 ^ 53
 product_size k x few small =
     let size : unsigned_abs (pos k *ℤ x) ≡ k * unsigned_abs x = unsigned_abs-mul (pos k) x in
     let most : k * unsigned_abs x ≤ 4 * unsigned_abs x = mul-le-mul_right (unsigned_abs x) few in
@@ -40,13 +41,13 @@ small_read x small = to_z-of_z w64 x (fits_signed_from_abs w64 x (omega arith))
 factor_read : (k : ℕ) (n : ℤ) → n ≡ pos k → k ≤ 4 → read n ≡ pos k
 factor_read k n e few = let size : unsigned_abs n ≡ k = ap unsigned_abs e in small_read n (omega arith) ∙ e
 
-pub product_read : (k : ℕ) (n x : ℤ) → n ≡ pos k → k ≤ 4 → unsigned_abs x < 2 ^ 51 → read (read n *ℤ read x) ≡ pos k *ℤ x
+pub product_read : (k : ℕ) (n x : ℤ) → n ≡ pos k → k ≤ 4 → IsNumerator x → read (read n *ℤ read x) ≡ pos k *ℤ x
 product_read k n x e few small =
     let first : read n ≡ pos k = factor_read k n e few in
     let second : read x ≡ x = small_read x (omega arith) in
     ap₂ (λ y z. read (y *ℤ z)) first second ∙ small_read (pos k *ℤ x) (product_size k x few small)
 
-sum_size : (k j : ℕ) (x y : ℤ) → k ≤ 4 → j ≤ 4 → unsigned_abs x < 2 ^ 51 → unsigned_abs y < 2 ^ 51 →
+sum_size : (k j : ℕ) (x y : ℤ) → k ≤ 4 → j ≤ 4 → IsNumerator x → IsNumerator y →
     unsigned_abs (pos k *ℤ x +ℤ pos j *ℤ y) < 2 ^ 54
 sum_size k j x y few few' small small' =
     let first = product_size k x few small in
@@ -54,14 +55,14 @@ sum_size k j x y few few' small small' =
     let both = abs_add_z (pos k *ℤ x) (pos j *ℤ y) in
     omega arith
 
-pub sum_fits : (k j : ℕ) (n m x y : ℤ) → n ≡ pos k → m ≡ pos j → k ≤ 4 → j ≤ 4 → unsigned_abs x < 2 ^ 51 →
-    unsigned_abs y < 2 ^ 51 → FitsSigned w64 (read (read n *ℤ read x) +ℤ read (read m *ℤ read y))
+pub sum_fits : (k j : ℕ) (n m x y : ℤ) → n ≡ pos k → m ≡ pos j → k ≤ 4 → j ≤ 4 → IsNumerator x →
+    IsNumerator y → FitsSigned w64 (read (read n *ℤ read x) +ℤ read (read m *ℤ read y))
 sum_fits k j n m x y e g few few' small small' =
     let size = sum_size k j x y few few' small small' in
     rw (product_read k n x e few small, product_read j m y g few' small') (fits_signed_from_abs w64 _ (omega arith))
 
-pub sum_read : (k j : ℕ) (n m x y : ℤ) → n ≡ pos k → m ≡ pos j → k ≤ 4 → j ≤ 4 → unsigned_abs x < 2 ^ 51 →
-    unsigned_abs y < 2 ^ 51 → read (read (read n *ℤ read x) +ℤ read (read m *ℤ read y)) ≡ pos k *ℤ x +ℤ pos j *ℤ y
+pub sum_read : (k j : ℕ) (n m x y : ℤ) → n ≡ pos k → m ≡ pos j → k ≤ 4 → j ≤ 4 → IsNumerator x →
+    IsNumerator y → read (read (read n *ℤ read x) +ℤ read (read m *ℤ read y)) ≡ pos k *ℤ x +ℤ pos j *ℤ y
 sum_read k j n m x y e g few few' small small' =
     let size = sum_size k j x y few few' small small' in
     rw (product_read k n x e few small, product_read j m y g few' small')

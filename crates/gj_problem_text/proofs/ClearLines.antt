@@ -5,7 +5,7 @@ use Rattle.gj_lex.specs.Parts.{IsExactRule}
 use Rattle.gj_lex.specs.declared.spelling.Spelling.TheVariants.{Lenient}
 use Rattle.gj_forms.specs.LineForms.{Field, with_numbers, first_of, others_of, words_of}
 use Rattle.gj_forms.specs.LineForms.Field.{fraction}
-use Rattle.gj_forms.proofs.FieldWords.{AreAlike}
+use Rattle.gj_forms.proofs.FieldWords.{AreAlike, head_and_tail}
 use Rattle.gj_forms.proofs.PlainWords.{apart}
 use Rattle.gj_forms.proofs.SpelledLaws.{IsClearForm, rule_in_is_exact}
 use Rattle.gj_problem.specs.declared.problem.Sense.{Sense}
@@ -23,9 +23,6 @@ head (grid n) = codes "grid"
 
 -- ---- words that differ in numbers alone
 
-behind : (v w : List ℕ) (vs ws : List (List ℕ)) → v ∷ vs ≡ w ∷ ws → vs ≡ ws
-behind v w vs ws e = cc
-
 no_words : (v : List ℕ) (vs : List (List ℕ)) → [] ≡ v ∷ vs → ⊥
 no_words v vs e = cc
 
@@ -34,7 +31,7 @@ alike_numbers : (xs ys : List Frac) (words : List (List ℕ)) → with_numbers (
 alike_numbers [] [] words e = tt
 alike_numbers [] (y ∷ ys) words e = absurd (no_words _ _ e)
 alike_numbers (x ∷ xs) [] words e = absurd (no_words _ _ (sym e))
-alike_numbers (x ∷ xs) (y ∷ ys) words e = alike_numbers xs ys (others_of words) (behind _ _ _ _ e)
+alike_numbers (x ∷ xs) (y ∷ ys) words e = alike_numbers xs ys (others_of words) (head_and_tail _ _ _ _ e).1
 
 alike_lines : (a b : ProblemLine) (words : List (List ℕ)) → with_numbers (problem_fields a) words ≡ with_numbers (problem_fields b) words →
     AreAlike (problem_fields a) (problem_fields b)
@@ -42,7 +39,7 @@ alike_lines (column m j k h) (column n j' k' h') words e = tt
 alike_lines (constraint m s x) (constraint n t y) words e = tt
 alike_lines (entry m x) (entry n y) words e = tt
 alike_lines (upper m) (upper n) words e = tt
-alike_lines (sum xs) (sum ys) words e = alike_numbers xs ys (others_of words) (behind _ _ _ _ e)
+alike_lines (sum xs) (sum ys) words e = alike_numbers xs ys (others_of words) (head_and_tail _ _ _ _ e).1
 alike_lines (grid m) (grid n) words e = tt
 alike_lines a b words e = absurd (apart (head a) (head b) refl (ap first_of e))
 
@@ -63,12 +60,6 @@ one_sense s t e = absurd (apart (sense_word s) (sense_word t) refl e)
 no_field : (f : Field) (fields : List Field) → [] ≡ f ∷ fields → ⊥
 no_field f fields e = cc
 
-first_field : (f g : Field) (fs gs : List Field) → f ∷ fs ≡ g ∷ gs → f ≡ g
-first_field f g fs gs e = cc
-
-other_fields : (f g : Field) (fs gs : List Field) → f ∷ fs ≡ g ∷ gs → fs ≡ gs
-other_fields f g fs gs e = cc
-
 one_number : (x y : Frac) → fraction x ≡ fraction y → x ≡ y
 one_number x y e = cc
 
@@ -77,7 +68,8 @@ one_list [] [] e = refl
 one_list [] (y ∷ ys) e = absurd (no_field _ _ e)
 one_list (x ∷ xs) [] e = absurd (no_field _ _ (sym e))
 one_list (x ∷ xs) (y ∷ ys) e =
-    ap₂ (λ z zs. z ∷ zs) (one_number x y (first_field _ _ _ _ e)) (one_list xs ys (other_fields _ _ _ _ e))
+    let same = head_and_tail _ _ _ _ e in
+    ap₂ (λ z zs. z ∷ zs) (one_number x y same.0) (one_list xs ys same.1)
 
 told_line : (a b : ProblemLine) → problem_fields a ≡ problem_fields b → a ≡ b
 told_line (column m j k h) (column n j' k' h') e =

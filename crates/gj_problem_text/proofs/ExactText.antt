@@ -23,7 +23,7 @@ next_line_is_exact s =
     (made_part_is_exact (λ (t : Task) (next : Task ⊎ Task). next ≡ inl t) (λ t m n h k. h ∙ sym k) (line_part Lenient (task_rule s))
     (line_part_is_exact Lenient (task_rule s) (task_rule_is_exact s)))
 
-behind_rule_is_exact : IsExactPart behind_rule.Reads behind_rule.Faults
+pub behind_rule_is_exact : IsExactPart behind_rule.Reads behind_rule.Faults
 behind_rule_is_exact =
     then_part_is_exact lines_part (λ task. end_part Lenient task) (loop_part_is_exact next_line next_line_is_exact no_task)
     (λ task. end_part_is_exact Lenient task)

@@ -1,10 +1,13 @@
 pub mod LinesTold
 pub mod Bounds
+pub mod NamesSoFar
 pub mod LinesOfProblem
 pub mod TextParts
 pub mod ClearLines
 pub mod ExactTasks
 pub mod ExactText
+pub mod ReadyTasks
+pub mod InputParts
 pub mod PrintedItems
 pub mod PrintedLines
 pub mod AnsweredRequests

@@ -91,9 +91,6 @@ pub record AreRead (words : List (List ℕ)) (numbers : List Frac) (left : List 
   pub spelled : (xs : List Frac) → SpellNumbers xs left → SpellNumbers (numbers ++ xs) words
   pub broken : ((xs : List Frac) → SpellNumbers xs left → ⊥) → (xs : List Frac) → SpellNumbers xs words → ⊥
 
-pub none_read : (words : List (List ℕ)) → AreRead words [] words
-none_read words = record { spelled = λ xs h. h; broken = λ none. none }
-
 pub one_more_read : (words left behind : List (List ℕ)) (numbers : List Frac) (w : List ℕ) (x : Frac) → AreRead words numbers left →
     left ≡ w ∷ behind → IsFractionWord Lenient w x → AreRead words (numbers ++ x ∷ []) behind
 one_more_read words left behind numbers w x h e is = record {

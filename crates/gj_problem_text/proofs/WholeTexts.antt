@@ -2,19 +2,26 @@
 use Rattle.std.proofs.Common.{◌≡◌, ℕ, List, ◌++◌, Result, Err, MatchResult, codes, flat_map, ap, ◌∙◌}
 use Rattle.std.proofs.lemmas.List.{append_assoc}
 use Rattle.gj_function_lines.specs.FunctionLines.{line}
-use Rattle.gj_problem_text.specs.CutText.{cut_lines, IsCutsTextOf}
+use Rattle.gj_proof.specs.ProofText.{AreSubjectLines, subject_of_rule}
+use Rattle.gj_proof.specs.declared.cut.CutRule.{CutRule}
+use Rattle.gj_problem_text.specs.CutText.{cut_lines, IsCutsTextBy}
 use Rattle.gj_problem_text.specs.declared.faults.ProblemFault.{ProblemFault}
 use Rattle.gj_problem_text.specs.declared.task.Task.{Task}
 use Rattle.gj_problem_text.proofs.AnsweredRequests.{IsAnswered}
 
-pub whole_text : (s : Task) (start middle text : List ℕ) → start ≡ line (codes "gj-safe 1") ++ line (codes "rule gmic") →
-    IsAnswered s start s.requests middle → text ≡ middle ++ line (codes "end") → IsCutsTextOf s text
-whole_text s start middle text begun (cuts, are, hold, pushed) ended = record {
+pub whole_text : (r : CutRule) (s : Task) (title rule_lines start middle text : List ℕ) → title ≡ line (codes "gj-safe 1") →
+    AreSubjectLines (subject_of_rule r) rule_lines → start ≡ title ++ rule_lines → IsAnswered r s start s.requests middle →
+    text ≡ middle ++ line (codes "end") → IsCutsTextBy r s text
+whole_text r s title rule_lines start middle text titled ruled begun (cuts, are, hold, pushed) ended = record {
   cuts = cuts;
   are_cuts = are;
   hold = hold;
-  text_is = ended ∙ ap (λ t. t ++ line (codes "end")) (pushed ∙ ap (λ t. t ++ flat_map (cut_lines s.names) cuts) begun)
-      ∙ append_assoc (line (codes "gj-safe 1") ++ line (codes "rule gmic")) (flat_map (cut_lines s.names) cuts) (line (codes "end"));
+  rule_lines = rule_lines;
+  rule_lines_are = ruled;
+  text_is = ended
+      ∙ ap (λ t. t ++ line (codes "end")) (pushed ∙ ap (λ t. t ++ flat_map (cut_lines s.names) cuts) (begun ∙ ap (λ t. t ++ rule_lines) titled))
+      ∙ append_assoc (line (codes "gj-safe 1") ++ rule_lines) (flat_map (cut_lines s.names) cuts) (line (codes "end"))
+      ∙ append_assoc (line (codes "gj-safe 1")) rule_lines (flat_map (cut_lines s.names) cuts ++ line (codes "end"));
 }
 
 -- an error that is passed on is that of the callee

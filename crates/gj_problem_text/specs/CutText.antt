@@ -8,6 +8,9 @@ use Rattle.gj_problem.specs.declared.problem.Entry.{Entry}
 use Rattle.gj_safe_cut.specs.SafeCuts.{HoldsFor}
 use Rattle.gj_safe_cut.specs.declared.cut.SafeCut.{SafeCut}
 use Rattle.gj_safe_cut.specs.declared.cut.SafeCut.TheVariants.{Cut, Integral, OtherFraction, Free, Wide}
+use Rattle.gj_proof.specs.ProofText.{AreSubjectLines, subject_of_rule}
+use Rattle.gj_proof.specs.declared.cut.CutRule.{CutRule}
+use Rattle.gj_proof.specs.declared.cut.CutRule.TheVariants.{Gmic}
 use Rattle.gj_problem_text.specs.Cuts.{AreAnswers, none_turned}
 use Rattle.gj_problem_text.specs.declared.task.Task.{Task}
 
@@ -38,14 +41,16 @@ cut_lines names OtherFraction = line (codes "skip other")
 cut_lines names (Free j) = line_of free_form (name_at names j)
 cut_lines names Wide = line (codes "skip wide")
 
-abbrev pub cuts_text : List (List ℕ) → List SafeCut → List ℕ
-cuts_text names cuts =
-    line (codes "gj-safe 1") ++ line (codes "rule gmic") ++ flat_map (cut_lines names) cuts ++ line (codes "end")
-
--- the text is that of the cuts that the task asks for, and each holds at all feasible points of its
--- problem
-pub record IsCutsTextOf (s : Task) (text : List ℕ) : Type 0 where
+-- the text has the lines of the rule and those of the cuts that the task asks for, and each cut
+-- holds at all feasible points of the task's problem
+pub record IsCutsTextBy (r : CutRule) (s : Task) (text : List ℕ) : Type 0 where
   pub cuts : List SafeCut
-  pub are_cuts : AreAnswers s (none_turned s) s.requests cuts
+  pub are_cuts : AreAnswers r s (none_turned s) s.requests cuts
   pub hold : All (HoldsFor s.problem) cuts
-  pub text_is : text ≡ cuts_text s.names cuts
+  pub rule_lines : List ℕ
+  pub rule_lines_are : AreSubjectLines (subject_of_rule r) rule_lines
+  pub text_is : text ≡ line (codes "gj-safe 1") ++ rule_lines ++ flat_map (cut_lines s.names) cuts ++ line (codes "end")
+
+-- the same by the mixed-integer cut
+abbrev pub IsCutsTextOf : Task → List ℕ → Type 0
+IsCutsTextOf = IsCutsTextBy Gmic

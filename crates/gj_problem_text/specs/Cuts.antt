@@ -4,9 +4,13 @@ use Rattle.gj_frac.specs.declared.Frac.{Frac}
 use Rattle.gj_problem.specs.RoundedCuts.{IsRoundedCut, IsFirstFreeEntry}
 use Rattle.gj_problem.specs.declared.problem.Inequality.{Inequality}
 use Rattle.gj_problem.specs.declared.problem.Problem.{Problem}
-use Rattle.gj_safe_cut.specs.SafeCuts.{IsGmicSafeCutOf}
+use Rattle.gj_rule.specs.declared.kind.RuleKind.TheVariants as kind
+use Rattle.gj_mixed.specs.Slopes.{AreSlopesAtZero}
+use Rattle.gj_safe_cut.specs.SafeCuts.{IsGmicSafeCutOf, IsSafeCutOf}
 use Rattle.gj_safe_cut.specs.declared.cut.SafeCut.{SafeCut}
 use Rattle.gj_safe_cut.specs.declared.cut.SafeCut.TheVariants.{Cut, Integral, OtherFraction, Free, Wide}
+use Rattle.gj_proof.specs.declared.cut.CutRule.{CutRule}
+use Rattle.gj_proof.specs.declared.cut.CutRule.TheVariants.{Gmic, Table}
 use Rattle.gj_problem_text.specs.declared.task.Request.{Request}
 use Rattle.gj_problem_text.specs.declared.task.Request.TheVariants.{Upper, Sum}
 use Rattle.gj_problem_text.specs.declared.task.Task.{Task}
@@ -25,18 +29,24 @@ IsOnGridOf p (Some n) (Cut q) answer = IsRoundedTo p n q answer
 IsOnGridOf p (Some n) cut answer = answer ≡ cut
 IsOnGridOf p None cut answer = answer ≡ cut
 
+-- the cut by the rule: the mixed-integer cut, or that by a function and its slopes at 0
+abbrev pub IsCutBy : CutRule → Problem → List Frac → List Bool → SafeCut → Type 0
+IsCutBy Gmic p multipliers at_upper cut = IsGmicSafeCutOf p multipliers at_upper cut
+IsCutBy (Table f) p multipliers at_upper cut =
+    (up : Frac) × (down : Frac) × AreSlopesAtZero f up down × IsSafeCutOf (kind.Table f) up down p multipliers at_upper cut
+
 -- what is answered to the multipliers, if these columns are turned by their upper bounds
-abbrev pub IsAnswer : Task → List Frac → List Bool → SafeCut → Type 0
-IsAnswer s multipliers at_upper answer =
-    (cut : SafeCut) × IsGmicSafeCutOf s.problem multipliers at_upper cut × IsOnGridOf s.problem s.grid cut answer
+abbrev pub IsAnswer : CutRule → Task → List Frac → List Bool → SafeCut → Type 0
+IsAnswer r s multipliers at_upper answer =
+    (cut : SafeCut) × IsCutBy r s.problem multipliers at_upper cut × IsOnGridOf s.problem s.grid cut answer
 
 -- what is answered to the requests, in their order
-abbrev pub AreAnswers : Task → List Bool → List Request → List SafeCut → Type 0
-AreAnswers s at_upper [] cuts = cuts ≡ []
-AreAnswers s at_upper (Upper j ∷ requests) cuts = AreAnswers s (slice_set at_upper j true) requests cuts
-AreAnswers s at_upper (Sum multipliers ∷ requests) cuts =
-    (cut : SafeCut) × (others : List SafeCut) × (cuts ≡ cut ∷ others) × IsAnswer s multipliers at_upper cut
-    × AreAnswers s at_upper requests others
+abbrev pub AreAnswers : CutRule → Task → List Bool → List Request → List SafeCut → Type 0
+AreAnswers r s at_upper [] cuts = cuts ≡ []
+AreAnswers r s at_upper (Upper j ∷ requests) cuts = AreAnswers r s (slice_set at_upper j true) requests cuts
+AreAnswers r s at_upper (Sum multipliers ∷ requests) cuts =
+    (cut : SafeCut) × (others : List SafeCut) × (cuts ≡ cut ∷ others) × IsAnswer r s multipliers at_upper cut
+    × AreAnswers r s at_upper requests others
 
 -- at first no column is turned by its upper bound
 abbrev pub none_turned : Task → List Bool

@@ -1,8 +1,11 @@
 pub mod ProblemLines
 pub mod LinesRead
 pub mod Tasks
+pub mod Ready
 pub mod ProblemText
 pub mod FirstFault
 pub mod Cuts
 pub mod CutText
 pub mod AnswersMade
+pub mod SafeInputs
+pub mod SafeReplies

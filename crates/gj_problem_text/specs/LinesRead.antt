@@ -1,10 +1,7 @@
 -- What the readers of lines find (own).
-use Rattle.gj_lex.specs.declared.reason.Reason.{Reason}
 use Rattle.gj_problem_text.specs.ProblemLines.{ProblemLine, column, constraint, entry, upper, sum, grid}
 use Rattle.gj_problem_text.specs.declared.lines.Line.{Line}
 use Rattle.gj_problem_text.specs.declared.lines.Line.TheVariants.{Column, Constraint, Entry, Upper, Sum, Grid}
-use Rattle.gj_problem_text.specs.declared.faults.LineFault.{LineFault}
-use Rattle.gj_problem_text.specs.declared.faults.LineFault.TheVariants.{Broken, Memory}
 
 -- what the line tells
 abbrev pub line_told : Line → ProblemLine
@@ -14,13 +11,3 @@ line_told (Entry name value) = entry name.now value
 line_told (Upper name) = upper name.now
 line_told (Sum multipliers) = sum multipliers.items
 line_told (Grid n) = grid n
-
--- a line is refused for a reason of which Q holds, or there was no memory
-abbrev pub IsRefusedFor : (Reason → Type 0) → LineFault → Type 0
-IsRefusedFor Q (Broken e) = Q e
-IsRefusedFor Q (Memory a) = Unit {0}
-
--- there was no memory
-abbrev pub IsMemory : LineFault → Type 0
-IsMemory (Broken e) = ⊥
-IsMemory (Memory a) = Unit {0}

@@ -1,30 +1,41 @@
 //! The cuts that a problem text asks for.
-ghost use Rattle.std.specs.Prelude.{◌≡◌, ◌++◌, All, List, true, flat_map, length, slice_set, IfOk, OnOk};
+ghost use Rattle.std.specs.Prelude.{◌≡◌, ◌<◌, ◌++◌, All, List, true, flat_map, length, slice_set, IfSome, IfOk, OnOk};
 ghost use Rattle.gj_problem.specs.Problems.{Holds};
-ghost use Rattle.gj_safe_cut.specs.SafeCuts.{IsGmicSafeCutOf, HoldsFor};
+ghost use Rattle.gj_safe_cut.specs.SafeCuts.{HoldsFor};
 ghost use Rattle.gj_safe_cut.specs.declared.cut.SafeCut.{SafeCut};
 ghost use Rattle.gj_problem_text.specs.AnswersMade.{IsStep};
 ghost use Rattle.gj_problem_text.specs.CutText.{cut_lines};
-ghost use Rattle.gj_problem_text.specs.Cuts.{IsRoundedTo, IsOnGridOf, IsAnswer, AreAnswers, none_turned};
+ghost use Rattle.gj_problem_text.specs.Cuts.{IsRoundedTo, IsOnGridOf, IsCutBy, IsAnswer, AreAnswers, none_turned};
+ghost use Rattle.gj_problem_text.specs.Ready.{HasMultipliers, IsReady};
+ghost use Rattle.gj_problem_text.specs.SafeReplies.{MakesSafeCuts};
 
+use crate::function_cuts::function_cut;
 use crate::print::push_cut;
 use crate::task::{Request, Task};
 use gj_frac::Frac;
 use gj_problem::{Inequality, Problem, RoundedCut, rounded};
+use gj_proof::CutRule;
 use gj_safe_cut::{SafeCut, gmic_safe_cut};
 use std::alloc::{AllocError, Global};
 
-/// Appends the lines of the cuts that the task asks for. A cut is made and printed before the next,
-/// so that no more than one is kept.
-pub(crate) fn push_answers(alloc: Global, out: &mut Vec<u8>, task: &Task) -> Result<(), AllocError>
+/// Appends the lines of the cuts that the task asks for by the rule. A cut is made and printed
+/// before the next, so that no more than one is kept.
+pub(crate) fn push_answers(
+    alloc: Global,
+    out: &mut Vec<u8>,
+    rule: &CutRule,
+    task: &Task,
+) -> Result<(), AllocError>
+    requires makes { MakesSafeCuts rule.now }
+    requires ready { IsReady task.now }
     ensures { OnOk result ((cuts : List SafeCut)
-        × AreAnswers task.now (none_turned task.now) task.now.requests cuts
+        × AreAnswers rule.now task.now (none_turned task.now) task.now.requests cuts
         × All (HoldsFor task.now.problem) cuts
         × (out.new.items ≡ out.old.items ++ flat_map (cut_lines task.now.names) cuts)) }
 {
     let mut at_upper = none_turned(alloc, task)?;
     for request in task.requests.as_slice() {
-        push_request(alloc, out, task, &mut at_upper, request)?;
+        push_request(alloc, out, rule, task, &mut at_upper, request)?;
     }
     Ok(())
 }
@@ -43,12 +54,16 @@ fn none_turned(alloc: Global, task: &Task) -> Result<Vec<bool>, AllocError>
 fn push_request(
     alloc: Global,
     out: &mut Vec<u8>,
+    rule: &CutRule,
     task: &Task,
     at_upper: &mut Vec<bool>,
     request: &Request,
 ) -> Result<(), AllocError>
+    requires makes { MakesSafeCuts rule.now }
+    requires grid { IfSome task.now.grid (λ n. 0 < n) }
+    requires multipliers { HasMultipliers (length task.now.problem.constraints) request.now }
     requires at_upper { length at_upper.old.items ≡ length task.now.problem.columns }
-    ensures step { OnOk result (IsStep task.now at_upper.old.items out.old.items request.now
+    ensures step { OnOk result (IsStep rule.now task.now at_upper.old.items out.old.items request.now
         at_upper.new.items out.new.items) }
     ensures count { OnOk result (length at_upper.new.items ≡ length at_upper.old.items) }
 {
@@ -61,6 +76,7 @@ fn push_request(
             push_answer(
                 alloc,
                 out,
+                rule,
                 task,
                 multipliers.as_slice(),
                 at_upper.as_slice(),
@@ -85,16 +101,20 @@ fn turn(at_upper: &mut Vec<bool>, column: u32)
 fn push_answer(
     alloc: Global,
     out: &mut Vec<u8>,
+    rule: &CutRule,
     task: &Task,
     multipliers: &[Frac],
     at_upper: &[bool],
 ) -> Result<(), AllocError>
+    requires makes { MakesSafeCuts rule.now }
+    requires grid { IfSome task.now.grid (λ n. 0 < n) }
+    requires multipliers { length multipliers.now ≡ length task.now.problem.constraints }
     requires at_upper { length at_upper.now ≡ length task.now.problem.columns }
-    ensures { OnOk result ((cut : SafeCut) × IsAnswer task.now multipliers.now at_upper.now cut
+    ensures { OnOk result ((cut : SafeCut) × IsAnswer rule.now task.now multipliers.now at_upper.now cut
         × HoldsFor task.now.problem cut
         × (out.new.items ≡ out.old.items ++ cut_lines task.now.names cut)) }
 {
-    let cut = answer_of(alloc, task, multipliers, at_upper)?;
+    let cut = answer_of(alloc, rule, task, multipliers, at_upper)?;
     push_cut(alloc, out, task.names.as_slice(), &cut)?;
     Ok(())
 }
@@ -102,33 +122,40 @@ fn push_answer(
 /// The cut by the multipliers, rounded if there is a grid.
 fn answer_of(
     alloc: Global,
+    rule: &CutRule,
     task: &Task,
     multipliers: &[Frac],
     at_upper: &[bool],
 ) -> Result<SafeCut, AllocError>
+    requires makes { MakesSafeCuts rule.now }
+    requires grid { IfSome task.now.grid (λ n. 0 < n) }
+    requires multipliers { length multipliers.now ≡ length task.now.problem.constraints }
     requires at_upper { length at_upper.now ≡ length task.now.problem.columns }
-    ensures is { IfOk result (IsAnswer task.now multipliers.now at_upper.now) }
+    ensures is { IfOk result (IsAnswer rule.now task.now multipliers.now at_upper.now) }
     ensures holds { IfOk result (HoldsFor task.now.problem) }
 {
-    let cut = unrounded(alloc, &task.problem, multipliers, at_upper)?;
+    let cut = unrounded(alloc, rule, &task.problem, multipliers, at_upper)?;
     on_grid(alloc, &task.problem, task.grid, cut)
 }
 
-/// The cut by the multipliers. It is `Wide` if they are not one for each constraint.
+/// The cut by the rule and the multipliers.
 fn unrounded(
     alloc: Global,
+    rule: &CutRule,
     problem: &Problem,
     multipliers: &[Frac],
     at_upper: &[bool],
 ) -> Result<SafeCut, AllocError>
+    requires makes { MakesSafeCuts rule.now }
+    requires multipliers { length multipliers.now ≡ length problem.now.constraints }
     requires at_upper { length at_upper.now ≡ length problem.now.columns }
-    ensures is { IfOk result (IsGmicSafeCutOf problem.now multipliers.now at_upper.now) }
+    ensures is { IfOk result (IsCutBy rule.now problem.now multipliers.now at_upper.now) }
     ensures holds { IfOk result (HoldsFor problem.now) }
 {
-    if multipliers.len() != problem.constraints.as_slice().len() {
-        return Ok(SafeCut::Wide);
+    match rule {
+        CutRule::Gmic => gmic_safe_cut(alloc, problem, multipliers, at_upper),
+        CutRule::Table(shape) => function_cut(alloc, shape, problem, multipliers, at_upper),
     }
-    gmic_safe_cut(alloc, problem, multipliers, at_upper)
 }
 
 /// The cut, rounded if there is a grid.
@@ -138,6 +165,7 @@ fn on_grid(
     grid: Option<u32>,
     cut: SafeCut,
 ) -> Result<SafeCut, AllocError>
+    requires { IfSome grid (λ n. 0 < n) }
     ensures is { IfOk result (IsOnGridOf problem.now grid cut) }
     ensures holds { IfOk result (λ answer. HoldsFor problem.now cut → HoldsFor problem.now answer) }
 {
@@ -153,20 +181,18 @@ fn on_grid(
     }
 }
 
-/// The inequality rounded to multiples of 1/grid. It is `Wide` if the grid is 0.
+/// The inequality rounded to multiples of 1/grid.
 fn rounded_to(
     alloc: Global,
     problem: &Problem,
     grid: u32,
     cut: &Inequality,
 ) -> Result<SafeCut, AllocError>
+    requires { 0 < grid }
     ensures is { IfOk result (IsRoundedTo problem.now grid cut.now) }
     ensures holds { IfOk result (λ answer. Holds problem.now cut.now →
         HoldsFor problem.now answer) }
 {
-    if grid == 0 {
-        return Ok(SafeCut::Wide);
-    }
     match rounded(alloc, problem, cut, u64::from(grid)) {
         Ok(RoundedCut::Cut(cut)) => Ok(SafeCut::Cut(cut)),
         Ok(RoundedCut::Free(column)) => Ok(SafeCut::Free(column)),

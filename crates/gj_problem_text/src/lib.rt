@@ -1,18 +1,27 @@
 //! The text of a problem with multipliers, read, and the text of its cuts, printed.
+//!
+//! [`safe_cuts_text`] makes mixed-integer cuts. [`safe_reply`] also makes cuts by a function, whose
+//! text stands in front of that of the problem.
 #![tactic(auto)]
 
 mod answers;
 mod faults;
+mod function_cuts;
+mod input;
 mod laws;
 mod lines;
+mod places;
 mod print;
 mod read;
+mod reply;
 mod steps;
 mod task;
 mod text;
 
 pub use faults::ProblemFault;
-pub use laws::one_problem_text;
+pub use input::{SafeInput, read_safe_input};
+pub use laws::{one_problem_text, one_safe_input};
 pub use read::read_problem;
+pub use reply::{SafeReply, safe_reply};
 pub use task::{Request, Task};
 pub use text::safe_cuts_text;

@@ -1,13 +1,13 @@
 //! The lines of a problem text, read.
 ghost use Rattle.std.specs.Prelude.{◌≡◌, ◌∷◌, [], ℕ, Bool, List, codes, IfSome, IfNone, IfOk, IfErr};
+ghost use Rattle.gj_lex.specs.LineFaults.{IsRefusedFor};
 ghost use Rattle.gj_lex.specs.Words.{word_texts};
 ghost use Rattle.gj_problem.specs.declared.problem.Sense.{Sense};
 ghost use Rattle.gj_problem_text.specs.ProblemLines.{kind_word, sense_word, told_rule};
-ghost use Rattle.gj_problem_text.specs.LinesRead.{line_told, IsRefusedFor};
+ghost use Rattle.gj_problem_text.specs.LinesRead.{line_told};
 
-use crate::faults::LineFault;
 use gj_frac::Frac;
-use gj_lex::{Reason, Spelling, count_of, fraction_of, only_word, split_word};
+use gj_lex::{LineFault, Reason, Spelling, count_of, fraction_of, only_word, split_word};
 use gj_problem::Sense;
 use std::alloc::Global;
 

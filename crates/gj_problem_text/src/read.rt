@@ -1,17 +1,22 @@
 //! Problem texts, read.
 ghost use Rattle.std.specs.Prelude.{◌≡◌, ◌≤◌, List, ℕ, length, IfOk, IfErr, MatchResult};
+ghost use Rattle.gj_lex.specs.LineFaults.{IsRefusedFor};
 ghost use Rattle.gj_lex.specs.Parts.{line_part, IsFaultOf};
 ghost use Rattle.gj_lex.specs.Words.{word_texts};
 ghost use Rattle.gj_problem_text.specs.FirstFault.{IsMemoryFault, NamesFirstFault};
-ghost use Rattle.gj_problem_text.specs.LinesRead.{IsRefusedFor};
 ghost use Rattle.gj_problem_text.specs.ProblemText.{no_task, lines_part, problem_text, IsProblemText};
+ghost use Rattle.gj_problem_text.specs.Ready.{IsReady};
+ghost use Rattle.gj_problem_text.specs.SafeInputs.{unruled_text};
 ghost use Rattle.gj_problem_text.specs.Tasks.{most_columns, task_rule};
 
-use crate::faults::{LineFault, ProblemFault};
+use crate::faults::ProblemFault;
 use crate::lines::line_in;
+use crate::places::Places;
 use crate::steps::with_line;
 use crate::task::Task;
-use gj_lex::{PartFault, Spelling, begins_with_word, end_at, line_at, line_number, words_at};
+use gj_lex::{
+    LineFault, PartFault, Spelling, begins_with_word, end_at, line_at, line_number, words_at,
+};
 use gj_problem::Problem;
 use gj_shape::List;
 use std::alloc::Global;
@@ -28,6 +33,8 @@ pub fn read_problem(alloc: Global, bytes: &[u8]) -> Result<Task, ProblemFault>
         MatchResult result (λ t. t ≡ task) IsMemoryFault }
     // A refusal names the first fault.
     ensures refused { IfErr result (NamesFirstFault bytes.now) }
+    // Each row has a multiplier for each constraint, and the grid is not 0.
+    ensures ready { IfOk result IsReady }
 {
     match problem_text_at(alloc, bytes) {
         Ok(task) => Ok(task),
@@ -50,15 +57,27 @@ fn problem_text_at(alloc: Global, text: &[u8]) -> Result<Task, PartFault>
     Ok(task)
 }
 
+/// The task that the bytes tell: a problem text without the line of its rule.
+pub(crate) fn unruled_text_at(alloc: Global, text: &[u8]) -> Result<Task, PartFault>
+    ensures found { IfOk result (λ task. (rest : List ℕ) × unruled_text.Reads text.now task rest) }
+    ensures fault { IfErr result (IsFaultOf unruled_text text.now) }
+{
+    let rest = words_at(Spelling::Lenient, text, b"gj-problem 1")?;
+    let (task, rest) = lines_at(alloc, rest)?;
+    end_at(Spelling::Lenient, rest)?;
+    Ok(task)
+}
+
 /// The task that the next lines tell, up to their line `end`, and what follows that line.
 fn lines_at(alloc: Global, text: &[u8]) -> Result<(Task, &[u8]), PartFault>
     ensures found { IfOk result (λ r. lines_part.Reads text.now r.0 r.1.now) }
     ensures fault { IfErr result (IsFaultOf lines_part text.now) }
 {
     let mut task = no_task(alloc);
+    let mut places = Places::none(alloc);
     let mut rest = text;
     while !begins_with_word(Spelling::Lenient, rest, b"end") {
-        let (longer, behind) = one_more_at(alloc, task, rest)?;
+        let (longer, behind) = one_more_at(alloc, task, &mut places, rest)?;
         task = longer;
         rest = behind;
     }
@@ -82,17 +101,24 @@ fn no_task(alloc: Global) -> Task
     }
 }
 
-/// The task with the next line, and what follows that line.
-fn one_more_at(alloc: Global, task: Task, text: &[u8]) -> Result<(Task, &[u8]), PartFault>
+/// The task with the next line, and what follows that line. The places are those of its columns.
+fn one_more_at<'a>(
+    alloc: Global,
+    task: Task,
+    places: &mut Places<'a>,
+    text: &'a [u8],
+) -> Result<(Task, &'a [u8]), PartFault>
     requires few { length task.names ≤ most_columns }
+    requires places { places.old ≡ task.names }
     ensures found { IfOk result
         (λ r. (line_part Spelling.Lenient (task_rule task)).Reads text.now r.0 r.1.now) }
     ensures few { IfOk result (λ r. length r.0.names ≤ most_columns) }
+    ensures places { IfOk result (λ r. places.new ≡ r.0.names) }
     ensures fault { IfErr result
         (IsFaultOf (line_part Spelling.Lenient (task_rule task)) text.now) }
 {
     let line = line_at(Spelling::Lenient, text)?;
-    match with_line_of(alloc, task, line.bytes) {
+    match with_line_of(alloc, task, places, line.bytes) {
         Ok(longer) => Ok((longer, line.rest)),
         Err(LineFault::Broken(reason)) => Err(PartFault::at(line.start, reason)),
         Err(LineFault::Memory(error)) => Err(PartFault::Memory(error)),
@@ -100,12 +126,19 @@ fn one_more_at(alloc: Global, task: Task, text: &[u8]) -> Result<(Task, &[u8]), 
 }
 
 /// The task with the line, or why the line cannot follow.
-fn with_line_of(alloc: Global, task: Task, line: &[u8]) -> Result<Task, LineFault>
+fn with_line_of<'a>(
+    alloc: Global,
+    task: Task,
+    places: &mut Places<'a>,
+    line: &'a [u8],
+) -> Result<Task, LineFault>
     requires few { length task.names ≤ most_columns }
+    requires places { places.old ≡ task.names }
     ensures found { IfOk result ((task_rule task).Spells (word_texts line.now)) }
     ensures few { IfOk result (λ t. length t.names ≤ most_columns) }
+    ensures places { IfOk result (λ t. places.new ≡ t.names) }
     ensures broken { IfErr result (IsRefusedFor ((task_rule task).Breaks (word_texts line.now))) }
 {
     let told = line_in(alloc, line)?;
-    with_line(alloc, task, told)
+    with_line(alloc, task, places, told)
 }

@@ -1,17 +1,15 @@
 //! A task with one more line.
-ghost use Rattle.std.specs.Prelude.{◌≡◌, ◌≢◌, ◌≤◌, ◌∷◌, ◌++◌, [], None, length, IfSome, IfNone, IfOk, IfErr, IsTrue, ◌↔◌, codes, nat_eq};
-ghost use Rattle.std.specs.Cmp.Lexicographic.{pointwise};
-ghost use Rattle.std.specs.List.{position};
-ghost use Rattle.gj_lex.specs.Name.{IsName};
+ghost use Rattle.std.specs.Prelude.{◌≡◌, ◌≢◌, ◌≤◌, ◌∷◌, ◌++◌, [], None, length, IfSome, IfNone, IfOk, IfErr, IsTrue, ◌↔◌, codes};
+ghost use Rattle.gj_lex.specs.LineFaults.{IsRefusedFor, IsMemory};
 ghost use Rattle.gj_lex.specs.declared.reason.Reason.TheVariants as reason;
-ghost use Rattle.gj_problem_text.specs.LinesRead.{line_told, IsRefusedFor, IsMemory};
+ghost use Rattle.gj_problem_text.specs.LinesRead.{line_told};
 ghost use Rattle.gj_problem_text.specs.Tasks.{Adds, Refuses, AddsColumn, RefusesColumn, AddsConstraint, RefusesConstraint, AddsEntry, RefusesEntry, AddsUpper, AddsSum, AddsGrid, Unless, Never, IsKnown, TakesEntries, AreLonger, SpellsBound, IsBound, most_columns};
 
-use crate::faults::LineFault;
 use crate::lines::Line;
+use crate::places::Places;
 use crate::task::{Request, Task};
 use gj_frac::Frac;
-use gj_lex::{Name, NameFault, Reason, Spelling, fraction_of};
+use gj_lex::{LineFault, Reason, Spelling, fraction_of, name_of};
 use gj_problem::{Column, Constraint, Entry, Problem, Sense};
 use gj_shape::List;
 use std::alloc::Global;
@@ -25,33 +23,43 @@ const MOST_CONSTRAINTS: usize = 10_000;
 /// The greatest number of entries.
 const MOST_ENTRIES: u32 = 100_000;
 
-/// The task with the line, or why the line cannot follow.
-pub(crate) fn with_line(alloc: Global, task: Task, line: Line<'_>) -> Result<Task, LineFault>
+/// The task with the line, or why the line cannot follow. The places are those of its columns.
+pub(crate) fn with_line<'a>(
+    alloc: Global,
+    task: Task,
+    places: &mut Places<'a>,
+    line: Line<'a>,
+) -> Result<Task, LineFault>
     requires few { length task.names ≤ most_columns }
+    requires places { places.old ≡ task.names }
     ensures added { IfOk result (Adds task (line_told line.entry)) }
+    ensures places { IfOk result (λ t. places.new ≡ t.names) }
     ensures refused { IfErr result (IsRefusedFor (Refuses task (line_told line.entry))) }
 {
     match line {
         Line::Column(name, is_whole, lower, upper) => {
-            with_column(alloc, task, name, is_whole, lower, upper)
+            with_column(alloc, task, places, name, is_whole, lower, upper)
         }
         Line::Constraint(name, sense, right) => with_constraint(alloc, task, name, sense, right),
-        Line::Entry(name, value) => with_entry(task, name, value),
-        Line::Upper(name) => with_upper(task, name),
+        Line::Entry(name, value) => with_entry(task, places, name, value),
+        Line::Upper(name) => with_upper(task, places, name),
         Line::Sum(multipliers) => with_sum(task, multipliers),
         Line::Grid(grid) => with_grid(task, grid),
     }
 }
 
 /// The task with a column.
-fn with_column(
+fn with_column<'a>(
     alloc: Global,
     task: Task,
-    name: &[u8],
+    places: &mut Places<'a>,
+    name: &'a [u8],
     is_whole: bool,
     lower: &[u8],
     upper: &[u8],
 ) -> Result<Task, LineFault>
+    requires { places.old ≡ task.names }
+    ensures places { IfOk result (λ t. places.new ≡ t.names) }
     ensures added { IfOk result (AddsColumn task name.now is_whole lower.now upper.now) }
     ensures refused { IfErr result (IsRefusedFor
         (RefusesColumn task name.now lower.now upper.now)) }
@@ -66,9 +74,10 @@ fn with_column(
     if task.names.as_slice().len() >= MOST_COLUMNS {
         return Err(LineFault::Broken(Reason::Large));
     }
-    if index_of(task.names.as_slice(), name).is_some() {
+    if places.place_of(name).is_some() {
         return Err(LineFault::Broken(Reason::Place));
     }
+    places.push(name)?;
     let Task {
         names,
         problem,
@@ -121,25 +130,6 @@ fn is_absent(word: &[u8]) -> bool
     word == b"-".as_slice()
 }
 
-/// Where the first name with these bytes stands.
-fn index_of(names: &[Name], word: &[u8]) -> Option<usize>
-    ensures { result ≡ position (pointwise nat_eq word.now) names.now }
-{
-    names.iter().position(|name| word == name.bytes())
-}
-
-/// The name of these bytes.
-fn name_of(alloc: Global, word: &[u8]) -> Result<Name, LineFault>
-    ensures name { IfOk result (λ name. (name ≡ word.now) × IsName word.now) }
-    ensures refused { IfErr result (IsRefusedFor (Unless (IsName word.now) reason.Form Never)) }
-{
-    match Name::new(alloc, word) {
-        Ok(name) => Ok(name),
-        Err(NameFault::Form) => Err(LineFault::Broken(Reason::Form)),
-        Err(NameFault::Memory(error)) => Err(LineFault::Memory(error)),
-    }
-}
-
 /// The task with a constraint that has no entries yet.
 fn with_constraint(
     alloc: Global,
@@ -188,8 +178,14 @@ fn with_constraint(
 }
 
 /// The task with an entry of its last constraint.
-fn with_entry(task: Task, name: &[u8], value: Frac) -> Result<Task, LineFault>
+fn with_entry(
+    task: Task,
+    places: &Places<'_>,
+    name: &[u8],
+    value: Frac,
+) -> Result<Task, LineFault>
     requires few { length task.names ≤ most_columns }
+    requires places { places.now ≡ task.names }
     ensures added { IfOk result (AddsEntry task name.now value) }
     ensures refused { IfErr result (IsRefusedFor (RefusesEntry task name.now)) }
 {
@@ -199,7 +195,7 @@ fn with_entry(task: Task, name: &[u8], value: Frac) -> Result<Task, LineFault>
     if task.entries >= MOST_ENTRIES {
         return Err(LineFault::Broken(Reason::Large));
     }
-    let Some(index) = index_of(task.names.as_slice(), name) else {
+    let Some(index) = places.place_of(name) else {
         return Err(LineFault::Broken(Reason::Place));
     };
     let Task {
@@ -306,13 +302,14 @@ fn with_request(task: Task, request: Request) -> Result<Task, LineFault>
 }
 
 /// The task that turns the column with the name by its upper bound from here on.
-fn with_upper(task: Task, name: &[u8]) -> Result<Task, LineFault>
+fn with_upper(task: Task, places: &Places<'_>, name: &[u8]) -> Result<Task, LineFault>
     requires few { length task.names ≤ most_columns }
+    requires places { places.now ≡ task.names }
     ensures added { IfOk result (AddsUpper task name.now) }
     ensures refused { IfErr result (IsRefusedFor
         (Unless (IsKnown task name.now) reason.Place Never)) }
 {
-    let Some(index) = index_of(task.names.as_slice(), name) else {
+    let Some(index) = places.place_of(name) else {
         return Err(LineFault::Broken(Reason::Place));
     };
     with_request(task, Request::Upper(index as u32))

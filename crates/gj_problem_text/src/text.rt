@@ -1,15 +1,17 @@
 //! From the text of a problem to the text of its cuts.
-ghost use Rattle.std.specs.Prelude.{◌≡◌, ◌++◌, List, ℕ, codes, IfOk, IfErr, OnOk, MatchResult};
-ghost use Rattle.gj_function_lines.specs.FunctionLines.{line};
-ghost use Rattle.gj_problem_text.specs.CutText.{IsCutsTextOf};
+ghost use Rattle.std.specs.Prelude.{List, ℕ, IfOk, IfErr, MatchResult};
+ghost use Rattle.gj_problem_text.specs.CutText.{IsCutsTextBy, IsCutsTextOf};
 ghost use Rattle.gj_problem_text.specs.FirstFault.{IsMemoryFault, NamesFirstFault};
 ghost use Rattle.gj_problem_text.specs.ProblemText.{IsProblemText};
+ghost use Rattle.gj_problem_text.specs.Ready.{IsReady};
+ghost use Rattle.gj_problem_text.specs.SafeReplies.{MakesSafeCuts};
 ghost use Rattle.gj_problem_text.specs.declared.task.Task.{Task};
 
 use crate::answers::push_answers;
 use crate::faults::ProblemFault;
 use crate::read::read_problem;
 use crate::task::Task;
+use gj_proof::{CutRule, push_rule_lines};
 use std::alloc::{AllocError, Global};
 
 /// The text of the cuts that the text of a problem asks for: one for each of its lines `sum`, in
@@ -35,34 +37,21 @@ pub fn safe_cuts_text(alloc: Global, input: &[u8]) -> Result<Vec<u8>, ProblemFau
     ensures refused { IfErr result (NamesFirstFault input.now) }
 {
     let task = read_problem(alloc, input)?;
-    match text_of(alloc, &task) {
+    match cuts_text(alloc, &CutRule::Gmic, &task) {
         Ok(text) => Ok(text),
         Err(error) => Err(ProblemFault::Memory(error)),
     }
 }
 
-/// The text of the cuts that the task asks for.
-fn text_of(alloc: Global, task: &Task) -> Result<Vec<u8>, AllocError>
-    ensures { IfOk result (λ out. IsCutsTextOf task.now out.items) }
+/// The text of the cuts that the task asks for by the rule.
+pub(crate) fn cuts_text(alloc: Global, rule: &CutRule, task: &Task) -> Result<Vec<u8>, AllocError>
+    requires makes { MakesSafeCuts rule.now }
+    requires ready { IsReady task.now }
+    ensures { IfOk result (λ out. IsCutsTextBy rule.now task.now out.items) }
 {
-    let mut out = Vec::new(alloc);
-    push_head(&mut out)?;
-    push_answers(alloc, &mut out, task)?;
-    push_end(&mut out)?;
+    let mut out = Vec::from_slice(alloc, b"gj-safe 1\n")?;
+    push_rule_lines(alloc, &mut out, rule)?;
+    push_answers(alloc, &mut out, rule, task)?;
+    out.extend_from_slice(b"end\n")?;
     Ok(out)
-}
-
-/// Appends the first two lines.
-fn push_head(out: &mut Vec<u8>) -> Result<(), AllocError>
-    ensures { OnOk result (out.new.items
-        ≡ out.old.items ++ (line (codes "gj-safe 1") ++ line (codes "rule gmic"))) }
-{
-    out.extend_from_slice(b"gj-safe 1\nrule gmic\n")
-}
-
-/// Appends the last line.
-fn push_end(out: &mut Vec<u8>) -> Result<(), AllocError>
-    ensures { OnOk result (out.new.items ≡ out.old.items ++ line (codes "end")) }
-{
-    out.extend_from_slice(b"end\n")
 }

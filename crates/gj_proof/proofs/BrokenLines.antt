@@ -20,7 +20,7 @@ use Rattle.gj_shape.specs.declared.extremality.RowName.TheVariants.{Period, F, P
 use Rattle.gj_shape.specs.declared.faces.FaceKind.{FaceKind}
 use Rattle.gj_shape.specs.declared.violations.Violation.{Violation}
 use Rattle.gj_shape.specs.declared.violations.Violation.TheVariants as violation
-use Rattle.gj_proof.specs.LineFaults.{texts_of_head}
+use Rattle.gj_proof.specs.HeadWords.{texts_of_head}
 use Rattle.gj_proof.specs.ProofText.{violation_fields, IsCoverLineBelow, IsRowNameBelow, row_name_fields}
 use Rattle.gj_proof.specs.ProofGrammar.{violation_form, head_fields, head_form, term_form, modulus_form, IsHeadInBounds, halves_form, pair_form}
 use Rattle.gj_proof.specs.declared.cut.CutTerm.{CutTerm}

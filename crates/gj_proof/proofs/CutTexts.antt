@@ -21,7 +21,7 @@ use Rattle.gj_proof.specs.declared.cut_rows.RowHead.{RowHead}
 use Rattle.gj_proof.specs.declared.cut_rows.RowKind.{RowKind}
 use Rattle.gj_proof.specs.declared.cut_rows.RowKind.TheVariants.{WithCut, Skipped}
 use Rattle.gj_proof.proofs.ClearLines.{head_is_clear, term_is_clear}
-use Rattle.gj_proof.proofs.ListRead.{printed_as}
+use Rattle.gj_forms.proofs.ListRead.{printed_as}
 
 abbrev pub BeginsTerm : List ℕ → Type 0
 BeginsTerm = BeginsWithWord Strict (codes "term")

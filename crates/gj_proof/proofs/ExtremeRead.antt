@@ -16,7 +16,7 @@ use Rattle.gj_proof.specs.declared.claim.ClaimWord.TheVariants.{NotExtreme}
 use Rattle.gj_proof.specs.declared.numbers.Numbers.{Numbers}
 use Rattle.gj_proof.specs.declared.pivot.PivotRow.{PivotRow}
 use Rattle.gj_proof.proofs.ExtremeTexts.{pivot_form, makes_row, behind_steps, behind_name}
-use Rattle.gj_proof.proofs.ListRead.{LeavesTimes, times_begin, times_on, times_end}
+use Rattle.gj_forms.proofs.ListRead.{LeavesTimes, times_begin, times_on, times_end}
 use Rattle.gj_proof.proofs.ReadTexts.{makes_extreme, behind_modulus, behind_cover, behind_function, makes_not_extreme, behind_subject}
 
 -- ---- one group

@@ -26,7 +26,7 @@ use Rattle.gj_proof.specs.declared.numbers.Numbers.TheVariants.{Whole, Residues}
 use Rattle.gj_proof.specs.declared.pivot.PivotRow.{PivotRow}
 use Rattle.gj_proof.proofs.ClearLines.{cover_is_clear, row_name_is_clear, column_is_clear, modulus_is_clear, halves_is_clear, pair_is_clear}
 use Rattle.gj_proof.proofs.CutTexts.{BeginsEnd}
-use Rattle.gj_proof.proofs.ListRead.{printed_as}
+use Rattle.gj_forms.proofs.ListRead.{printed_as}
 
 abbrev pub BeginsStep : List ℕ → Type 0
 BeginsStep = BeginsWithWord Strict (codes "reduce")

@@ -4,7 +4,6 @@ pub mod ReadFaults
 pub mod OneText
 pub mod LineNumbers
 pub mod ShortTexts
-pub mod ListRead
 pub mod ClearLines
 pub mod BrokenLines
 pub mod CutTexts

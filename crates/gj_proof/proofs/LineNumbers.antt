@@ -8,8 +8,8 @@ use Rattle.gj_lex.specs.TextLines.{line_feeds}
 use Rattle.gj_lex.proofs.LineNumbers.{line_feeds_append}
 use Rattle.gj_shape.specs.FunctionData.{FunctionData, IsWithinBounds}
 use Rattle.gj_shape.specs.declared.violations.Violation.{Violation}
-use Rattle.gj_function_lines.specs.FunctionLines.{line, order_form, order_line, place_form, place_line, PointNumbers, point_form, numbers_of as printed_numbers, point_line, AreFunctionLines}
-use Rattle.gj_function_lines.specs.FunctionLines.PointNumbers.{one, three}
+use Rattle.gj_function_lines.specs.FunctionLines.{line, order_form, order_line, place_form, place_line, point_form, numbers_of as printed_numbers, point_line, AreFunctionLines}
+use Rattle.gj_function_lines.proofs.ClearLines.{good_point}
 use Rattle.gj_forms.specs.LineForms.{Field, bytes_of, form_of}
 use Rattle.gj_forms.proofs.FieldWords.{AreGood}
 use Rattle.gj_forms.proofs.LineFeeds.{one_feed}
@@ -102,10 +102,6 @@ number_of_violation f v =
 feeds_of_fields : (fs : List Field) → AreGood fs → line_feeds (bytes_of fs) ≡ 1
 feeds_of_fields fs good =
     one_feed (form_of (λ (t : Unit {0}). fs)) (record { of_form = λ t h. tt; good = λ t h. good; one = λ a b h k e. refl }) tt tt
-
-good_point : (n : PointNumbers) → AreGood (point_form.fields n)
-good_point (one x) = (known (codes "point") refl, tt)
-good_point (three p) = (known (codes "point") refl, (tt, (tt, tt)))
 
 feeds_of_points : (points : List Point) → line_feeds (flat_map point_line points) ≡ length points
 feeds_of_points [] = refl

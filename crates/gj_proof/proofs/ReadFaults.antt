@@ -1,5 +1,5 @@
 -- The fault of a line of a proof text is that of the text.
-use Rattle.std.proofs.Common.{◌≡◌, List, ℕ, Result, Err, IfErr}
+use Rattle.std.proofs.Common.{◌≡◌, List, ℕ}
 use Rattle.gj_lex.specs.declared.spelling.Spelling.TheVariants.{Strict}
 use Rattle.gj_lex.specs.declared.fault.PartFault.{PartFault}
 use Rattle.gj_lex.specs.Parts.{made_part, end_part, IsFaultOf, IsTail}
@@ -14,10 +14,6 @@ use Rattle.gj_proof.specs.declared.claim.ClaimWord.{ClaimWord}
 use Rattle.gj_proof.specs.declared.claim.ClaimWord.TheVariants.{NotMinimal}
 use Rattle.gj_proof.specs.declared.numbers.Numbers.{Numbers}
 use Rattle.gj_proof.proofs.ReadTexts.{title_part, word_part, last_part, violation_part, named_claim, after_claim, after_title}
-
--- an error that is passed on has what the callee's has
-pub passed_on : {T E : Type 0} (Q : E → Type 0) (e y : E) (r : Result T E) → r ≡ Err y → y ≡ e → Q e → IfErr r Q
-passed_on Q e y r is same h = rw (is, same) h
 
 -- ---- in the claim
 

@@ -24,7 +24,7 @@ use Rattle.gj_forms.specs.LineForms.{Field, bytes_of}
 use Rattle.gj_forms.specs.LineForms.Field.{word, count}
 use Rattle.gj_function_lines.specs.FunctionLines.{line}
 use Rattle.gj_function_lines.proofs.StrictFunctions.{function_lines_are_short}
-use Rattle.gj_proof.specs.ProofText.{IsBounded, IsShort, violation_line, group_line, reduction_line, pivot_line, halves_line, pair_line, IsCoverLineBelow, IsRowNameBelow, IsPivotRowBelow, HaveFewSteps, IsProofText, group_text, halves_text, modulus_text, extreme_text}
+use Rattle.gj_proof.specs.ProofText.{IsBounded, IsShort, longest_extreme_text, violation_line, group_line, reduction_line, pivot_line, halves_line, pair_line, IsCoverLineBelow, IsRowNameBelow, IsPivotRowBelow, HaveFewSteps, IsProofText, group_text, halves_text, modulus_text, extreme_text}
 use Rattle.gj_proof.specs.declared.claim.Claim.{Claim}
 use Rattle.gj_proof.specs.declared.claim.Claim.TheVariants.{Minimal, NotMinimal, Cut, Extreme, ExtremeByResidues, NotExtreme}
 use Rattle.gj_proof.specs.declared.numbers.Numbers.{Numbers}
@@ -231,7 +231,7 @@ modulus_is_short Residues =
     )
 
 pub extreme_text_is_short_by : (n : Numbers) (f : FunctionData) (lines : List CoverLine) (rows : List PivotRow) (text : List ℕ) →
-    IsWithinBounds f → HaveFewSteps rows → IsExtremeText n f lines rows text → length text ≤ 12000000
+    IsWithinBounds f → HaveFewSteps rows → IsExtremeText n f lines rows text → length text ≤ longest_extreme_text
 extreme_text_is_short_by n f lines rows text b few p =
     let small = b.order_high in
     let groups = few.groups in
@@ -251,6 +251,6 @@ extreme_text_is_short_by n f lines rows text b few p =
     )
 
 pub extreme_text_is_short : (f : FunctionData) (lines : List CoverLine) (rows : List PivotRow) (text : List ℕ) → IsWithinBounds f →
-    HaveFewSteps rows → IsProofText (Extreme f lines rows) text → length text ≤ 12000000
+    HaveFewSteps rows → IsProofText (Extreme f lines rows) text → length text ≤ longest_extreme_text
 extreme_text_is_short f lines rows text b few p =
     extreme_text_is_short_by Whole f lines rows text b few (of_extreme_text f lines rows Whole text p)

@@ -1,7 +1,7 @@
 pub mod PresentRows
 pub mod ProofText
 pub mod ProofGrammar
-pub mod LineFaults
+pub mod HeadWords
 pub mod FirstFault
 pub mod Rules
 pub mod Meaning

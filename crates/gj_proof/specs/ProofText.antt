@@ -260,6 +260,10 @@ pub record HaveFewSteps (rows : List PivotRow) : Type 0 where
   pub groups : length rows ≤ greatest_order
   pub steps : All (λ row. length row.reduce ≤ greatest_order) rows
 
+-- and then the text of a claim that a function is extreme has at most so many bytes
+abbrev pub longest_extreme_text : ℕ
+longest_extreme_text = 12000000
+
 -- each interval has a line, and the lines and the rows are within the ranges of the form
 abbrev pub AreExtremeLines : FunctionData → List CoverLine → List PivotRow → Type 0
 AreExtremeLines f lines rows =

@@ -1,18 +1,17 @@
 //! The lines of covered intervals, read.
-ghost use Rattle.std.specs.Prelude.{◌≡◌, ◌≢◌, ◌≤◌, ◌++◌, [], ◌∷◌, ℕ, codes, IfOk, IfErr, IfSome, IfNone};
-ghost use Rattle.gj_lex.specs.Words.{word_texts};
+ghost use Rattle.std.specs.Prelude.{◌≡◌, ◌≢◌, ◌≤◌, ◌++◌, decimal, IfOk, IfErr, IfSome, IfNone};
 ghost use Rattle.gj_lex.specs.Parts.{IsFaultOf};
-ghost use Rattle.gj_forms.specs.LineForms.{AreOfForm, AreLine, BreaksForm};
 ghost use Rattle.gj_shape.specs.Limits.{greatest_order};
+ghost use Rattle.gj_shape.specs.declared.extremality.CoverLine.{CoverLine};
 ghost use Rattle.gj_shape.specs.declared.faces.FaceKind.{FaceKind};
 ghost use Rattle.gj_shape.specs.declared.faces.FaceKind.TheVariants.{Vertex};
 ghost use Rattle.gj_function_lines.specs.FaceLines.{face_word, cover_line};
 ghost use Rattle.gj_proof.specs.ProofText.{IsCoverLineBelow};
 ghost use Rattle.gj_proof.specs.ProofGrammar.{cover_form, form_part, covered_part};
 
-use crate::fields::{behind_text, count_below, five_fields_of, split_at_byte};
+use crate::fields::{behind_text, count_below, fields_at, split_at_byte};
 use gj_function_lines::face_word;
-use gj_lex::{PartFault, Reason, Spelling, line_at};
+use gj_lex::{PartFault, Reason};
 use gj_shape::{CoverLine, Face, FaceKind};
 use std::alloc::Global;
 
@@ -24,16 +23,6 @@ const EDGES_AND_TRIANGLES: [FaceKind; 5] = [
     FaceKind::Lower,
     FaceKind::Upper,
 ];
-
-/// The words of the line of a covered interval that differ from line to line.
-#[derive(Clone, Copy)]
-pub(crate) struct CoverWords<'a> {
-    pub kind: FaceKind,
-    pub interval: &'a [u8],
-    pub from: &'a [u8],
-    pub a: &'a [u8],
-    pub b: &'a [u8],
-}
 
 /// The lines of all intervals of a function of this order, and what follows them.
 pub(crate) fn cover_lines_at(
@@ -64,10 +53,13 @@ fn cover_line_at(text: &[u8], order: u32) -> Result<(CoverLine, &[u8]), PartFaul
     if let Some((line, rest)) = printed_cover_line(text, order) {
         return Ok((line, rest));
     }
-    let line = line_at(Spelling::Strict, text)?;
-    match cover_line_in(line.bytes, order) {
-        Ok(cover) => Ok((cover, line.rest)),
-        Err(reason) => Err(PartFault::at(line.start, reason)),
+    let ([interval, from, word, a, b], rest) = fields_at(text, b"cover", 5)?;
+    let Some(kind) = face_kind(word) else {
+        return Err(PartFault::at(text, Reason::Form));
+    };
+    match cover_of(interval, from, kind, a, b, order) {
+        Some(line) => Ok((line, rest)),
+        None => Err(PartFault::at(text, Reason::Number)),
     }
 }
 
@@ -83,61 +75,37 @@ fn printed_cover_line(text: &[u8], order: u32) -> Option<(CoverLine, &[u8])>
     let (kind, words) = split_at_byte(words, b' ')?;
     let (a, words) = split_at_byte(words, b' ')?;
     let (b, rest) = split_at_byte(words, b'\n')?;
+    let line = cover_of(interval, from, face_kind(kind)?, a, b, order)?;
+    Some((line, rest))
+}
+
+/// The line of a covered interval with a face of this kind, whose numbers the words spell as counts
+/// below the order.
+fn cover_of(
+    interval: &[u8],
+    from: &[u8],
+    kind: FaceKind,
+    a: &[u8],
+    b: &[u8],
+    order: u32,
+) -> Option<CoverLine>
+    requires { kind ≢ Vertex }
+    ensures numbers { IfSome result (λ l. (interval.now ≡ decimal l.interval)
+        × (from.now ≡ decimal l.from) × (a.now ≡ decimal l.face.a) × (b.now ≡ decimal l.face.b)) }
+    ensures below { IfSome result (λ l. (l.face.kind ≡ kind) × IsCoverLineBelow order l) }
+    ensures none { IfNone result ((l : CoverLine) → interval.now ≡ decimal l.interval →
+        from.now ≡ decimal l.from → a.now ≡ decimal l.face.a → b.now ≡ decimal l.face.b →
+        IsCoverLineBelow order l → ⊥) }
+{
     let interval = count_below(interval, order).ok()?;
     let from = count_below(from, order).ok()?;
-    let kind = face_kind(kind)?;
     let a = count_below(a, order).ok()?;
     let b = count_below(b, order).ok()?;
     let face = Face { kind, a, b };
-    Some((
-        CoverLine {
-            interval,
-            from,
-            face,
-        },
-        rest,
-    ))
-}
-
-/// What the line of a covered interval tells.
-fn cover_line_in(line: &[u8], order: u32) -> Result<CoverLine, Reason>
-    ensures found { IfOk result (AreLine (cover_form order) (word_texts line.now)) }
-    ensures fault { IfErr result (BreaksForm (cover_form order) (word_texts line.now)) }
-{
-    let Some(words) = cover_words(line) else {
-        return Err(Reason::Form);
-    };
-    let interval = count_below(words.interval, order)?;
-    let from = count_below(words.from, order)?;
-    let a = count_below(words.a, order)?;
-    let b = count_below(words.b, order)?;
-    let face = Face {
-        kind: words.kind,
-        a,
-        b,
-    };
-    Ok(CoverLine {
+    Some(CoverLine {
         interval,
         from,
         face,
-    })
-}
-
-/// The words of the line, if they are of a covered interval.
-fn cover_words(line: &[u8]) -> Option<CoverWords<'_>>
-    ensures found { IfSome result (λ w. word_texts line.now
-        ≡ codes "cover" ∷ w.interval.now ∷ w.from.now ∷ face_word w.kind ∷ w.a.now ∷ w.b.now ∷ []) }
-    ensures kind { IfSome result (λ w. w.kind ≢ Vertex) }
-    ensures none { IfNone result ((q : ℕ) → AreOfForm (cover_form q) (word_texts line.now) → ⊥) }
-{
-    let (interval, from, word, a, b) = five_fields_of(line, b"cover")?;
-    let kind = face_kind(word)?;
-    Some(CoverWords {
-        kind,
-        interval,
-        from,
-        a,
-        b,
     })
 }
 

@@ -1,17 +1,18 @@
 //! The lines of cuts, read.
 ghost use Rattle.std.specs.Prelude.{◌≡◌, ◌++◌, codes, IfOk, IfErr, IfSome, IfNone, OnSome};
 ghost use Rattle.gj_frac.specs.declared.Frac.{Frac};
+ghost use Rattle.gj_lex.specs.LineFaults.{IsRefusedFor};
 ghost use Rattle.gj_lex.specs.Name.{IsName};
 ghost use Rattle.gj_lex.specs.NumberText.{fraction_text};
 ghost use Rattle.gj_lex.specs.Words.{word_texts};
 ghost use Rattle.gj_lex.specs.Parts.{BeginsWithWord, IsFaultOf};
 ghost use Rattle.gj_lex.specs.TextLines.{HasLine};
 ghost use Rattle.gj_lex.specs.declared.spelling.Spelling.TheVariants.{Strict};
-ghost use Rattle.gj_lex.specs.declared.reason.Reason.TheVariants.{Form, Number};
+ghost use Rattle.gj_lex.specs.declared.reason.Reason.TheVariants.{Number};
 ghost use Rattle.gj_forms.specs.LineForms.{AreOfForm, AreLine, BreaksForm};
 ghost use Rattle.gj_proof.specs.ProofText.{reason_word, term_line};
 ghost use Rattle.gj_proof.specs.ProofGrammar.{head_form, term_form, form_part, rule_part, terms_part, row_part, rows_part};
-ghost use Rattle.gj_proof.specs.LineFaults.{IsRefusedFor, texts_of_head};
+ghost use Rattle.gj_proof.specs.HeadWords.{texts_of_head};
 ghost use Rattle.gj_proof.specs.declared.cut.SkipReason.{SkipReason};
 
 use crate::cut::{CutLine, CutRule, CutTerm, SkipReason};
@@ -19,11 +20,11 @@ use crate::fields::{behind_text, number_of, split_at_byte, three_fields_of};
 use gj_frac::Frac;
 use gj_function_lines::function_at;
 use gj_lex::{
-    Name, NameFault, PartFault, Reason, Spelling, TextLine, begins_with_line, line_at,
-    line_with_word, two_fields_of, words_at,
+    LineFault, Name, PartFault, Reason, Spelling, TextLine, begins_with_line, line_at,
+    line_with_word, name_of, two_fields_of, words_at,
 };
 use gj_shape::List;
-use std::alloc::{AllocError, Global};
+use std::alloc::Global;
 
 /// What the first line of a row tells.
 #[derive(Clone, Copy)]
@@ -50,15 +51,6 @@ pub(crate) struct HeadWords<'a> {
     pub kind: RowKind,
     pub name: &'a [u8],
     pub right: &'a [u8],
-}
-
-/// Why a line is not read.
-#[derive(Drop)]
-pub(crate) enum LineFault {
-    /// It is refused for this reason.
-    Broken(Reason),
-    /// There was no memory.
-    Memory(AllocError),
 }
 
 // ---- the rule
@@ -269,16 +261,4 @@ fn numbers_of(first: &[u8], second: &[u8]) -> Result<(Frac, Frac), Reason>
     let x = number_of(first)?;
     let y = number_of(second)?;
     Ok((x, y))
-}
-
-/// The name that the word is.
-fn name_of(alloc: Global, word: &[u8]) -> Result<Name, LineFault>
-    ensures found { IfOk result (λ name. (name ≡ word.now) × IsName word.now) }
-    ensures fault { IfErr result (IsRefusedFor (λ e. (e ≡ Form) × (IsName word.now → ⊥))) }
-{
-    match Name::new(alloc, word) {
-        Ok(name) => Ok(name),
-        Err(NameFault::Form) => Err(LineFault::Broken(Reason::Form)),
-        Err(NameFault::Memory(error)) => Err(LineFault::Memory(error)),
-    }
 }

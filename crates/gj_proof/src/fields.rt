@@ -1,18 +1,58 @@
 //! The words of a line of known length, and the numbers that they spell.
-ghost use Rattle.std.specs.Prelude.{◌≡◌, ◌==◌, ◌<◌, [], ◌∷◌, ◌++◌, ℕ, ℤ, List, decimal, IfOk, IfErr, IfSome, IfNone};
+ghost use Rattle.std.specs.Prelude.{◌≡◌, ◌==◌, ◌<◌, ◌≤◌, [], ◌∷◌, ◌++◌, ℕ, ℤ, List, decimal, map, take, IfOk, IfErr, IfSome, IfNone};
 ghost use Rattle.std.specs.List.{position};
 ghost use Rattle.std.specs.Fmt.{signed_decimal};
 ghost use Rattle.gj_frac.specs.Fraction.{Fits};
 ghost use Rattle.gj_frac.specs.declared.Frac.{Frac};
 ghost use Rattle.gj_lex.specs.NumberText.{fraction_text};
+ghost use Rattle.gj_lex.specs.Parts.{IsFaultOf};
 ghost use Rattle.gj_lex.specs.Words.{word_texts};
 ghost use Rattle.gj_lex.specs.declared.reason.Reason.TheVariants.{Number};
+ghost use Rattle.gj_proof.specs.LineFields.{fields_part};
 
 use gj_frac::Frac;
-use gj_lex::{Reason, Spelling, behind_name, fraction_of, only_word, read_count, split_word};
+use gj_lex::{
+    PartFault, Reason, Spelling, behind_name, fraction_of, has_no_word, line_at, only_word,
+    read_count, split_word,
+};
 
 /// Fewer digits than these spell a count below 2^32.
 const FEW_DIGITS: usize = 10;
+
+/// The greatest number of words behind the name of a line.
+const MOST_FIELDS: usize = 5;
+
+/// The words behind the name in the next line, if the line has the name and so many words behind
+/// it, and what follows the line. They are the first ones of the array, and its others are empty.
+/// If the line is another, or there is none, the fault is `Form`. It takes no memory.
+pub(crate) fn fields_at<'a>(
+    text: &'a [u8],
+    name: &[u8],
+    count: usize,
+) -> Result<([&'a [u8]; MOST_FIELDS], &'a [u8]), PartFault>
+    requires { count ≤ 5 }
+    ensures found { IfOk result (λ r. (fields_part name.now count).Reads text.now
+        (take count (map (λ w. w.now) r.0)) r.1.now) }
+    ensures fault { IfErr result (IsFaultOf (fields_part name.now count) text.now) }
+{
+    let line = line_at(Spelling::Strict, text)?;
+    let refused = PartFault::Refused(text.len(), Reason::Form);
+    let mut fields: [&'a [u8]; MOST_FIELDS] = [b""; MOST_FIELDS];
+    let Some(mut rest) = behind_name(line.bytes, name) else {
+        return Err(refused);
+    };
+    for place in 0..count {
+        let Some((word, behind)) = split_word(rest) else {
+            return Err(refused);
+        };
+        fields[place] = word;
+        rest = behind;
+    }
+    if !has_no_word(rest) {
+        return Err(refused);
+    }
+    Ok((fields, line.rest))
+}
 
 /// The three words behind the name, if the line has these four words.
 pub(crate) fn three_fields_of<'a>(
@@ -65,24 +105,6 @@ pub(crate) fn number_of(word: &[u8]) -> Result<Frac, Reason>
         Some(x) => Ok(x),
         None => Err(Reason::Number),
     }
-}
-
-/// The five words behind the name, if the line has these six words.
-pub(crate) fn five_fields_of<'a>(
-    line: &'a [u8],
-    name: &[u8],
-) -> Option<(&'a [u8], &'a [u8], &'a [u8], &'a [u8], &'a [u8])>
-    ensures found { IfSome result (λ r. word_texts line.now
-        ≡ name.now ∷ r.0.now ∷ r.1.now ∷ r.2.now ∷ r.3.now ∷ r.4.now ∷ []) }
-    ensures none { IfNone result ((first second third fourth fifth : List ℕ) →
-        word_texts line.now ≡ name.now ∷ first ∷ second ∷ third ∷ fourth ∷ fifth ∷ [] → ⊥) }
-{
-    let (first, rest) = split_word(behind_name(line, name)?)?;
-    let (second, rest) = split_word(rest)?;
-    let (third, rest) = split_word(rest)?;
-    let (fourth, rest) = split_word(rest)?;
-    let fifth = only_word(rest)?;
-    Some((first, second, third, fourth, fifth))
 }
 
 /// The count below the limit that the word spells.

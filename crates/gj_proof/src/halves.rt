@@ -2,16 +2,14 @@
 ghost use Rattle.std.specs.Prelude.{◌≡◌, ◌++◌, ℤ, List, map, decimal, IfOk, IfErr, IfSome, IfNone};
 ghost use Rattle.std.specs.Fmt.{signed_decimal};
 ghost use Rattle.gj_frac.specs.Fraction.{Fits};
-ghost use Rattle.gj_lex.specs.Words.{word_texts};
 ghost use Rattle.gj_lex.specs.Parts.{IsFaultOf};
-ghost use Rattle.gj_forms.specs.LineForms.{AreLine, BreaksForm};
 ghost use Rattle.gj_proof.specs.ProofText.{pair_line};
 ghost use Rattle.gj_proof.specs.ProofGrammar.{IsHeadInBounds, halves_form, pair_form, form_part, pairs_part, halves_part};
 ghost use Rattle.gj_proof.specs.declared.halves.HalvesHead.{HalvesHead};
 
 use crate::bounds::is_head_in_bounds;
-use crate::fields::{behind_text, split_at_byte, whole_of};
-use gj_lex::{PartFault, Reason, Spelling, count_of, line_at, two_fields_of};
+use crate::fields::{behind_text, fields_at, split_at_byte, whole_of};
+use gj_lex::{PartFault, Reason, Spelling, count_of};
 use gj_shape::{Halves, List};
 use std::alloc::Global;
 
@@ -43,24 +41,10 @@ fn halves_head_at(text: &[u8]) -> Result<(HalvesHead, &[u8]), PartFault>
     ensures found { IfOk result (λ r. (form_part halves_form).Reads text.now r.0 r.1.now) }
     ensures fault { IfErr result (IsFaultOf (form_part halves_form) text.now) }
 {
-    let line = line_at(Spelling::Strict, text)?;
-    match halves_head_in(line.bytes) {
-        Ok(head) => Ok((head, line.rest)),
-        Err(reason) => Err(PartFault::at(line.start, reason)),
-    }
-}
-
-/// The order and the scale that the line tells.
-fn halves_head_in(line: &[u8]) -> Result<HalvesHead, Reason>
-    ensures found { IfOk result (AreLine halves_form (word_texts line.now)) }
-    ensures fault { IfErr result (BreaksForm halves_form (word_texts line.now)) }
-{
-    let Some((first, second)) = two_fields_of(line, b"halves") else {
-        return Err(Reason::Form);
-    };
-    match head_of(first, second) {
-        Some(head) => Ok(head),
-        None => Err(Reason::Number),
+    let ([order, scale, ..], rest) = fields_at(text, b"halves", 2)?;
+    match head_of(order, scale) {
+        Some(head) => Ok((head, rest)),
+        None => Err(PartFault::at(text, Reason::Number)),
     }
 }
 
@@ -112,10 +96,10 @@ fn pair_at(text: &[u8]) -> Result<((i128, i128), &[u8]), PartFault>
     if let Some((pair, rest)) = printed_pair(text) {
         return Ok((pair, rest));
     }
-    let line = line_at(Spelling::Strict, text)?;
-    match pair_in(line.bytes) {
-        Ok(pair) => Ok((pair, line.rest)),
-        Err(reason) => Err(PartFault::at(line.start, reason)),
+    let ([first, second, ..], rest) = fields_at(text, b"pair", 2)?;
+    match wholes_of(first, second) {
+        Some(pair) => Ok((pair, rest)),
+        None => Err(PartFault::at(text, Reason::Number)),
     }
 }
 
@@ -129,20 +113,6 @@ fn printed_pair(text: &[u8]) -> Option<((i128, i128), &[u8])>
     let (second, rest) = split_at_byte(words, b'\n')?;
     let pair = wholes_of(first, second)?;
     Some((pair, rest))
-}
-
-/// The pair of values of the line.
-fn pair_in(line: &[u8]) -> Result<(i128, i128), Reason>
-    ensures found { IfOk result (AreLine pair_form (word_texts line.now)) }
-    ensures fault { IfErr result (BreaksForm pair_form (word_texts line.now)) }
-{
-    let Some((first, second)) = two_fields_of(line, b"pair") else {
-        return Err(Reason::Form);
-    };
-    match wholes_of(first, second) {
-        Some(pair) => Ok(pair),
-        None => Err(Reason::Number),
-    }
 }
 
 /// The two whole numbers that the words spell.

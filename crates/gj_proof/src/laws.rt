@@ -8,7 +8,7 @@ ghost use Rattle.gj_shape.specs.declared.extremality.CoverLine.{CoverLine};
 ghost use Rattle.gj_proof.specs.declared.claim.Claim.{Claim};
 ghost use Rattle.gj_proof.specs.declared.numbers.Numbers.{Numbers};
 ghost use Rattle.gj_proof.specs.declared.pivot.PivotRow.{PivotRow};
-ghost use Rattle.gj_proof.specs.ProofText.{ProofLine, extreme_claim, IsBounded, IsShort, HaveFewSteps, IsProofText, HasBytes, HasNumber};
+ghost use Rattle.gj_proof.specs.ProofText.{ProofLine, extreme_claim, IsBounded, IsShort, HaveFewSteps, longest_extreme_text, IsProofText, HasBytes, HasNumber};
 ghost use Rattle.gj_proof.specs.ProofGrammar.{proof_text};
 ghost use Rattle.gj_proof.specs.FirstFault.{IsFirstFaultOfProof};
 
@@ -64,5 +64,5 @@ pub fn extreme_proof_text_is_short()
     ensures { (numbers : Numbers) (f : FunctionData) (lines : List CoverLine)
         (rows : List PivotRow) (text : List ℕ) →
         IsWithinBounds f → HaveFewSteps rows →
-        IsProofText (extreme_claim numbers f lines rows) text → length text ≤ 12_000_000 }
+        IsProofText (extreme_claim numbers f lines rows) text → length text ≤ longest_extreme_text }
 {}

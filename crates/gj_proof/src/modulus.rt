@@ -1,13 +1,11 @@
 //! The line of the modulus, read.
 ghost use Rattle.std.specs.Prelude.{IfOk, IfErr};
-ghost use Rattle.gj_lex.specs.Words.{word_texts};
 ghost use Rattle.gj_lex.specs.Parts.{IsFaultOf};
-ghost use Rattle.gj_forms.specs.LineForms.{AreLine, BreaksForm};
 ghost use Rattle.gj_proof.specs.ProofGrammar.{modulus_form, form_part, modulus_part};
 
-use crate::fields::whole_of;
+use crate::fields::{fields_at, whole_of};
 use crate::numbers::{MODULUS, Numbers};
-use gj_lex::{PartFault, Reason, Spelling, field_of, line_at};
+use gj_lex::{PartFault, Reason};
 
 /// What follows the line of the modulus in a text by residues; the text itself in one by whole
 /// numbers, which has none. It takes no memory.
@@ -26,23 +24,9 @@ fn behind_modulus(text: &[u8]) -> Result<&[u8], PartFault>
     ensures found { IfOk result (λ rest. (form_part modulus_form).Reads text.now tt rest.now) }
     ensures fault { IfErr result (IsFaultOf (form_part modulus_form) text.now) }
 {
-    let line = line_at(Spelling::Strict, text)?;
-    match test_modulus(line.bytes) {
-        Ok(()) => Ok(line.rest),
-        Err(reason) => Err(PartFault::at(line.start, reason)),
-    }
-}
-
-/// Ok if the line tells the modulus.
-fn test_modulus(line: &[u8]) -> Result<(), Reason>
-    ensures found { IfOk result (λ u. AreLine modulus_form (word_texts line.now) tt) }
-    ensures fault { IfErr result (BreaksForm modulus_form (word_texts line.now)) }
-{
-    let Some(word) = field_of(line, b"modulus") else {
-        return Err(Reason::Form);
-    };
+    let ([word, ..], rest) = fields_at(text, b"modulus", 1)?;
     match whole_of(word) {
-        Some(n) if n == MODULUS => Ok(()),
-        _ => Err(Reason::Number),
+        Some(n) if n == MODULUS => Ok(rest),
+        _ => Err(PartFault::at(text, Reason::Number)),
     }
 }

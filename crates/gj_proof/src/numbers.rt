@@ -1,7 +1,9 @@
 //! The numbers of the rows of a proof that a function is extreme.
 
+use gj_theory::residues;
+
 /// The modulus of proofs by residues, 2^61 - 1.
-pub const MODULUS: i128 = 2_305_843_009_213_693_951;
+pub const MODULUS: i128 = residues::MODULUS as i128;
 
 /// The numbers of the rows of a proof. The first line of its text tells them.
 #[derive(Clone, Copy, Debug, PartialEq, Eq)]

@@ -7,10 +7,10 @@ ghost use Rattle.gj_forms.specs.LineForms.{AreLine, BreaksForm};
 ghost use Rattle.gj_shape.specs.Limits.{greatest_order};
 ghost use Rattle.gj_proof.specs.ProofGrammar.{row_name_form, column_form, form_part, steps_part, group_part, groups_part};
 
-use crate::fields::count_below;
+use crate::fields::{count_below, fields_at};
 use crate::pivot::PivotRow;
 use gj_lex::{
-    PartFault, Reason, Spelling, begins_with_line, begins_with_word, field_of, has_words, line_at,
+    PartFault, Reason, Spelling, begins_with_line, begins_with_word, has_words, line_at,
     two_fields_of,
 };
 use gj_shape::{GREATEST_ORDER, List, RowName};
@@ -75,22 +75,11 @@ fn column_at<'a>(text: &'a [u8], word: &[u8]) -> Result<(u32, &'a [u8]), PartFau
         (λ r. (form_part (column_form word.now)).Reads text.now r.0 r.1.now) }
     ensures fault { IfErr result (IsFaultOf (form_part (column_form word.now)) text.now) }
 {
-    let line = line_at(Spelling::Strict, text)?;
-    match column_in(line.bytes, word) {
-        Ok(column) => Ok((column, line.rest)),
-        Err(reason) => Err(PartFault::at(line.start, reason)),
+    let ([column, ..], rest) = fields_at(text, word, 1)?;
+    match count_below(column, GREATEST_ORDER) {
+        Ok(column) => Ok((column, rest)),
+        Err(reason) => Err(PartFault::at(text, reason)),
     }
-}
-
-/// The column of the line, behind the word.
-fn column_in(line: &[u8], word: &[u8]) -> Result<u32, Reason>
-    ensures found { IfOk result (AreLine (column_form word.now) (word_texts line.now)) }
-    ensures fault { IfErr result (BreaksForm (column_form word.now) (word_texts line.now)) }
-{
-    let Some(column) = field_of(line, word) else {
-        return Err(Reason::Form);
-    };
-    count_below(column, GREATEST_ORDER)
 }
 
 /// The name of the row in the next line, and what follows the line. It takes no memory.

@@ -7,7 +7,7 @@ ghost use Rattle.gj_theory.specs.TriangularResidues.{AreTriangularResidues, Solv
 ghost use Rattle.gj_elim.specs.Data.{behind_by};
 ghost use Rattle.gj_elim.specs.KeptRows.{log_row, answer_of};
 
-use crate::keep::keep;
+use crate::keep::{Origin, keep};
 use crate::reduce::reduce_row;
 use crate::residue::inverse_of;
 use crate::step::read;
@@ -99,9 +99,11 @@ impl ResidueBasis {
             self.alloc,
             &mut self.log,
             &mut self.rows,
-            self.inserted,
-            self.reduce.as_slice(),
-            column,
+            Origin {
+                number: self.inserted,
+                reduce: self.reduce.as_slice(),
+                pivot: column,
+            },
             factor,
             self.row.as_slice(),
         )?;

@@ -10,20 +10,31 @@ use gj_elim::LogRow;
 use gj_shape::List;
 use std::alloc::{AllocError, Global};
 
+/// Where a kept row comes from: its number among the inserted rows, the columns of the steps that
+/// reduced it, and the column of its pivot.
+#[derive(Clone, Copy)]
+pub(crate) struct Origin<'a> {
+    pub(crate) number: u64,
+    pub(crate) reduce: &'a [u32],
+    pub(crate) pivot: u32,
+}
+
 /// Keeps the row times the factor, and writes to the log how it came to be kept. After an error
 /// nothing is changed.
 pub(crate) fn keep(
     alloc: Global,
     log: &mut Vec<LogRow>,
     rows: &mut Vec<List<u64>>,
-    number: u64,
-    reduce: &[u32],
-    pivot: u32,
+    origin: Origin<'_>,
     factor: u64,
     row: &[u64],
 ) -> Result<(), AllocError>
     ensures line { OnOk result (log.new.items
-        ≡ log.old.items ++ record { number = number; reduce = reduce.now; pivot = pivot } ∷ []) }
+        ≡ log.old.items ++ record {
+          number = origin.entry.number;
+          reduce = origin.entry.reduce.now;
+          pivot = origin.entry.pivot;
+        } ∷ []) }
     ensures entries { OnOk result (map numbers_of rows.new.items
         ≡ map numbers_of rows.old.items ++ residues modulus (scaled (pos factor)
         (numbers_of row.now)) ∷ []) }
@@ -32,13 +43,13 @@ pub(crate) fn keep(
 {
     let mut entries = Vec::from_slice(alloc, row)?;
     multiply(factor, entries.as_mut_slice());
-    let reduce = Vec::from_slice(alloc, reduce)?;
+    let reduce = Vec::from_slice(alloc, origin.reduce)?;
     log.reserve(1)?;
     rows.reserve(1)?;
     log.push_reserved(LogRow {
-        number,
+        number: origin.number,
         reduce: List::of(reduce),
-        pivot,
+        pivot: origin.pivot,
     });
     rows.push_reserved(List::of(entries));
     Ok(())

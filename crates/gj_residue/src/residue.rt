@@ -3,8 +3,7 @@ ghost use Rattle.std.specs.Prelude.{ℕ, pos, ◌≡◌, ◌<◌, ◌-ℤ◌, �
 ghost use Rattle.gj_shape.specs.Residues.{residue, inverse};
 ghost use Rattle.gj_theory.specs.Modulus.{modulus};
 
-/// The modulus, 2^61 - 1.
-pub(crate) const MODULUS: u64 = 2_305_843_009_213_693_951;
+use gj_theory::residues::MODULUS;
 
 /// The residue of a whole number.
 pub(crate) fn residue_of(x: i128) -> u64

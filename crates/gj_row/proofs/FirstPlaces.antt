@@ -5,20 +5,17 @@ use Rattle.std.proofs.lemmas.Bool.{cases_Bool, false_from_ne_true}
 use Rattle.std.proofs.lemmas.List.{take-append-drop}
 use Rattle.std.proofs.lemmas.List.Elements.{All-nil, All-cons, All-weaker}
 use Rattle.std.proofs.lemmas.List.Quantifiers.{position-Some}
-use Rattle.std.proofs.lemmas.List.Sums.{fails_before_first, position_or_len_is}
+use Rattle.std.proofs.lemmas.List.Sums.{position_or_len_is}
 use Rattle.std.proofs.lemmas.List.Splits.{slice_split_none, slice_split_first, slice_split-cons_yes}
 use Rattle.memchr.specs.Find.{IsFirstByte}
+use Rattle.gj_lemmas.proofs.Choices.{not_true, not_false}
 use Rattle.gj_lex.proofs.CanonicalTexts.{position_unwrapped}
+use Rattle.gj_lex.proofs.FirstPlaces.{no_place}
 use Rattle.gj_row.specs.Reading.{EndsLine, IsFirstLine, fields_of_line, is_comma, is_line_end}
 
 -- the first place, as a number
 pub first_place : (p : ℕ → Bool) (xs : List ℕ) (i : ℕ) → position p xs ≡ Some i → i ≡ position_or_len p xs
 first_place p xs i e = ap (λ o. unwrap_or o (length xs)) (sym e) ∙ position_unwrapped p xs
-
-pub no_place : (p : ℕ → Bool) (xs : List ℕ) → position p xs ≡ None → All (λ b. p b ≡ false) xs
-no_place p xs e k d within =
-    let limit : length xs ≡ position_or_len p xs = ap (λ o. unwrap_or o (length xs)) (sym e) ∙ position_unwrapped p xs in
-    fails_before_first p xs k d (omega arith)
 
 -- nothing before it passes
 before_place : (p : ℕ → Bool) (xs : List ℕ) → All (λ b. p b ≡ false) (take (position_or_len p xs) xs)
@@ -48,16 +45,8 @@ not_empty : (x : ℕ) (xs : List ℕ) → is_line_end x ≡ false → take (posi
 not_empty x xs miss =
     let step : 1 + position_or_len is_line_end xs ≡ suc (position_or_len is_line_end xs) = omega arith in rw (miss, step) (λ e. cc e)
 
-is_end : (b : Bool) → not b ≡ false → b ≡ true
-is_end true e = refl
-is_end false e = cc e
-
-is_no_end : (b : Bool) → not b ≡ true → b ≡ false
-is_no_end true e = cc e
-is_no_end false e = refl
-
 pub all_ends : (xs : List ℕ) → All (λ b. not (is_line_end b) ≡ false) xs → All (λ b. is_line_end b ≡ true) xs
-all_ends xs h = All-weaker (λ b. not (is_line_end b) ≡ false) (λ b. is_line_end b ≡ true) (λ b e. is_end (is_line_end b) e) xs h
+all_ends xs h = All-weaker (λ b. not (is_line_end b) ≡ false) (λ b. is_line_end b ≡ true) (λ b e. not_false (is_line_end b) e) xs h
 
 -- the first line that is not blank
 pub first_line_at : (text left line after : List ℕ) (start end : ℕ) → position (λ b. not (is_line_end b)) text ≡ Some start →
@@ -77,7 +66,7 @@ first_line_at text left line after start end first left_is end_is line_is after_
       blanks = subst (λ n. All (λ b. is_line_end b ≡ true) (take n text)) (sym place)
           (all_ends (take (position_or_len starts text) text) (before_place starts text));
       full = subst (λ l. l ≢ []) (sym (line_is ∙ ap (λ n. take n left) end_is ∙ ap (λ l. take (position_or_len is_line_end l) l) left_at))
-          (not_empty at.0 at.1 (is_no_end (is_line_end at.0) at.3));
+          (not_empty at.0 at.1 (not_true (is_line_end at.0) at.3));
       inside = subst (All (λ b. is_line_end b ≡ false)) (sym (line_is ∙ ap (λ n. take n left) end_is)) (before_place is_line_end left);
       ends = subst EndsLine (sym (after_is ∙ ap (λ n. drop n left) end_is)) (end_at_place left);
     }

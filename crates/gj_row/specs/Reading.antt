@@ -216,6 +216,10 @@ pub record StandsBehindHeader (text : List ℕ) (columns names : List (List ℕ)
 abbrev pub HoldsOfText : Records → (List ℕ → Type 0) → Type 0
 HoldsOfText left P = (text : List ℕ) → StandsBehind text [] left → P text
 
+-- this holds of each text of which only a first record has been read, with these fields
+abbrev pub HoldsBehindFirst : List (List ℕ) → Records → (List ℕ → Type 0) → Type 0
+HoldsBehindFirst fields left P = (text : List ℕ) → StandsBehind text (fields ∷ []) left → P text
+
 -- this holds of each text of which record 1 has been read
 abbrev pub HoldsBehindHeader : List (List ℕ) → List (List ℕ) → Records → (List ℕ → Type 0) → Type 0
 HoldsBehindHeader columns names left P = (text : List ℕ) → StandsBehindHeader text columns names left → P text

@@ -83,7 +83,7 @@ impl<T: Drop> From<AllocFailed<T>> for RowFault {
 }
 
 /// Why a record cannot follow those before it, or that there was no memory.
-#[derive(Clone, Copy, Debug, PartialEq, Eq)]
+#[derive(Clone, Copy)]
 pub(crate) enum RecordFault {
     /// It is refused for this reason.
     Refused(RowReason),

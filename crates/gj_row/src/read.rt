@@ -3,7 +3,7 @@ ghost use Rattle.std.specs.Prelude.{◌≡◌, ◌<◌, ◌≤◌, ◌++◌, ◌
 ghost use Rattle.gj_row.specs.TableauLimits.{most_columns, most_entries, most_rows, IsTableau, names_of, entry_count};
 ghost use Rattle.gj_row.specs.TableauText.{IsTableauText};
 ghost use Rattle.gj_row.specs.FirstFault.{HasRowFault, IsFirstFaultOfTableau, IsNewName};
-ghost use Rattle.gj_row.specs.Reading.{IsMemoryFault, NamesRecord, NamesReason, ReadsRow, HoldsBehindHeader, HoldsOfText, StandsBehind, bytes_of, tableau_of, words_of_fields};
+ghost use Rattle.gj_row.specs.Reading.{IsMemoryFault, NamesRecord, NamesReason, ReadsRow, HoldsBehindFirst, HoldsBehindHeader, HoldsOfText, StandsBehind, bytes_of, fields_in, tableau_of, words_of_fields};
 ghost use Rattle.gj_row.specs.declared.tableau.Tableau.{Tableau};
 
 use crate::faults::{RecordFault, RowFault, RowReason};
@@ -81,13 +81,28 @@ fn tableau_from(alloc: Global, records: &mut Records<'_>) -> Result<Tableau, Row
     if !next_record(records, &mut fields)? {
         return Err(RowFault::Refused(1, RowReason::Header));
     }
-    let header = match header_of(alloc, &fields) {
+    tableau_behind(alloc, records, &mut fields)
+}
+
+/// The tableau that record 1, with these fields, and the records that are left spell, or the first
+/// fault among them.
+fn tableau_behind<'a>(
+    alloc: Global,
+    records: &mut Records<'a>,
+    fields: &mut Fields<'a>,
+) -> Result<Tableau, RowFault>
+    ensures found { IfOk result (λ t. HoldsBehindFirst (fields_in fields.old) records.old
+        (λ text. IsTableauText text t)) }
+    ensures refused { IfErr result (NamesRecord (λ n e. HoldsBehindFirst (fields_in fields.old)
+        records.old (λ text. IsFirstFaultOfTableau text n e))) }
+{
+    let header = match header_of(alloc, fields) {
         Ok(header) => header,
         Err(fault) => return Err(fault.in_record(1)),
     };
     let columns = header.columns;
     let mut names = header.names;
-    let rows = rows_in(alloc, records, &mut fields, &columns, &mut names)?;
+    let rows = rows_in(alloc, records, fields, &columns, &mut names)?;
     Ok(Tableau {
         columns: List::of(columns),
         rows: List::of(rows),

@@ -88,11 +88,11 @@ rising_value f x r y rest low is = record {
       absurd (low (subst₂ (λ n d. LessValue (fraction_of f) (record { top = n; bottom = d })) (sym parts.0) (sym parts.1) h));
 }
 
--- one times a number, and a number less another times one
-ones : (a b : ℤ) → a -ℤ b ≡ pos 1 *ℤ a -ℤ b *ℤ pos 1
-ones a b = omega (arith, ints)
+-- 1 minus a fraction, as the definitions write it
+pub one_minus_top : (a b : ℤ) → a -ℤ b ≡ pos 1 *ℤ a -ℤ b *ℤ pos 1
+one_minus_top a b = omega (arith, ints)
 
-one_times : (a : ℤ) → a ≡ pos 1 *ℤ a
+pub one_times : (a : ℤ) → a ≡ pos 1 *ℤ a
 one_times a = sym (one_mul_z a)
 
 pub falling_value : (f x r y : Frac) → IsRestOf x r → LessValue (fraction_of f) (fraction_of r) →
@@ -104,9 +104,9 @@ falling_value f x r y rest high is = record {
       absurd (low (subst₂ (λ n m. LessValue (fraction_of f) (record { top = n; bottom = m })) parts.0 parts.1 high));
   falls = λ w floor h. let parts = rest w floor in
       let top = sym (sub_mul_z r.den r.num f.den) ∙ ap₂ (λ a b. a *ℤ b)
-      (ap₂ (λ a b. a -ℤ b) parts.1 parts.0 ∙ ones x.den (x.num -ℤ w *ℤ x.den)) (one_times f.den) in
+      (ap₂ (λ a b. a -ℤ b) parts.1 parts.0 ∙ one_minus_top x.den (x.num -ℤ w *ℤ x.den)) (one_times f.den) in
       let bottom = ap (λ z. r.den *ℤ f.den -ℤ z) (mul_comm_z f.num r.den) ∙
       sym (mul_sub_z r.den f.den f.num)
-      ∙ ap₂ (λ a b. a *ℤ b) (parts.1 ∙ one_times x.den) (ones f.den f.num) in
+      ∙ ap₂ (λ a b. a *ℤ b) (parts.1 ∙ one_times x.den) (one_minus_top f.den f.num) in
       subst₂ (IsRatio y) top bottom is;
 }

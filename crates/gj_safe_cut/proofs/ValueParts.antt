@@ -6,11 +6,10 @@ use Rattle.gj_frac.specs.declared.Frac.{Frac}
 use Rattle.gj_frac.specs.Fraction.{IsRatio, LessValue, SameValue, fraction_of, quotient_of, numerator, denominator}
 use Rattle.gj_frac.proofs.Floors.{complement_lowest}
 use Rattle.gj_frac.proofs.SameValues.{parts_from_is}
-use Rattle.gj_lemmas.proofs.Integers.{one_mul_z}
 use Rattle.gj_rational.specs.Rational.{Rational}
 use Rattle.gj_rational.proofs.RationalLaws.{whole_top, whole_bottom}
 use Rattle.gj_problem.proofs.AddedSums.{whole_ratio}
-use Rattle.gj_rule.proofs.ClosedForm.{IsRestOf}
+use Rattle.gj_rule.proofs.ClosedForm.{IsRestOf, one_minus_top, one_times}
 use Rattle.gj_theory.specs.Cuts.{IsGmicValue}
 
 -- a fraction that is 1 has the parts 1 and 1
@@ -18,13 +17,6 @@ pub one_parts : (x : Frac) → IsRatio x (pos 1) (pos 1) → (x.num ≡ pos 1) �
 one_parts x h =
     let is = whole_ratio x (pos 1) h in
     (ap (λ (q : Rational). q.top) is ∙ whole_top (pos 1), ap (λ (q : Rational). q.bottom) is ∙ whole_bottom (pos 1))
-
--- 1 minus a fraction, as the definitions write it
-pub one_minus_top : (d n : ℤ) → d -ℤ n ≡ pos 1 *ℤ d -ℤ n *ℤ pos 1
-one_minus_top d n = omega (arith, ints)
-
-pub one_times : (d : ℤ) → d ≡ pos 1 *ℤ d
-one_times d = sym (one_mul_z d)
 
 pub complement_parts : (x c : Frac) → pos 0 ≤ℤ numerator x → numerator x ≤ℤ denominator x →
     IsRatio c (denominator x -ℤ numerator x) (denominator x) → (c.num ≡ x.den -ℤ x.num) × (c.den ≡ x.den)

@@ -1,4 +1,4 @@
--- The modulus of proofs by residues (own).
+-- The modulus of elimination and of proofs by residues (own).
 use Rattle.std.specs.Prelude.{ℕ}
 
 -- 2^61 - 1

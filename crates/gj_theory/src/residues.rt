@@ -6,6 +6,9 @@ ghost use Rattle.gj_shape.specs.Residues.{inverse, modulo, IsZeroModulo, SolvesM
 ghost use Rattle.gj_theory.specs.TriangularRows.{Solves, present_row_by};
 ghost use Rattle.gj_theory.specs.TriangularResidues.{HavePivotsModulo, SolvesKeptModulo, AreTriangularResidues};
 
+/// The modulus of elimination over residues, 2^61 - 1.
+pub const MODULUS: u64 = 2_305_843_009_213_693_951;
+
 /// What solves n rows with n pivots modulo m is 0 modulo m. So a list of rows of whole numbers,
 /// each of whose solutions solves those n rows modulo m, has only the solution 0: each solution can
 /// be divided by m, again and again. Nothing asks m to be prime.

@@ -3,6 +3,7 @@ use Rattle.std.proofs.Common.{◌≡◌, ◌⊎◌, inl, inr, ℕ, ◌≤◌, fa
 use Rattle.gj_shape.specs.FunctionData.{FunctionData}
 use Rattle.gj_proof.specs.declared.claim.Claim.{Claim}
 use Rattle.gj_proof.specs.declared.claim.Claim.TheVariants as claim
+use Rattle.gj_proof.specs.ProofText.{longest_extreme_text}
 use Rattle.gj_proof.specs.Rules.{MeetsRules}
 use Rattle.gj_extreme.proofs.DecidedTexts.{decided_is_bounded, decided_text_is_short}
 use Rattle.gj_top.specs.declared.reply.End.{End}
@@ -108,6 +109,6 @@ verdict_or_decision_is_short input text (inl r) =
     omega arith
 verdict_or_decision_is_short input text (inr r) =
     let d = r.replied in
-    let short : length text ≤ 12000000 =
+    let short : length text ≤ longest_extreme_text =
     decided_text_is_short r.thing d.claim text (function_is_bounded input r.thing r.spelled) d.decided d.spelled in
     omega arith

@@ -1,5 +1,6 @@
 //! The command `demo`: the summary of the decision on a function that no text gives.
 ghost use Rattle.std.specs.Prelude.{ℕ, ◌≤◌, List};
+ghost use Rattle.gj_demo.specs.Demo.{greatest_demo};
 ghost use Rattle.gj_top.specs.Task.{IsAnswering};
 ghost use Rattle.gj_top.specs.Demo.{demo};
 
@@ -11,7 +12,7 @@ use std::alloc::Global;
 /// nothing is read.
 pub(crate) fn reply(alloc: Global, n: u32) -> Result<Reply, Unanswered>
     requires low { 1 ≤ n }
-    requires high { n ≤ 249 }
+    requires high { n ≤ greatest_demo }
     ensures { (input : List ℕ) → IsAnswering (demo n) input result }
 {
     Ok(Reply {

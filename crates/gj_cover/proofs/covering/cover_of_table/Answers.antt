@@ -1,15 +1,13 @@
 use Rattle.std.proofs.Common.{sym, subst}
 use Rattle.gj_cover.proofs.Ends.{uncovered, components, cover_lines}
 use Rattle.gj_cover.specs.CoverOf.{IsCoverOf}
-use Rattle.gj_cover.specs.Reached.{AreUncovered}
 use Rattle.gj_cover.specs.Table.{IsTightInTable}
 use Rattle.gj_cover.proofs.covering.cover_of_table.Goals as goal
 
 pub least_class-requires : goal.least_class-requires
 least_class-requires c =
     let t = c.args.table.now in
-    subst (AreUncovered t.order (IsTightInTable t)) (sym c.free.ensures)
-    (uncovered t.order (IsTightInTable t) c.in_ok-found.found c.in_ok-found.ensures.progress c.in_ok-found.ensures.complete)
+    uncovered t.order (IsTightInTable t) c.in_ok-found.found c.in_ok-found.ensures.progress c.in_ok-found.ensures.complete
 
 pub returns : goal.returns
 returns c =

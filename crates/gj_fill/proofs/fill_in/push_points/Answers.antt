@@ -1,7 +1,8 @@
-use Rattle.std.proofs.Common.{◌≡◌, true, neg_ℤ, ◌<ℤ◌, [], ◌∷◌, ◌++◌, ap, sym, subst, ◌∙◌, append_assoc}
+use Rattle.std.proofs.Common.{rules, ◌≡◌, true, neg_ℤ, ◌<ℤ◌, [], ◌∷◌, ◌++◌, ap, sym, subst, ◌∙◌, append_assoc}
 use Rattle.std.specs.List.{AllZip}
+use Rattle.gj_frac.specs.declared.Frac.{Frac}
 use Rattle.gj_shape.specs.TwoSlopes.{rise}
-use Rattle.gj_fill.specs.FillPoints.{IsPairOf}
+use Rattle.gj_fill.specs.FillPoints.{IsPairOf, value_point}
 use Rattle.gj_fill.proofs.FillPairs.{points_crossing, points_single}
 use Rattle.gj_fill.proofs.fill_in.push_points.Goals as goal
 
@@ -11,12 +12,13 @@ returns-in_ok-push-2 c =
     let s = c.args.steps.rise in
     let t = c.args.steps.fall in
     let a = c.args.a in
-    let value = c.pair_at.result in
+    let value : Frac × Frac = (c.ratio-x.result, c.value.result) in
+    let pair : IsPairOf (value_point f c.args.a) value = search rules in
     let crossing = c.crossing_pair.result in
     let tests = c.crosses.ensures.0 c.if-crosses.true in (
       value ∷ crossing ∷ [],
       subst (λ ps. AllZip IsPairOf ps (value ∷ crossing ∷ [])) (sym (points_crossing f s t a tests.0 tests.1))
-          (c.pair_at.ensures, (c.crossing_pair.ensures, tt)),
+          (pair, (c.crossing_pair.ensures, tt)),
       c.in_ok-push-2.ensures.items ∙ ap (λ bs. bs ++ crossing ∷ []) c.in_ok-push.ensures.items
           ∙ append_assoc c.args.points.now.items (value ∷ []) (crossing ∷ []),
     )
@@ -26,10 +28,11 @@ returns-else-crosses c =
     let f = c.args.shape.now in
     let s = c.args.steps.rise in
     let t = c.args.steps.fall in
-    let value = c.pair_at.result in
+    let value : Frac × Frac = (c.ratio-x.result, c.value.result) in
+    let pair : IsPairOf (value_point f c.args.a) value = search rules in
     let none : (neg_ℤ t <ℤ rise f c.args.a) × (rise f c.args.a <ℤ s) → ⊥ =
     λ tests. let is : c.crosses.result ≡ true = c.crosses.ensures.1 tests in cc (is, c.if-crosses.false) in (
       value ∷ [],
-      subst (λ ps. AllZip IsPairOf ps (value ∷ [])) (sym (points_single f s t c.args.a none)) (c.pair_at.ensures, tt),
+      subst (λ ps. AllZip IsPairOf ps (value ∷ [])) (sym (points_single f s t c.args.a none)) (pair, tt),
       c.in_ok-push.ensures.items,
     )

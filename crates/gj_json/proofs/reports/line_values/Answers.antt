@@ -2,7 +2,7 @@ use Rattle.std.proofs.Common.{get_or, ap, ◌∙◌, arith, rules}
 use Rattle.serde_json.specs.Data.{string, array}
 use Rattle.serde_json.proofs.Views.{view-Array}
 use Rattle.gj_json.proofs.ProofLines.{line_ended, byte_taken, all_lines}
-use Rattle.gj_json.proofs.reports.line_values.Goals.{then-byte-eq10+in_ok-text_value+in_ok-push, else-byte-eq10+in_ok-push-2}
+use Rattle.gj_json.proofs.reports.line_values.Goals.{then-byte-eq10+in_ok-try_from_str+in_ok-push, else-byte-eq10+in_ok-push-2}
 use Rattle.gj_json.proofs.reports.line_values.Goals as goal
 
 pub loop-byte-preserved : goal.loop-byte-preserved
@@ -12,11 +12,11 @@ loop-byte-preserved c =
     let vs = c.loop-byte.values.items in
     let line = c.loop-byte.line.items in
     elim c.if-byte-eq10.branch [
-      | then-byte-eq10+in_ok-text_value+in_ok-push w ↦
+      | then-byte-eq10+in_ok-try_from_str+in_ok-push w ↦
           rw (w.values-is, w.line-is)
-          (line_ended text n vs w.push.new.self.items line w.clear.new.self.items w.in_ok-text_value.field-0 (get_or text n 0)
+          (line_ended text n vs w.push.new.self.items line w.clear.new.self.items w.in_ok-try_from_str.field-0 (get_or text n 0)
           (omega arith) (search rules) w.if-byte-eq10.true c.loop-byte.invariant
-          (w.in_ok-text_value.ensures ∙ ap string w.as_slice.ensures.value) w.in_ok-push.ensures.items w.clear.ensures.items)
+          (w.in_ok-try_from_str.ensures) w.in_ok-push.ensures.items w.clear.ensures.items)
       | else-byte-eq10+in_ok-push-2 w ↦
           rw (w.values-is, w.line-is)
           (byte_taken text n vs line w.push-else-byte-eq10.new.self.items (get_or text n 0) (omega arith) (search rules)

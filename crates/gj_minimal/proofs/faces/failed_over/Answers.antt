@@ -1,7 +1,7 @@
-use Rattle.std.proofs.Common.{sym, subst, below_more, arith}
-use Rattle.gj_lanes.specs.Lanes.{AreInRange}
+use Rattle.std.proofs.Common.{below_more, arith}
 use Rattle.gj_minimal.specs.Failures.{PassesRow}
-use Rattle.gj_minimal.proofs.NumbersInLanes.{all_in_range}
+use Rattle.gj_lanes.proofs.LaidNumbers.{up_to_scale}
+use Rattle.gj_theory.proofs.Lanes.{are_bounded}
 use Rattle.gj_minimal.proofs.faces.failed_over.Goals as goal
 
 pub loop-a-preserved : goal.loop-a-preserved
@@ -13,17 +13,17 @@ returns-clause-none g c = λ a below. c.loop-a.invariant a (omega arith)
 pub write_periods-requires-clause-range : goal.write_periods-requires-clause-range
 write_periods-requires-clause-range g c =
     let read = c.left_numerators.ensures in
-    subst (AreInRange g.L.Lane.least g.L.Lane.bound) (sym read.value)
-    (all_in_range g.L.Lane.bound c.args.shape.now g.met.L.UnsignedLane.from_zero read.limits c.requires.vertices.symmetry c.requires.fits).lefts
+    let all = are_bounded c.args.shape.now read.limits c.requires.vertices.symmetry in
+    up_to_scale _ _ _ _ read.value g.met.L.UnsignedLane.from_zero c.requires.fits all.left_low all.left_high
 
 pub write_periods-requires-2-clause-range : goal.write_periods-requires-2-clause-range
 write_periods-requires-2-clause-range g c =
     let read = c.value_numerators.ensures in
-    subst (AreInRange g.L.Lane.least g.L.Lane.bound) (sym read.value)
-    (all_in_range g.L.Lane.bound c.args.shape.now g.met.L.UnsignedLane.from_zero read.limits c.requires.vertices.symmetry c.requires.fits).values
+    let all = are_bounded c.args.shape.now read.limits c.requires.vertices.symmetry in
+    up_to_scale _ _ _ _ read.value g.met.L.UnsignedLane.from_zero c.requires.fits all.value_low all.value_high
 
 pub write_periods-requires-3-clause-range : goal.write_periods-requires-3-clause-range
 write_periods-requires-3-clause-range g c =
     let read = c.right_numerators.ensures in
-    subst (AreInRange g.L.Lane.least g.L.Lane.bound) (sym read.value)
-    (all_in_range g.L.Lane.bound c.args.shape.now g.met.L.UnsignedLane.from_zero read.limits c.requires.vertices.symmetry c.requires.fits).rights
+    let all = are_bounded c.args.shape.now read.limits c.requires.vertices.symmetry in
+    up_to_scale _ _ _ _ read.value g.met.L.UnsignedLane.from_zero c.requires.fits all.right_low all.right_high

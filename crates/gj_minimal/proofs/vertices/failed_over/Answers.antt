@@ -1,8 +1,8 @@
-use Rattle.std.proofs.Common.{sym, subst, below_more, arith}
-use Rattle.gj_lanes.specs.Lanes.{AreInRange}
+use Rattle.std.proofs.Common.{below_more, arith}
 use Rattle.gj_minimal.specs.Failures.{PassesVertexRow}
 use Rattle.gj_minimal.proofs.FailedVertices.{vertex_fails}
-use Rattle.gj_minimal.proofs.NumbersInLanes.{all_in_range}
+use Rattle.gj_lanes.proofs.LaidNumbers.{up_to_scale}
+use Rattle.gj_theory.proofs.Lanes.{are_bounded}
 use Rattle.gj_minimal.proofs.vertices.failed_over.Goals as goal
 
 pub returns-in-Some-clause-found : goal.returns-in-Some-clause-found
@@ -23,5 +23,5 @@ returns-clause-none g c = record {
 pub write_periods-requires-clause-range : goal.write_periods-requires-clause-range
 write_periods-requires-clause-range g c =
     let read = c.value_numerators.ensures in
-    subst (AreInRange g.L.Lane.least g.L.Lane.bound) (sym read.value)
-    (all_in_range g.L.Lane.bound c.args.shape.now g.met.L.UnsignedLane.from_zero read.limits c.requires.symmetry c.requires.fits).values
+    let all = are_bounded c.args.shape.now read.limits c.requires.symmetry in
+    up_to_scale _ _ _ _ read.value g.met.L.UnsignedLane.from_zero c.requires.fits all.value_low all.value_high

@@ -7,7 +7,7 @@ use Rattle.gj_problem_text.proofs.answers.answer_of.Goals as goal
 pub returns-clause-is : goal.returns-clause-is
 returns-clause-is c =
     IfOk-weaker c.on_grid.result (IsOnGridOf c.args.task.now.problem c.args.task.now.grid c.in_ok-cut.cut)
-    (IsAnswer c.args.task.now c.args.multipliers.now c.args.at_upper.now)
+    (IsAnswer c.args.rule.now c.args.task.now c.args.multipliers.now c.args.at_upper.now)
     (λ (answer : SafeCut) h. (c.in_ok-cut.cut, c.in_ok-cut.ensures.is, h)) c.on_grid.ensures.is
 
 pub returns-clause-holds : goal.returns-clause-holds

@@ -23,6 +23,7 @@ loop-alloc-smaller c = shorter_behind_line Lenient (task_rule c.loop-alloc.task)
 pub loop-alloc-preserved : goal.loop-alloc-preserved
 loop-alloc-preserved c = record {
   few = c.in_ok-longer.ensures.few;
+  places = c.in_ok-longer.ensures.places;
   leads = line_on c.args.text.now _ _ c.loop-alloc.invariant.leads _ _ (λ is. false≢true (c.loop-alloc-test.ensures.1 is))
       c.in_ok-longer.ensures.found;
 }

@@ -1,4 +1,4 @@
-use Rattle.std.proofs.Common.{◌≤◌, length}
+use Rattle.std.proofs.Common.{◌≡◌, ◌≤◌, length}
 use Rattle.gj_lex.proofs.LoopRead.{LeadsOn}
 use Rattle.gj_problem_text.specs.ProblemText.{no_task, next_line}
 use Rattle.gj_problem_text.specs.Tasks.{most_columns}
@@ -7,6 +7,7 @@ use Rattle.gj_problem_text.proofs.read.lines_at.Given as goal
 abbrev pub invariant-loop-alloc : goal.invariant-loop-alloc
 invariant-loop-alloc l = record {
   few : length l.task.names ≤ most_columns;
+  places : l.places ≡ l.task.names;
   leads : LeadsOn next_line no_task l.text l.task l.rest;
 }
 

@@ -1,5 +1,5 @@
 use Rattle.gj_proof.specs.ProofGrammar.{cover_form, form_part}
-use Rattle.gj_proof.proofs.ListRead.{LeavesTimes}
+use Rattle.gj_forms.proofs.ListRead.{LeavesTimes}
 use Rattle.gj_proof.proofs.cover_lines.cover_lines_at.Given as goal
 
 abbrev pub invariant-loop : goal.invariant-loop

@@ -5,7 +5,7 @@ use Rattle.gj_lex.specs.Parts.{IsFaultOf}
 use Rattle.gj_lex.proofs.PartLaws.{passed_on}
 use Rattle.gj_proof.specs.ProofGrammar.{row_part, rows_part}
 use Rattle.gj_proof.proofs.CutTexts.{BeginsEnd, shorter_behind_row}
-use Rattle.gj_proof.proofs.ListRead.{until_on, until_end, until_at_fault}
+use Rattle.gj_forms.proofs.ListRead.{until_on, until_end, until_at_fault}
 use Rattle.gj_proof.proofs.cut_rows.rows_at.Goals as goal
 
 pub loop-alloc-preserved : goal.loop-alloc-preserved

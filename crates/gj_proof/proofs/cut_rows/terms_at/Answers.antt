@@ -6,7 +6,7 @@ use Rattle.gj_lex.proofs.WhereLaws.{shorter_behind_line}
 use Rattle.gj_forms.specs.LineForms.{rule_of}
 use Rattle.gj_proof.specs.ProofGrammar.{term_form, form_part, terms_part}
 use Rattle.gj_proof.proofs.CutTexts.{BeginsTerm}
-use Rattle.gj_proof.proofs.ListRead.{while_on, while_end, while_at_fault}
+use Rattle.gj_forms.proofs.ListRead.{while_on, while_end, while_at_fault}
 use Rattle.gj_proof.proofs.cut_rows.terms_at.Goals as goal
 
 pub loop-terms-preserved : goal.loop-terms-preserved

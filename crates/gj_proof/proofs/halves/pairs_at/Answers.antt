@@ -5,7 +5,7 @@ use Rattle.gj_lex.proofs.CanonicalTexts.{within_bits}
 use Rattle.gj_lex.proofs.PartLaws.{passed_on}
 use Rattle.gj_proof.specs.ProofGrammar.{pair_form, form_part, pairs_part}
 use Rattle.gj_proof.proofs.ExtremeRead.{pairs_on, pairs_end}
-use Rattle.gj_proof.proofs.ListRead.{times_at_fault}
+use Rattle.gj_forms.proofs.ListRead.{times_at_fault}
 use Rattle.gj_proof.proofs.halves.pairs_at.Goals as goal
 
 pub loop-preserved : goal.loop-preserved

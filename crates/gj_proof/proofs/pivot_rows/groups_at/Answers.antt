@@ -6,7 +6,7 @@ use Rattle.gj_lex.proofs.PartLaws.{passed_on}
 use Rattle.gj_proof.specs.ProofGrammar.{group_part, groups_part}
 use Rattle.gj_proof.proofs.CutTexts.{BeginsEnd}
 use Rattle.gj_proof.proofs.ExtremeTexts.{shorter_behind_group}
-use Rattle.gj_proof.proofs.ListRead.{until_on, until_end, until_at_fault}
+use Rattle.gj_forms.proofs.ListRead.{until_on, until_end, until_at_fault}
 use Rattle.gj_proof.proofs.pivot_rows.groups_at.Goals as goal
 
 pub loop-alloc-preserved : goal.loop-alloc-preserved

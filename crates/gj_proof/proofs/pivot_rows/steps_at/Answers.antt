@@ -7,7 +7,7 @@ use Rattle.gj_lex.proofs.WhereLaws.{shorter_behind_line}
 use Rattle.gj_forms.specs.LineForms.{rule_of}
 use Rattle.gj_proof.specs.ProofGrammar.{form_part, steps_part}
 use Rattle.gj_proof.proofs.ExtremeTexts.{BeginsStep, reduce_form}
-use Rattle.gj_proof.proofs.ListRead.{while_on, while_end, while_at_fault}
+use Rattle.gj_forms.proofs.ListRead.{while_on, while_end, while_at_fault}
 use Rattle.gj_proof.proofs.pivot_rows.steps_at.Goals as goal
 
 pub loop-rest-preserved : goal.loop-rest-preserved

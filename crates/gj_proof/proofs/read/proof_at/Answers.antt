@@ -4,7 +4,8 @@ use Rattle.gj_lex.specs.Parts.{IsFaultOf}
 use Rattle.gj_proof.specs.ProofGrammar.{proof_text}
 use Rattle.gj_proof.specs.declared.claim.Claim.{Claim}
 use Rattle.gj_proof.proofs.ReadTexts.{lines_read, read_is_text}
-use Rattle.gj_proof.proofs.ReadFaults.{passed_on, fault_in_word, fault_in_claim, fault_in_last, fault_behind_last}
+use Rattle.gj_lex.proofs.PartLaws.{passed_on}
+use Rattle.gj_proof.proofs.ReadFaults.{fault_in_word, fault_in_claim, fault_in_last, fault_behind_last}
 use Rattle.gj_proof.proofs.read.proof_at.Goals as goal
 
 pub returns-in_err-word-clause-fault : goal.returns-in_err-word-clause-fault

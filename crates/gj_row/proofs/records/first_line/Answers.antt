@@ -3,7 +3,8 @@ use Rattle.std.specs.Option.{IfNone}
 use Rattle.std.proofs.lemmas.List.{take_rest}
 use Rattle.gj_lex.proofs.CanonicalTexts.{position_unwrapped}
 use Rattle.gj_row.specs.Reading.{is_line_end}
-use Rattle.gj_row.proofs.FirstPlaces.{all_ends, first_line_at, no_place}
+use Rattle.gj_lex.proofs.FirstPlaces.{no_place}
+use Rattle.gj_row.proofs.FirstPlaces.{all_ends, first_line_at}
 use Rattle.gj_row.proofs.records.first_line.Goals as goal
 
 if_none : {A : Type 0} {P : Type 0} (o : Option A) → P → IfNone o P

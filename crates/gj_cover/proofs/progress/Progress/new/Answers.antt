@@ -1,4 +1,4 @@
-use Rattle.std.proofs.Common.{refl}
+use Rattle.std.proofs.Common.{◌≡◌, None, replicate, refl, rules}
 use Rattle.gj_cover.proofs.Pending.{begun}
 use Rattle.gj_cover.specs.declared.progress.Progress.{Progress}
 use Rattle.gj_cover.specs.Table.{IsTightInTable}
@@ -6,8 +6,9 @@ use Rattle.gj_cover.proofs.progress.Progress.new.Goals as goal
 
 pub returns : goal.returns
 returns c =
+    let none : c.in_ok-vec.field-0.items ≡ replicate c.order-order.result None = search rules in
     let p : Progress = record {
-      component = c.in_ok-no_numbers.field-0;
+      component = c.in_ok-vec.field-0;
       free = c.below.result;
       near = c.empty.result;
       lines = c.new.result;
@@ -15,4 +16,4 @@ returns c =
       searched = 0;
     } in
     begun c.args.table.now.order c.order-order.result (IsTightInTable c.args.table.now) p c.order-order.ensures.value
-    c.in_ok-no_numbers.ensures c.below.ensures c.empty.ensures c.new.ensures.items refl refl
+    none c.below.ensures c.empty.ensures c.new.ensures.items refl refl

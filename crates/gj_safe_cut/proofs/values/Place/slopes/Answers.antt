@@ -1,7 +1,8 @@
 use Rattle.std.proofs.Common.{pos, ◌∙◌, arith, subst₂}
 use Rattle.std.proofs.lemmas.Int.{ints}
 use Rattle.gj_frac.specs.Fraction.{SameValue, fraction_of, quotient_of}
-use Rattle.gj_safe_cut.proofs.ValueParts.{one_minus_top, one_times, complement_parts}
+use Rattle.gj_rule.proofs.ClosedForm.{one_minus_top, one_times}
+use Rattle.gj_safe_cut.proofs.ValueParts.{complement_parts}
 use Rattle.gj_safe_cut.proofs.values.Place.slopes.Goals as goal
 
 pub returns : goal.returns

@@ -1,0 +1,33 @@
+//! The answer to the text of a problem, before it is put into an output.
+ghost use Rattle.std.specs.Prelude.{◌≡◌, IfOk};
+ghost use Rattle.gj_problem_text.specs.ProblemText.{IsProblemText};
+ghost use Rattle.gj_problem_text.specs.declared.task.Task.{Task};
+ghost use Rattle.gj_library.specs.SafeCall.{IsSafeAnswer, status_of};
+
+use crate::answer::Answer;
+use gj_safe::{End, answer_to};
+use gj_top::Status;
+use std::alloc::{AllocError, Global};
+
+/// The answer to the text of a problem, unless there is no memory.
+pub(crate) fn safe_answer_to(alloc: Global, input: &[u8]) -> Result<Answer, AllocError>
+    ensures answer { IfOk result (λ a. IsSafeAnswer input.now a.status a.text.items) }
+    ensures done { (task : Task) → IsProblemText input.now task →
+        IfOk result (λ a. a.status ≡ Status.Done) }
+{
+    let made = answer_to(alloc, input)?;
+    Ok(Answer {
+        status: status_of(made.end),
+        text: made.text,
+    })
+}
+
+/// The status of an answer that ends so.
+fn status_of(end: End) -> Status
+    ensures { result ≡ status_of end }
+{
+    match end {
+        End::Done => Status::Done,
+        End::Refused => Status::Input,
+    }
+}

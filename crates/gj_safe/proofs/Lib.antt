@@ -1,0 +1,2 @@
+pub mod InputRead
+pub mod Clauses

@@ -1,0 +1,4 @@
+pub mod Answers
+pub mod Code
+pub mod Told
+pub mod Runs
