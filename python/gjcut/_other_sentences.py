@@ -202,7 +202,10 @@ OTHER_SENTENCES = [
     Sentence(
         see="`refused long`",
         means="the input has more than 16,777,216 bytes",
-        do="split a tableau over several inputs; a longer proof is not read",
+        do=(
+            "split a tableau over several inputs, leave out constraints of a problem whose "
+            "multipliers are 0; a longer proof is not read"
+        ),
         words="minimal", input="#", times=16_777_217, answer="refused long",
         when="refused long",
     ),

@@ -161,11 +161,4 @@ PROBLEM_SENTENCES = [
         words=GJSAFE, input=PROBLEM + "sum 1\n", answer="refused line 8 tail",
         when=LINE + "tail",
     ),
-    Sentence(
-        see="`refused long` of a problem",
-        means="the text has more than 16,777,216 bytes",
-        do="leave out the constraints whose multipliers are 0, and the columns without entries",
-        words=GJSAFE, input="#", times=16_777_217, answer="refused long",
-        when="refused long",
-    ),
 ]
