@@ -17,7 +17,7 @@ use Rattle.gj_library.specs.declared.answer.Answer.{Answer}
 abbrev pub end_code : End → ℕ
 end_code e = code_of (status_of e)
 
-end_at : ℕ → End
+abbrev end_at : ℕ → End
 end_at n = cond (n == 0) end.Done (cond (n == 3) end.Refused (cond (n == 8) end.NotContinuous end.NoFunction))
 
 back : (e : End) → end_at (end_code e) ≡ e

@@ -13,6 +13,7 @@ ghost use Rattle.gj_top.specs.Code.{code_of};
 ghost use Rattle.gj_top.specs.Asked.{AskIfExtreme};
 ghost use Rattle.gj_top.specs.Narrow.{HasUncoveredInterval, HasAtMostComponents};
 ghost use Rattle.gj_top.specs.Decisive.{IsDecisive, IsCalledExtreme};
+ghost use Rattle.gj_top.specs.declared.status.Status.{Status};
 ghost use Rattle.gj_top.specs.Causes.{IsTrueRun, IsDoneRun, IsCause, IsGoodInput, IsStatusOfReply};
 ghost use Rattle.gj_problem_text.specs.SafeInputs.{IsSafeInput};
 ghost use Rattle.gj_problem_text.specs.declared.input.SafeInput.{SafeInput};
