@@ -10,7 +10,7 @@ use Rattle.gj_top.specs.declared.status.Status.{Status}
 use Rattle.gj_top.specs.Code.{code_of}
 use Rattle.gj_library.specs.Handing.{IsHandedOver}
 use Rattle.gj_library.specs.Handing.IsHandedOver.{whole, part}
-use Rattle.gj_library.specs.SafeCall.{IsSafeAnswer, IsStatusBy, status_of}
+use Rattle.gj_library.specs.SafeCall.{IsSafeAnswer, IsSafeFront, IsStatusBy, status_of}
 use Rattle.gj_library.specs.declared.answer.Answer.{Answer}
 
 -- the code of an end, and the end whose code this is
@@ -76,6 +76,20 @@ module _ (input : List ℕ) (room : ℕ) (front : List ℕ) (written code : ℕ)
   code_is (Ok a) (e, ends, answer) (whole fits is own) none = code_by_end code e (own ∙ ap code_of ends)
   code_is (Ok a) safe (part small is five) none = inr (inr (inl five))
   code_is (Err e) safe put none = inr (inr (inr (inl none.0)))
+
+  -- with the code 5, the front of an answer
+  pub front_call : (r : Result Answer AllocError) → IfOk r (λ a. IsSafeAnswer input a.status a.text.items) →
+      IfOk r (λ a. IsHandedOver a.status a.text.items room front code) → IfErr r (λ e. (code ≡ 6) × (written ≡ 0)) → code ≡ 5 →
+      IsSafeFront input room front
+  front_call (Ok a) (e, ends, answer) (whole fits is own) none five = absurd (not_five e (sym (own ∙ ap code_of ends) ∙ five))
+  front_call (Ok a) (e, ends, answer) (part small is own) none five = record {
+    ends = e;
+    text = a.text.items;
+    answer = answer;
+    longer = small;
+    front_is = is;
+  }
+  front_call (Err e) safe put none five = absurd (let both : 6 ≡ 5 = sym none.0 ∙ five in cc)
 
 module _ (asked : SafeInput) (room : ℕ) (front : List ℕ) (written code : ℕ) where
   -- what is asked is answered, unless there is no room or no memory

@@ -1,5 +1,5 @@
 use Rattle.gj_safe.specs.declared.answer.End.TheVariants as end
-use Rattle.gj_library.proofs.SafeCalls.{answer_at, code_is, replied_call, true_call, unrefused_call}
+use Rattle.gj_library.proofs.SafeCalls.{answer_at, code_is, front_call, replied_call, true_call, unrefused_call}
 use Rattle.gj_library.proofs.gjcut_safe_cut.Goals as goal
 
 pub returns-clause-headline : goal.returns-clause-headline
@@ -39,3 +39,7 @@ returns-clause-replied c = λ room memory asked spelled.
 pub returns-clause-ends : goal.returns-clause-ends
 returns-clause-ends c =
     code_is _ _ _ _ _ c.safe_answer_to.result c.safe_answer_to.ensures.answer c.hand_over.ensures.answer c.hand_over.ensures.none
+
+pub returns-clause-room : goal.returns-clause-room
+returns-clause-room c =
+    front_call _ _ _ _ _ c.safe_answer_to.result c.safe_answer_to.ensures.answer c.hand_over.ensures.answer c.hand_over.ensures.none
