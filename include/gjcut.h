@@ -24,7 +24,7 @@ enum gjcut_status {
     GJCUT_NO_MEMORY = 6,       /* there was no memory: nothing was written, and `*written` is 0 */
     GJCUT_WIDE = 7,            /* `extreme`, `group`: a number passed its bound */
     GJCUT_NOT_CONTINUOUS = 8,  /* the function jumps; of `extreme` and `mixed`: and is minimal */
-    GJCUT_NO_FUNCTION = 9,     /* `cut`, `mixed`: the function is not minimal */
+    GJCUT_NO_FUNCTION = 9,     /* `cut`, `mixed`, a problem: the function is not minimal */
     GJCUT_NOT_SUBADDITIVE = 10, /* `fill`: the function is not subadditive */
     GJCUT_ORDER_LIMIT = 11,    /* `times`: the order would pass 1,000; `group`: it is above 120 */
     GJCUT_BAD_ORDER = 12       /* `restrict`: the function has no restriction of that order */
