@@ -3,3 +3,5 @@ pub mod Elimination
 pub mod Rationals
 pub mod Images
 pub mod Transfer
+pub mod RationalPoints
+pub mod Cuts

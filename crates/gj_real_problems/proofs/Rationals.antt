@@ -71,6 +71,15 @@ times_keeps_q x y h k =
     (subst IsNonnegativeQ (less_zero x) (difference_nonnegative (whole (pos 0)) x h))
     (subst IsNonnegativeQ (less_zero y) (difference_nonnegative (whole (pos 0)) y k))))
 
+pub plus_zero_q : (x : Rational) → x +ℚ whole (pos 0) ≡ x
+plus_zero_q x = by_ring_q (x ∷ []) (search ring_q depth 30) refl
+
+pub plus_negative_q : (x : Rational) → x -ℚ x ≡ whole (pos 0)
+plus_negative_q x = by_ring_q (x ∷ []) (search ring_q depth 30) refl
+
+pub times_one_q : (x : Rational) → x *ℚ whole (pos 1) ≡ x
+times_one_q x = by_ring_q (x ∷ []) (search ring_q depth 30) refl
+
 -- ---- inverses
 
 square_positive : (z : ℤ) → z ≢ pos 0 → pos 0 <ℤ (z *ℤ z)
@@ -147,11 +156,11 @@ rationals = record {
   at_most = at_most_q;
   plus_associates = add_assoc_q;
   plus_commutes = add_comm_q;
-  plus_zero = λ x. by_ring_q (x ∷ []) (search ring_q depth 30) refl;
-  plus_negative = λ x. by_ring_q (x ∷ []) (search ring_q depth 30) refl;
+  plus_zero = plus_zero_q;
+  plus_negative = plus_negative_q;
   times_associates = mul_assoc_q;
   times_commutes = mul_comm_q;
-  times_one = λ x. by_ring_q (x ∷ []) (search ring_q depth 30) refl;
+  times_one = times_one_q;
   times_plus = mul_add_q;
   times_inverse = inverse_is;
   different = λ same. not_one (whole_injective (pos 1) (pos 0) same);

@@ -11,6 +11,8 @@ use Rattle.gj_problem.specs.declared.problem.Problem.{Problem}
 use Rattle.gj_problem.specs.declared.problem.Inequality.{Inequality}
 use Rattle.gj_problem.specs.declared.problem.Sense.{Sense}
 use Rattle.gj_problem.specs.declared.problem.Sense.TheVariants as sense
+use Rattle.gj_safe_cut.specs.declared.cut.SafeCut.{SafeCut}
+use Rattle.gj_safe_cut.specs.declared.cut.SafeCut.TheVariants.{Cut, Integral, OtherFraction, Free, Wide}
 
 -- what a column is at a point; past the last column it is 0
 abbrev pub real_value_at : {R : Type 0} → OrderedField R → List R → ℕ → R
@@ -50,3 +52,11 @@ abbrev pub RealHolds : {R : Type 0} → OrderedField R → Problem → Inequalit
 RealHolds {R} K p q =
     (point : List R) → IsRealFeasible K p point →
     AtMost K (number_of K q.right) (real_sum_at K point q.entries)
+
+-- the cut, if there is one, holds at all of them
+abbrev pub RealHoldsFor : {R : Type 0} → OrderedField R → Problem → SafeCut → Type 0
+RealHoldsFor K p (Cut q) = RealHolds K p q
+RealHoldsFor K p Integral = Unit {0}
+RealHoldsFor K p OtherFraction = Unit {0}
+RealHoldsFor K p (Free j) = Unit {0}
+RealHoldsFor K p Wide = Unit {0}
