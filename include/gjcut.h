@@ -56,11 +56,12 @@ uint8_t gjcut_answer(const uint8_t *words, size_t words_length, const uint8_t *i
                      size_t input_length, uint8_t *output, size_t output_length, size_t *written);
 
 /* Answers the text of a problem, `gj-problem 1`, with the text of the cuts that it asks for,
- * `gj-safe 1`: each holds at all feasible points of the problem. The result is GJCUT_DONE;
- * GJCUT_INPUT if the input is no problem text, and the answer is then the line that refuses it;
- * GJCUT_NO_ROOM or GJCUT_NO_MEMORY. What these two mean, what is put into `output` and `*written`,
- * and what a caller owes is as for `gjcut_answer`. `gjcut_safe_room` says how much room is always
- * enough. */
+ * `gj-safe 1`: each holds at all feasible points of the problem. A function may stand in front of
+ * it, and is then the rule. The result is GJCUT_DONE; GJCUT_INPUT if the input is no problem text,
+ * and the answer is then the line that refuses it; GJCUT_NO_FUNCTION or GJCUT_NOT_CONTINUOUS if the
+ * function makes no cuts, and the answer says why; GJCUT_NO_ROOM or GJCUT_NO_MEMORY. What these
+ * two mean, what is put into `output` and `*written`, and what a caller owes is as for
+ * `gjcut_answer`. `gjcut_safe_room` says how much room is always enough. */
 uint8_t gjcut_safe_cut(const uint8_t *input, size_t input_length, uint8_t *output,
                        size_t output_length, size_t *written);
 

@@ -1,5 +1,5 @@
 """Sentences about the text of a problem, which `gjcut_safe_cut` and the program `gjsafe` read."""
-from ._function_sentences import LINE
+from ._function_sentences import LINE, five
 from ._sentence import Sentence
 
 # In the place of the words of a command: `gjsafe` takes none.
@@ -8,7 +8,8 @@ HEAD = "gj-problem 1\nrule gmic\n"
 X = "column x whole 0 -\n"
 C = "constraint c <= 7/2\n"
 E = "entry x 1\n"
-PROBLEM = HEAD + X + C + E + "sum 1\nend\n"
+ROWS = X + C + E + "sum 1\nend\n"
+PROBLEM = HEAD + ROWS
 
 
 def problem(old: str, new: str) -> str:
@@ -19,7 +20,10 @@ def problem(old: str, new: str) -> str:
 PROBLEM_SENTENCES = [
     Sentence(
         see="`form` in a problem, in its first lines",
-        means="the problem does not begin with the lines `gj-problem 1` and `rule gmic`",
+        means=(
+            "the problem does not begin with the lines `gj-problem 1` and `rule gmic`, or, after a "
+            "function, with the first alone"
+        ),
         do="write them in front of the columns, in small letters",
         words=GJSAFE, input=X + C + E, answer="refused line 1 form",
         when=LINE + "form", around=r"\A\n|\A\s*gj-problem",
@@ -131,6 +135,24 @@ PROBLEM_SENTENCES = [
         do="correct the name, or give the column a line before it",
         words=GJSAFE, input=problem("entry x", "entry y"), answer="refused line 5 place",
         when=LINE + "place",
+    ),
+    Sentence(
+        see="`no function VIOLATION` of a problem",
+        means="the function in front is not minimal, and its cuts need not hold",
+        do="see what `minimal` says of it, or take the line `rule gmic`",
+        words=GJSAFE,
+        input=five("point 3/5 1", "point 3/5 9/10") + HEAD[:13] + ROWS,
+        answer="no function asymmetric 0",
+        when="no function .*",
+    ),
+    Sentence(
+        see="`not continuous X` of a problem",
+        means="the function in front jumps at X, and has no slope there for a continuous column",
+        do="take a continuous function, often by a breakpoint more",
+        words=GJSAFE,
+        input="gj-function 1\nfamily half 1/2\nend\n" + HEAD[:13] + ROWS,
+        answer="not continuous 0",
+        when="not continuous .*",
     ),
     Sentence(
         see="`tail` in a problem",

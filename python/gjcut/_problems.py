@@ -7,7 +7,7 @@ from fractions import Fraction
 from typing import Dict, Iterable, Iterator, List, Mapping, NamedTuple, Optional, Sequence
 from typing import Tuple, Union
 
-from ._functions import Number, line, number, printed
+from ._functions import Function, Number, line, number, printed
 from ._library import call_safe_cut
 from ._problem_sentences import GJSAFE
 from ._refusals import NAME, REFUSED, WIDEST, Place, Refused
@@ -15,12 +15,13 @@ from .sentences import sentence_for
 
 # A float is taken as a multiple of one over the first of these with which a number is not too wide.
 DENOMINATORS = (2**40, 2**30, 2**20)
-FRONT = ("gj-problem 1\n", "rule gmic\n")
+GMIC = ("gj-problem 1\n", "rule gmic\n")
 SENSES = ("<=", ">=", "=")
 # Values of a column and of a constraint, as a refusal names them.
 SIDES, RIGHT = ("the lower bound", "the upper bound"), "the right side"
-# The lines of an answer have so many bytes at most, a term beside the name of its column.
-MOST_OF_LINES, MOST_OF_A_TERM = 500, 88
+# The lines of an answer have so many bytes at most, a function among them, and a term beside the
+# name of its column.
+MOST_OF_LINES, MOST_OF_A_TERM = 100_500, 88
 
 
 class Column(NamedTuple):
@@ -59,6 +60,7 @@ Multiplier = Union[Number, float]
 class Given(NamedTuple):
     """What a caller hands over, but for the multipliers."""
 
+    front: Sequence[str]
     columns: Sequence[Column]
     constraints: Sequence[Constraint]
     at_upper: Sequence[str]
@@ -69,7 +71,7 @@ def safe_cut(
     columns: Iterable[Column],
     constraints: Iterable[Constraint],
     multipliers: Iterable[Multiplier],
-    rule: str = "gmic",
+    rule: Union[Function, str] = "gmic",
     at_upper: Iterable[str] = (),
     grid: Optional[int] = None,
 ) -> SafeCut:
@@ -82,9 +84,10 @@ def safe_cut(
     and of 1/2**20. `at_upper` names the columns that are turned by their upper bounds. With `grid`
     the numbers of the cut are rounded to multiples of 1/grid, so that it holds still.
 
-    `skipped` is "integral" (the right side of the sum is whole, and there is no cut), "free NAME"
-    (this column has no bound, and cannot be left out), "wide" (a number has more than 127 bits), or
-    None.
+    `skipped` is "integral" (the right side of the sum is whole, and there is no cut), "other" (its
+    fractional part is not the f of the function), "free NAME" (this column has no bound, and cannot
+    be left out), "wide" (a number has more than 127 bits), or None. A function that is not minimal,
+    or jumps, raises `Refused`.
 
     >>> x, y = Column("x", True, 0, None), Column("y", True, 0, None)
     >>> z = Column("z", False, 0, None)
@@ -94,9 +97,7 @@ def safe_cut(
     >>> [f"{value} {name}" for name, value in cut.entries.items()], str(cut.right)
     (['-5/3 x', '-5/3 y', '5/6 z'], '-20/3')
     """
-    if rule != "gmic":
-        raise ValueError(f"there is no rule {rule!r}: the rule of a problem is \"gmic\"")
-    given = Given(list(columns), list(constraints), list(at_upper), grid)
+    given = Given(_front(rule), list(columns), list(constraints), list(at_upper), grid)
     text, found = "".join(_lines(given)), SafeCut({}, None, "wide", "")
     for tried in _rounded(list(multipliers)):
         found = _answer(text, given, tried)
@@ -105,9 +106,18 @@ def safe_cut(
     return found
 
 
+def _front(rule: Union[Function, str]) -> Sequence[str]:
+    """The first lines: those of a function, or the line of the rule."""
+    if isinstance(rule, Function):
+        return [*rule.text.splitlines(keepends=True), GMIC[0]]
+    if rule == "gmic":
+        return GMIC
+    raise ValueError(f"there is no rule {rule!r}: a rule is \"gmic\" or a Function")
+
+
 def _lines(given: Given) -> Iterator[str]:
     """The lines of the problem, up to the sum."""
-    yield from FRONT
+    yield from given.front
     known = set()
     for i, (name, whole, *bounds) in enumerate(given.columns):
         kind, words = "whole" if whole else "continuous", []
@@ -135,7 +145,7 @@ def _lines(given: Given) -> Iterator[str]:
 
 def _places(given: Given) -> Iterator[Place]:
     """The value in each of these lines."""
-    yield from (Place("rule") for _ in FRONT)
+    yield from (Place("rule") for _ in given.front)
     for i, (_, _, *bounds) in enumerate(given.columns):
         wide = (side for side, bound in zip(SIDES, bounds) if bound is not None and _is_wide(bound))
         yield Place("columns", i, next(wide, None))

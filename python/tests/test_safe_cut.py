@@ -74,6 +74,23 @@ class ByHand(unittest.TestCase):
         self.assertEqual((cut.entries, cut.right), ({}, 1))
 
 
+class ByAFunction(unittest.TestCase):
+    def test_the_mixed_integer_cut_as_a_function(self):
+        # The rows have the fractional parts 2/5 and 1/5.
+        gmic = gjcut.by_breakpoints("2/5", [(0, 0), ("2/5", 1)])
+        cut = safe_cut(*PROGRAM, ["3/5", "-1/5"], rule=gmic, grid=4)
+        self.assertEqual(cut[:3], safe_cut(*PROGRAM, ["3/5", "-1/5"], grid=4)[:3])
+        self.assertEqual(safe_cut(*PROGRAM, ["-1/5", "2/5"], rule=gmic).skipped, "other")
+
+    def test_functions_that_do_not_serve(self):
+        low = gjcut.by_breakpoints("3/5", [(0, 0), ("3/5", "9/10")])
+        for function, status in ((low, 9), (gjcut.family("half", "1/2"), 8)):
+            with self.assertRaises(gjcut.Refused) as caught:
+                safe_cut(*ONE, [1], rule=function)
+            self.assertEqual(caught.exception.status, status)
+            self.assertIn("the function in front", caught.exception.advice)
+
+
 class Floats(unittest.TestCase):
     def test_a_float_is_taken_over_a_power_of_two(self):
         exact = [Fraction(round(m * 2**40), 2**40) for m in (0.6, -0.2)]

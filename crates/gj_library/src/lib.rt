@@ -13,12 +13,14 @@ ghost use Rattle.gj_top.specs.Code.{code_of};
 ghost use Rattle.gj_top.specs.Asked.{AskIfExtreme};
 ghost use Rattle.gj_top.specs.Narrow.{HasUncoveredInterval, HasAtMostComponents};
 ghost use Rattle.gj_top.specs.Decisive.{IsDecisive, IsCalledExtreme};
+ghost use Rattle.gj_top.specs.declared.status.Status.{Status};
 ghost use Rattle.gj_top.specs.Causes.{IsTrueRun, IsDoneRun, IsCause, IsGoodInput, IsStatusOfReply};
-ghost use Rattle.gj_problem_text.specs.ProblemText.{IsProblemText};
-ghost use Rattle.gj_problem_text.specs.declared.task.Task.{Task};
-ghost use Rattle.gj_safe.specs.Answers.{IsTrueAnswer, IsCutsOf, IsRefusal};
+ghost use Rattle.gj_problem_text.specs.SafeInputs.{IsSafeInput};
+ghost use Rattle.gj_problem_text.specs.declared.input.SafeInput.{SafeInput};
+ghost use Rattle.gj_safe.specs.Answers.{IsTrueAnswer, IsReplyTo, IsCutsOf, IsRefusal};
+ghost use Rattle.gj_safe.specs.declared.answer.End.TheVariants as End;
 ghost use Rattle.gj_library.specs.Call.{OfWords, IsCall, IsTooSmall};
-ghost use Rattle.gj_library.specs.SafeCall.{IsSafeFront};
+ghost use Rattle.gj_library.specs.SafeCall.{IsSafeFront, IsStatusBy};
 
 use std::alloc::Global;
 
@@ -96,8 +98,9 @@ pub extern "C" fn gjcut_answer(
 
 /// Answers the text of a problem with the text of the cuts that it asks for. The output and
 /// `written` are as for `gjcut_answer`, and so are the meanings of the results: 0, the answer was
-/// written; 3, the input is no problem text, and what was written is the line that refuses it; 5
-/// and 6, there is no room, or no memory.
+/// written; 3, the input is no problem text, 9, its function is not minimal, 8, it is minimal and
+/// not continuous, and what was written is the line that says so; 5 and 6, there is no room, or no
+/// memory.
 #[unsafe(no_mangle)]
 pub extern "C" fn gjcut_safe_cut(
     alloc: Global,
@@ -111,9 +114,18 @@ pub extern "C" fn gjcut_safe_cut(
     // And what was written then is the text of the cuts that the input asks for.
     ensures reply { result ≡ 0 → IsCutsOf input.now (take written.new output.new) }
 
-    // A refusal names the first fault of the input. A problem text is never refused.
+    // A refusal names the first fault of the input. A problem text with its rule is never refused.
     ensures refused { result ≡ 3 → IsRefusal input.now (take written.new output.new) }
-    ensures complete { (task : Task) → IsProblemText input.now task → result ≢ 3 }
+    ensures complete { (asked : SafeInput) → IsSafeInput input.now asked → result ≢ 3 }
+
+    // It is answered as its rule asks: of a function that makes no cuts the first violation is
+    // named, or the first jump.
+    ensures replied { result ≢ 5 → result ≢ 6 → (asked : SafeInput) → IsSafeInput input.now asked →
+        (status : Status) × (result ≡ code_of status) × IsStatusBy asked status }
+    ensures no_function { result ≡ 9 → IsReplyTo input.now End.NoFunction
+        (take written.new output.new) }
+    ensures not_continuous { result ≡ 8 → IsReplyTo input.now End.NotContinuous
+        (take written.new output.new) }
 
     // Without room the front of the answer fills the output; without memory nothing is written.
     ensures room { result ≡ 5 → IsSafeFront input.now (length output.old)
@@ -122,7 +134,8 @@ pub extern "C" fn gjcut_safe_cut(
     ensures memory { result ≡ 6 → written.new ≡ 0 }
     ensures within { written.new ≤ length output.old }
     ensures behind { drop written.new output.new ≡ drop written.new output.old }
-    ensures ends { (result ≡ 0) ⊎ (result ≡ 3) ⊎ (result ≡ 5) ⊎ (result ≡ 6) }
+    ensures ends { (result ≡ 0) ⊎ (result ≡ 3) ⊎ (result ≡ 5) ⊎ (result ≡ 6) ⊎ (result ≡ 8)
+        ⊎ (result ≡ 9) }
 {
     hand_over(safe_answer_to(alloc, input), output, written)
 }
