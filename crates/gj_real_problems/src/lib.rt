@@ -2,7 +2,7 @@
 //! field in which each number lies between a whole number and the next.
 #![tactic(auto)]
 
-ghost use Rattle.std.specs.Prelude.{◌≡◌, ◌↔◌, ℕ, Bool, List, length};
+ghost use Rattle.std.specs.Prelude.{◌≡◌, ◌↔◌, ℕ, Bool, List, All, length};
 ghost use Rattle.gj_frac.specs.declared.Frac.{Frac};
 ghost use Rattle.gj_mixed.specs.Slopes.{AreSlopesOfKind};
 ghost use Rattle.gj_problem.specs.Problems.{Holds};
@@ -12,6 +12,7 @@ ghost use Rattle.gj_problem.specs.declared.problem.Problem.{Problem};
 ghost use Rattle.gj_real_problems.specs.RealProblems.{RealHolds, RealHoldsFor};
 ghost use Rattle.gj_rule.specs.Kind.{IsKindWithinBounds, IsMinimalKind};
 ghost use Rattle.gj_rule.specs.declared.kind.RuleKind.{RuleKind};
+ghost use Rattle.gj_safe.specs.Answers.{IsTrueAnswer};
 ghost use Rattle.gj_safe_cut.specs.SafeCuts.{HoldsFor, IsGmicSafeCutOf, IsSafeCutOf};
 ghost use Rattle.gj_safe_cut.specs.declared.cut.SafeCut.{SafeCut};
 
@@ -38,4 +39,11 @@ pub fn safe_cuts_hold_over_reals<K: Reals>()
     ensures held { (p : Problem) (cut : SafeCut) → HoldsFor p cut → RealHoldsFor K.field p cut }
     ensures rounded { (p : Problem) (grid : ℕ) (q rounded : Inequality) → RealHolds K.field p q →
         IsRoundedCut p grid q rounded → RealHolds K.field p rounded }
+{}
+
+/// What a run of `gjsafe` writes that ends with Done, by its clause `headline`, are cuts that hold
+/// at all feasible points of real numbers.
+pub fn safe_answers_hold_over_reals<K: Reals>()
+    ensures { (input text : List ℕ) (answer : IsTrueAnswer input text) →
+        All (RealHoldsFor K.field answer.asked.task.problem) answer.cuts }
 {}
