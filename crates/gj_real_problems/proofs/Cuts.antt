@@ -1,5 +1,5 @@
 -- Cuts of problems at real points.
-use Rattle.std.proofs.Common.{◌≡◌, ℕ, Bool, List, [], ◌∷◌, All}
+use Rattle.std.proofs.Common.{ℕ, List, [], ◌∷◌, All}
 use Rattle.std.proofs.lemmas.List.Elements.{All-nil, All-cons, All-head, All-tail}
 use Rattle.gj_fields.specs.Fields.{OrderedField, HasFloor}
 use Rattle.gj_problem.specs.declared.problem.Inequality.{Inequality}

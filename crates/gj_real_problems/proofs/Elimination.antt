@@ -1,13 +1,13 @@
 -- Forms that are all at least 0 at a point of the greater field are so at a point of the lesser one:
 -- variables are eliminated one by one (Fourier 1826).
-use Rattle.std.proofs.Common.{◌≡◌, ◌≢◌, ℕ, zero, suc, ◌⊎◌, Bool, true, false, inl, inr, ⊎_elim, List, [], ◌∷◌, ◌++◌, refl, sym, subst, subst₂, ap, ap₂, ◌∙◌}
+use Rattle.std.proofs.Common.{◌≡◌, ◌≢◌, ℕ, zero, suc, ◌⊎◌, true, false, inl, inr, ⊎_elim, List, [], ◌∷◌, ◌++◌, refl, sym, subst, ap, ◌∙◌}
 use Rattle.gj_fields.specs.Fields.{OrderedField, AtMost}
 use Rattle.gj_fields.proofs.Ring.{ring}
 use Rattle.gj_fields.proofs.Ring.Term.{var, nil, unit, neg, ◌⊕◌, ◌⊗◌}
 use Rattle.gj_fields.proofs.Order.{either, le_refl, le_of_eq, le_of_not, by_one, by_two}
 use Rattle.gj_fields.proofs.Wholes.{not_one_le_zero}
 use Rattle.gj_reals.proofs.AtReals.{inverse_low}
-use Rattle.gj_real_problems.proofs.Forms.{Embeds, itself, negative_is, Pair, Form, Point, scaled, difference, value, value_ahead, value_scaled, value_difference}
+use Rattle.gj_real_problems.proofs.Forms.{Embeds, itself, negative_is, Form, Point, scaled, difference, value, value_scaled, value_difference}
 
 -- ---- lists
 
@@ -268,24 +268,38 @@ module _ {A B : Type 0} (F : OrderedField A) (K : OrderedField B) (image : A →
   between v [] (u ∷ us) holds =
       let (a, lows, highs) = between v [] us tt in
       ⊎_elim (λ yes. (a, tt, (yes, highs)))
-      (λ no. (v u, tt, (le_refl F (v u),
-      each_map (λ w. AtMost F a (v w)) (λ w. AtMost F (v u) (v w))
-      (λ w most. F.transitive (v u) a (v w) (le_of_not F a (v u) no) most) us highs)))
+      (λ no. (
+        v u,
+        tt,
+        (
+          le_refl F (v u),
+          each_map (λ w. AtMost F a (v w)) (λ w. AtMost F (v u) (v w))
+              (λ w most. F.transitive (v u) a (v w) (le_of_not F a (v u) no) most) us highs,
+        ),
+      ))
       (either (F.at_most a (v u)))
   between v (l ∷ ls) us holds =
       let (a, lows, highs) = between v ls us holds.1 in
       ⊎_elim (λ yes. (a, (yes, lows), highs))
-      (λ no. (v l, (le_refl F (v l),
-      each_map (λ w. AtMost F (v w) a) (λ w. AtMost F (v w) (v l))
-      (λ w most. F.transitive (v w) a (v l) most (le_of_not F (v l) a no)) ls lows), holds.0))
+      (λ no. (
+        v l,
+        (
+          le_refl F (v l),
+          each_map (λ w. AtMost F (v w) a) (λ w. AtMost F (v w) (v l))
+              (λ w most. F.transitive (v w) a (v l) most (le_of_not F (v l) a no)) ls lows,
+        ),
+        holds.0,
+      ))
       (either (F.at_most (v l) a))
 
   -- forms that are at least 0 at y are so at a point of the lesser field
   pub solved : (n : ℕ) (y : Point B n) (fs : List (Form A n)) → Each (λ f. AtMost K K.zero (there n f y)) fs →
       (x : Point A n) × Each (λ f. AtMost F F.zero (here n f x)) fs
-  solved zero y fs holds =
-      (tt, each_map (λ f. AtMost K K.zero (image f)) (λ f. AtMost F F.zero f)
-      (λ f most. h.reflects F.zero f (subst (λ z. AtMost K z (image f)) (sym h.zero_is) most)) fs holds)
+  solved zero y fs holds = (
+    tt,
+    each_map (λ f. AtMost K K.zero (image f)) (λ f. AtMost F F.zero f)
+        (λ f most. h.reflects F.zero f (subst (λ z. AtMost K z (image f)) (sym h.zero_is) most)) fs holds,
+  )
   solved (suc n) y fs holds =
       let s = split n fs y.head y.tail holds in
       let (b, tell) = solved n y.tail (crossed n s.lows s.highs s.flats)

@@ -1,8 +1,8 @@
 -- Linear forms with coefficients of one ordered field, at points of a greater one.
-use Rattle.std.proofs.Common.{◌≡◌, ℕ, zero, suc, List, [], ◌∷◌, ◌++◌, refl, sym, subst, subst₂, ap, ap₂, ◌∙◌}
+use Rattle.std.proofs.Common.{◌≡◌, ℕ, zero, suc, List, [], ◌∷◌, refl, sym, ap, ap₂, ◌∙◌}
 use Rattle.std.specs.Prelude.{slice_index_or}
 use Rattle.gj_fields.specs.Fields.{OrderedField, AtMost}
-use Rattle.gj_fields.proofs.Ring.{ring, cancel, times_zero}
+use Rattle.gj_fields.proofs.Ring.{ring, cancel}
 use Rattle.gj_fields.proofs.Ring.Term.{var, nil, unit, neg, ◌⊕◌, ◌⊗◌}
 
 -- the numbers of F are numbers of K, with the same sums, products and order

@@ -1,16 +1,16 @@
 -- The rational numbers are numbers of each ordered field.
-use Rattle.std.proofs.Common.{◌≡◌, ◌≢◌, ℤ, pos, ◌+ℤ◌, ◌*ℤ◌, ◌<ℤ◌, ◌≤ℤ◌, [], ◌∷◌, refl, sym, subst, subst₂, ap, ap₂, ◌∙◌, arith}
+use Rattle.std.proofs.Common.{◌≡◌, ◌≢◌, ℤ, pos, ◌+ℤ◌, ◌*ℤ◌, ◌<ℤ◌, ◌≤ℤ◌, [], ◌∷◌, refl, sym, subst, ap, ap₂, ◌∙◌, arith}
 use Rattle.std.proofs.lemmas.Int.{ints}
 use Rattle.gj_lemmas.proofs.Integers.{mul_positive_z}
-use Rattle.gj_fields.specs.Fields.{OrderedField, AtMost, whole}
-use Rattle.gj_fields.proofs.Ring.{ring, times_zero}
-use Rattle.gj_fields.proofs.Ring.Term.{var, nil, unit, neg, ◌⊕◌, ◌⊗◌}
+use Rattle.gj_fields.specs.Fields.{OrderedField, whole}
+use Rattle.gj_fields.proofs.Ring.{ring}
+use Rattle.gj_fields.proofs.Ring.Term.{var, nil, unit, ◌⊕◌, ◌⊗◌}
 use Rattle.gj_fields.proofs.Wholes.{whole_plus}
 use Rattle.gj_reals.proofs.Lift.{whole_times}
 use Rattle.gj_real_cuts.proofs.Over.{over, over_times, is_over, over_same, over_product, over_most, most_over, whole_over}
 use Rattle.gj_rational.specs.Rational as q
 use Rattle.gj_rational.specs.Rational.{Rational, ◌+ℚ◌, ◌*ℚ◌, ◌≤ℚ◌}
-use Rattle.gj_rational.proofs.RationalLaws.{sum_is, product_is, whole_top, whole_bottom}
+use Rattle.gj_rational.proofs.RationalLaws.{sum_is, product_is}
 use Rattle.gj_real_problems.proofs.Forms.{Embeds}
 use Rattle.gj_real_problems.proofs.Rationals.{rationals, most_from, most_is}
 
@@ -64,6 +64,8 @@ module _ {R : Type 0} (K : OrderedField R) where
     keeps = λ x y h.
         most_over K x.top x.bottom y.top y.bottom (bottom_some x) (bottom_some y) (bottom_low x) (bottom_low y)
         (most_from x y h).crosswise;
-    reflects = λ x y h. most_is x y (record { crosswise =
-        over_most K x.top x.bottom y.top y.bottom (bottom_some x) (bottom_some y) (bottom_low x) (bottom_low y) h });
+    reflects = λ x y h. most_is x y (record {
+      crosswise =
+          over_most K x.top x.bottom y.top y.bottom (bottom_some x) (bottom_some y) (bottom_low x) (bottom_low y) h;
+    });
   }

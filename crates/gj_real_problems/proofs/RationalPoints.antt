@@ -1,12 +1,10 @@
 -- A feasible point of rational numbers is one of real numbers.
-use Rattle.std.proofs.Common.{◌≡◌, ℕ, zero, suc, ℤ, Option, Some, None, List, [], ◌∷◌, map, All, IfSome, refl, sym, subst, ap, ap₂, ◌∙◌}
+use Rattle.std.proofs.Common.{◌≡◌, ℕ, zero, suc, Option, Some, None, List, [], ◌∷◌, map, All, IfSome, refl, sym, subst, ap, ap₂, ◌∙◌}
 use Rattle.std.specs.List.{AllZip}
-use Rattle.std.specs.Prelude.{slice_index_or}
 use Rattle.std.proofs.lemmas.List.Elements.{All-nil, All-cons, All-head, All-tail}
 use Rattle.gj_frac.specs.declared.Frac.{Frac}
-use Rattle.gj_fields.specs.Fields.{OrderedField, HasFloor, AtMost, whole}
+use Rattle.gj_fields.specs.Fields.{OrderedField, AtMost}
 use Rattle.gj_real_cuts.specs.RealRows.{number_of}
-use Rattle.gj_rational.specs.Rational as q
 use Rattle.gj_rational.specs.Rational.{Rational, rational, ◌*ℚ◌, ◌≤ℚ◌}
 use Rattle.gj_problem.specs.declared.problem.Column.{Column}
 use Rattle.gj_problem.specs.declared.problem.Constraint.{Constraint}
@@ -15,9 +13,9 @@ use Rattle.gj_problem.specs.declared.problem.Inequality.{Inequality}
 use Rattle.gj_problem.specs.declared.problem.Problem.{Problem}
 use Rattle.gj_problem.specs.declared.problem.Sense.{Sense}
 use Rattle.gj_problem.specs.declared.problem.Sense.TheVariants as sense
-use Rattle.gj_problem.specs.Problems.{IsFeasible, MeetsColumn, Meets, MeetsConstraint, Holds, value_at, sum_at}
-use Rattle.gj_real_problems.specs.RealProblems.{real_value_at, real_sum_at, MeetsOver, MeetsRealConstraint, MeetsRealColumn, IsRealFeasible, RealHolds}
-use Rattle.gj_real_problems.proofs.Rationals.{rationals, most_from, most_is}
+use Rattle.gj_problem.specs.Problems.{MeetsColumn, Meets, MeetsConstraint, Holds, value_at, sum_at}
+use Rattle.gj_real_problems.specs.RealProblems.{real_value_at, real_sum_at, MeetsOver, MeetsRealConstraint, MeetsRealColumn, RealHolds}
+use Rattle.gj_real_problems.proofs.Rationals.{most_from, most_is}
 use Rattle.gj_real_problems.proofs.Images.{image, whole_image, embeds}
 
 module _ {R : Type 0} (K : OrderedField R) where

@@ -1,13 +1,13 @@
 -- The rational numbers without bound are an ordered field.
-use Rattle.std.proofs.Common.{◌≡◌, ◌≢◌, ℕ, ◌⊎◌, inl, inr, ⊎_elim, Bool, true, false, T, List, [], ◌∷◌, ℤ, pos, negsuc, unsigned_abs, ◌+ℤ◌, ◌-ℤ◌, ◌*ℤ◌, ◌<ℤ◌, ◌≤ℤ◌, refl, sym, subst, ap, ◌∙◌, arith}
+use Rattle.std.proofs.Common.{◌≡◌, ◌≢◌, ◌⊎◌, inl, inr, ⊎_elim, Bool, true, false, T, [], ◌∷◌, ℤ, pos, negsuc, unsigned_abs, ◌*ℤ◌, ◌<ℤ◌, ◌≤ℤ◌, refl, sym, subst, ap, ◌∙◌, arith}
 use Rattle.std.proofs.lemmas.Int.{ints}
 use lib.Signed.{le_z}
-use Rattle.gj_lemmas.proofs.Integers.{same_or_apart_z, mul_cancel_right_z, mul_some_z, mul_nonnegative_z, positive_some_z, abs_zero_z, one_mul_z}
+use Rattle.gj_lemmas.proofs.Integers.{same_or_apart_z, mul_cancel_right_z, mul_some_z, positive_some_z, abs_zero_z}
 use Rattle.gj_lemmas.proofs.Ring.{by_ring, ring}
-use Rattle.gj_fields.specs.Fields.{OrderedField, AtMost}
+use Rattle.gj_fields.specs.Fields.{OrderedField}
 use Rattle.gj_fields.proofs.Order.{either}
 use Rattle.gj_rational.specs.Rational.{Rational, reduced, over, whole, ◌+ℚ◌, ◌*ℚ◌, neg_ℚ, ◌-ℚ◌, ◌≤ℚ◌}
-use Rattle.gj_rational.proofs.RationalLaws.{equal_q, product_is, add_assoc_q, add_comm_q, mul_assoc_q, mul_comm_q, mul_add_q, whole_injective, whole_top, whole_bottom}
+use Rattle.gj_rational.proofs.RationalLaws.{equal_q, product_is, add_assoc_q, add_comm_q, mul_assoc_q, mul_comm_q, mul_add_q, whole_injective}
 use Rattle.gj_rational.proofs.RationalOrder.{IsNonnegativeQ, nonnegative_add, nonnegative_mul, difference_nonnegative, at_most_from_difference}
 use Rattle.gj_rational.proofs.RationalRing.{by_ring_q, ring_q}
 

@@ -22,7 +22,7 @@ use Rattle.gj_problem.specs.declared.problem.Sense.{Sense}
 use Rattle.gj_problem.specs.declared.problem.Sense.TheVariants as sense
 use Rattle.gj_problem.specs.Problems.{IsFeasible, MeetsColumn, Meets, MeetsConstraint, Holds, sum_at}
 use Rattle.gj_real_problems.specs.RealProblems.{real_sum_at, MeetsOver, MeetsRealConstraint, MeetsRealColumn, IsRealFeasible, RealHolds}
-use Rattle.gj_real_problems.proofs.Forms.{Embeds, itself, negative_is, Pair, Form, Point, numbers, constant, variable, scaled, sum, difference, value, value_ahead, value_constant, value_variable, value_scaled, value_sum, value_difference}
+use Rattle.gj_real_problems.proofs.Forms.{itself, negative_is, Form, Point, numbers, constant, variable, scaled, sum, difference, value, value_ahead, value_constant, value_variable, value_scaled, value_sum, value_difference}
 use Rattle.gj_real_problems.proofs.Elimination.{Each, each_join, each_front, each_back, solved}
 use Rattle.gj_real_problems.proofs.Rationals.{rationals, most_from, most_is}
 use Rattle.gj_real_problems.proofs.Images.{image, whole_image, embeds}
