@@ -1,5 +1,5 @@
--- Forms that are all at least 0 at a point of the greater field are so at a point of the lesser one:
--- variables are eliminated one by one (Fourier 1826).
+-- Forms that are all at least 0 at a point of the greater field are so at a point of the lesser
+-- one: variables are eliminated one by one (Fourier 1826).
 use Rattle.std.proofs.Common.{◌≡◌, ◌≢◌, ℕ, zero, suc, ◌⊎◌, true, false, inl, inr, ⊎_elim, List, [], ◌∷◌, ◌++◌, refl, sym, subst, ap, ◌∙◌}
 use Rattle.gj_fields.specs.Fields.{OrderedField, AtMost}
 use Rattle.gj_fields.proofs.Ring.{ring}

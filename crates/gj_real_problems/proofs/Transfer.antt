@@ -20,8 +20,8 @@ use Rattle.gj_problem.specs.declared.problem.Inequality.{Inequality}
 use Rattle.gj_problem.specs.declared.problem.Problem.{Problem}
 use Rattle.gj_problem.specs.declared.problem.Sense.{Sense}
 use Rattle.gj_problem.specs.declared.problem.Sense.TheVariants as sense
-use Rattle.gj_problem.specs.Problems.{IsFeasible, MeetsColumn, Meets, MeetsConstraint, Holds, sum_at}
-use Rattle.gj_real_problems.specs.RealProblems.{real_sum_at, MeetsOver, MeetsRealConstraint, MeetsRealColumn, IsRealFeasible, RealHolds}
+use Rattle.gj_problem.specs.Problems.{IsFeasible, MeetsColumn, Meets, MeetsConstraint, Holds, value_at, sum_at}
+use Rattle.gj_real_problems.specs.RealProblems.{real_value_at, real_sum_at, MeetsOver, MeetsRealConstraint, MeetsRealColumn, IsRealFeasible, RealHolds}
 use Rattle.gj_real_problems.proofs.Forms.{itself, negative_is, Form, Point, numbers, constant, variable, scaled, sum, difference, value, value_ahead, value_constant, value_variable, value_scaled, value_sum, value_difference}
 use Rattle.gj_real_problems.proofs.Elimination.{Each, each_join, each_front, each_back, solved}
 use Rattle.gj_real_problems.proofs.Rationals.{rationals, most_from, most_is}
@@ -37,14 +37,20 @@ entries_form n (e ∷ entries) =
 abbrev here : (n : ℕ) → Form Rational n → Point Rational n → Rational
 here n f x = value rationals (λ a. a) n f x
 
-sum_here : (n : ℕ) (x : Point Rational n) (es : List Entry) → here n (entries_form n es) x ≡ sum_at (numbers n x) es
-sum_here n x [] = value_constant rationals rationals (λ a. a) (itself rationals) n (q.whole (pos 0)) x
-sum_here n x (e ∷ es) =
+constant_here : (n : ℕ) (r : Rational) (x : Point Rational n) → here n (constant rationals n r) x ≡ r
+constant_here n r x = value_constant rationals rationals (λ a. a) (itself rationals) n r x
+
+variable_here : (n j : ℕ) (x : Point Rational n) → here n (variable rationals n j) x ≡ value_at (numbers n x) j
+variable_here n j x = value_variable rationals rationals (λ a. a) (itself rationals) n j x
+
+sum_here : (n : ℕ) (es : List Entry) (x : Point Rational n) → here n (entries_form n es) x ≡ sum_at (numbers n x) es
+sum_here n [] x = constant_here n (q.whole (pos 0)) x
+sum_here n (e ∷ es) x =
     value_sum rationals rationals (λ a. a) (itself rationals) n _ (entries_form n es) x
     ∙ ap₂ rationals.plus
     (value_scaled rationals rationals (λ a. a) (itself rationals) n (rational e.value) (variable rationals n e.column) x
-    ∙ ap (rationals.times (rational e.value)) (value_variable rationals rationals (λ a. a) (itself rationals) n e.column x))
-    (sum_here n x es)
+    ∙ ap (rationals.times (rational e.value)) (variable_here n e.column x))
+    (sum_here n es x)
 
 module _ {R : Type 0} (K : OrderedField R) (floors : HasFloor K) where
   open K use {plus, times, zero as o, one as e, negative, inverse}
@@ -52,14 +58,20 @@ module _ {R : Type 0} (K : OrderedField R) (floors : HasFloor K) where
   abbrev there : (n : ℕ) → Form Rational n → Point R n → R
   there n f y = value K (image K) n f y
 
-  sum_there : (n : ℕ) (y : Point R n) (es : List Entry) → there n (entries_form n es) y ≡ real_sum_at K (numbers n y) es
-  sum_there n y [] = value_constant rationals K (image K) (embeds K) n (q.whole (pos 0)) y ∙ (embeds K).zero_is
-  sum_there n y (e ∷ es) =
+  constant_there : (n : ℕ) (r : Rational) (y : Point R n) → there n (constant rationals n r) y ≡ image K r
+  constant_there n r y = value_constant rationals K (image K) (embeds K) n r y
+
+  variable_there : (n j : ℕ) (y : Point R n) → there n (variable rationals n j) y ≡ real_value_at K (numbers n y) j
+  variable_there n j y = value_variable rationals K (image K) (embeds K) n j y
+
+  sum_there : (n : ℕ) (es : List Entry) (y : Point R n) → there n (entries_form n es) y ≡ real_sum_at K (numbers n y) es
+  sum_there n [] y = constant_there n (q.whole (pos 0)) y ∙ (embeds K).zero_is
+  sum_there n (e ∷ es) y =
       value_sum rationals K (image K) (embeds K) n _ (entries_form n es) y
       ∙ ap₂ plus
       (value_scaled rationals K (image K) (embeds K) n (rational e.value) (variable rationals n e.column) y
-      ∙ ap (times (image K (rational e.value))) (value_variable rationals K (image K) (embeds K) n e.column y))
-      (sum_there n y es)
+      ∙ ap (times (image K (rational e.value))) (variable_there n e.column y))
+      (sum_there n es y)
 
   -- ---- conditions that forms tell
 
@@ -87,19 +99,24 @@ module _ {R : Type 0} (K : OrderedField R) (floors : HasFloor K) where
     );
   }
 
-  compared : (n : ℕ) (y : Point R n) (f g : Form Rational n) → AtMost K (there n f y) (there n g y) →
-      System n y (λ x. here n f x ≤ℚ here n g x)
-  compared n y f g h = record {
+  -- one form is at most another, whose values are known
+  compared : (n : ℕ) (y : Point R n) (f g : Form Rational n) (a b : R) (s t : Point Rational n → Rational) →
+      there n f y ≡ a → there n g y ≡ b → ((x : Point Rational n) → here n f x ≡ s x) →
+      ((x : Point Rational n) → here n g x ≡ t x) → AtMost K a b → System n y (λ x. s x ≤ℚ t x)
+  compared n y f g a b s t f_there g_there f_here g_here h = record {
     forms = difference rationals n g f ∷ [];
     hold = (
-      subst (AtMost K o) (sym (value_difference rationals K (image K) (embeds K) n g f y))
-          (by_one K (there n f y ∷ there n g y ∷ []) nil (var 1 ⊕ neg (var 0)) (var 0) (var 1) h refl),
+      subst (AtMost K o)
+          (sym (value_difference rationals K (image K) (embeds K) n g f y
+          ∙ ap₂ (λ v w. plus v (negative w)) g_there f_there))
+          (by_one K (a ∷ b ∷ []) nil (var 1 ⊕ neg (var 0)) (var 0) (var 1) h refl),
       tt,
     );
-    tell = λ x are. most_from (here n f x) (here n g x)
-        (by_one rationals (here n f x ∷ here n g x ∷ []) (var 0) (var 1) nil (var 1 ⊕ neg (var 0))
+    tell = λ x are. most_from (s x) (t x)
+        (by_one rationals (s x ∷ t x ∷ []) (var 0) (var 1) nil (var 1 ⊕ neg (var 0))
         (subst (AtMost rationals rationals.zero)
-        (value_difference rationals rationals (λ a. a) (itself rationals) n g f x) are.0) refl);
+        (value_difference rationals rationals (λ a. a) (itself rationals) n g f x
+        ∙ ap₂ (λ v w. rationals.plus v (rationals.negative w)) (g_here x) (f_here x)) are.0) refl);
   }
 
   -- of the variables behind the first
@@ -135,29 +152,19 @@ module _ {R : Type 0} (K : OrderedField R) (floors : HasFloor K) where
 
   -- ---- columns
 
-  head_there : (n : ℕ) (y : Point R (suc n)) → there (suc n) (variable rationals (suc n) 0) y ≡ y.head
-  head_there n y = value_variable rationals K (image K) (embeds K) (suc n) 0 y
-
-  head_here : (n : ℕ) (x : Point Rational (suc n)) → here (suc n) (variable rationals (suc n) 0) x ≡ x.head
-  head_here n x = value_variable rationals rationals (λ a. a) (itself rationals) (suc n) 0 x
-
   from_below : (n : ℕ) (y : Point R (suc n)) (r : Rational) → AtMost K (image K r) y.head →
       System (suc n) y (λ x. r ≤ℚ x.head)
-  from_below n y r h =
-      let m = suc n in
-      follows m y _ _
-      (compared m y (constant rationals m r) (variable rationals m 0)
-      (subst₂ (AtMost K) (sym (value_constant rationals K (image K) (embeds K) m r y)) (sym (head_there n y)) h))
-      (λ x most. subst₂ (λ s t. s ≤ℚ t) (value_constant rationals rationals (λ a. a) (itself rationals) m r x) (head_here n x) most)
+  from_below n y r =
+      compared (suc n) y (constant rationals (suc n) r) (variable rationals (suc n) 0) (image K r) y.head
+      (λ x. r) (λ x. x.head) (constant_there (suc n) r y) (variable_there (suc n) 0 y)
+      (constant_here (suc n) r) (variable_here (suc n) 0)
 
   from_above : (n : ℕ) (y : Point R (suc n)) (r : Rational) → AtMost K y.head (image K r) →
       System (suc n) y (λ x. x.head ≤ℚ r)
-  from_above n y r h =
-      let m = suc n in
-      follows m y _ _
-      (compared m y (variable rationals m 0) (constant rationals m r)
-      (subst₂ (AtMost K) (sym (head_there n y)) (sym (value_constant rationals K (image K) (embeds K) m r y)) h))
-      (λ x most. subst₂ (λ s t. s ≤ℚ t) (head_here n x) (value_constant rationals rationals (λ a. a) (itself rationals) m r x) most)
+  from_above n y r =
+      compared (suc n) y (variable rationals (suc n) 0) (constant rationals (suc n) r) y.head (image K r)
+      (λ x. x.head) (λ x. r) (variable_there (suc n) 0 y) (constant_there (suc n) r y)
+      (variable_here (suc n) 0) (constant_here (suc n) r)
 
   lower_bound : (n : ℕ) (y : Point R (suc n)) (l : Option Frac) → IfSome l (λ l. AtMost K (number_of K l) y.head) →
       System (suc n) y (λ x. IfSome l (λ l. rational l ≤ℚ x.head))
@@ -201,19 +208,17 @@ module _ {R : Type 0} (K : OrderedField R) (floors : HasFloor K) where
 
   sum_below : (n : ℕ) (y : Point R n) (es : List Entry) (r : Rational) →
       AtMost K (real_sum_at K (numbers n y) es) (image K r) → System n y (λ x. sum_at (numbers n x) es ≤ℚ r)
-  sum_below n y es r h =
-      follows n y _ _
-      (compared n y (entries_form n es) (constant rationals n r)
-      (subst₂ (AtMost K) (sym (sum_there n y es)) (sym (value_constant rationals K (image K) (embeds K) n r y)) h))
-      (λ x most. subst₂ (λ s t. s ≤ℚ t) (sum_here n x es) (value_constant rationals rationals (λ a. a) (itself rationals) n r x) most)
+  sum_below n y es r =
+      compared n y (entries_form n es) (constant rationals n r) (real_sum_at K (numbers n y) es) (image K r)
+      (λ x. sum_at (numbers n x) es) (λ x. r) (sum_there n es y) (constant_there n r y)
+      (sum_here n es) (constant_here n r)
 
   sum_above : (n : ℕ) (y : Point R n) (es : List Entry) (r : Rational) →
       AtMost K (image K r) (real_sum_at K (numbers n y) es) → System n y (λ x. r ≤ℚ sum_at (numbers n x) es)
-  sum_above n y es r h =
-      follows n y _ _
-      (compared n y (constant rationals n r) (entries_form n es)
-      (subst₂ (AtMost K) (sym (value_constant rationals K (image K) (embeds K) n r y)) (sym (sum_there n y es)) h))
-      (λ x most. subst₂ (λ s t. s ≤ℚ t) (value_constant rationals rationals (λ a. a) (itself rationals) n r x) (sum_here n x es) most)
+  sum_above n y es r =
+      compared n y (constant rationals n r) (entries_form n es) (image K r) (real_sum_at K (numbers n y) es)
+      (λ x. r) (λ x. sum_at (numbers n x) es) (constant_there n r y) (sum_there n es y)
+      (constant_here n r) (sum_here n es)
 
   constraint : (n : ℕ) (y : Point R n) (s : Sense) (es : List Entry) (right : Frac) →
       MeetsOver K s (real_sum_at K (numbers n y) es) (number_of K right) →
