@@ -1,0 +1,7 @@
+pub mod Forms
+pub mod Elimination
+pub mod Rationals
+pub mod Images
+pub mod Transfer
+pub mod RationalPoints
+pub mod Cuts
