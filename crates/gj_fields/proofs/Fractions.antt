@@ -117,10 +117,10 @@ true_of : (b : Bool) → T b → b ≡ true
 true_of true h = refl
 true_of false h = absurd h
 
-le_yes : (x y : ℤ) → le_z x y ≡ true → x ≤ℤ y
+pub le_yes : (x y : ℤ) → le_z x y ≡ true → x ≤ℤ y
 le_yes x y h = record { le = subst T (sym h) tt }
 
-yes_le : (x y : ℤ) → x ≤ℤ y → le_z x y ≡ true
+pub yes_le : (x y : ℤ) → x ≤ℤ y → le_z x y ≡ true
 yes_le x y h = true_of (le_z x y) h.le
 
 -- both sides times a positive number

@@ -33,7 +33,7 @@ use Rattle.gj_real_cuts.proofs.Over.{whole_some, over, over_times, is_over, over
 use Rattle.gj_real_cuts.proofs.RowCuts.{point_of_whole}
 
 -- what is above 0 is not 0
-not_zero : (z : ℤ) → pos 0 <ℤ z → z ≢ pos 0
+pub not_zero : (z : ℤ) → pos 0 <ℤ z → z ≢ pos 0
 not_zero z some h = absurd (subst (λ y. pos 0 <ℤ y → ⊥) (sym h) (λ k. omega (arith, ints)) some)
 
 pub den_some : (x : Frac) → x.den ≢ pos 0

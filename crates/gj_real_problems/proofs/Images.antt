@@ -7,15 +7,13 @@ use Rattle.gj_fields.proofs.Ring.{ring}
 use Rattle.gj_fields.proofs.Ring.Term.{var, nil, unit, ◌⊕◌, ◌⊗◌}
 use Rattle.gj_fields.proofs.Wholes.{whole_plus}
 use Rattle.gj_reals.proofs.Lift.{whole_times}
+use Rattle.gj_real_cuts.proofs.FractionValues.{not_zero}
 use Rattle.gj_real_cuts.proofs.Over.{over, over_times, is_over, over_same, over_product, over_most, most_over, whole_over}
 use Rattle.gj_rational.specs.Rational as q
 use Rattle.gj_rational.specs.Rational.{Rational, ◌+ℚ◌, ◌*ℚ◌, ◌≤ℚ◌}
 use Rattle.gj_rational.proofs.RationalLaws.{sum_is, product_is}
 use Rattle.gj_real_problems.proofs.Forms.{Embeds}
 use Rattle.gj_real_problems.proofs.Rationals.{rationals, most_from, most_is}
-
-not_zero : (z : ℤ) → pos 0 <ℤ z → z ≢ pos 0
-not_zero z some h = absurd (subst (λ y. pos 0 <ℤ y → ⊥) (sym h) (λ k. omega (arith, ints)) some)
 
 bottom_some : (x : Rational) → x.bottom ≢ pos 0
 bottom_some x = not_zero x.bottom x.reduced.positive

@@ -5,6 +5,7 @@ use lib.Signed.{le_z}
 use Rattle.gj_lemmas.proofs.Integers.{same_or_apart_z, mul_cancel_right_z, mul_some_z, positive_some_z, abs_zero_z}
 use Rattle.gj_lemmas.proofs.Ring.{by_ring, ring}
 use Rattle.gj_fields.specs.Fields.{OrderedField}
+use Rattle.gj_fields.proofs.Fractions.{le_yes, yes_le}
 use Rattle.gj_fields.proofs.Order.{either}
 use Rattle.gj_rational.specs.Rational.{Rational, reduced, over, whole, ◌+ℚ◌, ◌*ℚ◌, neg_ℚ, ◌-ℚ◌, ◌≤ℚ◌}
 use Rattle.gj_rational.proofs.RationalLaws.{equal_q, product_is, add_assoc_q, add_comm_q, mul_assoc_q, mul_comm_q, mul_add_q, whole_injective}
@@ -12,16 +13,6 @@ use Rattle.gj_rational.proofs.RationalOrder.{IsNonnegativeQ, nonnegative_add, no
 use Rattle.gj_rational.proofs.RationalRing.{by_ring_q, ring_q}
 
 -- ---- order
-
-true_of : (b : Bool) → T b → b ≡ true
-true_of true h = refl
-true_of false h = absurd h
-
-pub le_yes : (x y : ℤ) → le_z x y ≡ true → x ≤ℤ y
-le_yes x y h = record { le = subst T (sym h) tt }
-
-pub yes_le : (x y : ℤ) → x ≤ℤ y → le_z x y ≡ true
-yes_le x y h = true_of (le_z x y) h.le
 
 abbrev pub at_most_q : Rational → Rational → Bool
 at_most_q x y = le_z (x.top *ℤ y.bottom) (y.top *ℤ x.bottom)
