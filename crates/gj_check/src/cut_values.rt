@@ -100,7 +100,8 @@ fn is_value_at(x: Frac, shape: &Shape, entry: Frac) -> bool
     requires minimal { PassesAll shape.now }
     requires entry { IsRowNumber entry }
     ensures { IsTrue result ↔
-        IsValueAt shape.now (numerator entry *ℤ pos shape.now.order) (unsigned_abs (denominator entry)) x }
+        IsValueAt shape.now (numerator entry *ℤ pos shape.now.order)
+        (unsigned_abs (denominator entry)) x }
 {
     let steps = denominator_of(entry);
     let place = part_of(entry) * u64::from(shape.order());

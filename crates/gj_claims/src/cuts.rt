@@ -20,7 +20,8 @@ use std::alloc::{AllocError, Global};
 /// ```text
 /// let tableau = Tableau::read(alloc, b"basic,rhs,x1,x2\nx0,8/5,7/5,-1/5\n")?;
 /// let proof = cuts_proof(alloc, CutRule::Gmic, &tableau)?;
-/// // its claim is Cut, with the line of x0 for the right side 8/5: the terms x1 7/5 2/3 and x2 -1/5 1/2
+/// // its claim is Cut, with the line of x0 for the right side 8/5:
+/// // the terms x1 7/5 2/3 and x2 -1/5 1/2
 /// ```
 pub fn cuts_proof(alloc: Global, rule: CutRule, tableau: &Tableau) -> Result<Proof, AllocError>
     requires tests { PassesTests rule }

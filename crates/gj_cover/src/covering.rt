@@ -31,7 +31,8 @@ use std::alloc::{AllocError, Global};
 ///
 /// ```text
 /// let found = cover(alloc, &shape)?; // of the mixed-integer cut for f = 3/5, of order 5
-/// // found.count is 2, the intervals on which it rises and those on which it falls; found.class is empty
+/// // found.count is 2, the intervals on which it rises and those on which it falls
+/// // found.class is empty
 /// ```
 pub fn cover(alloc: Global, shape: &Shape) -> Result<Cover, AllocError>
     requires { IsContinuous shape.now }

@@ -56,8 +56,8 @@ fn has_interval(face: Face, i: u32, q: u32) -> bool
     requires first { face.a < q }
     requires second { face.b < q }
     requires interval { i < q }
-    ensures { IsTrue result ↔
-        IsOneOf q (links_of face.kind face.a face.b ++ triangle_projections face.kind face.a face.b) i }
+    ensures { IsTrue result ↔ IsOneOf q
+        (links_of face.kind face.a face.b ++ triangle_projections face.kind face.a face.b) i }
 {
     let onto = projections(face, q);
     if onto.x == Some(i) {

@@ -111,7 +111,8 @@ struct Given {
 fn fractions_of(alloc: Global, form: Form<'_>) -> Result<Given, JsonFault>
     ensures found { IfOk result (λ g. SpellsForm (view form.entry.place.now)
         (map view form.entry.left.now)
-        (map view form.entry.value.now) (map view form.entry.right.now) g.place g.left.items g.value.items g.right.items) }
+        (map view form.entry.value.now) (map view form.entry.right.now) g.place g.left.items
+        g.value.items g.right.items) }
     ensures refused { IfErr result (NamesJsonReason (SpellsNoForm (view form.entry.place.now)
         (map view form.entry.left.now)
         (map view form.entry.value.now) (map view form.entry.right.now))) }

@@ -12,7 +12,7 @@ use std::alloc::{AllocError, Global};
 /// the lines as strings without their line feeds, and `verdict`.
 ///
 /// ```text
-/// {"proof":["gj-proof 1","claim minimal","order 2","f 1/2","point 0","point 1","end"],"verdict":"minimal"}
+/// {"proof":["gj-proof 1","claim minimal", .. ,"end"],"verdict":"minimal"}
 /// ```
 pub fn report(alloc: Global, verdict: &str, proof: &[u8]) -> Result<Vec<u8>, AllocError>
     requires bytes { All IsProofByte proof.now }

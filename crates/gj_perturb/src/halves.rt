@@ -28,7 +28,8 @@ pub fn split(alloc: Global, shape: &Shape, p: &Perturbation) -> Result<Halves, S
     ensures halves { IfOk result (AreHalvesOf shape.now p.now.times (at p.now.values)) }
     ensures different { IfOk result (λ h. (size : ℕ) → IsGreatestSize (at p.now.values) size →
         AreDifferentHalves (table shape.now p.now.times) (shape.now.order * p.now.times)
-        (shape.now.place * p.now.times) (shape.now.scale * p.now.times) (3 * size) (at h.first) (at h.second)) }
+        (shape.now.place * p.now.times) (shape.now.scale * p.now.times) (3 * size) (at h.first)
+        (at h.second)) }
     ensures limits { IfOk result AreHalvesInBounds }
 
     ensures narrow { OnOk result (¬ IsWide shape.now p.now) }

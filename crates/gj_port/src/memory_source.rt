@@ -41,7 +41,8 @@ impl MemSource {
     /// counted from 1 and staying at 2^64 - 1 once that is reached, stands in `fail`.
     pub fn new(alloc: Global, bytes: &[u8], fail: &[u64]) -> Result<MemSource, AllocError>
         ensures { IfOk result (λ source. source ≡
-            record { left = bytes.now; step = 2 ^ 64 - 1; fail = fail.now; calls = 0; faults = 0 }) }
+            record { left = bytes.now; step = 2 ^ 64 - 1; fail = fail.now;
+            calls = 0; faults = 0 }) }
     {
         MemSource::with_step(alloc, bytes, usize::MAX, fail)
     }

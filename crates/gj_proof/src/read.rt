@@ -35,7 +35,8 @@ use std::alloc::Global;
 /// ```rust
 /// let text = b"gj-proof 1\nclaim minimal\norder 2\nf 1/2\npoint 0\npoint 1\nend\n";
 /// let proof = read_proof(alloc, text)?; // proof.claim() is Claim::Minimal(..)
-/// let fault = read_proof(alloc, b"gj-proof 1\nclaim maximal\n"); // Err(ProofFault::Refused(2, Reason::Form))
+/// let fault = read_proof(alloc, b"gj-proof 1\nclaim maximal\n");
+/// // fault is Err(ProofFault::Refused(2, Reason::Form))
 /// ```
 pub fn read_proof(alloc: Global, bytes: &[u8]) -> Result<Proof, ProofFault>
     // What is read is spelled so.

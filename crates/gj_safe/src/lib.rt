@@ -27,8 +27,8 @@ use told::told_to;
 /// whole answer is made before its first byte is written.
 ///
 /// `Words` comes if there is a word, `Input` if the input is no problem text or is longer,
-/// `NoFunction` if its function is not minimal, and `NotContinuous` if it is, and jumps. The sink has
-/// then taken a line that says so.
+/// `NoFunction` if its function is not minimal, and `NotContinuous` if it is, and jumps. The sink
+/// has then taken a line that says so.
 pub fn run<S: Source, K: Sink>(
     alloc: Global,
     words: &[String],
@@ -65,7 +65,8 @@ pub fn run<S: Source, K: Sink>(
         (HasFailed (K.faults sink.old) (K.faults sink.new) → ⊥) →
         (result ≡ Status.Memory) ⊎ IsStatusBy asked result }
     ensures refused { words.now ≡ [] → (input : List ℕ) (n : ℕ) (e : Reason) →
-        S.left source.old ≡ Some input → (input_limit < length input) ⊎ IsFirstFaultOfInput input n e →
+        S.left source.old ≡ Some input →
+        (input_limit < length input) ⊎ IsFirstFaultOfInput input n e →
         (HasFailed (S.faults source.old) (S.faults source.new) → ⊥) →
         (HasFailed (K.faults sink.old) (K.faults sink.new) → ⊥) →
         (result ≡ Status.Memory) ⊎ (result ≡ Status.Input) }

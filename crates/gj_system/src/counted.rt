@@ -74,7 +74,8 @@ impl SlopeRows {
         requires place_within { place < length self.now.component }
         requires name_within { IsNameBelow name (length self.now.component) }
         ensures row { row.new ≡
-            row_entries (component_in self.now.component) self.now.columns (length self.now.component) place name }
+            row_entries (component_in self.now.component) self.now.columns
+            (length self.now.component) place name }
         ensures small { All (λ x. unsigned_abs x < 2 ^ 127) row.new }
     {
         let order = self.component.len();
@@ -98,7 +99,8 @@ impl SlopeRows {
         requires first { (a < length self.now.component) × (b < length self.now.component) }
         requires second { (c < length self.now.component) × (d < length self.now.component) }
         ensures { (place : ℕ) → IsTrue result ↔ (
-            row_entries (component_in self.now.component) self.now.columns (length self.now.component) place (Pair a b)
+            row_entries (component_in self.now.component) self.now.columns
+            (length self.now.component) place (Pair a b)
             ≡ row_entries (component_in self.now.component) self.now.columns
             (length self.now.component) place (Pair c d)) }
     {
@@ -116,7 +118,8 @@ impl SlopeRows {
         requires first { (a < length self.now.component) × (b < length self.now.component) }
         requires second { (c < length self.now.component) × (d < length self.now.component) }
         ensures { (place : ℕ) → IsTrue result ↔ (
-            row_entries (component_in self.now.component) self.now.columns (length self.now.component) place (Pair a b)
+            row_entries (component_in self.now.component) self.now.columns
+            (length self.now.component) place (Pair a b)
             ≡ row_entries (component_in self.now.component) self.now.columns
             (length self.now.component) place (Pair c d)) }
     {

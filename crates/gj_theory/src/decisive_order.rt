@@ -22,7 +22,8 @@ pub fn halves_give_finer_halves()
     ensures halves { (f : FunctionData) (d m c : ℕ) (a b : ℕ → ℤ) → IsWithinBounds f →
         IsContinuous f → 0 < d → 0 < m →
         AreDifferentHalves (table f d) (f.order * d) (f.place * d) (f.scale * d) c a b →
-        AreDifferentHalves (table f (d * m)) (f.order * (d * m)) (f.place * (d * m)) (f.scale * (d * m)) c
+        AreDifferentHalves (table f (d * m)) (f.order * (d * m)) (f.place * (d * m))
+        (f.scale * (d * m)) c
         (filling a m) (filling b m) }
     ensures deny { (f : FunctionData) (d m c : ℕ) (a b : ℕ → ℤ) → IsWithinBounds f →
         IsContinuous f → 0 < d → 0 < m →

@@ -31,10 +31,12 @@ pub fn present_row_keeps_solutions()
 pub fn insertion_keeps_solutions()
     ensures triangular { (n number : ℕ) (kept : List KeptRow) (row : List ℤ) →
         AreTriangular n kept → length row ≡ n →
-        AreTriangular n (kept_behind kept number (inserted n kept row).reduce (inserted n kept row).kept) }
+        AreTriangular n
+        (kept_behind kept number (inserted n kept row).reduce (inserted n kept row).kept) }
     ensures same { (n number : ℕ) (kept : List KeptRow) (row w : List ℤ) →
         AreTriangular n kept → length row ≡ n →
-        (SolvesKept w (kept_behind kept number (inserted n kept row).reduce (inserted n kept row).kept)
+        (SolvesKept w
+        (kept_behind kept number (inserted n kept row).reduce (inserted n kept row).kept)
         ↔ (SolvesKept w kept × Solves w row)) }
 {}
 

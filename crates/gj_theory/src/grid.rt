@@ -33,7 +33,8 @@ pub fn values_near_ends()
 pub fn slack_near_corners()
     ensures { (f : FunctionData) (kind : FaceKind) (a b c h : ℕ) → IsWithinBounds f →
         c < length (corners_of kind a b) → length (corners_of kind a b) ≤ h →
-        table f h (near h c (first_coordinates kind a b)) +ℤ table f h (near h c (second_coordinates kind a b))
+        table f h (near h c (first_coordinates kind a b))
+        +ℤ table f h (near h c (second_coordinates kind a b))
         ≡ table f h (near h c (first_coordinates kind a b) + near h c (second_coordinates kind a b))
         +ℤ near_value h c (limits_of f kind a b) }
 {}

@@ -85,8 +85,8 @@ pub fn halves_are_minimal()
         IsMinimal f → 0 < m →
         IsPerturbation (table f m) (f.order * m) (f.place * m) p → p i ≢ pos 0 →
         (halves : AreHalvesOf f m p h) →
-        AreDifferentHalves (table f m) (f.order * m) (f.place * m) (f.scale * m) (3 * halves.p) (at h.first)
-        (at h.second) }
+        AreDifferentHalves (table f m) (f.order * m) (f.place * m) (f.scale * m) (3 * halves.p)
+        (at h.first) (at h.second) }
 {}
 
 /// A perturbation has its halves, and no others: the least positive slack and the greatest size

@@ -65,7 +65,8 @@ pub(crate) fn answer_to<S: Source>(
     source: &mut S,
 ) -> Result<Answer, AllocError>
     ensures answer { IfOk result (λ answer.
-        IsAnswer words.now (IsSourceFault (S.steady source.old) (S.faults source.old) (S.faults source.new))
+        IsAnswer words.now (IsSourceFault (S.steady source.old) (S.faults source.old)
+        (S.faults source.new))
         (S.left source.old) (S.left source.new) (answer_status answer) (answer_text answer)) }
     ensures memory { OnErr result (IsUnanswered words.now (S.left source.old) (S.left source.new)) }
     ensures count { S.faults source.old ≤ S.faults source.new }

@@ -95,7 +95,8 @@ pub fn run<S: Source, K: Sink>(
     // of memory.
     ensures outcome { IsOutcome words.now (IsSourceFault (S.steady source.old) (S.faults source.old)
         (S.faults source.new))
-        (S.left source.old) (S.left source.new) (K.written sink.old) (K.written sink.new) (K.sure sink.old) result }
+        (S.left source.old) (S.left source.new) (K.written sink.old) (K.written sink.new)
+        (K.sure sink.old) result }
 
     // The words alone decide whether they name a request, and then which statuses there can be.
     ensures words { result ≡ Status.Words → NameNone words.now }
@@ -150,7 +151,8 @@ pub fn run<S: Source, K: Sink>(
     ensures write_fault { result ≡ Status.WriteFault → HasFailed (K.faults sink.old)
         (K.faults sink.new) }
     ensures sure { result ≡ Status.WriteFault →
-        IsUnsure words.now (IsSourceFault (S.steady source.old) (S.faults source.old) (S.faults source.new))
+        IsUnsure words.now (IsSourceFault (S.steady source.old) (S.faults source.old)
+        (S.faults source.new))
         (S.left source.old) (S.left source.new) (K.sure sink.old) }
     ensures write_count { K.faults sink.old ≤ K.faults sink.new }
 

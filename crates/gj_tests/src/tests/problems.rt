@@ -156,7 +156,8 @@ fn rounded_cut(alloc: Global) -> Option<bool> {
 
 /// Two rows of x <= 7/2 with x whole and not below 0.
 const PROBLEM: &[u8] =
-    b"gj-problem 1\nrule gmic\ncolumn x whole 0 -\nconstraint c <= 7/2\nentry x 1\nsum 1\nsum 2\nend\n";
+    b"gj-problem 1\nrule gmic\ncolumn x whole 0 -\nconstraint c <= 7/2\nentry x 1\n\
+    sum 1\nsum 2\nend\n";
 
 /// Their cuts: x <= 3, and none, since twice the right side is whole.
 const CUTS: &[u8] = b"gj-safe 1\nrule gmic\ncut -6\nterm x -2\nskip integral\nend\n";
