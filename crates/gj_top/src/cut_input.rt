@@ -16,7 +16,9 @@ use std::alloc::Global;
 /// A rule, and the rows of which it makes cuts.
 #[derive(Drop)]
 pub struct CutInput {
+    /// A function, or the mixed-integer cut.
     pub rule: CutRule,
+    /// The rows, and the names of their columns.
     pub tableau: Tableau,
 }
 

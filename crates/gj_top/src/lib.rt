@@ -70,8 +70,12 @@ pub use status::Status;
 /// two-slope fill-in by breakpoints. `group` reads the function text of a continuous function and
 /// says whether the table of its own order is extreme. `times`, `mirror` and `restrict` read a
 /// function text and write the canonical text of the function of n x, of that of -x, or of a
-/// restriction. The whole input is read first, and the whole answer is made before its first byte
-/// is written.
+/// restriction. The whole input is read first, at most 16,777,216 bytes of it, and the whole answer
+/// is made before its first byte is written.
+///
+/// The status is `Words` if the words name no request, and nothing is read then. It is `Input` if
+/// the input is outside its form or longer than the limit. The sink has then taken a line that says
+/// so. The other statuses, with the commands that end with them, stand at [`Status`].
 pub fn run<S: Source, K: Sink>(
     alloc: Global,
     words: &[String],

@@ -47,7 +47,9 @@ impl End {
 /// What a command replies to an input in its form: what is to be written, and how the run ends.
 #[derive(Drop)]
 pub struct Reply {
+    /// How the run ends, once the text is written.
     pub end: End,
+    /// What is to be written.
     pub text: Vec<u8>,
 }
 

@@ -21,7 +21,8 @@ pub enum Command {
     Show,
     /// Prints the maximal additive faces and the covered intervals of a function.
     Faces,
-    /// Decides a function that no text has to give, of order 2(2n + 1) for this number n.
+    /// Decides a function that no text has to give, of order 2(2n + 1) for this number n, from 1
+    /// to 249.
     Demo(u32),
     /// Makes a cut of each row of a tableau that has continuous columns.
     Mixed,
@@ -29,13 +30,13 @@ pub enum Command {
     Fill,
     /// Decides whether the table of a function's own order is extreme.
     Group,
-    /// Prints the function with the value of a function at n x, for the first number n, and with
-    /// the place (f + j)/n, for the second number j.
+    /// Prints the function with the value of a function at n x, for the first number n, from 1 to
+    /// 500, and with the place (f + j)/n, for the second number j, which is below n.
     Times(u32, u32),
     /// Prints the function with the value of a function at -x, and with the place 1 - f.
     Mirror,
-    /// Prints the function of this order that has the values of a continuous function at its grid
-    /// points.
+    /// Prints the function of this order, from 2 to 1,000, that has the values of a continuous
+    /// function at its grid points.
     Restrict(u32),
 }
 
