@@ -1,11 +1,8 @@
 use Rattle.std.proofs.Common.{rules}
 use Rattle.std.proofs.lemmas.Int.{to_z-of_z}
 use mir.Syntax.{w128}
-use Rattle.gj_frac.proofs.Refusals.{on_err}
-use Rattle.gj_theory.specs.Fitting.{FitsCombined}
 use Rattle.gj_theory.proofs.CombinedRows.{IsCombination, combination_of}
-use Rattle.std.proofs.lemmas.Result.{err_from_is_err_and}
-use Rattle.gj_elim.proofs.step.combination.Goals as goal
+use Rattle.gj_reduce.proofs.step.combination.Goals as goal
 
 combined : (c : goal.After-checked_difference) → IsCombination c.args.u c.args.x c.args.w c.args.e c.checked_difference.result
 combined c =
@@ -28,27 +25,3 @@ returns-clause-fits c = (combined c).fits
 
 pub returns-clause-wide : goal.returns-clause-wide
 returns-clause-wide c = (combined c).wide
-
-pub returns-in_err-first : goal.returns-in_err-first
-returns-in_err-first c =
-    let u = to_z-of_z w128 c.args.u c.ranges.u in
-    let x = to_z-of_z w128 c.args.x c.ranges.x in
-    let failed = err_from_is_err_and c.from_residual.result c.from_residual.ensures.1 in
-    let wide = simp (u, x) at c.in_err-first.ensures in
-    let none : FitsCombined c.args.u c.args.x c.args.w c.args.e → ⊥ = λ fits. wide fits.first in record {
-      value = rw failed.1 tt;
-      fits = rw failed.1 tt;
-      wide = on_err _ _ none;
-    }
-
-pub returns-in_err-second : goal.returns-in_err-second
-returns-in_err-second c =
-    let w = to_z-of_z w128 c.args.w c.ranges.w in
-    let e = to_z-of_z w128 c.args.e c.ranges.e in
-    let failed = err_from_is_err_and c.from_residual-in_err-second.result c.from_residual-in_err-second.ensures.1 in
-    let wide = simp (w, e) at c.in_err-second.ensures in
-    let none : FitsCombined c.args.u c.args.x c.args.w c.args.e → ⊥ = λ fits. wide fits.second in record {
-      value = rw failed.1 tt;
-      fits = rw failed.1 tt;
-      wide = on_err _ _ none;
-    }

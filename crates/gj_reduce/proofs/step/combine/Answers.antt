@@ -3,7 +3,7 @@ use Rattle.std.proofs.lemmas.Int.{to_z-of_z}
 use mir.Syntax.{w128}
 use Rattle.gj_frac.proofs.Refusals.{on_err}
 use Rattle.gj_theory.proofs.CombinedRows.{combined_start, combined_more, combined_value, combined_narrow, combined_wide}
-use Rattle.gj_elim.proofs.step.combine.Goals as goal
+use Rattle.gj_reduce.proofs.step.combine.Goals as goal
 
 pub loop-i-init : goal.loop-i-init
 loop-i-init c = combined_start _ _ _ _

@@ -5,7 +5,7 @@ use mir.Syntax.{w128}
 use Rattle.gj_lemmas.specs.Divisors.{gcd_of}
 use Rattle.gj_shape.specs.Elimination.{gcd_of_row}
 use Rattle.gj_theory.proofs.RowGcds.{gcd_zero_of, gcd_one_of, gcd_next, gcd_last}
-use Rattle.gj_elim.proofs.step.divisor_of_row.Goals as goal
+use Rattle.gj_reduce.proofs.step.divisor_of_row.Goals as goal
 
 pub loop-x-init : goal.loop-x-init
 loop-x-init c = sym (gcd_zero_of (gcd_of_row c.args.row.now))

@@ -1,17 +1,17 @@
 //! One step: a row is reduced by a kept row.
-ghost use Rattle.std.specs.Prelude.{ℤ, pos, ◌<ℤ◌, ◌≡◌, ◌≢◌, ◌<◌, ◌↔◌, ◌^◌, ◌*ℤ◌, ◌-ℤ◌, ◌++◌, length, map, All, IfOk, OnOk, OnErr, unsigned_abs, neg_ℤ};
+ghost use Rattle.std.specs.Prelude.{pos, ◌<ℤ◌, ◌≡◌, ◌≢◌, ◌<◌, ◌*ℤ◌, ◌-ℤ◌, ◌++◌, length, All, IfOk, OnOk, OnErr, unsigned_abs};
 ghost use Rattle.gj_shape.specs.Elimination.{at_column, divided, scaled, differences, reduced, marked_in_step, kept_entries, gcd_of_row, Passes};
 ghost use Rattle.std.specs.Int.{IsGcd};
 ghost use Rattle.gj_lemmas.specs.Divisors.{gcd_of};
 ghost use Rattle.gj_frac.specs.Fraction.{Fits};
 ghost use Rattle.gj_theory.specs.Fitting.{FitsCombined};
 
-use crate::checked::{product, quotient};
+use crate::narrow::{product, quotient};
 use gj_frac::{Wide, checked_difference, gcd};
 
-/// The greatest common divisor of the absolute values of two numbers, one of them at most 2^127 - 1
-/// and not 0.
-pub(crate) fn common_divisor(n: i128, m: i128) -> i128
+/// The greatest common divisor of the absolute values of two numbers, the first of them at most
+/// 2^127 - 1 in absolute value and not 0. So it is from 1 to 2^127 - 1.
+pub fn common_divisor(n: i128, m: i128) -> i128
     requires fits { Fits n }
     requires some { n ≢ pos 0 }
     ensures value { result ≡ pos (gcd_of (unsigned_abs m) (unsigned_abs n)) }
@@ -58,14 +58,17 @@ fn divide(row: &mut [i128])
     }
 }
 
-/// u x - w e.
+/// u x - w e. Where the kept row has 0, a product is enough.
 fn combination(u: i128, x: i128, w: i128, e: i128) -> Result<i128, Wide>
     ensures value { IfOk result (λ r. r ≡ u *ℤ x -ℤ w *ℤ e) }
     ensures fits { OnOk result (FitsCombined u x w e) }
     ensures wide { OnErr result (¬ FitsCombined u x w e) }
 {
-    if x == 0 && e == 0 {
-        return Ok(0);
+    if e == 0 {
+        if x == 0 {
+            return Ok(0);
+        }
+        return product(u, x);
     }
     let first = product(u, x)?;
     let second = product(w, e)?;
@@ -88,9 +91,13 @@ fn combine(u: i128, row: &mut [i128], w: i128, kept: &[i128]) -> Result<(), Wide
     Ok(())
 }
 
-/// Reduces a row by a kept row with its pivot at the column. After an error some entries are
-/// changed.
-pub(crate) fn reduce_by(kept: &[i128], row: &mut [i128], column: usize) -> Result<(), Wide>
+/// Reduces a row by a kept row with its pivot at the column. In the place of the row come u times
+/// the row less w times the kept row, divided by the greatest common divisor of their entries: u is
+/// the pivot and w the row's entry at the column, both divided by their greatest common divisor. The
+/// kept row has numbers of at most 2^127 - 1 in absolute value, and so has the row afterwards.
+/// `Wide` exactly if a product or a difference on the way passes that; some entries are changed
+/// then.
+pub fn reduce_by(kept: &[i128], row: &mut [i128], column: usize) -> Result<(), Wide>
     requires columns { length kept.now ≡ length row.old }
     requires within { column < length row.old }
     requires fits { All Fits kept.now }
@@ -108,8 +115,10 @@ pub(crate) fn reduce_by(kept: &[i128], row: &mut [i128], column: usize) -> Resul
     Ok(())
 }
 
-/// Divides a row, and makes its entry at the column positive.
-pub(crate) fn make_kept(row: &mut [i128], column: usize)
+/// Divides a row by the greatest common divisor of its entries, and turns its sign if its entry at
+/// the column is negative. The numbers are at most 2^127 - 1 in absolute value, before and after.
+/// A row of zeros stays as it is.
+pub fn make_kept(row: &mut [i128], column: usize)
     requires within { column < length row.old }
     requires fits { All Fits row.old }
     ensures value { row.new ≡ kept_entries row.old column }

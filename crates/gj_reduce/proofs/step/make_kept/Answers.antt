@@ -4,7 +4,7 @@ use Rattle.std.proofs.lemmas.Int.{to_z-of_z}
 use mir.Syntax.{w128}
 use Rattle.gj_frac.specs.Fraction.{Fits}
 use Rattle.gj_theory.proofs.DividedRows.{over_more, over_all, over_open, read_negated, all_negated, kept_negative, kept_positive}
-use Rattle.gj_elim.proofs.step.make_kept.Goals as goal
+use Rattle.gj_reduce.proofs.step.make_kept.Goals as goal
 
 pub loop-x-preserved : goal.loop-x-preserved
 loop-x-preserved c =
@@ -30,9 +30,3 @@ pub returns-else-is_negative-clause-value : goal.returns-else-is_negative-clause
 returns-else-is_negative-clause-value c =
     let x = to_z-of_z w128 (get_or c.args.row.now c.args.column (pos 0)) (search rules) in
     kept_positive c.args.row.now c.divide.new.row c.args.column (simp x at c.if-is_negative.false) c.divide.ensures.value
-
-pub divide-requires : goal.divide-requires
-divide-requires c = c.requires.fits
-
-pub returns-else-is_negative-clause-fits : goal.returns-else-is_negative-clause-fits
-returns-else-is_negative-clause-fits c = c.divide.ensures.fits

@@ -2,7 +2,7 @@ use Rattle.std.proofs.Common.{ap, pos, ◌∙◌, unsigned_abs, arith}
 use Rattle.std.proofs.lemmas.Int.{ints, to_z-of_z}
 use mir.Syntax.{w128}
 use Rattle.gj_theory.proofs.WideNumbers.{IsDivisor, divisor_of, fits_natural, read_natural}
-use Rattle.gj_elim.proofs.step.common_divisor.Goals as goal
+use Rattle.gj_reduce.proofs.step.common_divisor.Goals as goal
 
 divisor : (c : goal.After-gcd) → IsDivisor c.args.m c.args.n c.gcd.result
 divisor c =
