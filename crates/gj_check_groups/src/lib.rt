@@ -5,14 +5,13 @@
 //! the rules `row`, `reduce`, `size` and `pivot` of all groups in the order of their lines, and
 //! answers the first that fails; in a proof by residues it takes `pivot` as that proof has it, and
 //! no `size`. The rule `rank`, that there are as many groups as components, is not among them. It
-//! calls nothing of the elimination that finds such rows: the steps on two rows, by whole numbers
-//! and by residues, and the counts of a row, the natural loops for their definitions, are written
-//! out here too.
+//! calls nothing of the elimination that finds such rows: the step on two rows of residues and the
+//! counts of a row, the natural loops for their definitions, are written out here too. The step on
+//! two rows of whole numbers is that of `gj_reduce`, which both call.
 #![tactic(auto)]
 
 mod begin;
 mod failure;
-mod fitting;
 mod group;
 mod groups;
 mod keep;

@@ -1,103 +1,14 @@
 //! One step: a row is reduced by a kept row.
-ghost use Rattle.std.specs.Prelude.{ℤ, pos, ◌<ℤ◌, ◌≡◌, ◌≢◌, ◌<◌, ◌↔◌, ◌^◌, ◌*ℤ◌, ◌-ℤ◌, ◌++◌, length, map, All, IfOk, OnOk, OnErr, unsigned_abs, neg_ℤ};
-ghost use Rattle.gj_shape.specs.Elimination.{at_column, divided, scaled, differences, reduced, marked_in_step, kept_entries, gcd_of_row, Passes};
-ghost use Rattle.gj_lemmas.specs.Divisors.{gcd_of};
-ghost use Rattle.gj_frac.specs.Fraction.{Fits};
-ghost use Rattle.gj_theory.specs.Fitting.{FitsCombined};
+ghost use Rattle.std.specs.Prelude.{◌≡◌, ◌<◌, length, OnOk, OnErr};
+ghost use Rattle.gj_shape.specs.Elimination.{Passes};
 ghost use Rattle.gj_proof.specs.PresentRows.{arithmetic_of};
 ghost use Rattle.gj_check_groups.specs.KeptTable.{IsKeptAt};
 ghost use Rattle.gj_check_groups.specs.RowNumbers.{AreRowNumbers};
 
-use crate::fitting::{TooWide, difference, product, quotient};
 use crate::modulo::reduce_modulo;
-use gj_frac::gcd;
+use gj_frac::Wide;
 use gj_proof::Numbers;
-
-/// The greatest common divisor of the absolute values of two numbers, one of them at most 2^127 - 1
-/// and not 0.
-pub(crate) fn common_divisor(n: i128, m: i128) -> i128
-    requires fits { Fits n }
-    requires some { n ≢ pos 0 }
-    ensures value { result ≡ pos (gcd_of (unsigned_abs m) (unsigned_abs n)) }
-    ensures positive { pos 0 <ℤ result }
-{
-    gcd(m.unsigned_abs(), n.unsigned_abs()) as i128
-}
-
-/// The greatest common divisor of all entries; 0 if all are 0.
-fn divisor_of_row(row: &[i128]) -> u128
-    ensures { result ≡ gcd_of_row row.now }
-{
-    let mut divisor: u128 = 0;
-    for x in row {
-        if divisor == 1 {
-            return 1;
-        }
-        divisor = gcd(divisor, x.unsigned_abs());
-    }
-    divisor
-}
-
-/// Divides a row by the greatest common divisor of its entries, if they are not all 0.
-fn divide(row: &mut [i128])
-    requires { All Fits row.old }
-    ensures value { row.new ≡ divided row.old }
-    ensures fits { All Fits row.new }
-{
-    let divisor = divisor_of_row(row);
-    if divisor > 1 {
-        for x in row.iter_mut() {
-            *x = quotient(*x, divisor as i128);
-        }
-    }
-}
-
-/// u x - w e.
-fn combination(u: i128, x: i128, w: i128, e: i128) -> Result<i128, TooWide>
-    ensures value { IfOk result (λ r. r ≡ u *ℤ x -ℤ w *ℤ e) }
-    ensures fits { OnOk result (FitsCombined u x w e) }
-    ensures wide { OnErr result (¬ FitsCombined u x w e) }
-{
-    let first = product(u, x)?;
-    let second = product(w, e)?;
-    difference(first, second)
-}
-
-/// Puts u times the row less w times the kept row in the place of the row. After an error some
-/// entries are changed.
-fn combine(u: i128, row: &mut [i128], w: i128, kept: &[i128]) -> Result<(), TooWide>
-    requires { length kept.now ≡ length row.old }
-    ensures value { OnOk result (row.new ≡ differences (scaled u row.old) (scaled w kept.now)) }
-    ensures fits { OnOk result (¬ Passes (scaled u row.old ++ scaled w kept.now
-        ++ differences (scaled u row.old) (scaled w kept.now))) }
-    ensures wide { OnErr result (Passes (scaled u row.old ++ scaled w kept.now
-        ++ differences (scaled u row.old) (scaled w kept.now))) }
-{
-    for i in 0..row.len() {
-        row[i] = combination(u, row[i], w, kept[i])?;
-    }
-    Ok(())
-}
-
-/// Reduces a row by a kept row with its pivot at the column. After an error some entries are
-/// changed.
-pub(crate) fn reduce_by(kept: &[i128], row: &mut [i128], column: usize) -> Result<(), TooWide>
-    requires columns { length kept.now ≡ length row.old }
-    requires within { column < length row.old }
-    requires fits { All Fits kept.now }
-    requires positive { pos 0 <ℤ at_column kept.now column }
-    ensures value { OnOk result (row.new ≡ reduced kept.now row.old column) }
-    ensures fits { OnOk result (All Fits row.new) }
-    ensures narrow { OnOk result (¬ Passes (marked_in_step kept.now row.old column)) }
-    ensures wide { OnErr result (Passes (marked_in_step kept.now row.old column)) }
-{
-    let entry = row[column];
-    let pivot = kept[column];
-    let divisor = common_divisor(pivot, entry);
-    combine(pivot / divisor, row, entry / divisor, kept)?;
-    divide(row);
-    Ok(())
-}
+use gj_reduce::reduce_by;
 
 /// Reduces a row of these numbers by a kept row with its pivot at the column. After an error some
 /// entries are changed.
@@ -106,7 +17,7 @@ pub(crate) fn reduce(
     kept: &[i128],
     row: &mut [i128],
     column: usize,
-) -> Result<(), TooWide>
+) -> Result<(), Wide>
     requires within { column < length row.old }
     requires kept { IsKeptAt numbers (length row.old) column kept.now }
     requires row { AreRowNumbers numbers row.old }
@@ -121,22 +32,6 @@ pub(crate) fn reduce(
         Numbers::Residues => {
             reduce_modulo(kept, row, column);
             Ok(())
-        }
-    }
-}
-
-/// Divides a row, and makes its entry at the column positive.
-pub(crate) fn make_kept(row: &mut [i128], column: usize)
-    requires within { column < length row.old }
-    requires fits { All Fits row.old }
-    ensures value { row.new ≡ kept_entries row.old column }
-    ensures fits { All Fits row.new }
-{
-    let is_negative = row[column] < 0;
-    divide(row);
-    if is_negative {
-        for x in row.iter_mut() {
-            *x = -*x;
         }
     }
 }

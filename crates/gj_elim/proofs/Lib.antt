@@ -9,4 +9,3 @@ pub mod LazyRows
 pub mod LazyProgress
 pub mod KeptTables
 pub mod SmallDivisors
-pub mod SmallProducts

@@ -10,7 +10,6 @@
 #![tactic(auto)]
 
 mod basis;
-mod checked;
 mod extent;
 mod faults;
 mod keep;
@@ -18,7 +17,6 @@ mod lazy;
 mod log;
 mod reduce;
 mod solve;
-mod step;
 
 pub use basis::Basis;
 pub use faults::ElimFault;

@@ -4,9 +4,8 @@ ghost use Rattle.gj_shape.specs.Elimination.{at_column, scaled, products_behind,
 ghost use Rattle.gj_shape.specs.SlopeRows.{total};
 ghost use Rattle.gj_frac.specs.Fraction.{Fits};
 
-use crate::checked::product;
-use crate::step::common_divisor;
 use gj_frac::{Wide, checked_total};
+use gj_reduce::{common_divisor, product};
 use std::alloc::{AllocError, Global};
 
 /// 1 at the column, and 0 at the other columns.
