@@ -29,7 +29,7 @@ pub fn gcd(a: u128, b: u128) -> u128
 /// The greatest common divisor of two whole numbers below 2^64; that of 0 and 0 is 0.
 ///
 /// After one remainder, which brings numbers of different sizes together, it divides no more.
-fn gcd_in_64_bits(a: u64, b: u64) -> u64
+pub(crate) fn gcd_in_64_bits(a: u64, b: u64) -> u64
     ensures { IsGcd a b result }
 {
     let greater = a.max(b);

@@ -27,6 +27,7 @@ mod products;
 mod rounding;
 
 pub use checked::{DivFault, Wide, checked_difference, checked_product, checked_total};
+use divisors::gcd_in_64_bits;
 pub use divisors::{gcd, lcm};
 pub use laws::{ExactNumber, equal_values_are_one};
 pub use operators::fits_over_one_denominator;
@@ -73,6 +74,20 @@ impl Frac {
         Frac::reduced(i128::from(n), i128::from(d))
     }
 
+    /// The fraction `num/den` of two whole numbers below 2^64; den is not 0.
+    ///
+    /// All is done in 64 bits.
+    pub fn of_small(num: u64, den: u64) -> Frac
+        requires { 0 < den }
+        ensures { IsRatio result (pos num) (pos den) }
+    {
+        let divisor = gcd_in_64_bits(num, den);
+        Frac {
+            num: i128::from(num / divisor),
+            den: i128::from(den / divisor),
+        }
+    }
+
     /// The numerator in lowest terms.
     pub fn num(self) -> i128
         ensures { result ≡ numerator self }
@@ -94,6 +109,9 @@ impl Frac {
         requires den_fits { unsigned_abs den < 2 ^ 127 }
         ensures { IsRatio result num den }
     {
+        if let (Ok(num), Ok(den)) = (u64::try_from(num), u64::try_from(den)) {
+            return Frac::of_small(num, den);
+        }
         let divisor = common_divisor(num, den);
         Frac::coprime(quotient(num, divisor), quotient(den, divisor))
     }
