@@ -13,7 +13,7 @@ use Rattle.gj_theory.proofs.Kernels.{kernel_none, kernel_columns, kernel_solves,
 use Rattle.gj_theory.proofs.Passing.{none_passes}
 use Rattle.gj_theory.proofs.ResidueElimination.{elimination_modulo_zero}
 use Rattle.gj_theory.proofs.Triangular.{rank_at_most, zeros_of}
-use Rattle.gj_residue.specs.Settled.{AnswersRows, IsSettled, AreRowsTooWide, insertion_passes, kernel_passes, IsKernelOf, IsSettledBy, IsSettledByResidues, fault_of}
+use Rattle.gj_residue.specs.Settled.{AnswersRows, IsSettled, AreRowsTooWide, insertion_passes, kernel_passes, IsByResidues, IsFullLog, IsKernelOf, IsSettledBy, fault_of}
 use Rattle.gj_elim.specs.declared.faults.ElimFault.{ElimFault}
 use Rattle.gj_elim.specs.declared.faults.ElimFault.TheVariants.{Wide as ElimWide, Memory as ElimMemory}
 use Rattle.gj_residue.specs.declared.settling.SettleFault.{SettleFault}
@@ -21,6 +21,7 @@ use Rattle.gj_residue.specs.declared.settling.SettleFault.TheVariants.{Wide}
 use Rattle.gj_residue.specs.declared.settling.Settled.{Settled}
 use Rattle.gj_residue.specs.declared.settling.Settled.TheVariants.{Plain, Residues, Kernel}
 use Rattle.gj_elim.specs.KeptRows.{log_row, marked_in}
+use Rattle.gj_elim.specs.declared.log.LogRow.{LogRow}
 
 -- ---- what solves the rows
 
@@ -77,16 +78,14 @@ settled_by_all n rows kept (Kernel numbers) lengths same narrow h = record {
   numbers_are = h.numbers_are;
 }
 
-pub settled_by_residues_of_all : (n : ℕ) (rows left : List (List ℤ)) (s : Settled) → left ≡ rows →
-    Passes (elimination n rows).marked → IsSettledByResidues n (elimination_by (modulo modulus) n left).kept s → IsSettled n rows s
-settled_by_residues_of_all n rows left (Plain log) same p h = absurd h
-settled_by_residues_of_all n rows left (Residues log) same p h =
+pub by_residues : (n : ℕ) (rows left : List (List ℤ)) (log given : List LogRow) → left ≡ rows → log ≡ given →
+    Passes (elimination n rows).marked → IsFullLog n left given → IsByResidues n rows log
+by_residues n rows left log given same is p h =
     let e = ap (λ rs. (elimination_by (modulo modulus) n rs).kept) same in record {
       passes = p;
-      full = ap length (sym e) ∙ h.0;
-      log_is = h.1 ∙ ap (map log_row) e;
+      full = ap length (sym e) ∙ h.full;
+      log_is = is ∙ h.log_is ∙ ap (map log_row) e;
     }
-settled_by_residues_of_all n rows left (Kernel numbers) same p h = absurd h
 
 -- a marked number of the kernel is one of a solution
 wide_kernel : (n : ℕ) (rows : List (List ℤ)) (kept : List KeptRow) → kept ≡ (elimination n rows).kept →

@@ -77,10 +77,10 @@ IsSettledBy n kept (Plain log) = (length kept ≡ n) × (log ≡ map log_row kep
 IsSettledBy n kept (Residues log) = ⊥
 IsSettledBy n kept (Kernel numbers) = IsKernelOf n kept numbers
 
-abbrev pub IsSettledByResidues : ℕ → List KeptRow → Settled → Type 0
-IsSettledByResidues n kept (Plain log) = ⊥
-IsSettledByResidues n kept (Residues log) = (length kept ≡ n) × (log ≡ map log_row kept)
-IsSettledByResidues n kept (Kernel numbers) = ⊥
+-- over residues as many rows are kept as there are columns, with this log
+pub record IsFullLog (n : ℕ) (rows : List (List ℤ)) (log : List LogRow) : Type 0 where
+  pub full : length (elimination_by (modulo modulus) n rows).kept ≡ n
+  pub log_is : log ≡ map log_row (elimination_by (modulo modulus) n rows).kept
 
 -- the fault that a fault of plain elimination is
 abbrev pub fault_of : ElimFault → SettleFault

@@ -3,7 +3,7 @@
 //! A [`ResidueBasis`] takes rows one after another, reads them modulo 2^61 - 1, and keeps those
 //! that have an entry with an inverse behind its steps. If it keeps as many rows as there are
 //! columns, only 0 solves the rows, whether or not the modulus is prime. [`settle`] tries plain
-//! elimination first, and residues if a number passes.
+//! elimination first, and residues if a number passes; [`log_by_residues`] goes by residues alone.
 #![tactic(auto)]
 
 mod basis;
@@ -17,5 +17,5 @@ mod step;
 
 pub use basis::ResidueBasis;
 pub use listed::ListedRows;
-pub use settling::{SettleFault, Settled, settle};
+pub use settling::{SettleFault, Settled, log_by_residues, settle};
 pub use source::RowSource;

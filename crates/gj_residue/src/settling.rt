@@ -6,7 +6,7 @@ ghost use Rattle.gj_theory.specs.Modulus.{modulus};
 ghost use Rattle.gj_theory.specs.TriangularResidues.{AreTriangularResidues};
 ghost use Rattle.gj_theory.specs.TriangularRows.{AreTriangular};
 ghost use Rattle.gj_frac.specs.Fraction.{Fits};
-ghost use Rattle.gj_residue.specs.Settled.{IsSettled, IsSettledBy, IsSettledByResidues, AreRowsTooWide, AnswersRows, fault_of};
+ghost use Rattle.gj_residue.specs.Settled.{IsSettled, IsSettledBy, IsFullLog, AreRowsTooWide, AnswersRows, fault_of};
 ghost use Rattle.gj_elim.specs.KeptRows.{marked_in};
 
 use crate::basis::ResidueBasis;
@@ -62,7 +62,7 @@ impl From<AllocError> for SettleFault {
 /// What solves all rows of the source. `Plain` and `Kernel` come exactly if plain elimination marks
 /// no number that passes 2^127 - 1 in absolute value, `Residues` exactly if it does and residues
 /// keep as many rows as there are columns; `Wide` exactly if it does and they keep fewer, or if a
-/// number of the kernel passes.
+/// number of the kernel passes. The only other error is `Memory`.
 pub fn settle<R: RowSource>(
     alloc: Global,
     columns: u32,
@@ -82,7 +82,7 @@ pub fn settle<R: RowSource>(
         Ok(basis) => Ok(settled_by(basis)?),
         Err(ElimFault::Wide) => {
             rows.restart();
-            settled_by_residues(alloc, columns, rows)
+            Ok(Settled::Residues(List::of(log_by_residues(alloc, columns, rows)?)))
         }
         Err(ElimFault::Memory(error)) => Err(SettleFault::Memory(error)),
     }
@@ -122,16 +122,18 @@ fn settled_by(basis: Basis) -> Result<Settled, ElimFault>
     }
 }
 
-/// What solves the rows that are left, if residues keep as many of them as there are columns.
-fn settled_by_residues<R: RowSource>(
+/// The log of the rows that residues keep of those that are left, which it numbers from 0. `Wide`
+/// comes exactly if they keep fewer than there are columns. The only other error is `Memory`.
+pub fn log_by_residues<R: RowSource>(
     alloc: Global,
     columns: u32,
     rows: &mut R,
-) -> Result<Settled, SettleFault>
+) -> Result<Vec<LogRow>, SettleFault>
     requires lengths { All (λ row. length row ≡ columns) (R.left rows.old) }
     requires count { length (R.left rows.old) < 2 ^ 63 }
-    ensures settled { IfOk result (IsSettledByResidues columns
-        (elimination_by (modulo modulus) columns (R.left rows.old)).kept) }
+    ensures log { IfOk result (λ v. IsFullLog columns (R.left rows.old) v.items) }
+    ensures numbers { IfOk result (λ v. All (λ line. line.number < length (R.left rows.old))
+        v.items) }
     ensures wide { IsErrOf result SettleFault.Wide →
         length (elimination_by (modulo modulus) columns (R.left rows.old)).kept < columns }
     ensures rows { R.all rows.new ≡ R.all rows.old }
@@ -140,7 +142,7 @@ fn settled_by_residues<R: RowSource>(
     if basis.rank() < columns {
         return Err(SettleFault::Wide);
     }
-    Ok(Settled::Residues(List::of(basis.into_log())))
+    Ok(basis.into_log())
 }
 
 /// Inserts the rows that are left over residues, until there are as many pivots as columns.

@@ -38,7 +38,7 @@ pub(crate) fn multiply(factor: u64, row: &mut [u64])
     ensures value { numbers_of row.new ≡ residues modulus (scaled (pos factor)
         (numbers_of row.old)) }
 {
-    for i in 0..row.len() {
-        row[i] = product(factor, row[i]);
+    for x in row.iter_mut() {
+        *x = product(factor, *x);
     }
 }
