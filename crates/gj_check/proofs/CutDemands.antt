@@ -12,7 +12,7 @@ use Rattle.gj_proof.specs.declared.cut.CutLine.TheVariants as cuts
 use Rattle.gj_proof.specs.declared.cut.CutTerm.{CutTerm}
 use Rattle.gj_proof.specs.ProofText.{ProofLine, IfFunction, subject_of_rule, terms_of, HasNumber}
 use Rattle.gj_proof.specs.ProofText.ProofLine.{claim, cut, term}
-use Rattle.gj_proof.specs.Rules.{Demand, AtIndex, IfCut, IfTerm, MeetsFraction, MeetsLimit, MeetsName, MeetsValue, rule_demands, term_demands, row_demands, cut_demands, Holds, MeetsRules}
+use Rattle.gj_proof.specs.Rules.{Demand, AtIndex, IfCut, IfTerm, MeetsFraction, MeetsLimit, MeetsName, MeetsValue, rule_demands, term_demands, row_demands, cut_demands, DemandHolds, MeetsRules}
 use Rattle.gj_proof.specs.Rules.Demand.{minimal, fraction, limit, term_limit, term_name, term_value}
 use Rattle.gj_proof.proofs.LineNumbers.{number_of_claim}
 use Rattle.gj_check.specs.declared.rules.CheckRule.{CheckRule}
@@ -102,9 +102,9 @@ term_fails rule rows i basic right terms at j front t back place index _ more h 
 term_holds : (rule : CutRule) (rows : List CutLine) (i : ℕ) (basic : List ℕ) (right : Frac) (terms : List CutTerm) →
     IsRow rule rows i (cuts.Cut basic right terms) → (j : ℕ) (front : List CutTerm) (t : CutTerm) (back : List CutTerm) →
     terms ≡ front ++ t ∷ back → length front ≡ j → MeetsTerm rule basic right front t →
-    All (Holds (claims.Cut rule rows)) (term_limit i j ∷ term_name i j ∷ term_value i j ∷ [])
+    All (DemandHolds (claims.Cut rule rows)) (term_limit i j ∷ term_name i j ∷ term_value i j ∷ [])
 term_holds rule rows i basic right terms at j front t back place index h =
-    let P : Demand → Type 0 = Holds (claims.Cut rule rows) in
+    let P : Demand → Type 0 = DemandHolds (claims.Cut rule rows) in
     All-cons P (term_limit i j) (term_name i j ∷ term_value i j ∷ [])
     (of_term rule rows i basic right terms at j front t back place index limit_rule h.limit)
     (All-cons P (term_name i j) (term_value i j ∷ [])
@@ -120,10 +120,10 @@ next_length front t j index = let long = length-append front (t ∷ []) in omega
 
 terms_hold : (rule : CutRule) (rows : List CutLine) (i : ℕ) (basic : List ℕ) (right : Frac) (terms : List CutTerm) →
     IsRow rule rows i (cuts.Cut basic right terms) → (j : ℕ) (front rest : List CutTerm) →
-    terms ≡ front ++ rest → length front ≡ j → MeetTerms rule basic right terms → All (Holds (claims.Cut rule rows)) (term_demands i j rest)
-terms_hold rule rows i basic right terms at j front [] place index h = All-nil (Holds (claims.Cut rule rows))
+    terms ≡ front ++ rest → length front ≡ j → MeetTerms rule basic right terms → All (DemandHolds (claims.Cut rule rows)) (term_demands i j rest)
+terms_hold rule rows i basic right terms at j front [] place index h = All-nil (DemandHolds (claims.Cut rule rows))
 terms_hold rule rows i basic right terms at j front (t ∷ rest) place index h =
-    All-append (Holds (claims.Cut rule rows)) (term_limit i j ∷ term_name i j ∷ term_value i j ∷ []) (term_demands i (j + 1) rest)
+    All-append (DemandHolds (claims.Cut rule rows)) (term_limit i j ∷ term_name i j ∷ term_value i j ∷ []) (term_demands i (j + 1) rest)
     (term_holds rule rows i basic right terms at j front t rest place index (h j front t rest place index))
     (terms_hold rule rows i basic right terms at (j + 1) (front ++ t ∷ []) rest
     (place ∙ sym (append_assoc front (t ∷ []) rest)) (next_length front t j index) h)
@@ -150,16 +150,16 @@ terms_fail rule rows i basic right terms at j k front (u ∷ passed) t back plac
 -- ---- a row
 
 row_holds : (rule : CutRule) (rows : List CutLine) (i : ℕ) (l : CutLine) → IsRow rule rows i l → MeetsCutRow rule l →
-    All (Holds (claims.Cut rule rows)) (row_demands i l)
+    All (DemandHolds (claims.Cut rule rows)) (row_demands i l)
 row_holds rule rows i (cuts.Cut basic right terms) at h =
-    let P : Demand → Type 0 = Holds (claims.Cut rule rows) in
+    let P : Demand → Type 0 = DemandHolds (claims.Cut rule rows) in
     let l = cuts.Cut basic right terms in
     All-cons P (fraction i) (limit i ∷ term_demands i 0 terms) (of_row rule rows i l at MeetsFraction h.fraction)
     (All-cons P (limit i) (term_demands i 0 terms)
     (of_row rule rows i l at (λ r m. IfCut m (λ name value items. MeetsLimit [] value)) h.cut.0)
     (terms_hold rule rows i basic right terms at 0 [] terms refl refl h.cut.1))
 row_holds rule rows i (cuts.Skip name right reason) at h =
-    let P : Demand → Type 0 = Holds (claims.Cut rule rows) in
+    let P : Demand → Type 0 = DemandHolds (claims.Cut rule rows) in
     All-cons P (fraction i) [] (of_row rule rows i (cuts.Skip name right reason) at MeetsFraction h.fraction) (All-nil P)
 
 fraction_fails : (rule : CutRule) (rows : List CutLine) (i : ℕ) (l : CutLine) → IsRow rule rows i l → (MeetsFraction rule l → ⊥) →
@@ -243,10 +243,10 @@ pub next_row : (front : List CutLine) (l : CutLine) (i : ℕ) → length front �
 next_row front l i index = let long = length-append front (l ∷ []) in omega arith
 
 rows_hold : (rule : CutRule) (rows : List CutLine) (i : ℕ) (front rest : List CutLine) → rows ≡ front ++ rest → length front ≡ i →
-    All (MeetsCutRow rule) rest → All (Holds (claims.Cut rule rows)) (cut_demands i rest)
-rows_hold rule rows i front [] place index h = All-nil (Holds (claims.Cut rule rows))
+    All (MeetsCutRow rule) rest → All (DemandHolds (claims.Cut rule rows)) (cut_demands i rest)
+rows_hold rule rows i front [] place index h = All-nil (DemandHolds (claims.Cut rule rows))
 rows_hold rule rows i front (l ∷ rest) place index h =
-    All-append (Holds (claims.Cut rule rows)) (row_demands i l) (cut_demands (i + 1) rest)
+    All-append (DemandHolds (claims.Cut rule rows)) (row_demands i l) (cut_demands (i + 1) rest)
     (row_holds rule rows i l (record { front = front; back = rest; place = place; index = index }) (All-head (MeetsCutRow rule) l rest h))
     (rows_hold rule rows (i + 1) (front ++ l ∷ []) rest (place ∙ sym (append_assoc front (l ∷ []) rest)) (next_row front l i index)
     (All-tail (MeetsCutRow rule) l rest h))
@@ -269,16 +269,16 @@ rows_fail rule rows i n front (m ∷ passed) l back place index count h k r fail
 -- ---- the claim
 
 rule_holds : (rule : CutRule) (rows : List CutLine) → IfFunction (subject_of_rule rule) PassesAll →
-    All (Holds (claims.Cut rule rows)) (rule_demands rule)
+    All (DemandHolds (claims.Cut rule rows)) (rule_demands rule)
 rule_holds (Table f) rows h =
-    let P : Demand → Type 0 = Holds (claims.Cut (Table f) rows) in
+    let P : Demand → Type 0 = DemandHolds (claims.Cut (Table f) rows) in
     All-cons P minimal [] h (All-nil P)
-rule_holds Gmic rows h = All-nil (Holds (claims.Cut Gmic rows))
+rule_holds Gmic rows h = All-nil (DemandHolds (claims.Cut Gmic rows))
 
 pub cuts_meet : (rule : CutRule) (rows : List CutLine) → IfFunction (subject_of_rule rule) PassesAll → All (MeetsCutRow rule) rows →
     MeetsRules (claims.Cut rule rows)
 cuts_meet rule rows h all =
-    All-append (Holds (claims.Cut rule rows)) (rule_demands rule) (cut_demands 0 rows) (rule_holds rule rows h)
+    All-append (DemandHolds (claims.Cut rule rows)) (rule_demands rule) (cut_demands 0 rows) (rule_holds rule rows h)
     (rows_hold rule rows 0 [] rows refl refl all)
 
 pub rule_fails : (rule : CutRule) (rows : List CutLine) → (IfFunction (subject_of_rule rule) PassesAll → ⊥) →

@@ -14,7 +14,7 @@ use Rattle.gj_theory.proofs.RowGrids.{cut_by_function, cut_by_gmic}
 use Rattle.gj_proof.specs.declared.cut.CutRule.{CutRule}
 use Rattle.gj_proof.specs.declared.cut.CutRule.TheVariants.{Gmic, Table}
 use Rattle.gj_proof.specs.declared.cut.CutTerm.{CutTerm}
-use Rattle.gj_proof.specs.Rules.{Demand, MeetsFraction, MeetsValue, rule_demands, term_demands, row_demands, cut_demands, Holds, MeetsRules}
+use Rattle.gj_proof.specs.Rules.{Demand, MeetsFraction, MeetsValue, rule_demands, term_demands, row_demands, cut_demands, DemandHolds, MeetsRules}
 use Rattle.gj_proof.specs.Rules.Demand.{minimal, fraction, limit, term_limit, term_name, term_value}
 use Rattle.gj_proof.specs.declared.claim.Claim.TheVariants as claims
 use Rattle.gj_proof.specs.declared.cut.CutLine.{CutLine}
@@ -62,11 +62,11 @@ cut_of_rules Gmic right terms of_rule given values = cut_by_gmic_rule right term
 -- a term that the demands are made on
 terms_meet : (rule : CutRule) (rows : List CutLine) (i : ℕ) (basic : List ℕ) (right : Frac) (terms : List CutTerm) →
     IsRow rule rows i (cuts.Cut basic right terms) → (j : ℕ) (front rest : List CutTerm) →
-    terms ≡ front ++ rest → length front ≡ j → All (Holds (claims.Cut rule rows)) (term_demands i j rest) →
+    terms ≡ front ++ rest → length front ≡ j → All (DemandHolds (claims.Cut rule rows)) (term_demands i j rest) →
     All (λ t. MeetsValue rule right t) rest
 terms_meet rule rows i basic right terms at j front [] place index h = All-nil (λ t. MeetsValue rule right t)
 terms_meet rule rows i basic right terms at j front (t ∷ rest) place index h =
-    let P : Demand → Type 0 = Holds (claims.Cut rule rows) in
+    let P : Demand → Type 0 = DemandHolds (claims.Cut rule rows) in
     let more = term_demands i (j + 1) rest in
     let one = All-tail P (term_limit i j) (term_name i j ∷ term_value i j ∷ more) h in
     let two = All-tail P (term_name i j) (term_value i j ∷ more) one in
@@ -76,9 +76,9 @@ terms_meet rule rows i basic right terms at j front (t ∷ rest) place index h =
     (place ∙ sym (append_assoc front (t ∷ []) rest)) (next_length front t j index) (All-tail P (term_value i j) more two))
 
 row_meaning : (rule : CutRule) (rows : List CutLine) (i : ℕ) (l : CutLine) → IsRow rule rows i l → IsMinimalRule rule →
-    All (Holds (claims.Cut rule rows)) (row_demands i l) → CutLineHolds l
+    All (DemandHolds (claims.Cut rule rows)) (row_demands i l) → CutLineHolds l
 row_meaning rule rows i (cuts.Cut basic right terms) at of_rule h =
-    let P : Demand → Type 0 = Holds (claims.Cut rule rows) in
+    let P : Demand → Type 0 = DemandHolds (claims.Cut rule rows) in
     let l = cuts.Cut basic right terms in
     let fraction_is = to_row rule rows i l at MeetsFraction (All-head P (fraction i) (limit i ∷ term_demands i 0 terms) h) in
     let rest = All-tail P (limit i) (term_demands i 0 terms) (All-tail P (fraction i) (limit i ∷ term_demands i 0 terms) h) in
@@ -87,10 +87,10 @@ row_meaning rule rows i (cuts.Cut basic right terms) at of_rule h =
 row_meaning rule rows i (cuts.Skip name right reason) at of_rule h = tt
 
 rows_meaning : (rule : CutRule) (rows : List CutLine) (i : ℕ) (front rest : List CutLine) → rows ≡ front ++ rest → length front ≡ i →
-    IsMinimalRule rule → All (Holds (claims.Cut rule rows)) (cut_demands i rest) → All CutLineHolds rest
+    IsMinimalRule rule → All (DemandHolds (claims.Cut rule rows)) (cut_demands i rest) → All CutLineHolds rest
 rows_meaning rule rows i front [] place index of_rule h = All-nil CutLineHolds
 rows_meaning rule rows i front (l ∷ rest) place index of_rule h =
-    let P : Demand → Type 0 = Holds (claims.Cut rule rows) in
+    let P : Demand → Type 0 = DemandHolds (claims.Cut rule rows) in
     All-cons CutLineHolds l rest
     (row_meaning rule rows i l (record { front = front; back = rest; place = place; index = index }) of_rule
     (All-front P (row_demands i l) (cut_demands (i + 1) rest) h))
@@ -99,14 +99,14 @@ rows_meaning rule rows i front (l ∷ rest) place index of_rule h =
 
 -- the rule, if it is a function, is a minimal one
 rule_minimal : (rule : CutRule) (rows : List CutLine) → IfFunction (subject_of_rule rule) IsWithinBounds →
-    All (Holds (claims.Cut rule rows)) (rule_demands rule) → IsMinimalRule rule
+    All (DemandHolds (claims.Cut rule rows)) (rule_demands rule) → IsMinimalRule rule
 rule_minimal (Table f) rows bounds h =
-    (bounds, minimal_from_tests f bounds (All-head (Holds (claims.Cut (Table f) rows)) minimal [] h))
+    (bounds, minimal_from_tests f bounds (All-head (DemandHolds (claims.Cut (Table f) rows)) minimal [] h))
 rule_minimal Gmic rows bounds h = tt
 
 pub cuts_meaning : (rule : CutRule) (rows : List CutLine) → IsBounded (claims.Cut rule rows) → MeetsRules (claims.Cut rule rows) →
     ClaimHolds (claims.Cut rule rows)
 cuts_meaning rule rows bounds h =
-    let P : Demand → Type 0 = Holds (claims.Cut rule rows) in
+    let P : Demand → Type 0 = DemandHolds (claims.Cut rule rows) in
     rows_meaning rule rows 0 [] rows refl refl (rule_minimal rule rows bounds.0 (All-front P (rule_demands rule) (cut_demands 0 rows) h))
     (All-back P (rule_demands rule) (cut_demands 0 rows) h)

@@ -17,7 +17,7 @@ use Rattle.gj_proof.specs.declared.numbers.Numbers.{Numbers}
 use Rattle.gj_proof.specs.declared.numbers.Numbers.TheVariants.{Whole, Residues}
 use Rattle.gj_proof.specs.declared.pivot.PivotRow.{PivotRow}
 use Rattle.gj_proof.specs.ProofText.{ProofLine, extreme_claim, modulus_lines, IsPivotRowBelow, group_lines, HasNumber}
-use Rattle.gj_proof.specs.Rules.{Demand, group_demands_by, extreme_demands, demands_of, line_of_demand, Holds, MeetsRules}
+use Rattle.gj_proof.specs.Rules.{Demand, group_demands_by, extreme_demands, demands_of, line_of_demand, DemandHolds, MeetsRules}
 use Rattle.gj_proof.specs.Rules.Demand.{minimal, continuous, cover, row, reduce, size, pivot, rank}
 use Rattle.gj_proof.proofs.LineNumbers.{number_of_claim}
 use Rattle.gj_check_groups.specs.declared.failure.GroupRule.{GroupRule}
@@ -46,10 +46,10 @@ extreme_rest n lines rows = cover_demands lines ++ group_demands_by n 0 rows ++ 
 -- what the demands of the claim that are not on its groups say
 pub record Says (n : Numbers) (f : FunctionData) (lines : List CoverLine) (rows : List PivotRow) : Type 0 where
   pub demands : demands_of (extreme_claim n f lines rows) ≡ extreme_demands n lines rows
-  pub is_minimal : PassesAll f ↔ Holds (extreme_claim n f lines rows) minimal
-  pub continuity : IsContinuous f ↔ Holds (extreme_claim n f lines rows) continuous
-  pub meets_cover : (i : ℕ) → MeetsCover f lines i ↔ Holds (extreme_claim n f lines rows) (cover i)
-  pub has_rank : (length rows ≡ components_in lines) ↔ Holds (extreme_claim n f lines rows) rank
+  pub is_minimal : PassesAll f ↔ DemandHolds (extreme_claim n f lines rows) minimal
+  pub continuity : IsContinuous f ↔ DemandHolds (extreme_claim n f lines rows) continuous
+  pub meets_cover : (i : ℕ) → MeetsCover f lines i ↔ DemandHolds (extreme_claim n f lines rows) (cover i)
+  pub has_rank : (length rows ≡ components_in lines) ↔ DemandHolds (extreme_claim n f lines rows) rank
 
 pub says : (n : Numbers) (f : FunctionData) (lines : List CoverLine) (rows : List PivotRow) → Says n f lines rows
 says Whole f lines rows = record {
@@ -76,13 +76,13 @@ fails_first n f lines rows l r k h number =
     (subst (λ ds. FirstFails (extreme_claim n f lines rows) ds l r) (sym (says n f lines rows).demands) h) number
 
 covers_hold : (n : Numbers) (f : FunctionData) (lines : List CoverLine) (rows : List PivotRow) → ((i : ℕ) → MeetsCover f lines i) →
-    All (Holds (extreme_claim n f lines rows)) (cover_demands lines)
-covers_hold n f lines rows h = All-made (Holds (extreme_claim n f lines rows)) cover 0 (length lines) (λ i below. ((says n f lines rows).meets_cover i).0 (h i))
+    All (DemandHolds (extreme_claim n f lines rows)) (cover_demands lines)
+covers_hold n f lines rows h = All-made (DemandHolds (extreme_claim n f lines rows)) cover 0 (length lines) (λ i below. ((says n f lines rows).meets_cover i).0 (h i))
 
 cover_breaks : (n : Numbers) (f : FunctionData) (lines : List CoverLine) (rows : List PivotRow) (i : ℕ) → IsFirstBroken f lines i →
     FirstFails (extreme_claim n f lines rows) (cover_demands lines) (ProofLine.covered i) rules.Cover
 cover_breaks n f lines rows i h =
-    let P = Holds (extreme_claim n f lines rows) in
+    let P = DemandHolds (extreme_claim n f lines rows) in
     let split = split_there lines i h.within in
     let all = says n f lines rows in
     record {
@@ -111,7 +111,7 @@ numbering f lines c meet h =
 -- ---- an extreme function
 
 -- behind the two first demands
-pub behind_two : (c : Claim) (more : List Demand) (l : ProofLine) (r : CheckRule) → Holds c minimal → Holds c continuous → FirstFails c more l r →
+pub behind_two : (c : Claim) (more : List Demand) (l : ProofLine) (r : CheckRule) → DemandHolds c minimal → DemandHolds c continuous → FirstFails c more l r →
     FirstFails c (minimal ∷ continuous ∷ more) l r
 behind_two c more l r is_minimal is_continuous h =
     fails_next c minimal (continuous ∷ more) l r is_minimal (fails_next c continuous more l r is_continuous h)
@@ -157,7 +157,7 @@ pub extreme_group_fails : (n : Numbers) (f : FunctionData) (lines : List CoverLi
     IsFirstFailure (extreme_claim n f lines rows) (f.order + length lines + 5 + length (modulus_lines n) + failure.below) (rule_on_groups failure.rule)
 extreme_group_fails n f lines rows components failure l passes is_continuous below meet are h =
     let c = extreme_claim n f lines rows in
-    let P = Holds c in
+    let P = DemandHolds c in
     let r = rule_on_groups failure.rule in
     let group = groups_fail n f lines (λ i. get_or components.number.items i 0) components.count rows failure
     (numbering f lines components meet are) l below h in
@@ -178,9 +178,9 @@ extreme_group_fails n f lines rows components failure l passes is_continuous bel
 groups_met : (n : Numbers) (f : FunctionData) (lines : List CoverLine) (rows : List PivotRow) (components : Components) →
     IsWithinBounds f → All (IsPivotRowBelow f.order) rows → ((i : ℕ) → MeetsCover f lines i) → AreComponentsOf f lines components →
     All (GroupHolds n f (λ i. get_or components.number.items i 0) components.count rows) (group_demands_by n 0 rows) →
-    All (Holds (extreme_claim n f lines rows)) (cover_demands lines ++ group_demands_by n 0 rows)
+    All (DemandHolds (extreme_claim n f lines rows)) (cover_demands lines ++ group_demands_by n 0 rows)
 groups_met n f lines rows components l below meet are h =
-    All-append (Holds (extreme_claim n f lines rows)) (cover_demands lines) (group_demands_by n 0 rows) (covers_hold n f lines rows meet)
+    All-append (DemandHolds (extreme_claim n f lines rows)) (cover_demands lines) (group_demands_by n 0 rows) (covers_hold n f lines rows meet)
     (groups_hold n f lines (λ i. get_or components.number.items i 0) components.count rows (numbering f lines components meet are) l below h)
 
 pub extreme_rank_fails : (n : Numbers) (f : FunctionData) (lines : List CoverLine) (rows : List PivotRow) (components : Components) →
@@ -204,7 +204,7 @@ pub extreme_meets : (n : Numbers) (f : FunctionData) (lines : List CoverLine) (r
     All (GroupHolds n f (λ i. get_or components.number.items i 0) components.count rows) (group_demands_by n 0 rows) →
     length rows ≡ components.count → MeetsRules (extreme_claim n f lines rows)
 extreme_meets n f lines rows components l passes is_continuous below meet are h full =
-    let P = Holds (extreme_claim n f lines rows) in
+    let P = DemandHolds (extreme_claim n f lines rows) in
     let all = says n f lines rows in
     subst (All P) (sym all.demands)
     (All-cons P minimal (continuous ∷ extreme_rest n lines rows) (all.is_minimal.0 passes)

@@ -42,7 +42,7 @@ use Rattle.gj_proof.specs.declared.numbers.Numbers.TheVariants.{Whole, Residues}
 use Rattle.gj_proof.specs.declared.pivot.PivotRow.{PivotRow}
 use Rattle.gj_proof.specs.PresentRows.{arithmetic_of, AreNumbersOf, named_row, begun_row, entries_or_none, row_kept_by, row_kept, rows_behind_by, rows_behind, rows_before_by, rows_before}
 use Rattle.gj_proof.specs.ProofText.{extreme_claim, AreExtremeLines, IsRowNameBelow, IsPivotRowBelow}
-use Rattle.gj_proof.specs.Rules.{Demand, MeetsRow, MeetsPivotBy, step_demands_by, group_demands_by, Holds, MeetsRules}
+use Rattle.gj_proof.specs.Rules.{Demand, MeetsRow, MeetsPivotBy, step_demands_by, group_demands_by, DemandHolds, MeetsRules}
 use Rattle.gj_check.proofs.ExtremeDemands.{says}
 
 -- ---- the numbers of components
@@ -246,12 +246,12 @@ groups_leave_residues_zero f component n rows slopes meets full long solved =
 
 groups_meet : (numbers : Numbers) (f : FunctionData) (lines : List CoverLine) (rows : List PivotRow) (component : ℕ → ℕ) →
     AreNumbersOf f lines component → All (IsPivotRowBelow f.order) rows → (front rest : List PivotRow) → rows ≡ front ++ rest →
-    All (Holds (extreme_claim numbers f lines rows)) (group_demands_by numbers (length front) rest) →
+    All (DemandHolds (extreme_claim numbers f lines rows)) (group_demands_by numbers (length front) rest) →
     MeetGroups numbers f component (components_in lines) (rows_before_by (arithmetic_of numbers) f component (components_in lines) front) rest
 groups_meet numbers f lines rows component are below front [] place h = tt
 groups_meet numbers f lines rows component are below front (one ∷ rest) place h =
     let n = components_in lines in
-    let P : Demand → Type 0 = Holds (extreme_claim numbers f lines rows) in
+    let P : Demand → Type 0 = DemandHolds (extreme_claim numbers f lines rows) in
     let g = length front in
     let steps = step_demands_by numbers g 0 one.reduce in
     let later = group_demands_by numbers (g + 1) rest in
@@ -286,7 +286,7 @@ groups_leave_zero Residues f component n rows slopes meets full long solve = gro
 pub extreme_meaning : (numbers : Numbers) (f : FunctionData) (lines : List CoverLine) (rows : List PivotRow) → IsWithinBounds f →
     AreExtremeLines f lines rows → MeetsRules (extreme_claim numbers f lines rows) → IsContinuous f × IsExtreme f
 extreme_meaning numbers f lines rows b text rules =
-    let P : Demand → Type 0 = Holds (extreme_claim numbers f lines rows) in
+    let P : Demand → Type 0 = DemandHolds (extreme_claim numbers f lines rows) in
     let all = says numbers f lines rows in
     let covers = map Demand.cover (range_with_len 0 (length lines)) in
     let groups = group_demands_by numbers 0 rows in

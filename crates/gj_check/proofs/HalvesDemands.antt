@@ -10,7 +10,7 @@ use Rattle.gj_shape.specs.FirstViolation.{PassesAll}
 use Rattle.gj_shape.specs.declared.extremality.Halves.{Halves}
 use Rattle.gj_proof.specs.declared.claim.Claim.TheVariants.{NotExtreme}
 use Rattle.gj_proof.specs.ProofText.{ProofLine, HasNumber}
-use Rattle.gj_proof.specs.Rules.{Demand, MeetsScale, MeetsSame, IsMinimalHalf, pair_demands, Holds, MeetsRules}
+use Rattle.gj_proof.specs.Rules.{Demand, MeetsScale, MeetsSame, IsMinimalHalf, pair_demands, DemandHolds, MeetsRules}
 use Rattle.gj_proof.specs.Rules.Demand.{minimal, continuous, scale, range, average, first, second, same}
 use Rattle.gj_proof.proofs.LineNumbers.{number_of_claim}
 use Rattle.gj_check.specs.declared.rules.CheckRule.{CheckRule}
@@ -29,10 +29,10 @@ pair_demands-append [] ys = refl
 pair_demands-append (i ∷ xs) ys = ap (λ ds. range i ∷ average i ∷ ds) (pair_demands-append xs ys)
 
 pairs_hold : (f : FunctionData) (h : Halves) (a n : ℕ) → ((i : ℕ) → i < a + n → MeetsPair f h i) →
-    All (Holds (NotExtreme f h)) (pair_demands (range_with_len a n))
-pairs_hold f h a zero meet = All-nil (Holds (NotExtreme f h))
+    All (DemandHolds (NotExtreme f h)) (pair_demands (range_with_len a n))
+pairs_hold f h a zero meet = All-nil (DemandHolds (NotExtreme f h))
 pairs_hold f h a (suc n) meet =
-    let P = Holds (NotExtreme f h) in
+    let P = DemandHolds (NotExtreme f h) in
     let later = pair_demands (range_with_len (a + 1) n) in
     let here = meet a (omega arith) in
     All-cons P (range a) (average a ∷ later) here.range
@@ -146,7 +146,7 @@ pub halves_meet : (f : FunctionData) (h : Halves) → PassesAll f → IsContinuo
     ((i : ℕ) → i < h.order → MeetsPair f h i) → IsMinimalHalf f h h.first → IsMinimalHalf f h h.second → MeetsSame h →
     MeetsRules (NotExtreme f h)
 halves_meet f h passes is_continuous meets pairs one two differ =
-    let P = Holds (NotExtreme f h) in
+    let P = DemandHolds (NotExtreme f h) in
     All-cons P minimal (continuous ∷ halves_rest h) passes
     (All-cons P continuous (halves_rest h) is_continuous
     (All-cons P scale (all_pairs h ++ last_three) meets

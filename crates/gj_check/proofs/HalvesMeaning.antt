@@ -14,7 +14,7 @@ use Rattle.gj_shape.specs.declared.extremality.Halves.{Halves}
 use Rattle.gj_theory.proofs.MinimalFromTests.{minimal_from_tests}
 use Rattle.gj_proof.specs.declared.claim.Claim.TheVariants.{NotExtreme}
 use Rattle.gj_proof.specs.ProofText.{HasText}
-use Rattle.gj_proof.specs.Rules.{Demand, MeetsAverage, MeetsSame, IsMinimalHalf, pair_demands, Holds, MeetsRules}
+use Rattle.gj_proof.specs.Rules.{Demand, MeetsAverage, MeetsSame, IsMinimalHalf, pair_demands, DemandHolds, MeetsRules}
 use Rattle.gj_proof.specs.Meaning.{ShowHalves, ClaimHolds}
 
 -- the demand on the average of each pair
@@ -97,7 +97,7 @@ halves_shown f h m c minimal order_low scale_low meets = (
 pub halves_meaning : (f : FunctionData) (h : Halves) → IsWithinBounds f → HasText (NotExtreme f h) →
     MeetsRules (NotExtreme f h) → ClaimHolds (NotExtreme f h)
 halves_meaning f h b text rules =
-    let P : Demand → Type 0 = Holds (NotExtreme f h) in
+    let P : Demand → Type 0 = DemandHolds (NotExtreme f h) in
     let pairs = pair_demands (range_with_len 0 h.order) in
     let last = Demand.first ∷ Demand.second ∷ Demand.same ∷ [] in
     let early = All-front P (Demand.minimal ∷ Demand.continuous ∷ Demand.scale ∷ pairs) last rules in

@@ -5,7 +5,7 @@ use Rattle.gj_shape.specs.FunctionData.{FunctionData, IsWithinBounds, at}
 use Rattle.gj_lanes.specs.Lanes.{ArePeriods}
 use Rattle.gj_check.specs.declared.squares.Lanes.{Lanes}
 use Rattle.gj_check.specs.declared.squares.Part.{Part}
-use Rattle.gj_check.specs.Lanes.{AreLanesOf, HasPart, IsPartBelow, HasNoExcess, part_at}
+use Rattle.gj_check.specs.Lanes.{AreLanesOf, HasIndex, IsPartBelow, HasNoExcess, part_at}
 use Rattle.gj_check.specs.Tests.{IsSubadditiveAt}
 use Rattle.gj_check.proofs.RowTests.{square_read}
 
@@ -21,7 +21,7 @@ lane_below number natural least bound lanes numbers i e natural_of h most =
 module _ {L : Type 0} (number : L → ℤ) (natural : L → ℕ) (least : ℤ) (bound : ℕ) (f : FunctionData) (l : Lanes L)
     (natural_of : (x : L) → number x ≡ pos (natural x)) (limits : IsWithinBounds f) (h : AreLanesOf number least bound f l) where
   -- there are lanes of each piece from an index below twice the order on
-  pub has_part : (i : ℕ) → i < 2 * f.order → HasPart l i
+  pub has_part : (i : ℕ) → i < 2 * f.order → HasIndex l i
   has_part i below =
       let value = h.values.room in
       let right = h.rights.room in

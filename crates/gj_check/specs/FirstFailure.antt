@@ -4,7 +4,7 @@ use Rattle.gj_lemmas.specs.FirstThatFails.{IsFirstFailing}
 use Rattle.gj_proof.specs.declared.claim.Claim.{Claim}
 use Rattle.gj_proof.specs.declared.claim.Claim.TheVariants as claim
 use Rattle.gj_proof.specs.ProofText.{HasNumber}
-use Rattle.gj_proof.specs.Rules.{Demand, demands_of, line_of_demand, Holds}
+use Rattle.gj_proof.specs.Rules.{Demand, demands_of, line_of_demand, DemandHolds}
 use Rattle.gj_proof.specs.Rules.Demand.{minimal, point, fraction, limit, term_limit, term_name, term_value, continuous, cover, row, reduce, size, pivot, rank, scale, range, average, first, second, same}
 use Rattle.gj_check.specs.declared.rules.CheckRule.{CheckRule}
 use Rattle.gj_check.specs.declared.rules.CheckRule.TheVariants.{Minimal, Continuous, Point, Cover, Row, Reduce, Size, Pivot, Rank, Scale, Range, Average, First, Second, Same, Fraction, Limit, Name, Value}
@@ -38,7 +38,7 @@ rule_of same = Same
 pub record IsFirstFailure (c : Claim) (n : ℕ) (rule : CheckRule) : Type 0 where
   pub before : List Demand
   pub demand : Demand
-  pub first : IsFirstFailing (All (Holds c)) (demands_of c) before demand
+  pub first : IsFirstFailing (All (DemandHolds c)) (demands_of c) before demand
   pub rule_is : rule ≡ rule_of demand
   pub number : HasNumber c (line_of_demand demand) n
 

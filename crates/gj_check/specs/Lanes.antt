@@ -12,8 +12,8 @@ pub record AreLanesOf {L : Type 0} (number : L → ℤ) (least : ℤ) (bound : �
   pub lefts : ArePeriods number least bound l.left.now f.left
 
 -- there are lanes of the piece from i/q on
-abbrev pub HasPart : {L : Type 0} → Lanes L → ℕ → Type 0
-HasPart l i = (i < length l.value.now) × (i < length l.right.now) × (i + 1 < length l.left.now)
+abbrev pub HasIndex : {L : Type 0} → Lanes L → ℕ → Type 0
+HasIndex l i = (i < length l.value.now) × (i < length l.right.now) × (i + 1 < length l.left.now)
 
 -- the lanes of the piece, and e for each that is not there
 abbrev pub part_at : {L : Type 0} → Lanes L → ℕ → L → Part L

@@ -30,7 +30,7 @@ struct Part<L: UnsignedLane> {
 }
 
 impl<'a, L: UnsignedLane> Lanes<'a, L> {
-    ghost use Rattle.gj_check.specs.Lanes.{AreLanesOf, HasPart, part_at};
+    ghost use Rattle.gj_check.specs.Lanes.{AreLanesOf, HasIndex, part_at};
 
     /// Whether no limit of the slack is negative in any square (a, b) with b from a on.
     pub(crate) fn is_subadditive_row(self, shape: &Shape, a: usize) -> bool
@@ -51,7 +51,7 @@ impl<'a, L: UnsignedLane> Lanes<'a, L> {
 
     /// The lanes of the piece from i/q on.
     fn part(self, i: usize) -> Part<L>
-        requires { HasPart self i }
+        requires { HasIndex self i }
         ensures { (e : L) → result ≡ part_at self.entry i e }
     {
         Part {

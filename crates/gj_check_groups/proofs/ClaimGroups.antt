@@ -22,7 +22,7 @@ use Rattle.gj_proof.specs.PresentRows.{arithmetic_of, AreNumbersOf, begun_row, e
 use Rattle.gj_proof.specs.ProofText.{IsRowNameBelow, IsPivotRowBelow, OwnLine, extreme_claim, covered_lines, modulus_lines, extreme_lines, subject_lines, HasNumber}
 use Rattle.gj_proof.specs.ProofText.Subject.{function}
 use Rattle.gj_proof.specs.ProofText.ProofLine.{point}
-use Rattle.gj_proof.specs.Rules.{Demand, AtIndex, MeetsRow, MeetsReduce, MeetsSize, MeetsPivotBy, size_demands, step_demands_by, group_demands_by, line_of_demand, Holds}
+use Rattle.gj_proof.specs.Rules.{Demand, AtIndex, MeetsRow, MeetsReduce, MeetsSize, MeetsPivotBy, size_demands, step_demands_by, group_demands_by, line_of_demand, DemandHolds}
 use Rattle.gj_proof.specs.Rules.Demand.{row, reduce, size, pivot}
 use Rattle.gj_proof.proofs.LineCounts.{length-covered}
 use Rattle.gj_proof.proofs.LineNumbers.{number_of_own}
@@ -165,7 +165,7 @@ SaysInClaim numbers f lines rows (pivot g) = InClaim numbers f lines rows g (OnP
 SaysInClaim numbers f lines rows _ = Unit {0}
 
 pub says : (numbers : Numbers) (f : FunctionData) (lines : List CoverLine) (rows : List PivotRow) (d : Demand) → IsOnGroups d →
-    SaysInClaim numbers f lines rows d ↔ Holds (extreme_claim numbers f lines rows) d
+    SaysInClaim numbers f lines rows d ↔ DemandHolds (extreme_claim numbers f lines rows) d
 says Whole f lines rows (row g) on = (λ h. h, λ h. h)
 says Whole f lines rows (reduce g r) on = (λ h. h, λ h. h)
 says Whole f lines rows (size g r) on = (λ h. h, λ h. h)
@@ -197,7 +197,7 @@ in_groups numbers f lines component n rows are l below _ on = absurd on
 -- a demand says the same of the claim and of its groups
 pub demand_on_groups : (numbers : Numbers) (f : FunctionData) (lines : List CoverLine) (component : ℕ → ℕ) (n : ℕ) (rows : List PivotRow) →
     IsNumbering f lines component n → IsWithinBounds f → All (IsPivotRowBelow f.order) rows → (d : Demand) → IsOnGroups d →
-    GroupHolds numbers f component n rows d ↔ Holds (extreme_claim numbers f lines rows) d
+    GroupHolds numbers f component n rows d ↔ DemandHolds (extreme_claim numbers f lines rows) d
 demand_on_groups numbers f lines component n rows are l below d on =
     let groups = in_groups numbers f lines component n rows are l below d on in
     let claim = says numbers f lines rows d on in
@@ -208,7 +208,7 @@ demand_on_groups numbers f lines component n rows are l below d on =
 -- if all demands on the groups hold, they hold of the claim
 pub groups_hold : (numbers : Numbers) (f : FunctionData) (lines : List CoverLine) (component : ℕ → ℕ) (n : ℕ) (rows : List PivotRow) →
     IsNumbering f lines component n → IsWithinBounds f → All (IsPivotRowBelow f.order) rows →
-    All (GroupHolds numbers f component n rows) (group_demands_by numbers 0 rows) → All (Holds (extreme_claim numbers f lines rows)) (group_demands_by numbers 0 rows)
+    All (GroupHolds numbers f component n rows) (group_demands_by numbers 0 rows) → All (DemandHolds (extreme_claim numbers f lines rows)) (group_demands_by numbers 0 rows)
 groups_hold numbers f lines component n rows are l below h k d low =
     (demand_on_groups numbers f lines component n rows are l below (get_or (group_demands_by numbers 0 rows) k d) (on_groups numbers 0 rows k d low)).0 (h k d low)
 
@@ -216,7 +216,7 @@ groups_hold numbers f lines component n rows are l below h k d low =
 pub record FirstGroupFails (numbers : Numbers) (f : FunctionData) (lines : List CoverLine) (rows : List PivotRow) (failure : GroupFailure) : Type 0 where
   pub before : List Demand
   pub demand : Demand
-  pub first : IsFirstFailing (All (Holds (extreme_claim numbers f lines rows))) (group_demands_by numbers 0 rows) before demand
+  pub first : IsFirstFailing (All (DemandHolds (extreme_claim numbers f lines rows))) (group_demands_by numbers 0 rows) before demand
   pub rule_is : IsRuleOf failure.rule demand
   pub number : HasNumber (extreme_claim numbers f lines rows) (line_of_demand demand)
       (f.order + length lines + 5 + length (modulus_lines numbers) + failure.below)
@@ -233,7 +233,7 @@ pub groups_fail : (numbers : Numbers) (f : FunctionData) (lines : List CoverLine
     IsFirstGroupFailure numbers f component n rows failure → FirstGroupFails numbers f lines rows failure
 groups_fail numbers f lines component n rows failure are l below h =
     let H = GroupHolds numbers f component n rows in
-    let C = Holds (extreme_claim numbers f lines rows) in
+    let C = DemandHolds (extreme_claim numbers f lines rows) in
     let demands = group_demands_by numbers 0 rows in
     let split : demands ≡ (h.before ++ h.demand ∷ []) ++ h.first.after =
     h.first.place ∙ sym (append_assoc h.before (h.demand ∷ []) h.first.after) in

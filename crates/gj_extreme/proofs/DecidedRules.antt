@@ -25,7 +25,7 @@ use Rattle.gj_proof.specs.declared.claim.Claim.TheVariants as claim
 use Rattle.gj_proof.specs.declared.pivot.PivotRow.{PivotRow}
 use Rattle.gj_proof.proofs.GridCoordinates.{meets_point}
 use Rattle.gj_proof.specs.PresentRows.{AreNumbersOf, arithmetic_of, begun_row, named_row, rows_before, rows_before_by}
-use Rattle.gj_proof.specs.Rules.{Demand, MeetsRange, MeetsAverage, IsMinimalHalf, size_demands, step_demands_by, group_demands_by, extreme_demands, pair_demands, Holds, MeetsRules}
+use Rattle.gj_proof.specs.Rules.{Demand, MeetsRange, MeetsAverage, IsMinimalHalf, size_demands, step_demands_by, group_demands_by, extreme_demands, pair_demands, DemandHolds, MeetsRules}
 use Rattle.gj_proof.specs.declared.numbers.Numbers.{Numbers}
 use Rattle.gj_proof.specs.declared.numbers.Numbers.TheVariants.{Whole, Residues}
 use Rattle.gj_extreme.specs.Decision.{group_of, elimination_over, AreExtremeRows, AreZigzagHalves, AreSlopeHalves, IsDecided}
@@ -93,7 +93,7 @@ groups_met numbers f lines rows l h component are before one after place =
         ∙ ap (elimination_over numbers f component) h.covered.count
 
 whole_groups : (f : FunctionData) (lines : List CoverLine) (rows : List PivotRow) → IsWithinBounds f →
-    (h : AreExtremeRows Whole f lines rows) → HoldAtGroups Whole (Holds (claim.Extreme f lines rows))
+    (h : AreExtremeRows Whole f lines rows) → HoldAtGroups Whole (DemandHolds (claim.Extreme f lines rows))
 whole_groups f lines rows l h =
     let n = components_in lines in
     let met = groups_met Whole f lines rows l h in
@@ -102,7 +102,7 @@ whole_groups f lines rows l h =
       reduce = λ g r before one after place index component numbers first c last there at.
           (step_is_met Whole (rows_before f component n before) (named_row f component n one.name) one.reduce first c last there
           (met component numbers before one after place).steps).0;
-      size = λ g r. All-one (Holds (claim.Extreme f lines rows)) (Demand.size g r)
+      size = λ g r. All-one (DemandHolds (claim.Extreme f lines rows)) (Demand.size g r)
           (λ before one after place index component numbers first c last there at.
           (step_is_met Whole (rows_before f component n before) (named_row f component n one.name) one.reduce first c last there
           (met component numbers before one after place).steps).1);
@@ -110,7 +110,7 @@ whole_groups f lines rows l h =
     }
 
 residue_groups : (f : FunctionData) (lines : List CoverLine) (rows : List PivotRow) → IsWithinBounds f →
-    (h : AreExtremeRows Residues f lines rows) → HoldAtGroups Residues (Holds (claim.ExtremeByResidues f lines rows))
+    (h : AreExtremeRows Residues f lines rows) → HoldAtGroups Residues (DemandHolds (claim.ExtremeByResidues f lines rows))
 residue_groups f lines rows l h =
     let n = components_in lines in
     let by = arithmetic_of Residues in
@@ -120,7 +120,7 @@ residue_groups f lines rows l h =
       reduce = λ g r before one after place index component numbers first c last there at.
           (step_is_met Residues (rows_before_by by f component n before) (begun_row by f component n one.name) one.reduce first c last there
           (met component numbers before one after place).steps).0;
-      size = λ g r. All-nil (Holds (claim.ExtremeByResidues f lines rows));
+      size = λ g r. All-nil (DemandHolds (claim.ExtremeByResidues f lines rows));
       pivot = λ g before one after place index component numbers. (met component numbers before one after place).pivot;
     }
 
@@ -155,7 +155,7 @@ rank_is numbers f lines rows h =
 extreme_rules : (f : FunctionData) (lines : List CoverLine) (rows : List PivotRow) → IsWithinBounds f → IsMinimal f → IsContinuous f →
     AreExtremeRows Whole f lines rows → MeetsRules (claim.Extreme f lines rows)
 extreme_rules f lines rows l minimal continuous h =
-    all_demands Whole (Holds (claim.Extreme f lines rows)) lines rows record {
+    all_demands Whole (DemandHolds (claim.Extreme f lines rows)) lines rows record {
       minimal = tests_from_minimal f l minimal;
       continuous = continuous;
       cover = λ i before line after place index.
@@ -166,7 +166,7 @@ extreme_rules f lines rows l minimal continuous h =
 residue_rules : (f : FunctionData) (lines : List CoverLine) (rows : List PivotRow) → IsWithinBounds f → IsMinimal f → IsContinuous f →
     AreExtremeRows Residues f lines rows → MeetsRules (claim.ExtremeByResidues f lines rows)
 residue_rules f lines rows l minimal continuous h =
-    all_demands Residues (Holds (claim.ExtremeByResidues f lines rows)) lines rows record {
+    all_demands Residues (DemandHolds (claim.ExtremeByResidues f lines rows)) lines rows record {
       minimal = tests_from_minimal f l minimal;
       continuous = continuous;
       cover = λ i before line after place index.
@@ -194,7 +194,7 @@ halves_rules f h m c l minimal continuous on =
     (on.different.index, on.different.different))
   where
     P : Demand → Type 0
-    P = Holds (claim.NotExtreme f h)
+    P = DemandHolds (claim.NotExtreme f h)
 
     pairs : List Demand
     pairs = pair_demands (range_with_len 0 h.order)
@@ -274,7 +274,7 @@ pub decided_violation_rules : (f g : FunctionData) (v : Violation) (h : ℕ) →
     IsAtGridPoints f h v → IsDecided f (claim.NotMinimal g v) → MeetsRules (claim.NotMinimal g v)
 decided_violation_rules f g v h l fine at_points decided =
     subst (λ (x : FunctionData). MeetsRules (claim.NotMinimal x v)) (sym decided.0)
-    (All-one (Holds (claim.NotMinimal f v)) Demand.point (meets_point f v h fine at_points (first_shown f v l decided.1)))
+    (All-one (DemandHolds (claim.NotMinimal f v)) Demand.point (meets_point f v h fine at_points (first_shown f v l decided.1)))
 
 pub decided_extreme_rules : (f g : FunctionData) (lines : List CoverLine) (rows : List PivotRow) → IsWithinBounds f →
     IsDecided f (claim.Extreme g lines rows) → MeetsRules (claim.Extreme g lines rows)

@@ -2,5 +2,5 @@
 use Rattle.std.specs.Prelude.{ℤ, ◌<◌, ◌^◌, unsigned_abs}
 
 -- the difference of two values
-abbrev pub IsStep : ℤ → Type 0
-IsStep n = unsigned_abs n < 2 ^ 52
+abbrev pub IsStepSize : ℤ → Type 0
+IsStepSize n = unsigned_abs n < 2 ^ 52

@@ -2,7 +2,7 @@
 ghost use Rattle.std.specs.Prelude.{◌≡◌, ◌⊎◌, ◌<◌, ◌↔◌, neg_ℤ, IsTrue};
 ghost use Rattle.gj_shape.specs.FunctionData.{at};
 ghost use Rattle.gj_shape.specs.TwoSlopes.{rise, HasTwoSlopes};
-ghost use Rattle.gj_fill.specs.StepSizes.{IsStep};
+ghost use Rattle.gj_fill.specs.StepSizes.{IsStepSize};
 ghost use Rattle.gj_fill.specs.FillIn.{AreGreatestSteps};
 
 use gj_shape::Shape;
@@ -12,15 +12,15 @@ use gj_shape::Shape;
 pub(crate) struct Steps {
     pub(crate) rise: i64,
     pub(crate) fall: i64,
-    ghost rise_small: { IsStep rise },
-    ghost fall_small: { IsStep fall },
+    ghost rise_small: { IsStepSize rise },
+    ghost fall_small: { IsStepSize fall },
 }
 
 /// What the function rises by from a/q to the next multiple of 1/q, times the common denominator.
 pub(crate) fn rise_at(shape: &Shape, a: u32) -> i64
     requires { a < shape.now.order }
     ensures value { result ≡ rise shape.now a }
-    ensures small { IsStep result }
+    ensures small { IsStepSize result }
 {
     let here = shape.value_numerator(a);
     shape.value_numerator(a + 1) - here

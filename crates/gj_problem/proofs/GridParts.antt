@@ -11,7 +11,7 @@ use Rattle.gj_rational.proofs.RationalRing.{by_ring_q, ring_q}
 use Rattle.gj_problem.proofs.HeldInequalities.{whole_frac}
 use Rattle.gj_problem.proofs.Numerators.{ratio_whole}
 use Rattle.gj_problem.proofs.TurnedColumns.{below_floor}
-use Rattle.gj_problem.specs.RoundedCuts.{IsOnGrid, IsBelowOnGrid}
+use Rattle.gj_problem.specs.RoundedCuts.{IsGridValue, IsBelowOnGrid}
 
 -- n times k/n is k
 ratio_times : (y : Frac) (k n : ℤ) → IsRatio y k n → whole n *ℚ rational y ≡ whole k
@@ -43,10 +43,10 @@ below_from_floor n x y s k some s_is floor y_is =
     }
 
 -- a number is on the grid exactly if n times it is whole
-pub on_grid_if_whole : (n : ℕ) (x s : Frac) → rational s ≡ whole (pos n) *ℚ rational x → IsWhole s → IsOnGrid n (rational x)
+pub on_grid_if_whole : (n : ℕ) (x s : Frac) → rational s ≡ whole (pos n) *ℚ rational x → IsWhole s → IsGridValue n (rational x)
 on_grid_if_whole n x s s_is h = subst IsWholeNumber s_is (whole_frac s h)
 
-pub whole_if_on_grid : (n : ℕ) (x s : Frac) → rational s ≡ whole (pos n) *ℚ rational x → IsOnGrid n (rational x) → IsWhole s
+pub whole_if_on_grid : (n : ℕ) (x s : Frac) → rational s ≡ whole (pos n) *ℚ rational x → IsGridValue n (rational x) → IsWhole s
 whole_if_on_grid n x s s_is on = ap (λ (q : Rational). q.bottom) (s_is ∙ on.1) ∙ whole_bottom on.0
 
 -- ---- the next number on the grid

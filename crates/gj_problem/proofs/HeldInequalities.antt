@@ -20,7 +20,7 @@ use Rattle.gj_problem.specs.declared.problem.Sense.TheVariants.{AtMost, AtLeast,
 use Rattle.gj_problem.specs.declared.pieces.Piece.{Piece}
 use Rattle.gj_problem.specs.Aggregates.{combined_at, IsCutOver, IsTurnedBack}
 use Rattle.gj_problem.specs.Problems.{value_at, sum_at, surplus_at, Meets, MeetsColumn, MeetsConstraint, IsFeasible, Holds, IsColumn, IsWholeColumn, IsConstraint}
-use Rattle.gj_problem.specs.Rows.{HasWholeSurplus, IsSignFor, IsMultiple, IsWholeInequality, IsKept, IsRaised, IsLowered, AreChanged, total_of, IsRounded}
+use Rattle.gj_problem.specs.Rows.{HasWholeSurplus, IsSignFor, IsConstraintTimes, IsWholeInequality, IsKept, IsRaised, IsLowered, AreChanged, total_of, IsRounded}
 
 -- ---- surplus
 
@@ -51,7 +51,7 @@ constraint_at p point i c is feasible =
     subst (MeetsConstraint point) is.is (All-get_or (MeetsConstraint point) p.constraints i c is.below feasible.constraints)
 
 pub multiple_holds : (p : Problem) (i : ℕ) (c : Constraint) (m : ℤ) (q : Inequality) → IsConstraint p i c → IsSignFor c.sense m →
-    IsMultiple c m q → Holds p q
+    IsConstraintTimes c m q → Holds p q
 multiple_holds p i c m q is sign multiple =
     from_surplus p q
     (λ (point : List Rational) (feasible : IsFeasible p point).

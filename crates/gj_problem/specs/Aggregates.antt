@@ -16,7 +16,7 @@ use Rattle.gj_problem.specs.declared.problem.Sense.{Sense}
 use Rattle.gj_problem.specs.declared.problem.Sense.TheVariants.{AtMost, AtLeast, Equal}
 use Rattle.gj_problem.specs.declared.pieces.Piece.{Piece}
 use Rattle.gj_problem.specs.Problems.{IsFeasible, IsWholeColumn, Holds, sum_at, value_at, surplus_at}
-use Rattle.gj_problem.specs.Rows.{dot, IsMultiple, HasWholeSurplus}
+use Rattle.gj_problem.specs.Rows.{dot, IsConstraintTimes, HasWholeSurplus}
 
 -- ---- pieces
 
@@ -86,7 +86,7 @@ pub record IsSlack (p : Problem) (w : Weighted) (s : Piece) : Type 0 where
   pub is_whole : IsTrue s.is_whole ↔ HasWholeColumns p w.constraint
   pub scale : ℕ
   pub scale_is : IsScale w.constraint.right w.constraint.entries s.is_whole scale
-  pub slack_is : IsMultiple w.constraint (signed w.constraint.sense scale) s.inequality
+  pub slack_is : IsConstraintTimes w.constraint (signed w.constraint.sense scale) s.inequality
   pub entry_is : whole (signed w.constraint.sense scale) *ℚ rational s.entry ≡ neg_ℚ (rational w.multiplier)
 
 -- ---- bounds

@@ -11,14 +11,14 @@ use Rattle.gj_problem.specs.declared.rounding.RoundedCut.{RoundedCut}
 use Rattle.gj_problem.specs.declared.rounding.RoundedCut.TheVariants.{Cut, Free, Wide}
 
 -- x is k/n for some whole number k
-abbrev pub IsOnGrid : ℕ → Rational → Type 0
-IsOnGrid n x = IsWholeNumber (whole (pos n) *ℚ x)
+abbrev pub IsGridValue : ℕ → Rational → Type 0
+IsGridValue n x = IsWholeNumber (whole (pos n) *ℚ x)
 
 -- y is the greatest such number that is at most x
 pub record IsBelowOnGrid (n : ℕ) (x y : Rational) : Type 0 where
-  pub on_grid : IsOnGrid n y
+  pub on_grid : IsGridValue n y
   pub at_most : y ≤ℚ x
-  pub greatest : (z : Rational) → IsOnGrid n z → z ≤ℚ x → z ≤ℚ y
+  pub greatest : (z : Rational) → IsGridValue n z → z ≤ℚ x → z ≤ℚ y
 
 -- the bounds of a column; one that is not there has none
 abbrev pub lower_of : Problem → ℕ → Option Frac
@@ -33,7 +33,7 @@ upper_of p j = slice_index_or (map (λ c. c.upper) p.columns) j None
 abbrev pub IsMoved : ℕ → Option Frac → Option Frac → Rational → Rational → Rational → Type 0
 IsMoved n (Some l) upper x y shift = IsBelowOnGrid n (neg_ℚ x) (neg_ℚ y) × (shift ≡ (y -ℚ x) *ℚ rational l)
 IsMoved n None (Some u) x y shift = IsBelowOnGrid n x y × (shift ≡ (y -ℚ x) *ℚ rational u)
-IsMoved n None None x y shift = IsOnGrid n x × (y ≡ x) × (shift ≡ whole (pos 0))
+IsMoved n None None x y shift = IsGridValue n x × (y ≡ x) × (shift ≡ whole (pos 0))
 
 abbrev pub AreMoved : Problem → ℕ → List Entry → List Entry → List Rational → Type 0
 AreMoved p n [] [] [] = Unit {0}
@@ -51,7 +51,7 @@ pub record IsRoundedCut (p : Problem) (n : ℕ) (q rounded : Inequality) : Type 
 pub record IsFreeEntry (p : Problem) (n : ℕ) (e : Entry) : Type 0 where
   pub no_lower : lower_of p e.column ≡ None
   pub no_upper : upper_of p e.column ≡ None
-  pub off_grid : IsOnGrid n (rational e.value) → ⊥
+  pub off_grid : IsGridValue n (rational e.value) → ⊥
 
 -- j is the column of the first such entry
 pub record IsFirstFreeEntry (p : Problem) (n : ℕ) (entries : List Entry) (j : ℕ) : Type 0 where

@@ -31,8 +31,8 @@ IsSignFor AtMost m = m ≤ℤ pos 0
 IsSignFor AtLeast m = pos 0 ≤ℤ m
 IsSignFor Equal m = Unit {0}
 
-abbrev pub IsMultiple : Constraint → ℤ → Inequality → Type 0
-IsMultiple c m q = (point : List Rational) → surplus_at point q ≡ whole m *ℚ (sum_at point c.entries -ℚ rational c.right)
+abbrev pub IsConstraintTimes : Constraint → ℤ → Inequality → Type 0
+IsConstraintTimes c m q = (point : List Rational) → surplus_at point q ≡ whole m *ℚ (sum_at point c.entries -ℚ rational c.right)
 
 -- all numbers of the inequality and all its columns are whole
 pub record IsWholeInequality (p : Problem) (q : Inequality) : Type 0 where

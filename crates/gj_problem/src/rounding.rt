@@ -2,7 +2,7 @@
 ghost use Rattle.std.specs.Prelude.{◌≡◌, ◌<◌, ◌↔◌, pos, IfOk, IsTrue, MatchOption};
 ghost use Rattle.gj_rational.specs.Rational.{whole, rational, ◌-ℚ◌, ◌*ℚ◌};
 ghost use Rattle.gj_problem.specs.Problems.{Holds};
-ghost use Rattle.gj_problem.specs.RoundedCuts.{IsOnGrid, IsBelowOnGrid, lower_of, upper_of, IsMoved, IsFreeEntry, IsRoundedOf, RoundedHolds};
+ghost use Rattle.gj_problem.specs.RoundedCuts.{IsGridValue, IsBelowOnGrid, lower_of, upper_of, IsMoved, IsFreeEntry, IsRoundedOf, RoundedHolds};
 
 use crate::faults::Fault;
 use crate::pieces::push_entry;
@@ -136,8 +136,8 @@ fn moved_to(x: Frac, value: Frac, bound: Frac) -> Result<Moved, Wide>
 
 /// The coefficient x if it is on the grid.
 fn kept(x: Frac, grid: u64) -> Result<Option<Moved>, Wide>
-    ensures { IfOk result (λ made. MatchOption made (IsOnGrid grid (rational x) → ⊥)
-        (λ m. IsOnGrid grid (rational x) × (rational m.value ≡ rational x) ×
+    ensures { IfOk result (λ made. MatchOption made (IsGridValue grid (rational x) → ⊥)
+        (λ m. IsGridValue grid (rational x) × (rational m.value ≡ rational x) ×
         (rational m.shift ≡ whole (pos 0)))) }
 {
     if scaled(x, grid)?.den() == 1 {

@@ -8,7 +8,7 @@ ghost use Rattle.gj_problem.specs.declared.problem.Column.{Column};
 ghost use Rattle.gj_problem.specs.declared.pieces.Piece.{Piece};
 ghost use Rattle.gj_rational.specs.Rational.{Rational, whole, rational, ◌*ℚ◌, ◌-ℚ◌, ◌≤ℚ◌};
 ghost use Rattle.gj_problem.specs.Problems.{IsFeasible, Holds, IsColumn, IsConstraint, value_at, surplus_at};
-ghost use Rattle.gj_problem.specs.Rows.{IsSignFor, IsMultiple, IsWholeInequality, HasWholeSurplus, IsRounded};
+ghost use Rattle.gj_problem.specs.Rows.{IsSignFor, IsConstraintTimes, IsWholeInequality, HasWholeSurplus, IsRounded};
 ghost use Rattle.gj_problem.specs.RoundedCuts.{IsBelowOnGrid};
 ghost use Rattle.gj_problem.specs.Aggregates.{IsRow, IsFirstFree, IsSound, AddsUpAt, IsCutOver, IsTurnedBack};
 
@@ -17,7 +17,7 @@ ghost use Rattle.gj_problem.specs.Aggregates.{IsRow, IsFirstFree, IsSound, AddsU
 pub fn slack_of_a_constraint()
     ensures holds { (p : Problem) (i : ℕ) (c : Constraint) (m : ℤ) (q : Inequality) →
         IsConstraint p i c →
-        IsSignFor c.sense m → IsMultiple c m q → Holds p q }
+        IsSignFor c.sense m → IsConstraintTimes c m q → Holds p q }
     ensures is_whole { (p : Problem) (q : Inequality) → IsWholeInequality p q →
         HasWholeSurplus p q }
 {}

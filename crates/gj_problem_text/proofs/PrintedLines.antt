@@ -3,7 +3,7 @@ use Rattle.std.proofs.Common.{◌≡◌, ℕ, List, [], ◌∷◌, ◌++◌, cod
 use Rattle.std.proofs.lemmas.List.{append_assoc}
 use Rattle.gj_lex.specs.NumberText.{fraction_text}
 use Rattle.gj_problem.specs.declared.problem.Entry.{Entry}
-use Rattle.gj_problem_text.specs.CutText.{name_at, term_line}
+use Rattle.gj_problem_text.specs.CutText.{name_at, cut_term_line}
 
 joined : (front name number : List ℕ) → (((front ++ name) ++ 32 ∷ []) ++ number) ++ 10 ∷ [] ≡ front ++ (name ++ 32 ∷ (number ++ 10 ∷ []))
 joined front name number =
@@ -12,7 +12,7 @@ joined front name number =
 
 pub term_pushed : (names : List (List ℕ)) (e : Entry) (before a b c d end name : List ℕ) → a ≡ before ++ codes "term " → b ≡ a ++ name →
     name ≡ name_at names e.column → c ≡ b ++ 32 ∷ [] → d ≡ c ++ fraction_text e.value → end ≡ d ++ 10 ∷ [] →
-    end ≡ before ++ term_line names e
+    end ≡ before ++ cut_term_line names e
 term_pushed names e before a b c d end name a_is b_is name_is c_is d_is end_is =
     let x = fraction_text e.value in
     end_is ∙ ap (λ t. t ++ 10 ∷ []) (d_is ∙ ap (λ t. t ++ x) (c_is ∙ ap (λ t. t ++ 32 ∷ []) (b_is ∙ ap (λ t. t ++ name) a_is)))

@@ -1,6 +1,6 @@
 -- What the code makes of a request (own).
 use Rattle.std.specs.Prelude.{ℕ, ◌≡◌, Bool, true, List, ◌++◌, slice_set}
-use Rattle.gj_safe_cut.specs.SafeCuts.{HoldsFor}
+use Rattle.gj_safe_cut.specs.SafeCuts.{SafeCutHolds}
 use Rattle.gj_safe_cut.specs.declared.cut.SafeCut.{SafeCut}
 use Rattle.gj_proof.specs.declared.cut.CutRule.{CutRule}
 use Rattle.gj_problem_text.specs.Cuts.{IsAnswer}
@@ -10,8 +10,8 @@ use Rattle.gj_problem_text.specs.declared.task.Request.TheVariants.{Upper, Sum}
 use Rattle.gj_problem_text.specs.declared.task.Task.{Task}
 
 -- a column is turned, or the lines of a cut that holds are appended
-abbrev pub IsStep : CutRule → Task → List Bool → List ℕ → Request → List Bool → List ℕ → Type 0
-IsStep r s at_upper text (Upper j) next_upper next = (next_upper ≡ slice_set at_upper j true) × (next ≡ text)
-IsStep r s at_upper text (Sum multipliers) next_upper next =
+abbrev pub IsRequestStep : CutRule → Task → List Bool → List ℕ → Request → List Bool → List ℕ → Type 0
+IsRequestStep r s at_upper text (Upper j) next_upper next = (next_upper ≡ slice_set at_upper j true) × (next ≡ text)
+IsRequestStep r s at_upper text (Sum multipliers) next_upper next =
     (next_upper ≡ at_upper)
-    × ((cut : SafeCut) × IsAnswer r s multipliers at_upper cut × HoldsFor s.problem cut × (next ≡ text ++ cut_lines s.names cut))
+    × ((cut : SafeCut) × IsAnswer r s multipliers at_upper cut × SafeCutHolds s.problem cut × (next ≡ text ++ cut_lines s.names cut))

@@ -1,9 +1,9 @@
 //! The cuts that a problem text asks for.
 ghost use Rattle.std.specs.Prelude.{◌≡◌, ◌<◌, ◌++◌, All, List, true, flat_map, length, slice_set, IfSome, IfOk, OnOk};
 ghost use Rattle.gj_problem.specs.Problems.{Holds};
-ghost use Rattle.gj_safe_cut.specs.SafeCuts.{HoldsFor};
+ghost use Rattle.gj_safe_cut.specs.SafeCuts.{SafeCutHolds};
 ghost use Rattle.gj_safe_cut.specs.declared.cut.SafeCut.{SafeCut};
-ghost use Rattle.gj_problem_text.specs.AnswersMade.{IsStep};
+ghost use Rattle.gj_problem_text.specs.AnswersMade.{IsRequestStep};
 ghost use Rattle.gj_problem_text.specs.CutText.{cut_lines};
 ghost use Rattle.gj_problem_text.specs.Cuts.{IsRoundedTo, IsOnGridOf, IsCutBy, IsAnswer, AreAnswers, none_turned};
 ghost use Rattle.gj_problem_text.specs.Ready.{HasMultipliers, IsReady};
@@ -30,7 +30,7 @@ pub(crate) fn push_answers(
     requires ready { IsReady task.now }
     ensures { OnOk result ((cuts : List SafeCut)
         × AreAnswers rule.now task.now (none_turned task.now) task.now.requests cuts
-        × All (HoldsFor task.now.problem) cuts
+        × All (SafeCutHolds task.now.problem) cuts
         × (out.new.items ≡ out.old.items ++ flat_map (cut_lines task.now.names) cuts)) }
 {
     let mut at_upper = none_turned(alloc, task)?;
@@ -63,7 +63,7 @@ fn push_request(
     requires grid { IfSome task.now.grid (λ n. 0 < n) }
     requires multipliers { HasMultipliers (length task.now.problem.constraints) request.now }
     requires at_upper { length at_upper.old.items ≡ length task.now.problem.columns }
-    ensures step { OnOk result (IsStep rule.now task.now at_upper.old.items out.old.items request.now
+    ensures step { OnOk result (IsRequestStep rule.now task.now at_upper.old.items out.old.items request.now
         at_upper.new.items out.new.items) }
     ensures count { OnOk result (length at_upper.new.items ≡ length at_upper.old.items) }
 {
@@ -111,7 +111,7 @@ fn push_answer(
     requires multipliers { length multipliers.now ≡ length task.now.problem.constraints }
     requires at_upper { length at_upper.now ≡ length task.now.problem.columns }
     ensures { OnOk result ((cut : SafeCut) × IsAnswer rule.now task.now multipliers.now at_upper.now cut
-        × HoldsFor task.now.problem cut
+        × SafeCutHolds task.now.problem cut
         × (out.new.items ≡ out.old.items ++ cut_lines task.now.names cut)) }
 {
     let cut = answer_of(alloc, rule, task, multipliers, at_upper)?;
@@ -132,7 +132,7 @@ fn answer_of(
     requires multipliers { length multipliers.now ≡ length task.now.problem.constraints }
     requires at_upper { length at_upper.now ≡ length task.now.problem.columns }
     ensures is { IfOk result (IsAnswer rule.now task.now multipliers.now at_upper.now) }
-    ensures holds { IfOk result (HoldsFor task.now.problem) }
+    ensures holds { IfOk result (SafeCutHolds task.now.problem) }
 {
     let cut = unrounded(alloc, rule, &task.problem, multipliers, at_upper)?;
     on_grid(alloc, &task.problem, task.grid, cut)
@@ -150,7 +150,7 @@ fn unrounded(
     requires multipliers { length multipliers.now ≡ length problem.now.constraints }
     requires at_upper { length at_upper.now ≡ length problem.now.columns }
     ensures is { IfOk result (IsCutBy rule.now problem.now multipliers.now at_upper.now) }
-    ensures holds { IfOk result (HoldsFor problem.now) }
+    ensures holds { IfOk result (SafeCutHolds problem.now) }
 {
     match rule {
         CutRule::Gmic => gmic_safe_cut(alloc, problem, multipliers, at_upper),
@@ -167,7 +167,7 @@ fn on_grid(
 ) -> Result<SafeCut, AllocError>
     requires { IfSome grid (λ n. 0 < n) }
     ensures is { IfOk result (IsOnGridOf problem.now grid cut) }
-    ensures holds { IfOk result (λ answer. HoldsFor problem.now cut → HoldsFor problem.now answer) }
+    ensures holds { IfOk result (λ answer. SafeCutHolds problem.now cut → SafeCutHolds problem.now answer) }
 {
     let Some(grid) = grid else {
         return Ok(cut);
@@ -191,7 +191,7 @@ fn rounded_to(
     requires { 0 < grid }
     ensures is { IfOk result (IsRoundedTo problem.now grid cut.now) }
     ensures holds { IfOk result (λ answer. Holds problem.now cut.now →
-        HoldsFor problem.now answer) }
+        SafeCutHolds problem.now answer) }
 {
     match rounded(alloc, problem, cut, u64::from(grid)) {
         Ok(RoundedCut::Cut(cut)) => Ok(SafeCut::Cut(cut)),

@@ -8,7 +8,7 @@ ghost use Rattle.gj_rule.specs.Kept.{Evaluates};
 ghost use Rattle.gj_rule.specs.declared.kind.RuleKind.TheVariants as kind;
 ghost use Rattle.gj_mixed.specs.Slopes.{AreSlopesAtZero, IsSlope, Weighs};
 ghost use Rattle.gj_proof.specs.declared.cut.CutRule.TheVariants.{Table};
-ghost use Rattle.gj_safe_cut.specs.SafeCuts.{HoldsFor};
+ghost use Rattle.gj_safe_cut.specs.SafeCuts.{SafeCutHolds};
 ghost use Rattle.gj_problem_text.specs.Cuts.{IsCutBy};
 
 use gj_frac::Frac;
@@ -33,7 +33,7 @@ pub(crate) fn function_cut(
     requires at_upper { length at_upper.now ≡ length problem.now.columns }
     ensures is { IfOk result
         (IsCutBy (Table shape.now) problem.now multipliers.now at_upper.now) }
-    ensures holds { IfOk result (HoldsFor problem.now) }
+    ensures holds { IfOk result (SafeCutHolds problem.now) }
 {
     let kept = shape.copy(alloc)?;
     let at_zero = SlopesAtZero::of_function(shape);
@@ -75,7 +75,7 @@ fn cut_by<E: Evaluator, G: Evaluator>(
     requires multipliers { length multipliers.now ≡ length problem.now.constraints }
     requires at_upper { length at_upper.now ≡ length problem.now.columns }
     ensures is { IfOk result (IsCutBy (Table shape) problem.now multipliers.now at_upper.now) }
-    ensures holds { IfOk result (HoldsFor problem.now) }
+    ensures holds { IfOk result (SafeCutHolds problem.now) }
 {
     let rule = Rule::new(RuleKind::Table(shape), eval);
     let slopes = Slopes::new(at_zero.up, at_zero.down, weigh);

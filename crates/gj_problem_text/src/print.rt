@@ -1,7 +1,7 @@
 //! Cuts, printed.
 ghost use Rattle.std.specs.Prelude.{◌≡◌, ◌++◌, flat_map, OnOk};
 ghost use Rattle.gj_forms.specs.LineForms.{line_of};
-ghost use Rattle.gj_problem_text.specs.CutText.{cut_form, free_form, name_at, term_line, cut_lines};
+ghost use Rattle.gj_problem_text.specs.CutText.{cut_form, free_form, name_at, cut_term_line, cut_lines};
 ghost use Rattle.gj_safe_cut.specs.declared.cut.SafeCut.TheVariants.{Cut};
 
 use gj_frac::Frac;
@@ -60,7 +60,7 @@ fn push_terms(
     entries: &[Entry],
 ) -> Result<(), AllocError>
     ensures { OnOk result (out.new.items
-        ≡ out.old.items ++ flat_map (term_line names.now) entries.now) }
+        ≡ out.old.items ++ flat_map (cut_term_line names.now) entries.now) }
 {
     for entry in entries {
         push_term(alloc, out, names, *entry)?;
@@ -75,7 +75,7 @@ fn push_term(
     names: &[Name],
     entry: Entry,
 ) -> Result<(), AllocError>
-    ensures { OnOk result (out.new.items ≡ out.old.items ++ term_line names.now entry) }
+    ensures { OnOk result (out.new.items ≡ out.old.items ++ cut_term_line names.now entry) }
 {
     out.extend_from_slice(b"term ")?;
     out.extend_from_slice(name_at(names, entry.column))?;

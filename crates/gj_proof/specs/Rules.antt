@@ -349,29 +349,29 @@ IfHalves (ExtremeByResidues f lines rows) P = Unit {0}
 IfHalves (NotExtreme f h) P = P f h
 
 -- what a demand says of the claim; for `minimal`, that all tests of minimality pass
-abbrev pub Holds : Claim → Demand → Type 0
-Holds c minimal = IfFunction (subject_of c) PassesAll
-Holds c point = IsShown c
-Holds c (fraction i) = IfRow c i MeetsFraction
-Holds c (limit i) = IfRow c i (λ rule l. IfCut l (λ name right terms. MeetsLimit [] right))
-Holds c (term_limit i j) = IfTerm c i j (λ rule name right before t. MeetsLimit (right ∷ map (λ u. u.entry) before) t.entry)
-Holds c (term_name i j) = IfTerm c i j (λ rule name right before t. MeetsName name before t)
-Holds c (term_value i j) = IfTerm c i j (λ rule name right before t. MeetsValue rule right t)
-Holds c continuous = IfFunction (subject_of c) IsContinuous
-Holds c (cover i) = IfExtreme c (λ f lines rows. AtIndex lines i (MeetsCoverRule f.order (IsTight f)))
-Holds c (row g) = IfExtreme c (λ f lines rows. AtIndex rows g (λ before one. MeetsRow f one.name))
-Holds c (reduce g r) = IfStep c g r MeetsReduce
-Holds c (size g r) = IfStep c g r MeetsSize
-Holds c (pivot g) = IfGroup c g (λ n kept begun one.
+abbrev pub DemandHolds : Claim → Demand → Type 0
+DemandHolds c minimal = IfFunction (subject_of c) PassesAll
+DemandHolds c point = IsShown c
+DemandHolds c (fraction i) = IfRow c i MeetsFraction
+DemandHolds c (limit i) = IfRow c i (λ rule l. IfCut l (λ name right terms. MeetsLimit [] right))
+DemandHolds c (term_limit i j) = IfTerm c i j (λ rule name right before t. MeetsLimit (right ∷ map (λ u. u.entry) before) t.entry)
+DemandHolds c (term_name i j) = IfTerm c i j (λ rule name right before t. MeetsName name before t)
+DemandHolds c (term_value i j) = IfTerm c i j (λ rule name right before t. MeetsValue rule right t)
+DemandHolds c continuous = IfFunction (subject_of c) IsContinuous
+DemandHolds c (cover i) = IfExtreme c (λ f lines rows. AtIndex lines i (MeetsCoverRule f.order (IsTight f)))
+DemandHolds c (row g) = IfExtreme c (λ f lines rows. AtIndex rows g (λ before one. MeetsRow f one.name))
+DemandHolds c (reduce g r) = IfStep c g r MeetsReduce
+DemandHolds c (size g r) = IfStep c g r MeetsSize
+DemandHolds c (pivot g) = IfGroup c g (λ n kept begun one.
     MeetsPivotBy (numbers_of c) n kept (present_row_by (arithmetic_of (numbers_of c)) kept begun one.reduce) one.pivot)
-Holds c rank = IfExtreme c (λ f lines rows. length rows ≡ components_in lines)
-Holds c scale = IfHalves c MeetsScale
-Holds c (range i) = IfHalves c (λ f h. MeetsRange h i)
-Holds c (average i) = IfHalves c (λ f h. MeetsAverage f h i)
-Holds c first = IfHalves c (λ f h. IsMinimalHalf f h h.first)
-Holds c second = IfHalves c (λ f h. IsMinimalHalf f h h.second)
-Holds c same = IfHalves c (λ f h. MeetsSame h)
+DemandHolds c rank = IfExtreme c (λ f lines rows. length rows ≡ components_in lines)
+DemandHolds c scale = IfHalves c MeetsScale
+DemandHolds c (range i) = IfHalves c (λ f h. MeetsRange h i)
+DemandHolds c (average i) = IfHalves c (λ f h. MeetsAverage f h i)
+DemandHolds c first = IfHalves c (λ f h. IsMinimalHalf f h h.first)
+DemandHolds c second = IfHalves c (λ f h. IsMinimalHalf f h h.second)
+DemandHolds c same = IfHalves c (λ f h. MeetsSame h)
 
 -- every rule holds
 abbrev pub MeetsRules : Claim → Type 0
-MeetsRules c = All (Holds c) (demands_of c)
+MeetsRules c = All (DemandHolds c) (demands_of c)

@@ -54,9 +54,9 @@ RealHolds {R} K p q =
     AtMost K (number_of K q.right) (real_sum_at K point q.entries)
 
 -- the cut, if there is one, holds at all of them
-abbrev pub RealHoldsFor : {R : Type 0} → OrderedField R → Problem → SafeCut → Type 0
-RealHoldsFor K p (Cut q) = RealHolds K p q
-RealHoldsFor K p Integral = Unit {0}
-RealHoldsFor K p OtherFraction = Unit {0}
-RealHoldsFor K p (Free j) = Unit {0}
-RealHoldsFor K p Wide = Unit {0}
+abbrev pub RealSafeCutHolds : {R : Type 0} → OrderedField R → Problem → SafeCut → Type 0
+RealSafeCutHolds K p (Cut q) = RealHolds K p q
+RealSafeCutHolds K p Integral = Unit {0}
+RealSafeCutHolds K p OtherFraction = Unit {0}
+RealSafeCutHolds K p (Free j) = Unit {0}
+RealSafeCutHolds K p Wide = Unit {0}

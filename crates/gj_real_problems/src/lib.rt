@@ -9,11 +9,11 @@ ghost use Rattle.gj_problem.specs.Problems.{Holds};
 ghost use Rattle.gj_problem.specs.RoundedCuts.{IsRoundedCut};
 ghost use Rattle.gj_problem.specs.declared.problem.Inequality.{Inequality};
 ghost use Rattle.gj_problem.specs.declared.problem.Problem.{Problem};
-ghost use Rattle.gj_real_problems.specs.RealProblems.{RealHolds, RealHoldsFor};
+ghost use Rattle.gj_real_problems.specs.RealProblems.{RealHolds, RealSafeCutHolds};
 ghost use Rattle.gj_rule.specs.Kind.{IsKindWithinBounds, IsMinimalKind};
 ghost use Rattle.gj_rule.specs.declared.kind.RuleKind.{RuleKind};
 ghost use Rattle.gj_safe.specs.Answers.{IsTrueAnswer};
-ghost use Rattle.gj_safe_cut.specs.SafeCuts.{HoldsFor, IsGmicSafeCutOf, IsSafeCutOf};
+ghost use Rattle.gj_safe_cut.specs.SafeCuts.{SafeCutHolds, IsGmicSafeCutOf, IsSafeCutOf};
 ghost use Rattle.gj_safe_cut.specs.declared.cut.SafeCut.{SafeCut};
 
 use gj_fields::reals::Reals;
@@ -30,13 +30,13 @@ pub fn inequalities_hold_over_reals<K: Reals>()
 pub fn safe_cuts_hold_over_reals<K: Reals>()
     ensures by_gmic { (p : Problem) (multipliers : List Frac) (at_upper : List Bool)
         (cut : SafeCut) → length at_upper ≡ length p.columns →
-        IsGmicSafeCutOf p multipliers at_upper cut → RealHoldsFor K.field p cut }
+        IsGmicSafeCutOf p multipliers at_upper cut → RealSafeCutHolds K.field p cut }
     ensures by_rule { (kind : RuleKind) (up down : Frac) (p : Problem) (multipliers : List Frac)
         (at_upper : List Bool) (cut : SafeCut) →
         length at_upper ≡ length p.columns → IsKindWithinBounds kind → IsMinimalKind kind →
         AreSlopesOfKind kind up down →
-        IsSafeCutOf kind up down p multipliers at_upper cut → RealHoldsFor K.field p cut }
-    ensures held { (p : Problem) (cut : SafeCut) → HoldsFor p cut → RealHoldsFor K.field p cut }
+        IsSafeCutOf kind up down p multipliers at_upper cut → RealSafeCutHolds K.field p cut }
+    ensures held { (p : Problem) (cut : SafeCut) → SafeCutHolds p cut → RealSafeCutHolds K.field p cut }
     ensures rounded { (p : Problem) (grid : ℕ) (q rounded : Inequality) → RealHolds K.field p q →
         IsRoundedCut p grid q rounded → RealHolds K.field p rounded }
 {}
@@ -45,5 +45,5 @@ pub fn safe_cuts_hold_over_reals<K: Reals>()
 /// at all feasible points of real numbers.
 pub fn safe_answers_hold_over_reals<K: Reals>()
     ensures { (input text : List ℕ) (answer : IsTrueAnswer input text) →
-        All (RealHoldsFor K.field answer.asked.task.problem) answer.cuts }
+        All (RealSafeCutHolds K.field answer.asked.task.problem) answer.cuts }
 {}

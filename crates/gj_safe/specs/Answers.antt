@@ -3,7 +3,7 @@ use Rattle.std.specs.Prelude.{ℕ, ◌≡◌, List, ◌++◌, All, codes, decima
 use Rattle.gj_lex.specs.Reason.{reason_word}
 use Rattle.gj_lex.specs.declared.reason.Reason.{Reason}
 use Rattle.gj_function_lines.specs.FunctionLines.{line}
-use Rattle.gj_safe_cut.specs.SafeCuts.{HoldsFor}
+use Rattle.gj_safe_cut.specs.SafeCuts.{SafeCutHolds}
 use Rattle.gj_safe_cut.specs.declared.cut.SafeCut.{SafeCut}
 use Rattle.gj_proof.specs.ProofText.{AreSubjectLines, subject_of_rule}
 use Rattle.gj_problem_text.specs.CutText.{cut_lines, IsCutsTextBy}
@@ -19,7 +19,7 @@ pub record IsTrueAnswer (input text : List ℕ) : Type 0 where
   pub asked : SafeInput
   pub spelled : IsSafeInput input asked
   pub cuts : List SafeCut
-  pub hold : All (HoldsFor asked.task.problem) cuts
+  pub hold : All (SafeCutHolds asked.task.problem) cuts
   pub rule_lines : List ℕ
   pub rule_lines_are : AreSubjectLines (subject_of_rule asked.rule) rule_lines
   pub text_is : text ≡ line (codes "gj-safe 1") ++ rule_lines ++ flat_map (cut_lines asked.task.names) cuts ++ line (codes "end")

@@ -25,7 +25,7 @@ use Rattle.gj_problem.proofs.HeldInequalities.{turned_back_holds}
 use Rattle.gj_problem.proofs.RowsAtPoints.{sound_pieces, row_at}
 use Rattle.gj_safe_cut.specs.declared.cut.SafeCut.{SafeCut}
 use Rattle.gj_safe_cut.specs.declared.cut.SafeCut.TheVariants.{Cut, Integral, OtherFraction, Free, Wide}
-use Rattle.gj_safe_cut.specs.SafeCuts.{IsCutOfPieces, IsSafeCutOf, IsGmicSafeCutOf, HoldsFor}
+use Rattle.gj_safe_cut.specs.SafeCuts.{IsCutOfPieces, IsSafeCutOf, IsGmicSafeCutOf, SafeCutHolds}
 use Rattle.gj_safe_cut.proofs.PointCuts.{AreCutsHeld, cut_over}
 
 -- ---- the fractional part of a right side that is not whole
@@ -87,7 +87,7 @@ row_cut_holds kind up down p ms ups pieces right q count row held made =
 
 pub holds_by_rule : (kind : RuleKind) (up down : Frac) (p : Problem) (ms : List Frac) (ups : List Bool) (cut : SafeCut) →
     length ups ≡ length p.columns → ((q : Inequality) → cut ≡ Cut q → IsKindWithinBounds kind) → IsMinimalKind kind →
-    AreSlopesOfKind kind up down → IsSafeCutOf kind up down p ms ups cut → HoldsFor p cut
+    AreSlopesOfKind kind up down → IsSafeCutOf kind up down p ms ups cut → SafeCutHolds p cut
 holds_by_rule kind up down p ms ups (Cut q) count bounds minimal slopes (pieces, right, row, (not_whole, part, made)) =
     row_cut_holds kind up down p ms ups pieces right q count row
     (cuts_held kind up down right (usable_from kind (bounds q refl)) minimal slopes part) made
@@ -97,7 +97,7 @@ holds_by_rule kind up down p ms ups (Free j) count bounds minimal slopes h = tt
 holds_by_rule kind up down p ms ups Wide count bounds minimal slopes h = tt
 
 pub holds_by_gmic : (p : Problem) (ms : List Frac) (ups : List Bool) (cut : SafeCut) → length ups ≡ length p.columns →
-    IsGmicSafeCutOf p ms ups cut → HoldsFor p cut
+    IsGmicSafeCutOf p ms ups cut → SafeCutHolds p cut
 holds_by_gmic p ms ups (Cut q) count (pieces, right, row, (f, up, down, slopes, (not_whole, part, made))) =
     row_cut_holds (Gmic f) up down p ms ups pieces right q count row
     (cuts_held (Gmic f) up down right (part_inside right f part not_whole) tt slopes part) made

@@ -64,9 +64,9 @@ abbrev pub IsGmicSafeCutOf : Problem → List Frac → List Bool → SafeCut →
 IsGmicSafeCutOf = IsOfProblem IsGmicCutOfRow
 
 -- the cut, if there is one, holds at all feasible points
-abbrev pub HoldsFor : Problem → SafeCut → Type 0
-HoldsFor p (Cut q) = Holds p q
-HoldsFor p Integral = Unit {0}
-HoldsFor p OtherFraction = Unit {0}
-HoldsFor p (Free j) = Unit {0}
-HoldsFor p Wide = Unit {0}
+abbrev pub SafeCutHolds : Problem → SafeCut → Type 0
+SafeCutHolds p (Cut q) = Holds p q
+SafeCutHolds p Integral = Unit {0}
+SafeCutHolds p OtherFraction = Unit {0}
+SafeCutHolds p (Free j) = Unit {0}
+SafeCutHolds p Wide = Unit {0}

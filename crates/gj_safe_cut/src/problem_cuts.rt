@@ -4,7 +4,7 @@ ghost use Rattle.gj_rule.specs.Kind.{IsKindWithinBounds, IsMinimalKind};
 ghost use Rattle.gj_mixed.specs.Slopes.{AreSlopesOfKind};
 ghost use Rattle.gj_problem.specs.declared.problem.Inequality.{Inequality};
 ghost use Rattle.gj_safe_cut.specs.declared.cut.SafeCut.TheVariants.{Cut};
-ghost use Rattle.gj_safe_cut.specs.SafeCuts.{IsSafeCutOf, IsGmicSafeCutOf, IsCutOfRow, IsGmicCutOfRow, HoldsFor};
+ghost use Rattle.gj_safe_cut.specs.SafeCuts.{IsSafeCutOf, IsGmicSafeCutOf, IsCutOfRow, IsGmicCutOfRow, SafeCutHolds};
 
 use crate::cut::SafeCut;
 use crate::terms::turned_back;
@@ -33,7 +33,7 @@ pub fn gmic_safe_cut(
     requires multipliers { length multipliers.now ≡ length problem.now.constraints }
     requires at_upper { length at_upper.now ≡ length problem.now.columns }
     ensures is { IfOk result (IsGmicSafeCutOf problem.now multipliers.now at_upper.now) }
-    ensures holds { IfOk result (HoldsFor problem.now) }
+    ensures holds { IfOk result (SafeCutHolds problem.now) }
 {
     match gmic_cut(alloc, problem, multipliers, at_upper) {
         Ok(cut) => Ok(cut),
@@ -61,7 +61,7 @@ pub fn safe_cut<E: Evaluator, G: Evaluator>(
     requires at_upper { length at_upper.now ≡ length problem.now.columns }
     ensures is { IfOk result (IsSafeCutOf rule.now.kind slopes.now.up slopes.now.down problem.now
         multipliers.now at_upper.now) }
-    ensures holds { IfOk result (λ cut. IsMinimalKind rule.now.kind → HoldsFor problem.now cut) }
+    ensures holds { IfOk result (λ cut. IsMinimalKind rule.now.kind → SafeCutHolds problem.now cut) }
 {
     match rule_cut(alloc, rule, slopes, problem, multipliers, at_upper) {
         Ok(cut) => Ok(cut),

@@ -14,7 +14,7 @@ use Rattle.gj_frac.proofs.Reduced.{quotient_of_divisor}
 use Rattle.gj_shape.proofs.AtLemmas.{at_below, at_wrapped, at_value_small}
 use Rattle.gj_shape.proofs.TableLemmas.{table_of_order}
 use Rattle.gj_transform.specs.GreatestDivisor.{IsGreatestDivisor}
-use Rattle.gj_transform.specs.Transforms.{IsRestrictionOf, IsStep, HasNoRestriction}
+use Rattle.gj_transform.specs.Transforms.{IsRestrictionOf, IsRestrictionStep, HasNoRestriction}
 use Rattle.gj_transform.proofs.MadeFunctions.{taken_everywhere}
 
 -- ---- if there is a restriction
@@ -23,7 +23,7 @@ pub step_divides : (q d : ℕ) → q % d ≡ 0 → q ≡ d * (q / d)
 step_divides q d e = let split = div-add-mod' q d in omega arith
 
 -- a step that is one has a restriction
-pub step_has_restriction : (f : FunctionData) (d s : ℕ) → IsStep f d s → HasNoRestriction f d → ⊥
+pub step_has_restriction : (f : FunctionData) (d s : ℕ) → IsRestrictionStep f d s → HasNoRestriction f d → ⊥
 step_has_restriction f d s h (inl low) = let least = h.at_least in omega arith
 step_has_restriction f d s h (inr (inl apart)) = apart (subst (λ (q : ℕ). d ∣ q) (sym h.divides) (dvd-mul_right d s))
 step_has_restriction f d s h (inr (inr apart)) =
@@ -34,7 +34,7 @@ step_has_restriction f d s h (inr (inr apart)) =
     apart (subst (λ (n : ℕ). f.order ∣ n) (sym whole) (dvd-mul_left f.order p))
 
 -- the result is another, and there is a restriction
-pub not_refused : {A : Type 0} (P Q : A) (f : FunctionData) (d s : ℕ) → P ≢ Q → IsStep f d s → (P ≡ Q) ↔ HasNoRestriction f d
+pub not_refused : {A : Type 0} (P Q : A) (f : FunctionData) (d s : ℕ) → P ≢ Q → IsRestrictionStep f d s → (P ≡ Q) ↔ HasNoRestriction f d
 not_refused P Q f d s other step = (λ e. absurd (other e), λ none. absurd (step_has_restriction f d s step none))
 
 -- no step
@@ -56,14 +56,14 @@ no_place f d s some e apart =
 -- xs are the values at each s-th multiple of 1/order, and ys these divided by the greatest number e
 -- that divides them and the scale
 pub record AreReduced (f : FunctionData) (d s e : ℕ) (xs ys : List ℤ) : Type 0 where
-  pub step : IsStep f d s
+  pub step : IsRestrictionStep f d s
   pub some : 0 < e
   pub taken : HasEntries (λ i. at f.value (i * s)) d xs
   pub divisor : IsGreatestDivisor f.scale xs e
   pub quotients : HasEntries (λ i. int_div (at xs i) (pos e)) (length xs) ys
 
 -- the same under other names for the lists and the scale
-pub reduced_as : (f : FunctionData) (d s e scale : ℕ) (values xs same same' ys : List ℤ) → IsStep f d s → values ≡ f.value →
+pub reduced_as : (f : FunctionData) (d s e scale : ℕ) (values xs same same' ys : List ℤ) → IsRestrictionStep f d s → values ≡ f.value →
     HasEntries (λ i. at values (i * s)) d xs → scale ≡ f.scale → same ≡ xs → IsGreatestDivisor scale same e → 0 < e →
     same' ≡ xs → HasEntries (λ i. int_div (at same' i) (pos e)) (length same') ys → AreReduced f d s e xs ys
 reduced_as f d s e scale values xs same same' ys step value_is taken same_scale is divisor some is' quotients = record {
@@ -110,7 +110,7 @@ sizes x y e is = sym (unsigned_abs-mul y (pos e)) ∙ ap unsigned_abs is
 
 -- ---- the bounds
 
-place_fits : (f : FunctionData) (d s : ℕ) → IsWithinBounds f → IsStep f d s → (1 ≤ f.place / s) × (f.place / s < d)
+place_fits : (f : FunctionData) (d s : ℕ) → IsWithinBounds f → IsRestrictionStep f d s → (1 ≤ f.place / s) × (f.place / s < d)
 place_fits f d s l h =
     let low = l.place_low in
     let high = l.place_high in

@@ -43,7 +43,7 @@ abbrev pub AgreeAtMultiples : FunctionData → ℕ → FunctionData → Type 0
 AgreeAtMultiples f d g = (u : ℤ) (x : Frac) → IsValueAt g (u *ℤ pos g.order) d x ↔ IsValueAt f (u *ℤ pos f.order) d x
 
 -- 1/d is the step-th multiple of 1/order, and the place a multiple of 1/d
-pub record IsStep (f : FunctionData) (d step : ℕ) : Type 0 where
+pub record IsRestrictionStep (f : FunctionData) (d step : ℕ) : Type 0 where
   pub at_least : 2 ≤ d
   pub divides : f.order ≡ d * step
   pub place : step ∣ f.place

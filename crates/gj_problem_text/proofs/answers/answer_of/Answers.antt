@@ -1,5 +1,5 @@
 use Rattle.std.proofs.lemmas.Result.{IfOk-weaker}
-use Rattle.gj_safe_cut.specs.SafeCuts.{HoldsFor}
+use Rattle.gj_safe_cut.specs.SafeCuts.{SafeCutHolds}
 use Rattle.gj_safe_cut.specs.declared.cut.SafeCut.{SafeCut}
 use Rattle.gj_problem_text.specs.Cuts.{IsOnGridOf, IsAnswer}
 use Rattle.gj_problem_text.proofs.answers.answer_of.Goals as goal
@@ -13,5 +13,5 @@ returns-clause-is c =
 pub returns-clause-holds : goal.returns-clause-holds
 returns-clause-holds c =
     IfOk-weaker c.on_grid.result
-    (λ (answer : SafeCut). HoldsFor c.args.task.now.problem c.in_ok-cut.cut → HoldsFor c.args.task.now.problem answer)
-    (HoldsFor c.args.task.now.problem) (λ (answer : SafeCut) h. h c.in_ok-cut.ensures.holds) c.on_grid.ensures.holds
+    (λ (answer : SafeCut). SafeCutHolds c.args.task.now.problem c.in_ok-cut.cut → SafeCutHolds c.args.task.now.problem answer)
+    (SafeCutHolds c.args.task.now.problem) (λ (answer : SafeCut) h. h c.in_ok-cut.ensures.holds) c.on_grid.ensures.holds

@@ -5,7 +5,7 @@ use Rattle.gj_rule.specs.Kind.{IsMinimalKind}
 use Rattle.gj_rule.specs.declared.kind.RuleKind.{RuleKind}
 use Rattle.gj_mixed.specs.Slopes.{AreSlopesAtZero, AreSlopesOfKind}
 use Rattle.gj_proof.specs.declared.cut.CutRule.TheVariants.{Table}
-use Rattle.gj_safe_cut.specs.SafeCuts.{IsSafeCutOf, HoldsFor}
+use Rattle.gj_safe_cut.specs.SafeCuts.{IsSafeCutOf, SafeCutHolds}
 use Rattle.gj_safe_cut.specs.declared.cut.SafeCut.{SafeCut}
 use Rattle.gj_problem_text.specs.Cuts.{IsCutBy}
 use Rattle.gj_problem_text.proofs.function_cuts.cut_by.Goals as goal
@@ -39,5 +39,5 @@ returns-clause-is g c =
 pub returns-clause-holds : goal.returns-clause-holds
 returns-clause-holds g c =
     let p = c.args.problem.now in
-    IfOk-weaker c.safe_cut.result (λ (cut : SafeCut). IsMinimalKind c.new-rule.result.kind → HoldsFor p cut) (HoldsFor p)
+    IfOk-weaker c.safe_cut.result (λ (cut : SafeCut). IsMinimalKind c.new-rule.result.kind → SafeCutHolds p cut) (SafeCutHolds p)
     (λ (cut : SafeCut) h. h (subst IsMinimalKind (sym c.new-rule.ensures.kind) c.requires.minimal)) c.safe_cut.ensures.holds

@@ -4,7 +4,7 @@ use Rattle.std.proofs.lemmas.Int.{to_z-of_z}
 use Rattle.std.proofs.lemmas.Nat.Gcd.{dvd_of_mod-eq-zero}
 use Rattle.std.proofs.lemmas.Result.{err_from_is_err_and}
 use Rattle.gj_shape.specs.FunctionData.{FunctionData, IsWithinBounds}
-use Rattle.gj_transform.specs.Transforms.{IsRestrictionOf, IsStep}
+use Rattle.gj_transform.specs.Transforms.{IsRestrictionOf, IsRestrictionStep}
 use Rattle.gj_transform.proofs.AtFractions.{restriction_values}
 use Rattle.gj_transform.proofs.MadeFunctions.{function_as}
 use Rattle.gj_transform.proofs.MadeRestriction.{AreReduced, reduced_as, restriction_made, restriction_within, not_refused, no_step, no_place}
@@ -13,7 +13,7 @@ use Rattle.gj_transform.proofs.restriction.restrict.Goals as goal
 use mir.Syntax.{w128}
 
 -- what is known once the place is tested
-step_from : (f : FunctionData) (d s k : ℕ) → 2 ≤ d → f.order ≡ d * s → k ≡ f.place → k % s ≡ 0 → IsStep f d s
+step_from : (f : FunctionData) (d s k : ℕ) → 2 ≤ d → f.order ≡ d * s → k ≡ f.place → k % s ≡ 0 → IsRestrictionStep f d s
 step_from f d s k least divides place rest = record {
   at_least = least;
   divides = divides;
