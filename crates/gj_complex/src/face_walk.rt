@@ -3,7 +3,8 @@ ghost use Rattle.std.specs.Prelude.{◌≡◌, ◌≤◌, ◌<◌, IfSome};
 ghost use Rattle.std.specs.Option.{ForSome};
 ghost use Rattle.std.specs.Iterator.{YieldsFirst, item_count};
 ghost use Rattle.gj_shape.specs.Given.{IsOrder};
-ghost use Rattle.gj_complex.specs.Walk.{faces_of, faces_after, faces_from, kinds_after, kinds_from, IsFaceOf};
+ghost use Rattle.gj_complex.specs.Walk.{faces_of, faces_after, faces_from, kinds_after, kinds_from};
+ghost use Rattle.gj_complex.specs.Walk.{IsFaceOf};
 
 use gj_shape::{Face, FaceKind};
 

@@ -1,5 +1,6 @@
 //! Rows that are kept by plain elimination.
-ghost use Rattle.std.specs.Prelude.{ℕ, ℤ, pos, ◌≡◌, ◌+◌, ◌<◌, ◌^◌, ◌<ℤ◌, ◌↔◌, [], List, length, map, All, Any, IfOk, IfSome, IsNone, OnOk, OnErr, IsErrOf};
+ghost use Rattle.std.specs.Prelude.{ℕ, ℤ, pos, ◌≡◌, ◌+◌, ◌<◌, ◌^◌, ◌<ℤ◌, ◌↔◌, [], List, length};
+ghost use Rattle.std.specs.Prelude.{map, All, Any, IfOk, IfSome, IsNone, OnOk, OnErr, IsErrOf};
 ghost use Rattle.gj_shape.specs.Elimination.{inserted, kernel, Passes};
 ghost use Rattle.gj_theory.specs.TriangularRows.{Solves, SolvesKept, AreTriangular};
 ghost use Rattle.gj_frac.specs.Fraction.{Fits};

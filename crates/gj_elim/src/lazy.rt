@@ -1,14 +1,17 @@
 //! Steps in 64 bits, without a division: they leave a positive multiple of the row that the
 //! definition has.
-ghost use Rattle.std.specs.Prelude.{ℕ, ℤ, pos, ◌≡◌, ◌≢◌, ◌<◌, ◌≤◌, ◌+◌, ◌*◌, ◌^◌, ◌*ℤ◌, ◌<ℤ◌, List, length, unsigned_abs, IfSome, IsNone, IfOk, [], All};
-ghost use Rattle.gj_shape.specs.Elimination.{at_column, gcd_of_row, divided, scaled, differences, inserted};
+ghost use Rattle.std.specs.Prelude.{ℕ, ℤ, pos, ◌≡◌, ◌≢◌, ◌<◌, ◌≤◌, ◌+◌, ◌*◌, ◌^◌, ◌*ℤ◌, ◌<ℤ◌, List};
+ghost use Rattle.std.specs.Prelude.{length, unsigned_abs, IfSome, IsNone, IfOk, [], All};
+ghost use Rattle.gj_shape.specs.Elimination.{at_column, gcd_of_row, divided, scaled, differences};
+ghost use Rattle.gj_shape.specs.Elimination.{inserted};
 ghost use Rattle.std.specs.Int.{IsGcd};
 ghost use Rattle.gj_frac.specs.Fraction.{Fits};
 ghost use Rattle.gj_theory.specs.TriangularRows.{AreTriangular};
 ghost use Rattle.gj_elim.specs.KeptRows.{kept_rows};
 ghost use Rattle.gj_elim.specs.Progress.{IsReached, IsReachedWithin};
 ghost use Rattle.gj_elim.specs.Tables.{ArePlaces, AreExtents};
-ghost use Rattle.gj_elim.specs.Lazy.{IsMultipleRow, IsLazyStep, AreLazyFactors, IsExtent, HasRoom, IsZeroOutside, IsExactly};
+ghost use Rattle.gj_elim.specs.Lazy.{IsMultipleRow, IsLazyStep, AreLazyFactors, IsExtent, HasRoom};
+ghost use Rattle.gj_elim.specs.Lazy.{IsZeroOutside, IsExactly};
 
 use crate::extent::Extent;
 use crate::log::LogRow;

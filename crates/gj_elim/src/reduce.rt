@@ -1,7 +1,9 @@
 //! A row goes through all columns, and is reduced by the kept rows.
-ghost use Rattle.std.specs.Prelude.{ℤ, ◌≡◌, ◌<◌, ◌^◌, ◌==◌, List, [], length, All, IfOk, IfSome, OnOk, IsErrOf};
+ghost use Rattle.std.specs.Prelude.{ℤ, ◌≡◌, ◌<◌, ◌^◌, ◌==◌, List, [], length, All, IfOk, IfSome};
+ghost use Rattle.std.specs.Prelude.{OnOk, IsErrOf};
 ghost use Rattle.std.specs.List.{position};
-ghost use Rattle.gj_shape.specs.Elimination.{Insertion, free_column, whole_numbers, inserted, Passes};
+ghost use Rattle.gj_shape.specs.Elimination.{Insertion, free_column, whole_numbers, inserted};
+ghost use Rattle.gj_shape.specs.Elimination.{Passes};
 ghost use Rattle.gj_theory.specs.TriangularRows.{AreTriangular};
 ghost use Rattle.gj_frac.specs.Fraction.{Fits};
 ghost use Rattle.gj_elim.specs.KeptRows.{kept_rows};

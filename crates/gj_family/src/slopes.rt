@@ -1,5 +1,6 @@
 //! Continuous functions with two slopes.
-ghost use Rattle.std.specs.Prelude.{◌≡◌, ◌≤◌, ◌*◌, ◌-ℤ◌, pos, IfOk, IfErr, OnOk, length, unsigned_abs};
+ghost use Rattle.std.specs.Prelude.{◌≡◌, ◌≤◌, ◌*◌, ◌-ℤ◌, pos, IfOk, IfErr, OnOk, length};
+ghost use Rattle.std.specs.Prelude.{unsigned_abs};
 ghost use Rattle.gj_shape.specs.Limits.{greatest_order};
 ghost use Rattle.gj_shape.specs.FunctionData.{IsWithinBounds};
 ghost use Rattle.gj_family.specs.Families.{IsTwoSlope};

@@ -1,5 +1,6 @@
 //! The points of the fill-in.
-ghost use Rattle.std.specs.Prelude.{ℤ, ◌≡◌, ◌<◌, ◌≤◌, ◌^◌, ◌++◌, ◌<ℤ◌, ◌+ℤ◌, ◌*ℤ◌, ◌↔◌, neg_ℤ, pos, List, map, IfOk, IfErr, OnOk, IsTrue, unsigned_abs};
+ghost use Rattle.std.specs.Prelude.{ℤ, ◌≡◌, ◌<◌, ◌≤◌, ◌^◌, ◌++◌, ◌<ℤ◌, ◌+ℤ◌, ◌*ℤ◌, ◌↔◌, neg_ℤ, pos};
+ghost use Rattle.std.specs.Prelude.{List, map, IfOk, IfErr, OnOk, IsTrue, unsigned_abs};
 ghost use Rattle.std.specs.List.{AllZip};
 ghost use Rattle.gj_frac.specs.declared.Frac.{Frac};
 ghost use Rattle.gj_frac.specs.Fraction.{IsRatio, IsInside};
@@ -8,7 +9,8 @@ ghost use Rattle.gj_shape.specs.FunctionData.{IsContinuous, at};
 ghost use Rattle.gj_shape.specs.TwoSlopes.{rise};
 ghost use Rattle.gj_fill.specs.Faults.{IsFillFault};
 ghost use Rattle.gj_fill.specs.FillIn.{AreGreatestSteps, IsSubadditiveTable};
-ghost use Rattle.gj_fill.specs.FillPoints.{IsPairOf, AreFillPoints, IsFillIn, value_point, crossing_point, points_from, fill_points};
+ghost use Rattle.gj_fill.specs.FillPoints.{IsPairOf, AreFillPoints, IsFillIn, value_point};
+ghost use Rattle.gj_fill.specs.FillPoints.{crossing_point, points_from, fill_points};
 
 use crate::faults::FillFault;
 use crate::pairs::first_pair;

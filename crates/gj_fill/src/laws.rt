@@ -1,7 +1,9 @@
 //! Theorems about the two-slope fill-in, over a table v, its greatest rise s and its greatest fall
 //! t (Gomory and Johnson 1972).
-ghost use Rattle.std.specs.Prelude.{ℕ, ℤ, pos, ◌≡◌, ◌⊎◌, ◌+◌, ◌-◌, ◌*◌, ◌<◌, ◌≤◌, ◌+ℤ◌, ◌-ℤ◌, ◌*ℤ◌, ◌≤ℤ◌, List, [], ◌∷◌, ◌++◌};
-ghost use Rattle.gj_fill.specs.FillIn.{IsSubadditiveTable, AreGreatestSteps, filled, filled_between};
+ghost use Rattle.std.specs.Prelude.{ℕ, ℤ, pos, ◌≡◌, ◌⊎◌, ◌+◌, ◌-◌, ◌*◌, ◌<◌, ◌≤◌, ◌+ℤ◌, ◌-ℤ◌, ◌*ℤ◌};
+ghost use Rattle.std.specs.Prelude.{◌≤ℤ◌, List, [], ◌∷◌, ◌++◌};
+ghost use Rattle.gj_fill.specs.FillIn.{IsSubadditiveTable, AreGreatestSteps, filled};
+ghost use Rattle.gj_fill.specs.FillIn.{filled_between};
 ghost use Rattle.gj_fill.specs.FillPoints.{GraphPoint, value_point, fill_points, HasFillSlope};
 ghost use Rattle.gj_shape.specs.FunctionData.{FunctionData, at};
 

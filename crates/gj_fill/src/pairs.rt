@@ -1,5 +1,6 @@
 //! The first two places at which a function is not subadditive.
-ghost use Rattle.std.specs.Prelude.{ℕ, ◌≡◌, ◌<◌, ◌≤◌, ◌+◌, ◌*◌, ◌+ℤ◌, ◌<ℤ◌, All, length, IfSome, IfNone, IsTrue};
+ghost use Rattle.std.specs.Prelude.{ℕ, ◌≡◌, ◌<◌, ◌≤◌, ◌+◌, ◌*◌, ◌+ℤ◌, ◌<ℤ◌, All, length, IfSome};
+ghost use Rattle.std.specs.Prelude.{IfNone, IsTrue};
 ghost use Rattle.gj_shape.specs.FirstViolation.{IsLeastFrom};
 ghost use Rattle.gj_shape.specs.FunctionData.{at};
 ghost use Rattle.gj_shape.specs.Limits.{IsNumerator};

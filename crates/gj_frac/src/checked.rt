@@ -1,9 +1,13 @@
 //! Sums, differences, products and quotients that say whether they fit.
-ghost use Rattle.std.specs.Prelude.{◌≡◌, ◌≢◌, ◌↔◌, ℕ, pos, ◌*ℤ◌, ◌+ℤ◌, ◌-ℤ◌, unsigned_abs, IfOk, OnOk, OnErr, IsErr, IsErrOf, MatchOption};
+ghost use Rattle.std.specs.Prelude.{◌≡◌, ◌≢◌, ◌↔◌, ℕ, pos, ◌*ℤ◌, ◌+ℤ◌, ◌-ℤ◌, unsigned_abs, IfOk};
+ghost use Rattle.std.specs.Prelude.{OnOk, OnErr, IsErr, IsErrOf, MatchOption};
 ghost use Rattle.std.specs.Int.{IsGcd};
 ghost use Rattle.std.specs.Result.{OkIff};
-ghost use Rattle.gj_frac.specs.Fraction.{Fits, SameValue, fraction_of, sum_of, difference_of, product_of, quotient_of, numerator, denominator};
-ghost use Rattle.gj_frac.specs.Fits.{FitsTogether, FitsSum, FitsDifference, FitsProduct, FitsQuotient, IsDenominatorGcd, scaled_numerator, common_denominator};
+ghost use Rattle.gj_frac.specs.Fraction.{Fits, SameValue, fraction_of, sum_of, difference_of};
+ghost use Rattle.gj_frac.specs.Fraction.{product_of, quotient_of, numerator, denominator};
+ghost use Rattle.gj_frac.specs.Fits.{FitsTogether, FitsSum, FitsDifference, FitsProduct};
+ghost use Rattle.gj_frac.specs.Fits.{FitsQuotient, IsDenominatorGcd, scaled_numerator};
+ghost use Rattle.gj_frac.specs.Fits.{common_denominator};
 
 use crate::Frac;
 use crate::operators::Together;

@@ -2,7 +2,8 @@
 ghost use Rattle.std.specs.Prelude.{◌≡◌, ◌≢◌, ◌*◌, unsigned_abs, refl};
 ghost use Rattle.gj_frac.specs.Fraction.{numerator, denominator};
 ghost use Rattle.gj_frac.specs.CompareValues.{compare_values};
-ghost use Rattle.gj_frac.specs.TotalOrder.{compare_values_total, compare_values_partial, compare_values_ties};
+ghost use Rattle.gj_frac.specs.TotalOrder.{compare_values_total, compare_values_partial};
+ghost use Rattle.gj_frac.specs.TotalOrder.{compare_values_ties};
 ghost use Rattle.std.specs.Ordering.{nat_cmp, as_partial_cmp};
 
 use crate::Frac;

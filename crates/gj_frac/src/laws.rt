@@ -2,7 +2,8 @@
 ghost use Rattle.std.specs.Prelude.{◌≡◌, IsTrue};
 ghost use Rattle.std.specs.declared.cmp.Ordering.TheVariants.{Less};
 ghost use Rattle.gj_frac.specs.ExactLaws.{can_add_swapped, add_swapped, add_regrouped};
-ghost use Rattle.gj_frac.specs.ExactLaws.{can_mul_swapped, mul_swapped, mul_regrouped, mul_over_add};
+ghost use Rattle.gj_frac.specs.ExactLaws.{can_mul_swapped, mul_swapped, mul_regrouped};
+ghost use Rattle.gj_frac.specs.ExactLaws.{mul_over_add};
 ghost use Rattle.gj_frac.specs.ExactLaws.{sums_keep_order};
 ghost use Rattle.gj_frac.specs.TotalOrder.{parts_Decides};
 ghost use Rattle.gj_frac.specs.Fraction.{SameValue, fraction_of};

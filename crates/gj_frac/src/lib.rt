@@ -11,7 +11,8 @@
 //! and the least common multiple that all crates use.
 #![tactic(auto)]
 
-ghost use Rattle.std.specs.Prelude.{◌≡◌, ◌≢◌, ◌⊎◌, ◌↔◌, pos, ◌^◌, ◌<◌, unsigned_abs, IsNone, IfSome};
+ghost use Rattle.std.specs.Prelude.{◌≡◌, ◌≢◌, ◌⊎◌, ◌↔◌, pos, ◌^◌, ◌<◌, unsigned_abs, IsNone};
+ghost use Rattle.std.specs.Prelude.{IfSome};
 ghost use Rattle.std.specs.Int.{IsGcd};
 ghost use Rattle.gj_frac.specs.Lowest.{IsLowest};
 

@@ -1,7 +1,8 @@
 //! The product and the quotient of two fractions.
 ghost use Rattle.std.specs.Prelude.{unsigned_abs};
 ghost use Rattle.std.specs.Int.{IsGcd};
-ghost use Rattle.gj_frac.specs.Fraction.{SameValue, fraction_of, product_of, quotient_of, numerator, denominator};
+ghost use Rattle.gj_frac.specs.Fraction.{SameValue, fraction_of, product_of, quotient_of};
+ghost use Rattle.gj_frac.specs.Fraction.{numerator, denominator};
 ghost use Rattle.gj_frac.specs.Fits.{FitsProduct, FitsQuotient};
 
 use crate::Frac;

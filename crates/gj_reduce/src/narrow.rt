@@ -1,6 +1,7 @@
 //! Products of at most 2^127 - 1 in absolute value, and quotients: of narrow numbers by steps of 64
 //! bits.
-ghost use Rattle.std.specs.Prelude.{pos, ◌*ℤ◌, ◌<ℤ◌, ◌≡◌, ◌<◌, ◌↔◌, ◌^◌, IsTrue, int_div, unsigned_abs};
+ghost use Rattle.std.specs.Prelude.{pos, ◌*ℤ◌, ◌<ℤ◌, ◌≡◌, ◌<◌, ◌↔◌, ◌^◌, IsTrue, int_div};
+ghost use Rattle.std.specs.Prelude.{unsigned_abs};
 ghost use Rattle.std.specs.Result.{OkIff};
 ghost use Rattle.gj_frac.specs.Fraction.{Fits};
 

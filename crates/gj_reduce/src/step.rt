@@ -1,6 +1,8 @@
 //! One step: a row is reduced by a kept row.
-ghost use Rattle.std.specs.Prelude.{pos, ◌<ℤ◌, ◌≡◌, ◌≢◌, ◌<◌, ◌*ℤ◌, ◌-ℤ◌, ◌++◌, length, All, IfOk, OnOk, OnErr, unsigned_abs};
-ghost use Rattle.gj_shape.specs.Elimination.{at_column, divided, scaled, differences, reduced, marked_in_step, kept_entries, gcd_of_row, Passes};
+ghost use Rattle.std.specs.Prelude.{pos, ◌<ℤ◌, ◌≡◌, ◌≢◌, ◌<◌, ◌*ℤ◌, ◌-ℤ◌, ◌++◌, length, All, IfOk};
+ghost use Rattle.std.specs.Prelude.{OnOk, OnErr, unsigned_abs};
+ghost use Rattle.gj_shape.specs.Elimination.{at_column, divided, scaled, differences, reduced};
+ghost use Rattle.gj_shape.specs.Elimination.{marked_in_step, kept_entries, gcd_of_row, Passes};
 ghost use Rattle.std.specs.Int.{IsGcd};
 ghost use Rattle.gj_lemmas.specs.Divisors.{gcd_of};
 ghost use Rattle.gj_frac.specs.Fraction.{Fits};
@@ -91,12 +93,13 @@ fn combine(u: i128, row: &mut [i128], w: i128, kept: &[i128]) -> Result<(), Wide
     Ok(())
 }
 
-/// Reduces a row by a kept row with its pivot at the column. In the place of the row come u times
-/// the row less w times the kept row, divided by the greatest common divisor of their entries: u is
-/// the pivot and w the row's entry at the column, both divided by their greatest common divisor. The
-/// kept row has numbers of at most 2^127 - 1 in absolute value, and so has the row afterwards.
-/// `Wide` exactly if a product or a difference on the way passes that; some entries are changed
-/// then.
+/// Reduces a row by a kept row with its pivot at the column.
+///
+/// In the place of the row come u times the row less w times the kept row, divided by the greatest
+/// common divisor of their entries: u is the pivot and w the row's entry at the column, both divided
+/// by their greatest common divisor. The kept row has numbers of at most 2^127 - 1 in absolute
+/// value, and so has the row afterwards. `Wide` exactly if a product or a difference on the way
+/// passes that; some entries are changed then.
 pub fn reduce_by(kept: &[i128], row: &mut [i128], column: usize) -> Result<(), Wide>
     requires columns { length kept.now ≡ length row.old }
     requires within { column < length row.old }

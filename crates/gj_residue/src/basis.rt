@@ -1,5 +1,6 @@
 //! Rows that are kept by elimination over residues.
-ghost use Rattle.std.specs.Prelude.{ℕ, ℤ, ◌≡◌, ◌+◌, ◌<◌, ◌^◌, [], List, length, map, IfOk, OnOk, OnErr};
+ghost use Rattle.std.specs.Prelude.{ℕ, ℤ, ◌≡◌, ◌+◌, ◌<◌, ◌^◌, [], List, length, map, IfOk, OnOk};
+ghost use Rattle.std.specs.Prelude.{OnErr};
 ghost use Rattle.gj_shape.specs.Elimination.{inserted_by};
 ghost use Rattle.gj_shape.specs.Residues.{modulo, SolvesModulo};
 ghost use Rattle.gj_theory.specs.Modulus.{modulus};

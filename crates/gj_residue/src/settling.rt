@@ -6,7 +6,8 @@ ghost use Rattle.gj_theory.specs.Modulus.{modulus};
 ghost use Rattle.gj_theory.specs.TriangularResidues.{AreTriangularResidues};
 ghost use Rattle.gj_theory.specs.TriangularRows.{AreTriangular};
 ghost use Rattle.gj_frac.specs.Fraction.{Fits};
-ghost use Rattle.gj_residue.specs.Settled.{IsSettled, IsSettledBy, IsFullLog, AreRowsTooWide, AnswersRows, fault_of};
+ghost use Rattle.gj_residue.specs.Settled.{IsSettled, IsSettledBy, IsFullLog, AreRowsTooWide};
+ghost use Rattle.gj_residue.specs.Settled.{AnswersRows, fault_of};
 ghost use Rattle.gj_elim.specs.KeptRows.{marked_in};
 
 use crate::basis::ResidueBasis;

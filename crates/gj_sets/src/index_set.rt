@@ -13,7 +13,8 @@ pub struct IndexSet {
 }
 
 impl IndexSet {
-    ghost use Rattle.std.specs.Prelude.{ℕ, ◌≡◌, ◌<◌, ◌≤◌, false, not, ◌&&◌, ◌||◌, ◌==◌, nat_lt, nat_le, if◌then◌else◌};
+    ghost use Rattle.std.specs.Prelude.{ℕ, ◌≡◌, ◌<◌, ◌≤◌, false, not, ◌&&◌, ◌||◌, ◌==◌, nat_lt};
+    ghost use Rattle.std.specs.Prelude.{nat_le, if◌then◌else◌};
     ghost use Rattle.gj_sets.specs.IndexSets.{has};
 
     /// The set without an index.

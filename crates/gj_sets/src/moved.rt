@@ -6,7 +6,8 @@ use crate::index_set::{IndexSet, LIMIT};
 use std::simd::prelude::*;
 
 impl IndexSet {
-    ghost use Rattle.std.specs.Prelude.{ℕ, ◌≡◌, ◌+◌, ◌-◌, ◌<◌, ◌≤◌, ◌&&◌, ◌==◌, nat_lt, nat_le, if◌then◌else◌};
+    ghost use Rattle.std.specs.Prelude.{ℕ, ◌≡◌, ◌+◌, ◌-◌, ◌<◌, ◌≤◌, ◌&&◌, ◌==◌, nat_lt, nat_le};
+    ghost use Rattle.std.specs.Prelude.{if◌then◌else◌};
     ghost use Rattle.gj_sets.specs.IndexSets.{has};
 
     /// Each index less s. Those below s are left out.

@@ -3,7 +3,8 @@ use crate::index_set::IndexSet;
 use gj_lanes::SignedLane;
 
 impl IndexSet {
-    ghost use Rattle.std.specs.Prelude.{ℕ, ◌≡◌, ◌↔◌, ◌+◌, ◌+ℤ◌, ◌<◌, ◌≤◌, length, IsTrue, slice_index_or};
+    ghost use Rattle.std.specs.Prelude.{ℕ, ◌≡◌, ◌↔◌, ◌+◌, ◌+ℤ◌, ◌<◌, ◌≤◌, length, IsTrue};
+    ghost use Rattle.std.specs.Prelude.{slice_index_or};
     ghost use Rattle.gj_lanes.specs.Lanes.{IsInRange, AreLanesInRange};
     ghost use Rattle.gj_sets.specs.IndexSets.{has};
 

@@ -1,12 +1,16 @@
 //! Functions by their breakpoints, at any fractions.
-ghost use Rattle.std.specs.Prelude.{◌≡◌, ◌≢◌, ◌<◌, ◌≤◌, ◌↔◌, ◌++◌, ◌∷◌, [], ℕ, pos, List, length, IfSome, IfNone, IfOk, IfErr, OnOk, OnErr, IsTrue, unsigned_abs, alloc_error};
+ghost use Rattle.std.specs.Prelude.{◌≡◌, ◌≢◌, ◌<◌, ◌≤◌, ◌↔◌, ◌++◌, ◌∷◌, [], ℕ, pos, List, length};
+ghost use Rattle.std.specs.Prelude.{IfSome, IfNone, IfOk, IfErr, OnOk, OnErr, IsTrue, unsigned_abs};
+ghost use Rattle.std.specs.Prelude.{alloc_error};
 ghost use Rattle.gj_lemmas.specs.Divisors.{IsLcm};
 ghost use Rattle.gj_frac.specs.Fraction.{LessValue, fraction_of, denominator, IsInside};
 ghost use Rattle.gj_shape.specs.declared.faults.FractionFault.{FractionFault};
 ghost use Rattle.gj_shape.specs.Limits.{greatest_order};
 ghost use Rattle.gj_shape.specs.Given.{IsOrder, IsPlace, AreWithinBounds, IsTooFineOf};
 ghost use Rattle.gj_shape.specs.Points.{all_fractions};
-ghost use Rattle.gj_shape.specs.Breaks.{points_at, AreAscending, AreOnGrid, HasBreaks, IsGivenByBreaks, AreListsOfBreaks, no_breaks, IsNextBreak, Follows, IsBreakFault, break_fault, IsOfBreaks};
+ghost use Rattle.gj_shape.specs.Breaks.{points_at, AreAscending, AreOnGrid, HasBreaks};
+ghost use Rattle.gj_shape.specs.Breaks.{IsGivenByBreaks, AreListsOfBreaks, no_breaks, IsNextBreak};
+ghost use Rattle.gj_shape.specs.Breaks.{Follows, IsBreakFault, break_fault, IsOfBreaks};
 ghost use Rattle.gj_shape.specs.BreakPlaces.{IsBehindOthers};
 ghost use Rattle.gj_shape.specs.declared.breaks.Break.{Break};
 ghost use Rattle.gj_shape.specs.declared.breaks.BreakFault.TheVariants.{Memory};

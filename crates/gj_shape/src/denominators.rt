@@ -1,10 +1,13 @@
 //! The least common denominator of the values and limits of a function.
-ghost use Rattle.std.specs.Prelude.{◌≡◌, ◌<◌, ◌≤◌, ◌↔◌, ◌++◌, List, length, SomeIff, IfOk, IfErr, IsTrue, unsigned_abs};
+ghost use Rattle.std.specs.Prelude.{◌≡◌, ◌<◌, ◌≤◌, ◌↔◌, ◌++◌, List, length, SomeIff, IfOk, IfErr};
+ghost use Rattle.std.specs.Prelude.{IsTrue, unsigned_abs};
 ghost use Rattle.gj_frac.specs.declared.Frac.{Frac};
 ghost use Rattle.gj_frac.specs.Fraction.{denominator, HasDenominatorBelow};
 ghost use Rattle.gj_shape.specs.Limits.{greatest_order, greatest_value, denominator_bound};
 ghost use Rattle.gj_shape.specs.Given.{in_order, IsSmall};
-ghost use Rattle.gj_shape.specs.Denominators.{Extends, ExtendsBy, AreWithinBoundsOver, IsFractionRefused, IsRefusedBehind, IsFaultIn, fault_at};
+ghost use Rattle.gj_shape.specs.Denominators.{Extends, ExtendsBy, AreWithinBoundsOver};
+ghost use Rattle.gj_shape.specs.Denominators.{IsFractionRefused, IsRefusedBehind, IsFaultIn};
+ghost use Rattle.gj_shape.specs.Denominators.{fault_at};
 ghost use Rattle.gj_shape.specs.Points.{fractions_of};
 
 use crate::faults::{FractionFault, ShapeFault};

@@ -1,12 +1,14 @@
 //! The points of a function, tested one after another.
-ghost use Rattle.std.specs.Prelude.{◌≡◌, ◌<◌, ◌+◌, [], ◌∷◌, ◌++◌, All, length, List, IfOk, IfErr, OnOk, OnErr, alloc_error};
+ghost use Rattle.std.specs.Prelude.{◌≡◌, ◌<◌, ◌+◌, [], ◌∷◌, ◌++◌, All, length, List, IfOk, IfErr};
+ghost use Rattle.std.specs.Prelude.{OnOk, OnErr, alloc_error};
 ghost use Rattle.std.specs.Vec.{vec_len, vec_capacity};
 ghost use Rattle.gj_frac.specs.declared.Frac.{Frac};
 ghost use Rattle.gj_shape.specs.declared.faults.FractionFault.{FractionFault};
 ghost use Rattle.gj_shape.specs.declared.faults.FractionFault.TheVariants as refusal;
 ghost use Rattle.gj_shape.specs.declared.points.PointFault.TheVariants.{Large, Fine, Memory};
 ghost use Rattle.gj_shape.specs.Given.{IsOrder, IsPlace, IsSmall, HasCommonDenominator, IsGivenBy};
-ghost use Rattle.gj_shape.specs.Points.{lefts, values, rights, all_fractions, IsPointFault, point_fault};
+ghost use Rattle.gj_shape.specs.Points.{lefts, values, rights, all_fractions, IsPointFault};
+ghost use Rattle.gj_shape.specs.Points.{point_fault};
 
 use crate::denominators::with_point;
 use crate::faults::FractionFault;

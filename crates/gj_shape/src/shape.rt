@@ -1,7 +1,9 @@
 //! Functions of period 1 that are affine between neighbouring multiples of 1/q.
-ghost use Rattle.std.specs.Prelude.{◌≡◌, ◌<◌, ◌%◌, ℕ, pos, All, IfOk, IfErr, IfSome, IfNone, IsTrue, ◌↔◌};
+ghost use Rattle.std.specs.Prelude.{◌≡◌, ◌<◌, ◌%◌, ℕ, pos, All, IfOk, IfErr, IfSome, IfNone};
+ghost use Rattle.std.specs.Prelude.{IsTrue, ◌↔◌};
 ghost use Rattle.gj_frac.specs.Fraction.{IsRatio, IsInside};
-ghost use Rattle.gj_shape.specs.FunctionData.{IsWithinBounds, IsContinuous, IsJump, at, function_over};
+ghost use Rattle.gj_shape.specs.FunctionData.{IsWithinBounds, IsContinuous, IsJump, at};
+ghost use Rattle.gj_shape.specs.FunctionData.{function_over};
 ghost use Rattle.gj_shape.specs.Given.{in_order, HaveLength, IsOrder, IsPlace};
 ghost use Rattle.gj_shape.specs.Denominators.{AreWithinBoundsOver};
 ghost use Rattle.gj_shape.specs.Limits.{IsNumerator};

@@ -1,5 +1,6 @@
 //! The value of a function at a fraction.
-ghost use Rattle.std.specs.Prelude.{◌≡◌, ◌<◌, ◌≤◌, ◌*◌, ◌^◌, ℕ, ◌≢◌, pos, ◌*ℤ◌, ◌+ℤ◌, length, unsigned_abs};
+ghost use Rattle.std.specs.Prelude.{◌≡◌, ◌<◌, ◌≤◌, ◌*◌, ◌^◌, ℕ, ◌≢◌, pos, ◌*ℤ◌, ◌+ℤ◌, length};
+ghost use Rattle.std.specs.Prelude.{unsigned_abs};
 ghost use Rattle.gj_frac.specs.Fraction.{IsRatio, numerator, denominator};
 ghost use Rattle.gj_shape.specs.Limits.{IsSmallNumber};
 ghost use Rattle.gj_shape.specs.Refinement.{entry_or_value};

@@ -1,5 +1,6 @@
 //! Rows that are made from counts of intervals, which are made once for all rows.
-ghost use Rattle.std.specs.Prelude.{ℕ, ℤ, pos, ◌≡◌, ◌+◌, ◌%◌, ◌<◌, ◌≤◌, ◌^◌, ◌↔◌, ◌+ℤ◌, ◌-ℤ◌, get_or, length, map, All, IfOk, IsTrue, unsigned_abs};
+ghost use Rattle.std.specs.Prelude.{ℕ, ℤ, pos, ◌≡◌, ◌+◌, ◌%◌, ◌<◌, ◌≤◌, ◌^◌, ◌↔◌, ◌+ℤ◌, ◌-ℤ◌};
+ghost use Rattle.std.specs.Prelude.{get_or, length, map, All, IfOk, IsTrue, unsigned_abs};
 ghost use Rattle.std.specs.List.{range_with_len};
 ghost use Rattle.gj_shape.specs.SlopeRows.{row_of as row_entries, component_in};
 ghost use Rattle.gj_shape.specs.declared.extremality.RowName.TheVariants.{Pair};

@@ -6,7 +6,8 @@ ghost use Rattle.gj_shape.specs.Extreme.{AverageTo};
 ghost use Rattle.gj_shape.specs.FunctionData.{FunctionData, IsWithinBounds, IsContinuous};
 ghost use Rattle.gj_shape.specs.Table.{IsMinimalTable};
 ghost use Rattle.gj_shape.specs.declared.faces.FaceKind.{FaceKind};
-ghost use Rattle.gj_theory.specs.Steps.{HasStep, HasStepOn, IsAdditiveOnLower, IsAdditiveOnUpper, IsAdditiveAtTight, IsAdditiveOnGrid};
+ghost use Rattle.gj_theory.specs.Steps.{HasStep, HasStepOn, IsAdditiveOnLower, IsAdditiveOnUpper};
+ghost use Rattle.gj_theory.specs.Steps.{IsAdditiveAtTight, IsAdditiveOnGrid};
 
 /// The interval lemma: a table that is additive on a closed triangle has one constant step on its
 /// three projections.

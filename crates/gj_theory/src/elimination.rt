@@ -1,9 +1,12 @@
 //! Plain elimination: its rows and their solutions.
-ghost use Rattle.std.specs.Prelude.{ℕ, ℤ, pos, ◌≡◌, ◌<◌, ◌≤◌, ◌↔◌, ◌<ℤ◌, None, List, [], length, map, zip, All, Any, IfSome};
+ghost use Rattle.std.specs.Prelude.{ℕ, ℤ, pos, ◌≡◌, ◌<◌, ◌≤◌, ◌↔◌, ◌<ℤ◌, None, List, [], length};
+ghost use Rattle.std.specs.Prelude.{map, zip, All, Any, IfSome};
 ghost use Rattle.std.specs.List.{range_with_len};
 ghost use Rattle.gj_frac.specs.Fraction.{Fits};
-ghost use Rattle.gj_shape.specs.Elimination.{KeptRow, at_column, divided, reduced, kept_entries, inserted, kept_behind, elimination, kernel, Passes};
-ghost use Rattle.gj_theory.specs.HandedOver.{kept_after, IsHandedOver, handed_numbers, handed_rows, renumbered};
+ghost use Rattle.gj_shape.specs.Elimination.{KeptRow, at_column, divided, reduced, kept_entries};
+ghost use Rattle.gj_shape.specs.Elimination.{inserted, kept_behind, elimination, kernel, Passes};
+ghost use Rattle.gj_theory.specs.HandedOver.{kept_after, IsHandedOver, handed_numbers, handed_rows};
+ghost use Rattle.gj_theory.specs.HandedOver.{renumbered};
 ghost use Rattle.gj_theory.specs.TriangularRows.{Solves, SolvesKept, AreTriangular, present_row};
 
 /// A step keeps the solutions: together with the kept row, the row and the row after the step have

@@ -3,7 +3,8 @@ ghost use Rattle.std.specs.Prelude.{ℕ, ◌<◌};
 ghost use Rattle.gj_shape.specs.FunctionData.{FunctionData};
 ghost use Rattle.gj_shape.specs.FirstViolation.{Test, Passes, PassesAll, Shows, IsFirstViolation};
 ghost use Rattle.gj_shape.specs.declared.violations.Violation.{Violation};
-ghost use Rattle.gj_theory.specs.EarlierTests.{IsTestOf, PassesBefore, PassesVertices, PassesSquare};
+ghost use Rattle.gj_theory.specs.EarlierTests.{IsTestOf, PassesBefore, PassesVertices};
+ghost use Rattle.gj_theory.specs.EarlierTests.{PassesSquare};
 
 /// If all tests before a test pass and it fails, what it shows is the first violation.
 pub fn first_failed_test()

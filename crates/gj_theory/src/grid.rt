@@ -2,7 +2,8 @@
 ghost use Rattle.std.specs.Prelude.{ℕ, pos, ◌≡◌, ◌+◌, ◌-◌, ◌*◌, ◌<◌, ◌≤◌, ◌+ℤ◌, [], ◌∷◌, length};
 ghost use Rattle.gj_shape.specs.FunctionData.{FunctionData, IsWithinBounds, IsContinuous, at};
 ghost use Rattle.gj_shape.specs.Faces.{corners_of, limits_of};
-ghost use Rattle.gj_shape.specs.FirstViolation.{PassesAll, near, first_coordinates, second_coordinates};
+ghost use Rattle.gj_shape.specs.FirstViolation.{PassesAll, near, first_coordinates};
+ghost use Rattle.gj_shape.specs.FirstViolation.{second_coordinates};
 ghost use Rattle.gj_shape.specs.Table.{table, IsMinimalOnGrid, IsMinimal};
 ghost use Rattle.gj_shape.specs.declared.faces.FaceKind.{FaceKind};
 ghost use Rattle.gj_theory.specs.NearCorners.{near_value};

@@ -1,17 +1,20 @@
 //! Perturbations of a minimal function, and the two functions that they give.
-ghost use Rattle.std.specs.Prelude.{ℕ, ℤ, pos, ◌≡◌, ◌≢◌, ◌+◌, ◌*◌, ◌<◌, ◌≤◌, ◌==◌, ◌↔◌, List, All, Contains, count_by, length, unsigned_abs};
+ghost use Rattle.std.specs.Prelude.{ℕ, ℤ, pos, ◌≡◌, ◌≢◌, ◌+◌, ◌*◌, ◌<◌, ◌≤◌, ◌==◌, ◌↔◌, List, All};
+ghost use Rattle.std.specs.Prelude.{Contains, count_by, length, unsigned_abs};
 ghost use Rattle.gj_shape.specs.Additive.{IsTight, IsTightOnGrid, IsAdditive, IsInClosure};
 ghost use Rattle.gj_shape.specs.Cover.{IsCovered, IsInClassOf, AreCoverLines, HasComponent};
 ghost use Rattle.gj_shape.specs.Elimination.{at_column};
 ghost use Rattle.gj_shape.specs.Extreme.{IsExtremeTable};
 ghost use Rattle.gj_shape.specs.FunctionData.{FunctionData, IsWithinBounds, IsContinuous, at};
-ghost use Rattle.gj_shape.specs.Perturbation.{zigzag, perturbation_of, IsLeastSlack, IsGreatestSize, AreHalvesOf};
+ghost use Rattle.gj_shape.specs.Perturbation.{zigzag, perturbation_of, IsLeastSlack};
+ghost use Rattle.gj_shape.specs.Perturbation.{IsGreatestSize, AreHalvesOf};
 ghost use Rattle.gj_shape.specs.SlopeRows.{SolveRows};
 ghost use Rattle.gj_shape.specs.Table.{table, IsMinimalTable, IsMinimal};
 ghost use Rattle.gj_shape.specs.declared.extremality.CoverLine.{CoverLine};
 ghost use Rattle.gj_shape.specs.declared.extremality.Halves.{Halves};
 ghost use Rattle.gj_shape.specs.declared.faces.FaceKind.{FaceKind};
-ghost use Rattle.gj_theory.specs.Halves.{IsPerturbation, IsBelowSlacks, raised, lowered, AreDifferentHalves};
+ghost use Rattle.gj_theory.specs.Halves.{IsPerturbation, IsBelowSlacks, raised, lowered};
+ghost use Rattle.gj_theory.specs.Halves.{AreDifferentHalves};
 ghost use Rattle.gj_theory.specs.Uncovered.{AreUncoveredClasses};
 
 /// A tight pair of the table on any grid lies in the closure of an additive face.

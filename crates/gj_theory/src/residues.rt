@@ -1,10 +1,12 @@
 //! Elimination over residues: its rows and their solutions.
-ghost use Rattle.std.specs.Prelude.{ℕ, ℤ, pos, ◌≡◌, ◌≢◌, ◌<◌, ◌≤◌, ◌-ℤ◌, ◌*ℤ◌, ◌↔◌, None, Some, List, length, unsigned_abs, All, IfSome};
+ghost use Rattle.std.specs.Prelude.{ℕ, ℤ, pos, ◌≡◌, ◌≢◌, ◌<◌, ◌≤◌, ◌-ℤ◌, ◌*ℤ◌, ◌↔◌, None, Some};
+ghost use Rattle.std.specs.Prelude.{List, length, unsigned_abs, All, IfSome};
 ghost use Rattle.gj_lemmas.specs.Divisors.{gcd_of};
 ghost use Rattle.gj_shape.specs.Elimination.{KeptRow, elimination_by};
 ghost use Rattle.gj_shape.specs.Residues.{inverse, modulo, IsZeroModulo, SolvesModulo};
 ghost use Rattle.gj_theory.specs.TriangularRows.{Solves, present_row_by};
-ghost use Rattle.gj_theory.specs.TriangularResidues.{HavePivotsModulo, SolvesKeptModulo, AreTriangularResidues};
+ghost use Rattle.gj_theory.specs.TriangularResidues.{HavePivotsModulo, SolvesKeptModulo};
+ghost use Rattle.gj_theory.specs.TriangularResidues.{AreTriangularResidues};
 
 /// The modulus of elimination over residues, 2^61 - 1.
 pub const MODULUS: u64 = 2_305_843_009_213_693_951;

@@ -1,7 +1,8 @@
 //! Minimal continuous functions with two slopes (Gomory and Johnson 1972).
 ghost use Rattle.std.specs.Prelude.{ℕ, ℤ, pos, ◌≡◌, ◌⊎◌, ◌-◌, ◌<◌, ◌≤◌, List, length, All};
 ghost use Rattle.gj_shape.specs.Additive.{IsTight, IsAdditive};
-ghost use Rattle.gj_shape.specs.Cover.{AreJoined, IsCovered, AreInOneComponent, AreCoverLines, HasComponent, components_in};
+ghost use Rattle.gj_shape.specs.Cover.{AreJoined, IsCovered, AreInOneComponent, AreCoverLines};
+ghost use Rattle.gj_shape.specs.Cover.{HasComponent, components_in};
 ghost use Rattle.gj_shape.specs.Extreme.{IsExtreme};
 ghost use Rattle.gj_shape.specs.FunctionData.{FunctionData, IsWithinBounds};
 ghost use Rattle.gj_shape.specs.SlopeRows.{row_of, sum_of_products};

@@ -1,6 +1,7 @@
 //! What minimal and extreme mean: valid tables, those whose entries at the places of each solution
 //! add up to at least 1.
-ghost use Rattle.std.specs.Prelude.{ℕ, ℤ, pos, ◌≡◌, ◌≢◌, ◌⊎◌, ◌+◌, ◌*◌, ◌%◌, ◌<◌, ◌+ℤ◌, ◌*ℤ◌, ◌≤ℤ◌, ◌<ℤ◌, List, map, sum};
+ghost use Rattle.std.specs.Prelude.{ℕ, ℤ, pos, ◌≡◌, ◌≢◌, ◌⊎◌, ◌+◌, ◌*◌, ◌%◌, ◌<◌, ◌+ℤ◌, ◌*ℤ◌, ◌≤ℤ◌};
+ghost use Rattle.std.specs.Prelude.{◌<ℤ◌, List, map, sum};
 ghost use Rattle.std.specs.List.{AllZip, range_with_len};
 ghost use Rattle.gj_frac.specs.declared.Frac.{Frac};
 ghost use Rattle.gj_shape.specs.Extreme.{IsExtremeTable, IsExtreme};
@@ -8,7 +9,8 @@ ghost use Rattle.gj_shape.specs.FunctionData.{FunctionData, IsWithinBounds};
 ghost use Rattle.gj_shape.specs.RowCut.{CutHolds};
 ghost use Rattle.gj_shape.specs.SlopeRows.{total};
 ghost use Rattle.gj_shape.specs.Table.{table, IsMinimalTable, IsMinimal};
-ghost use Rattle.gj_shape.specs.Valid.{IsSolution, weight, IsValidTable, IsMinimalAmongValid, IsExtremeAmongValid, IsDominated};
+ghost use Rattle.gj_shape.specs.Valid.{IsSolution, weight, IsValidTable, IsMinimalAmongValid};
+ghost use Rattle.gj_shape.specs.Valid.{IsExtremeAmongValid, IsDominated};
 ghost use Rattle.gj_shape.specs.Violation.{ShowsViolation};
 ghost use Rattle.gj_shape.specs.declared.violations.Violation.{Violation};
 ghost use Rattle.gj_frac.specs.Floor.{HasFractionalPart};

@@ -3,7 +3,8 @@ ghost use Rattle.std.specs.Prelude.{◌≡◌, ◌≢◌, ◌⊎◌, ◌<◌, �
 ghost use Rattle.std.specs.Int.{◌∣◌};
 ghost use Rattle.gj_shape.specs.FunctionData.{IsWithinBounds, IsContinuous};
 ghost use Rattle.gj_shape.specs.Table.{IsMinimal};
-ghost use Rattle.gj_transform.specs.Transforms.{IsRestrictionOf, HasNoRestriction, AgreeAtMultiples};
+ghost use Rattle.gj_transform.specs.Transforms.{IsRestrictionOf, HasNoRestriction};
+ghost use Rattle.gj_transform.specs.Transforms.{AgreeAtMultiples};
 
 use crate::entries::{entries_at_multiples, greatest_divisor, quotients};
 use crate::faults::TransformFault;

@@ -1,7 +1,8 @@
 //! The values of transformed functions at fractions.
 ghost use Rattle.std.specs.Prelude.{ℕ, pos, negsuc, ◌<◌};
 ghost use Rattle.gj_shape.specs.FunctionData.{FunctionData, IsWithinBounds};
-ghost use Rattle.gj_transform.specs.Transforms.{IsTimesOf, IsMirrorOf, IsRestrictionOf, HasValuesAtMultiples, AgreeAtMultiples};
+ghost use Rattle.gj_transform.specs.Transforms.{IsTimesOf, IsMirrorOf, IsRestrictionOf};
+ghost use Rattle.gj_transform.specs.Transforms.{HasValuesAtMultiples, AgreeAtMultiples};
 
 /// The function of n x has at each fraction u/d the value of the function at n u/d.
 pub fn times_has_values()

@@ -4,7 +4,10 @@ ghost use Rattle.gj_frac.specs.Fraction.{Fraction, SameValue, sum_of, AtMostValu
 ghost use Rattle.gj_shape.specs.Extreme.{IsExtreme};
 ghost use Rattle.gj_shape.specs.FunctionData.{FunctionData, IsWithinBounds, IsContinuous};
 ghost use Rattle.gj_shape.specs.Table.{IsMinimal};
-ghost use Rattle.gj_valid.specs.ValidFunctions.{over, IsNonnegative, IsSamePoint, total_of, IsFunction, IsValidFunction, IsMinimalAmongFunctions, IsExtremeAmongFunctions, function_of};
+ghost use Rattle.gj_valid.specs.ValidFunctions.{over, IsNonnegative, IsSamePoint, total_of};
+ghost use Rattle.gj_valid.specs.ValidFunctions.{IsFunction, IsValidFunction};
+ghost use Rattle.gj_valid.specs.ValidFunctions.{IsMinimalAmongFunctions, IsExtremeAmongFunctions};
+ghost use Rattle.gj_valid.specs.ValidFunctions.{function_of};
 
 /// The minimal functions are those that, taken on all fractions, are minimal among the valid
 /// functions: no other lies below.
