@@ -14,7 +14,7 @@ use crate::denominators::with_point;
 use crate::faults::FractionFault;
 use crate::shape::Shape;
 use gj_frac::Frac;
-use std::alloc::{AllocError, AllocFailed, Global};
+use std::alloc::{AllocError, Global};
 use std::marker::Model;
 use thiserror::Error;
 
