@@ -10,12 +10,13 @@ use Rattle.gj_shape.specs.WalkOrder.{faces_in, faces_of_square, position_of_kind
 use Rattle.gj_shape.specs.declared.faces.Face.{Face}
 use Rattle.gj_shape.specs.declared.faces.FaceKind.{FaceKind}
 use Rattle.gj_shape.specs.declared.faces.FaceKind.TheVariants.{Vertex, Horizontal, Vertical, Diagonal, Lower, Upper}
+use Rattle.gj_complex.specs.Walk.{kinds_after}
 use Rattle.gj_cover.specs.FirstFound.{IsNotBefore}
 
 abbrev face_at : FaceKind → ℕ → ℕ → Face
 face_at kind a b = record { kind = kind; a = a; b = b }
 
--- the kinds before a kind and those behind it
+-- the kinds before a kind
 abbrev before : FaceKind → List FaceKind
 before Vertex = []
 before Horizontal = Vertex ∷ []
@@ -24,16 +25,8 @@ before Diagonal = Vertex ∷ Horizontal ∷ Vertical ∷ []
 before Lower = Vertex ∷ Horizontal ∷ Vertical ∷ Diagonal ∷ []
 before Upper = Vertex ∷ Horizontal ∷ Vertical ∷ Diagonal ∷ Lower ∷ []
 
-abbrev behind : FaceKind → List FaceKind
-behind Vertex = Horizontal ∷ Vertical ∷ Diagonal ∷ Lower ∷ Upper ∷ []
-behind Horizontal = Vertical ∷ Diagonal ∷ Lower ∷ Upper ∷ []
-behind Vertical = Diagonal ∷ Lower ∷ Upper ∷ []
-behind Diagonal = Lower ∷ Upper ∷ []
-behind Lower = Upper ∷ []
-behind Upper = []
-
 square_split : (kind : FaceKind) (a b : ℕ) →
-    faces_of_square a b ≡ faces_in (before kind) a b ++ face_at kind a b ∷ faces_in (behind kind) a b
+    faces_of_square a b ≡ faces_in (before kind) a b ++ face_at kind a b ∷ faces_in (kinds_after kind) a b
 square_split Vertex a b = refl
 square_split Horizontal a b = refl
 square_split Vertical a b = refl
@@ -74,7 +67,7 @@ in_square : (Q : Face → Type 0) (kind : FaceKind) (a b : ℕ) →
     ((other : FaceKind) → position_of_kind other < position_of_kind kind → Q (face_at other a b)) → (Q (face_at kind a b) → ⊥) →
     IsFirstFailing (All Q) (faces_of_square a b) (faces_in (before kind) a b) (face_at kind a b)
 in_square Q kind a b passed fails =
-    first_failing Q (faces_of_square a b) (faces_in (before kind) a b) (faces_in (behind kind) a b) (face_at kind a b)
+    first_failing Q (faces_of_square a b) (faces_in (before kind) a b) (faces_in (kinds_after kind) a b) (face_at kind a b)
     (square_split kind a b)
     (All-map Q (λ k. face_at k a b) (before kind) (ranks_before (λ k. Q (face_at k a b)) kind passed)) fails
 

@@ -20,19 +20,18 @@ pub(crate) fn table_of_runs(alloc: Global, runs: &[Run], q: u32) -> Result<Table
 {
     let mut rows = no_pairs(alloc, q as usize)?;
     for run in runs {
-        mark(&mut rows, *run, q);
+        mark(&mut rows, *run);
     }
     let table = Table::of(alloc, rows, q)?;
     Ok(table)
 }
 
 /// Adds the pairs of a run.
-fn mark(rows: &mut Vec<IndexSet>, run: Run, q: u32)
-    requires order { IsOrder q }
-    requires run { IsRunOf q run }
-    requires length { length rows.old.items ≡ q }
-    ensures length { length rows.new.items ≡ q }
-    ensures marked { (i j : ℕ) → i < q → j < q →
+fn mark(rows: &mut Vec<IndexSet>, run: Run)
+    requires order { IsOrder (length rows.old.items) }
+    requires run { IsRunOf (length rows.old.items) run }
+    ensures length { length rows.new.items ≡ length rows.old.items }
+    ensures marked { let q = length rows.old.items in (i j : ℕ) → i < q → j < q →
         IsTrue (in_row rows.new.items i j) ↔ (IsTrue (in_row rows.old.items i j) ⊎
         RunHolds q i j run) }
 {

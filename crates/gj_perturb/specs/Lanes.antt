@@ -26,7 +26,7 @@ pub record AreSubadditive (lanes : List ℕ) (n : ℕ) : Type 0 where
 
 -- the greatest lane stands for no slack, and each other one for the slack that is one more
 abbrev pub no_slack : ℕ
-no_slack = 4294967295
+no_slack = 2 ^ 32 - 1
 
 -- the triangle of a square below n has this slack at a corner
 pub record IsAtCorner (lanes : List ℕ) (n x : ℕ) : Type 0 where

@@ -1,5 +1,6 @@
 -- What a fault names.
-use Rattle.std.proofs.Common.{ℕ}
+use Rattle.std.proofs.Common.{◌≡◌, ℕ, Result, Ok, Err, IfErr, sym, subst}
+use Rattle.std.specs.Result.{IsErrAnd}
 use Rattle.gj_row.specs.declared.faults.RowReason.{RowReason}
 use Rattle.gj_row.specs.declared.faults.RecordFault.{RecordFault}
 use Rattle.gj_row.specs.declared.faults.RecordFault.TheVariants.{Refused, Memory}
@@ -19,3 +20,9 @@ names_record P Q (Memory a) n f p = tt
 pub records_weaker : (P Q : ℕ → RowReason → Type 0) (fault : RowFault) → ((n : ℕ) (e : RowReason) → P n e → Q n e) → NamesRecord P fault → NamesRecord Q fault
 records_weaker P Q (fault.Refused n e) f p = f n e p
 records_weaker P Q (fault.Memory a) f p = tt
+
+-- what a fault that is handed on names
+pub handed_on : {T : Type 0} (result : Result T RecordFault) (fault : RecordFault) (P : RowReason → Type 0) →
+    IsErrAnd result (λ f. f ≡ fault) → NamesReason P fault → IfErr result (NamesReason P)
+handed_on (Ok x) fault P is h = tt
+handed_on (Err f) fault P is h = subst (NamesReason P) (sym is) h

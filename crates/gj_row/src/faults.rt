@@ -103,6 +103,14 @@ impl RecordFault {
     }
 }
 
+impl From<RowReason> for RecordFault {
+    ghost from_gives = { λ e f. f ≡ record_fault.Refused e };
+
+    fn from(reason: RowReason) -> RecordFault {
+        RecordFault::Refused(reason)
+    }
+}
+
 impl From<AllocError> for RecordFault {
     ghost from_gives = { λ e f. f ≡ record_fault.Memory e };
 

@@ -61,10 +61,8 @@ fn header_in(alloc: Global, fields: &ByteRecord) -> Result<Header, RecordFault>
     let mut columns = Vec::new(alloc);
     let mut names = IndexSet::with_capacity(alloc, fields.len())?;
     for place in 2..fields.len() {
-        match new_name(alloc, &mut names, word_at(fields, place)) {
-            Ok(name) => columns.push(name)?,
-            Err(fault) => return Err(fault),
-        }
+        let name = new_name(alloc, &mut names, word_at(fields, place))?;
+        columns.push(name)?;
     }
     Ok(Header { columns, names })
 }

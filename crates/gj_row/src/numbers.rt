@@ -7,7 +7,7 @@ ghost use Rattle.gj_lex.specs.SpelledNumbers.{IsFractionWord};
 ghost use Rattle.gj_lex.specs.declared.spelling.Spelling.{Spelling};
 ghost use Rattle.gj_shape.specs.Limits.{denominator_bound, greatest_number};
 ghost use Rattle.gj_shape.specs.Denominators.{Extends};
-ghost use Rattle.gj_row.specs.TableauLimits.{most_entries};
+ghost use Rattle.gj_row.specs.TableauLimits.{most_columns, most_entries};
 ghost use Rattle.gj_row.specs.TableauText.{SpellsEntry, entry_at, is_zero, word_of};
 ghost use Rattle.gj_row.specs.FirstFault.{HasNumberFault};
 ghost use Rattle.gj_row.specs.Reading.{StopsNumber, StopsEntry, HasRead, NamesReason, fields_in, fields_of_line, words_in, words_of_fields};
@@ -46,7 +46,7 @@ pub(crate) fn numbers_of(
     used: usize,
 ) -> Result<Numbers, RecordFault>
     requires wide { 2 ≤ length (fields_in fields.now) }
-    requires narrow { length (fields_in fields.now) ≤ 10002 }
+    requires narrow { length (fields_in fields.now) ≤ most_columns + 2 }
     requires few { used ≤ most_entries }
     ensures found { IfOk result (λ n. HasRead used (drop 1 (words_of_fields fields.now))
         n.rhs n.scale n.entries.items) }
@@ -64,7 +64,7 @@ pub(crate) fn numbers_of(
 
 /// The numbers that stand in the line, if the rows before it have `used` entries that are not 0.
 fn numbers_in_line(alloc: Global, line: &[u8], used: usize) -> Result<Numbers, RecordFault>
-    requires narrow { length (fields_of_line line.now) ≤ 10001 }
+    requires narrow { length (fields_of_line line.now) ≤ most_columns + 1 }
     requires few { used ≤ most_entries }
     ensures found { IfOk result (λ n. HasRead used (map word_of (fields_of_line line.now))
         n.rhs n.scale n.entries.items) }
@@ -72,21 +72,14 @@ fn numbers_in_line(alloc: Global, line: &[u8], used: usize) -> Result<Numbers, R
         (NamesReason (HasNumberFault used (map word_of (fields_of_line line.now)))) }
 {
     let (right, behind) = first_field(line);
-    let (rhs, right_scale) = match right_side(word_of(right)) {
-        Ok(right) => right,
-        Err(reason) => return Err(RecordFault::Refused(reason)),
-    };
-    let mut scale = right_scale;
+    let (rhs, mut scale) = right_side(word_of(right))?;
     let mut entries = Vec::with_capacity(alloc, likely_entries_in(line))?;
     let mut column = 0;
     let mut left = behind;
     while let Some(rest) = left {
         let (empty, field, next) = field_behind_empty(rest);
         column += empty as u32;
-        match with_entry(&mut entries, scale, used, column, word_of(field)) {
-            Ok(multiple) => scale = multiple,
-            Err(fault) => return Err(fault),
-        }
+        scale = with_entry(&mut entries, scale, used, column, word_of(field))?;
         column += 1;
         left = next;
     }
@@ -101,25 +94,18 @@ fn numbers_in_line(alloc: Global, line: &[u8], used: usize) -> Result<Numbers, R
 /// that are not 0.
 fn numbers_in(alloc: Global, fields: &ByteRecord, used: usize) -> Result<Numbers, RecordFault>
     requires wide { 2 ≤ length (fields_of fields.now) }
-    requires narrow { length (fields_of fields.now) ≤ 10002 }
+    requires narrow { length (fields_of fields.now) ≤ most_columns + 2 }
     requires few { used ≤ most_entries }
     ensures found { IfOk result (λ n. HasRead used
         (drop 1 (words_in fields.now)) n.rhs n.scale n.entries.items) }
     ensures refused { IfErr result (NamesReason (HasNumberFault used
         (drop 1 (words_in fields.now)))) }
 {
-    let (rhs, right_scale) = match right_side(word_at(fields, 1)) {
-        Ok(right) => right,
-        Err(reason) => return Err(RecordFault::Refused(reason)),
-    };
-    let mut scale = right_scale;
+    let (rhs, mut scale) = right_side(word_at(fields, 1))?;
     let mut entries = Vec::with_capacity(alloc, likely_entries(fields))?;
     for place in 2..fields.len() {
         let word = word_at(fields, place);
-        match with_entry(&mut entries, scale, used, (place - 2) as u32, word) {
-            Ok(multiple) => scale = multiple,
-            Err(fault) => return Err(fault),
-        }
+        scale = with_entry(&mut entries, scale, used, (place - 2) as u32, word)?;
     }
     Ok(Numbers {
         rhs,
@@ -166,10 +152,7 @@ fn with_entry(
     if word.is_empty() {
         return Ok(scale);
     }
-    let (x, multiple) = match entry(scale, word) {
-        Ok(read) => read,
-        Err(reason) => return Err(RecordFault::Refused(reason)),
-    };
+    let (x, multiple) = entry(scale, word)?;
     if is_zero(x) {
         return Ok(multiple);
     }
@@ -184,7 +167,7 @@ fn with_entry(
 fn is_zero(x: Frac) -> bool
     ensures { result ≡ is_zero x }
 {
-    x.num().unsigned_abs() == 0
+    x.num() == 0
 }
 
 /// The right side that the word spells, and its denominator.

@@ -4,23 +4,25 @@ use Rattle.gj_lex.specs.declared.spelling.Spelling.TheVariants.{Lenient}
 use Rattle.gj_row.specs.TableauText.{word_of, SpellsEntry}
 use Rattle.gj_row.specs.FirstFault.{HasNumberFault}
 use Rattle.gj_row.specs.Reading.{StopsEntry, fields_behind, fields_of_line}
-use Rattle.gj_row.proofs.Reasons.{names_weaker}
+use Rattle.gj_row.specs.declared.faults.RecordFault.TheVariants.{Refused}
+use Rattle.gj_row.proofs.Reasons.{names_weaker, handed_on}
 use Rattle.gj_row.proofs.RowNumbers.{front_first, front_next, front_skips, front_stopped, front_long, front_all, length_behind_empty, right_stopped}
 use Rattle.gj_row.proofs.numbers.numbers_in_line.Goals as goal
 
-pub returns-in-Err-clause-refused : goal.returns-in-Err-clause-refused
-returns-in-Err-clause-refused c =
+pub returns-in_err-rhs-clause-refused : goal.returns-in_err-rhs-clause-refused
+returns-in_err-rhs-clause-refused c =
     let behind = map word_of (fields_behind c.first_field.result.1) in
-    right_stopped c.args.used c.word_of.result.now behind (map word_of (fields_of_line c.args.line.now)) c.in-Err.reason c.requires.few
-    (ap (map word_of) c.first_field.ensures ∙ ap (λ w. w ∷ behind) (sym c.word_of.ensures)) c.in-Err.ensures.refused
+    let words = map word_of (fields_of_line c.args.line.now) in
+    handed_on c.from_residual.result (Refused c.in_err-rhs.field-0.0) (HasNumberFault c.args.used words) c.from_residual.ensures.1
+    (right_stopped c.args.used c.word_of.result.now behind words c.in_err-rhs.field-0.0 c.requires.few
+    (ap (map word_of) c.first_field.ensures ∙ ap (λ w. w ∷ behind) (sym c.word_of.ensures)) c.in_err-rhs.ensures.refused)
 
 pub loop-left-init : goal.loop-left-init
 loop-left-init c =
-    let right = c.in-Ok.right in
-    let found = c.in-Ok.ensures.found in
+    let found = c.in_ok-rhs.ensures.found in
     rw c.in_ok-entries.ensures.items
-    (front_first c.args.used (fields_of_line c.args.line.now) (fields_behind c.first_field.result.1) c.first_field.result.0.now right.0 right.1
-    c.requires.few c.first_field.ensures (subst (λ w. IsFractionWord Lenient w right.0) c.word_of.ensures found.0) found.1)
+    (front_first c.args.used (fields_of_line c.args.line.now) (fields_behind c.first_field.result.1) c.first_field.result.0.now c.in_ok-rhs.rhs
+    c.in_ok-rhs.scale c.requires.few c.first_field.ensures (subst (λ w. IsFractionWord Lenient w c.in_ok-rhs.rhs) c.word_of.ensures found.0) found.1)
 
 pub with_entry-requires : goal.with_entry-requires
 with_entry-requires c =
@@ -31,20 +33,21 @@ with_entry-requires c =
       few = let e = ap length read.entries_are in omega (arith, read.begins.few);
     }
 
-pub returns-in-Err-with_entry-clause-refused : goal.returns-in-Err-with_entry-clause-refused
-returns-in-Err-with_entry-clause-refused c =
+pub returns-in_err-scale-clause-refused : goal.returns-in_err-scale-clause-refused
+returns-in_err-scale-clause-refused c =
     let fields = fields_of_line c.args.line.now in
     let (empty, field, next) = c.field_behind_empty-empty.result in
     let w = c.word_of-in-Some.result.now in
     let entries = c.loop-left.entries.items in
     let scale = c.loop-left.scale in
+    let fault = c.in_err-scale.field-0.0 in
     let at = front_skips (field.now ∷ fields_behind next) empty c.loop-left.invariant (ap fields_behind c.in-Some.is ∙ c.field_behind_empty-empty.ensures) in
-    names_weaker (StopsEntry (SpellsEntry w) scale (c.args.used + length entries)) (HasNumberFault c.args.used (map word_of fields))
-    c.in-Err-with_entry.fault
-    (λ e stops. front_stopped c.args.used fields (field.now ∷ fields_behind next) (fields_behind next) c.in-Ok.right.0 scale entries
+    handed_on c.from_residual-in_err-scale.result fault (HasNumberFault c.args.used (map word_of fields)) c.from_residual-in_err-scale.ensures.1
+    (names_weaker (StopsEntry (SpellsEntry w) scale (c.args.used + length entries)) (HasNumberFault c.args.used (map word_of fields)) fault
+    (λ e stops. front_stopped c.args.used fields (field.now ∷ fields_behind next) (fields_behind next) c.in_ok-rhs.rhs scale entries
     (c.loop-left.column + empty) field.now e at refl
     (subst (λ v. StopsEntry (SpellsEntry v) scale (c.args.used + length entries) e) c.word_of-in-Some.ensures stops))
-    c.in-Err-with_entry.ensures.refused
+    c.in_err-scale.ensures.refused)
 
 pub overflow_cast-column : goal.overflow_cast-column
 overflow_cast-column c =
@@ -70,10 +73,10 @@ overflow_add-column-in-Some c =
 pub loop-left-preserved : goal.loop-left-preserved
 loop-left-preserved c =
     let (empty, field, next) = c.field_behind_empty-empty.result in
-    let found = c.in-Ok-with_entry.ensures.found in
+    let found = c.in_ok-scale.ensures.found in
     let at = front_skips (field.now ∷ fields_behind next) empty c.loop-left.invariant (ap fields_behind c.in-Some.is ∙ c.field_behind_empty-empty.ensures) in
-    front_next c.args.used (fields_of_line c.args.line.now) (field.now ∷ fields_behind next) (fields_behind next) c.in-Ok.right.0
-    c.loop-left.scale c.loop-left.entries.items (c.loop-left.column + empty) field.now found.0 c.in-Ok-with_entry.multiple
+    front_next c.args.used (fields_of_line c.args.line.now) (field.now ∷ fields_behind next) (fields_behind next) c.in_ok-rhs.rhs
+    c.loop-left.scale c.loop-left.entries.items (c.loop-left.column + empty) field.now found.0 c.in_ok-scale.scale
     c.with_entry.new.entries.items at refl (subst (λ v. SpellsEntry v found.0) c.word_of-in-Some.ensures found.1) found.2 found.3 found.4
 
 pub loop-left-smaller : goal.loop-left-smaller
@@ -85,5 +88,5 @@ loop-left-smaller c =
 
 pub returns-clause-found : goal.returns-clause-found
 returns-clause-found c =
-    front_all c.args.used (fields_of_line c.args.line.now) (fields_behind c.loop-left.left) c.in-Ok.right.0 c.loop-left.scale
+    front_all c.args.used (fields_of_line c.args.line.now) (fields_behind c.loop-left.left) c.in_ok-rhs.rhs c.loop-left.scale
     c.loop-left.entries.items c.loop-left.column c.loop-left.invariant (ap fields_behind c.in_default.is)

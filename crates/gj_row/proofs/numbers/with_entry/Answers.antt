@@ -13,27 +13,27 @@ returns-then-is_empty-clause-found c =
 
 pub returns-then-is_zero-clause-found : goal.returns-then-is_zero-clause-found
 returns-then-is_zero-clause-found c =
-    let x = c.in-Ok.read.0 in
+    let x = c.in_ok-x.x in
     let items = c.args.entries.now.items in
     let none = entry_none c.args.column x (sym c.is_zero.ensures ∙ c.if-is_zero.true) in
-    (x, c.in-Ok.ensures.found.0, c.in-Ok.ensures.found.1, sym (append-nil items) ∙ ap (λ l. items ++ l) (sym none), c.requires.few)
+    (x, c.in_ok-x.ensures.found.0, c.in_ok-x.ensures.found.1, sym (append-nil items) ∙ ap (λ l. items ++ l) (sym none), c.requires.few)
 
 pub returns-then-used-len-ge-MOST_ENTRIES-clause-refused : goal.returns-then-used-len-ge-MOST_ENTRIES-clause-refused
 returns-then-used-len-ge-MOST_ENTRIES-clause-refused c =
-    let some : is_zero c.in-Ok.read.0 ≡ false = sym c.is_zero.ensures ∙ c.if-is_zero.false in
+    let some : is_zero c.in_ok-x.x ≡ false = sym c.is_zero.ensures ∙ c.if-is_zero.false in
     let many : 100000 ≤ c.args.used + length c.args.entries.now.items = omega (arith, c.if-used-len-ge-MOST_ENTRIES.true, c.len.ensures) in
-    (c.in-Ok.read.0, c.in-Ok.read.1, c.in-Ok.ensures.found.0, c.in-Ok.ensures.found.1, some, many)
+    (c.in_ok-x.x, c.in_ok-x.multiple, c.in_ok-x.ensures.found.0, c.in_ok-x.ensures.found.1, some, many)
 
 pub returns-clause-found : goal.returns-clause-found
 returns-clause-found c =
-    let x = c.in-Ok.read.0 in
+    let x = c.in_ok-x.x in
     let items = c.args.entries.now.items in
     let one = entry_one c.args.column x (sym c.is_zero.ensures ∙ c.if-is_zero.false) in
     let pushed = c.in_ok-push.ensures.items in
     let count : length c.push.new.self.items ≡ length items + 1 = ap length pushed ∙ length_push items (record { column = c.args.column; value = x }) in (
       x,
-      c.in-Ok.ensures.found.0,
-      c.in-Ok.ensures.found.1,
+      c.in_ok-x.ensures.found.0,
+      c.in_ok-x.ensures.found.1,
       pushed ∙ ap (λ l. items ++ l) (sym one),
       omega (arith, c.if-used-len-ge-MOST_ENTRIES.false, c.len.ensures),
     )
