@@ -219,8 +219,5 @@ fn upper_bound(is_whole: bool, upper: Frac) -> Result<Frac, Wide>
 fn rounded_down(x: Frac) -> Result<Frac, Wide>
     ensures { IfOk result (IsUpperBound true x) }
 {
-    match Frac::new(x.floor(), 1) {
-        Some(whole) => Ok(whole),
-        None => Err(Wide),
-    }
+    Frac::new(x.floor(), 1).ok_or(Wide)
 }
