@@ -6,7 +6,7 @@ ghost use Rattle.gj_problem.specs.Aggregates.{pieces_at, Held, held, IsLeftOut, 
 ghost use Rattle.gj_problem.specs.Steps.{IsMadeNext, AreTurnedOrFree};
 
 use crate::faults::Fault;
-use crate::pieces::{Piece, one_entry, push_piece};
+use crate::pieces::{Piece, one_entry};
 use crate::problem::{Column, Inequality};
 use gj_frac::{Frac, Wide};
 use std::alloc::Global;
@@ -91,7 +91,7 @@ fn turn(
     };
     let shift = piece.entry.checked_mul(piece.inequality.right)?;
     bounds.right = bounds.right.checked_add(-shift)?;
-    push_piece(&mut bounds.pieces, piece)?;
+    bounds.pieces.push(piece)?;
     Ok(true)
 }
 

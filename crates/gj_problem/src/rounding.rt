@@ -5,7 +5,6 @@ ghost use Rattle.gj_problem.specs.Problems.{Holds};
 ghost use Rattle.gj_problem.specs.RoundedCuts.{IsOnGrid, IsBelowOnGrid, lower_of, upper_of, IsMoved, IsFreeEntry, IsRoundedOf, RoundedHolds};
 
 use crate::faults::Fault;
-use crate::pieces::push_entry;
 use crate::problem::{Entry, Inequality, Problem};
 use gj_frac::{Frac, Wide};
 use gj_shape::List;
@@ -63,13 +62,10 @@ fn rounded_cut(
             return Ok(RoundedCut::Free(entry.column));
         };
         right = right.checked_add(moved.shift)?;
-        push_entry(
-            &mut entries,
-            Entry {
-                column: entry.column,
-                value: moved.value,
-            },
-        )?;
+        entries.push(Entry {
+            column: entry.column,
+            value: moved.value,
+        })?;
     }
     let right = below_on_grid(right, grid)?;
     Ok(RoundedCut::Cut(Inequality {

@@ -10,7 +10,7 @@ pub returns-clause-right : goal.returns-clause-right
 returns-clause-right c = λ (done : IsTrue true).
     let s = c.in-Some.piece in
     let old = c.args.bounds.now in
-    right_kept (rational old.right) (rational c.in_ok-bounds.field-0) old.pieces.items c.push_piece.new.pieces.items s c.in_ok-push_piece.ensures
+    right_kept (rational old.right) (rational c.in_ok-bounds.field-0) old.pieces.items c.push.new.self.items s c.in_ok-push.ensures.items
     (sum_value old.right c.neg.result c.in_ok-bounds.field-0 c.in_ok-bounds.ensures.value
     ∙ ap (λ w. rational old.right +ℚ w)
     (negation_value c.in_ok-shift.shift c.neg.result c.neg.ensures
@@ -23,4 +23,4 @@ returns-clause-next c = λ (done : IsTrue true).
     let turned : IsTurned h c.in-Some.piece =
     subst (λ (made : Option Piece). MatchOption made ((h.column.lower ≡ None) × (h.column.upper ≡ None)) (IsTurned h)) c.in-Some.is
     c.in_ok-piece.ensures in
-    inr (kept, c.in-Some.piece, turned, c.in_ok-push_piece.ensures)
+    inr (kept, c.in-Some.piece, turned, c.in_ok-push.ensures.items)
