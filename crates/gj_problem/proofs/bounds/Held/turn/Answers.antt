@@ -1,10 +1,11 @@
 use Rattle.std.proofs.Common.{◌≡◌, IsTrue, true, inr, Option, None, MatchOption, ap, subst, ◌∙◌}
 use Rattle.gj_rational.specs.Rational.{rational, ◌+ℚ◌, neg_ℚ}
-use Rattle.gj_problem.specs.Aggregates.{Held, IsLeftOut, IsTurned}
+use Rattle.gj_problem.specs.declared.bounds.Held.{Held}
+use Rattle.gj_problem.specs.Aggregates.{IsLeftOut, IsTurned}
 use Rattle.gj_problem.specs.declared.pieces.Piece.{Piece}
 use Rattle.gj_problem.proofs.AddedSums.{sum_value, product_value, negation_value}
 use Rattle.gj_problem.proofs.OneColumn.{right_kept}
-use Rattle.gj_problem.proofs.bounds.turn.Goals as goal
+use Rattle.gj_problem.proofs.bounds.Held.turn.Goals as goal
 
 pub returns-clause-right : goal.returns-clause-right
 returns-clause-right c = λ (done : IsTrue true).
@@ -18,7 +19,7 @@ returns-clause-right c = λ (done : IsTrue true).
 
 pub returns-clause-next : goal.returns-clause-next
 returns-clause-next c = λ (done : IsTrue true).
-    let h : Held = record { index = c.args.index; column = c.args.column.now; coefficient = c.args.coefficient; at_upper = c.args.at_upper } in
+    let h : Held = c.args.self in
     let kept : IsLeftOut h → ⊥ = λ passed. let t = c.is_left_out.ensures.1 passed in absurd (cc) in
     let turned : IsTurned h c.in-Some.piece =
     subst (λ (made : Option Piece). MatchOption made ((h.column.lower ≡ None) × (h.column.upper ≡ None)) (IsTurned h)) c.in-Some.is
