@@ -43,8 +43,8 @@ pub(crate) fn added_up(
         sum,
         slacks: Vec::new(alloc),
     };
-    for (i, constraint) in constraints.iter().enumerate() {
-        add_weighted(alloc, &mut made, problem, constraint, multipliers[i])?;
+    for (constraint, multiplier) in constraints.iter().zip(multipliers) {
+        add_weighted(alloc, &mut made, problem, constraint, *multiplier)?;
     }
     Ok(made)
 }
@@ -83,10 +83,7 @@ fn add_weighted(
 fn is_equation(sense: Sense) -> bool
     ensures { IsTrue result ↔ (sense ≡ Sense.Equal) }
 {
-    match sense {
-        Sense::AtMost | Sense::AtLeast => false,
-        Sense::Equal => true,
-    }
+    matches!(sense, Sense::Equal)
 }
 
 /// The slack of a constraint with a multiplier, times its scale.
