@@ -1,8 +1,9 @@
 -- Sums over all columns, with multiples of entries and inequalities added.
-use Rattle.std.proofs.Common.{◌≡◌, ◌≢◌, unsigned_abs, ℕ, zero, suc, ◌+◌, ◌<◌, ◌≤◌, List, [], ◌∷◌, ◌++◌, length, get_or, take, replicate, add-one, ℤ, pos, negsuc, ◌*ℤ◌, ◌+ℤ◌, neg_ℤ, refl, sym, ap, ap₂, ◌∙◌, arith}
+use Rattle.std.proofs.Common.{◌≡◌, ◌≢◌, unsigned_abs, ℕ, zero, suc, ◌+◌, ◌<◌, ◌≤◌, Option, Some, Result, Ok, Err, IfOk, List, [], ◌∷◌, ◌++◌, length, get_or, take, replicate, add-one, ℤ, pos, negsuc, ◌*ℤ◌, ◌+ℤ◌, neg_ℤ, refl, sym, ap, ap₂, ◌∙◌, arith}
 use Rattle.std.proofs.lemmas.Int.{ints}
 use Rattle.std.proofs.lemmas.List.{take_more, take_all}
 use Rattle.std.specs.Prelude.{slice_set}
+use Rattle.std.specs.Result.{result_ok}
 use Rattle.gj_frac.specs.declared.Frac.{Frac}
 use Rattle.gj_frac.specs.Fraction.{SameValue, fraction_of, sum_of, product_of, quotient_of, negation_of}
 use Rattle.gj_frac.proofs.Crosswise.{denominators_some}
@@ -16,6 +17,11 @@ use Rattle.gj_problem.specs.declared.problem.Entry.{Entry}
 use Rattle.gj_problem.specs.Problems.{value_at, sum_at}
 use Rattle.gj_problem.specs.Rows.{dot}
 use lib.IntN.{zero-*ℤ}
+
+-- what holds of the value of an option holds of it as a result
+pub ok_if_some : {T E : Type 0} (r : Result T E) (o : Option T) (Q : T → Type 0) → o ≡ result_ok r → ((x : T) → o ≡ Some x → Q x) → IfOk r Q
+ok_if_some (Ok x) o Q is h = h x is
+ok_if_some (Err e) o Q is h = tt
 
 -- ---- what the code computes, as rational numbers
 

@@ -13,7 +13,8 @@ use Rattle.gj_problem.specs.declared.problem.Problem.{Problem}
 use Rattle.gj_problem.specs.declared.pieces.Piece.{Piece}
 use Rattle.gj_problem.specs.Problems.{value_at, surplus_at}
 use Rattle.gj_problem.specs.Rows.{dot}
-use Rattle.gj_problem.specs.Aggregates.{pieces_at, AreMadeOf, Weighted, weighted, IsAggregate, Held, held, IsLeftOut, IsCeiling, IsLowerBound, IsUpperBound, IsFromLower, IsFromUpper, IsTurnedFrom, IsTurned, IsFree, IsRow, IsFirstFree}
+use Rattle.gj_problem.specs.declared.bounds.Held.{Held}
+use Rattle.gj_problem.specs.Aggregates.{pieces_at, AreMadeOf, Weighted, weighted, IsAggregate, held, IsLeftOut, IsCeiling, IsLowerBound, IsUpperBound, IsFromLower, IsFromUpper, IsTurnedFrom, IsTurned, IsFree, IsRow, IsFirstFree}
 use Rattle.gj_problem.proofs.MadePieces.{Made}
 use Rattle.gj_problem.proofs.OneColumn.{put_back}
 use Rattle.gj_problem.proofs.TurnedColumns.{none_free}

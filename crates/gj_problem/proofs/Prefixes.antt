@@ -8,7 +8,8 @@ use Rattle.gj_problem.specs.declared.problem.Column.{Column}
 use Rattle.gj_problem.specs.declared.problem.Constraint.{Constraint}
 use Rattle.gj_problem.specs.declared.pieces.Piece.{Piece}
 use Rattle.gj_problem.specs.Problems.{sum_at}
-use Rattle.gj_problem.specs.Aggregates.{AreMadeOf, Weighted, weighted, aggregate_at, Held, held}
+use Rattle.gj_problem.specs.declared.bounds.Held.{Held}
+use Rattle.gj_problem.specs.Aggregates.{AreMadeOf, Weighted, weighted, aggregate_at, held}
 use Rattle.gj_problem.specs.Steps.{IsMadeNext}
 use Rattle.gj_problem.proofs.MadePieces.{made_passed, made_more}
 

@@ -16,7 +16,8 @@ use Rattle.gj_problem.specs.declared.problem.Problem.{Problem}
 use Rattle.gj_problem.specs.declared.pieces.Piece.{Piece}
 use Rattle.gj_problem.specs.Problems.{value_at, surplus_at, MeetsColumn, IsFeasible, Holds, IsColumn}
 use Rattle.gj_problem.specs.Rows.{dot, HasWholeSurplus}
-use Rattle.gj_problem.specs.Aggregates.{pieces_at, AreMadeOf, Held, held, IsLeftOut, IsCeiling, IsLowerBound, IsUpperBound, IsFromLower, IsFromUpper, IsTurnedFrom, IsTurned, IsFree}
+use Rattle.gj_problem.specs.declared.bounds.Held.{Held}
+use Rattle.gj_problem.specs.Aggregates.{pieces_at, AreMadeOf, held, IsLeftOut, IsCeiling, IsLowerBound, IsUpperBound, IsFromLower, IsFromUpper, IsTurnedFrom, IsTurned, IsFree}
 use Rattle.gj_problem.proofs.MadePieces.{Made, none_from_made}
 use Rattle.gj_problem.proofs.AddedSums.{zero_frac}
 use Rattle.gj_problem.proofs.OneColumn.{nothing_value}

@@ -15,6 +15,7 @@ use Rattle.gj_problem.specs.declared.problem.Problem.{Problem}
 use Rattle.gj_problem.specs.declared.problem.Sense.{Sense}
 use Rattle.gj_problem.specs.declared.problem.Sense.TheVariants.{AtMost, AtLeast, Equal}
 use Rattle.gj_problem.specs.declared.pieces.Piece.{Piece}
+use Rattle.gj_problem.specs.declared.bounds.Held.{Held}
 use Rattle.gj_problem.specs.Problems.{IsFeasible, IsWholeColumn, Holds, sum_at, value_at, surplus_at}
 use Rattle.gj_problem.specs.Rows.{dot, IsConstraintTimes, HasWholeSurplus}
 
@@ -90,13 +91,6 @@ pub record IsSlack (p : Problem) (w : Weighted) (s : Piece) : Type 0 where
   pub entry_is : whole (signed w.constraint.sense scale) *ℚ rational s.entry ≡ neg_ℚ (rational w.multiplier)
 
 -- ---- bounds
-
--- a column with its coefficient in the sum, and whether its upper bound is preferred
-pub record Held : Type 0 where
-  pub index : ℕ
-  pub column : Column
-  pub coefficient : Frac
-  pub at_upper : Bool
 
 -- each column, the first with this index, with its coefficient
 abbrev pub held : ℕ → List Column → List Frac → List Bool → List Held

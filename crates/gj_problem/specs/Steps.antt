@@ -11,7 +11,8 @@ use Rattle.gj_problem.specs.declared.bounds.Turned.{Turned}
 use Rattle.gj_problem.specs.declared.bounds.Turned.TheVariants.{Bounds, Free}
 use Rattle.gj_problem.specs.Problems.{sum_at}
 use Rattle.gj_problem.specs.Rows.{dot}
-use Rattle.gj_problem.specs.Aggregates.{pieces_at, AreMadeOf, Held, IsLeftOut, IsTurned, IsFirstFreeOf}
+use Rattle.gj_problem.specs.declared.bounds.Held.{Held}
+use Rattle.gj_problem.specs.Aggregates.{pieces_at, AreMadeOf, IsLeftOut, IsTurned, IsFirstFreeOf}
 
 -- the item is passed over, or one more piece is made of it
 abbrev pub IsMadeNext : Type 0 → (Piece → Type 0) → List Piece → List Piece → Type 0

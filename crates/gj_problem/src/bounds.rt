@@ -1,12 +1,13 @@
 //! Columns turned to their bounds.
-ghost use Rattle.std.specs.Prelude.{◌≡◌, ◌↔◌, ◌⊎◌, pos, true, false, [], None, IfOk, IsTrue, MatchOption, length};
-ghost use Rattle.gj_frac.specs.Fraction.{IsWhole, numerator};
-ghost use Rattle.gj_rational.specs.Rational.{rational, ◌+ℚ◌, ◌-ℚ◌};
-ghost use Rattle.gj_problem.specs.Aggregates.{pieces_at, Held, held, IsLeftOut, IsLowerBound, IsUpperBound, IsFromLower, IsFromUpper, IsTurned, IsFree};
+ghost use Rattle.std.specs.Prelude.{◌≡◌, ◌↔◌, true, false, [], None, length};
+ghost use Rattle.std.specs.Prelude.{IfOk, IsTrue, MatchOption};
+ghost use Rattle.gj_rational.specs.Rational.{rational, ◌-ℚ◌};
+ghost use Rattle.gj_problem.specs.Aggregates.{pieces_at, held, IsLeftOut, IsTurned, IsFree};
+ghost use Rattle.gj_problem.specs.Aggregates.{IsLowerBound, IsUpperBound, IsFromLower, IsFromUpper};
 ghost use Rattle.gj_problem.specs.Steps.{IsMadeNext, AreTurnedOrFree};
 
 use crate::faults::Fault;
-use crate::pieces::{Piece, one_entry, push_piece};
+use crate::pieces::{Piece, one_entry};
 use crate::problem::{Column, Inequality};
 use gj_frac::{Frac, Wide};
 use std::alloc::Global;
@@ -51,146 +52,115 @@ pub(crate) fn turned_columns(
         let Ok(index) = u32::try_from(j) else {
             return Err(Fault::Wide);
         };
-        if !turn(
-            alloc,
-            &mut bounds,
+        let held = Held {
             index,
-            column,
-            coefficients[j],
-            at_upper[j],
-        )? {
+            column: *column,
+            coefficient: coefficients[j],
+            at_upper: at_upper[j],
+        };
+        if !held.turn(alloc, &mut bounds)? {
             return Ok(Turned::Free(index));
         }
     }
     Ok(Turned::Bounds(bounds))
 }
 
-/// Turns a column, unless it is left out; false if it is free.
-fn turn(
-    alloc: Global,
-    bounds: &mut Bounds,
-    index: u32,
-    column: &Column,
-    coefficient: Frac,
-    at_upper: bool,
-) -> Result<bool, Fault>
-    ensures right { IfOk result (λ done. IsTrue done →
-        rational bounds.new.right -ℚ pieces_at [] bounds.new.pieces.items
-        ≡ rational bounds.old.right -ℚ pieces_at [] bounds.old.pieces.items) }
-    ensures next { IfOk result (λ done. IsTrue done →
-        let h : Held = record { index = index; column = column.now; coefficient = coefficient; at_upper = at_upper } in
-        IsMadeNext (IsLeftOut h) (IsTurned h) bounds.old.pieces.items bounds.new.pieces.items) }
-    ensures free { IfOk result (λ done. done ≡ false →
-        IsFree (record { index = index; column = column.now; coefficient = coefficient; at_upper = at_upper })) }
-{
-    if is_left_out(coefficient, column.is_whole) {
-        return Ok(true);
+/// A column with its coefficient in a sum.
+#[derive(Clone, Copy)]
+pub(crate) struct Held {
+    /// The index of the column.
+    pub(crate) index: u32,
+    /// The column.
+    pub(crate) column: Column,
+    /// Its coefficient.
+    pub(crate) coefficient: Frac,
+    /// Whether its upper bound is preferred.
+    pub(crate) at_upper: bool,
+}
+
+impl Held {
+    /// Turns the column, unless it is left out; false if it is free.
+    fn turn(self, alloc: Global, bounds: &mut Bounds) -> Result<bool, Fault>
+        ensures right { IfOk result (λ done. IsTrue done →
+            rational bounds.new.right -ℚ pieces_at [] bounds.new.pieces.items
+            ≡ rational bounds.old.right -ℚ pieces_at [] bounds.old.pieces.items) }
+        ensures next { IfOk result (λ done. IsTrue done → IsMadeNext (IsLeftOut self)
+            (IsTurned self) bounds.old.pieces.items bounds.new.pieces.items) }
+        ensures free { IfOk result (λ done. done ≡ false → IsFree self) }
+    {
+        if self.is_left_out() {
+            return Ok(true);
+        }
+        let Some(piece) = self.to_bound(alloc)? else {
+            return Ok(false);
+        };
+        let shift = piece.entry.checked_mul(piece.inequality.right)?;
+        bounds.right = bounds.right.checked_add(-shift)?;
+        bounds.pieces.push(piece)?;
+        Ok(true)
     }
-    let Some(piece) = to_bound(alloc, index, column, coefficient, at_upper)? else {
-        return Ok(false);
-    };
-    let shift = piece.entry.checked_mul(piece.inequality.right)?;
-    bounds.right = bounds.right.checked_add(-shift)?;
-    push_piece(&mut bounds.pieces, piece)?;
-    Ok(true)
-}
 
-/// Whether a coefficient is 0, or a whole number in a whole column.
-fn is_left_out(x: Frac, is_whole: bool) -> bool
-    ensures { IsTrue result ↔ ((numerator x ≡ pos 0) ⊎ (IsWhole x × IsTrue is_whole)) }
-{
-    x.num() == 0 || x.den() == 1 && is_whole
-}
+    /// Whether the coefficient is 0, or a whole number in a whole column.
+    fn is_left_out(self) -> bool
+        ensures { IsTrue result ↔ IsLeftOut self }
+    {
+        let x = self.coefficient;
+        x.num() == 0 || x.den() == 1 && self.column.is_whole
+    }
 
-/// The column turned to its bound: the lower one, unless there is none or the upper one is
-/// preferred.
-fn to_bound(
-    alloc: Global,
-    index: u32,
-    column: &Column,
-    coefficient: Frac,
-    at_upper: bool,
-) -> Result<Option<Piece>, Fault>
-    ensures { IfOk result (λ made. MatchOption made ((column.now.lower ≡ None) ×
-        (column.now.upper ≡ None))
-        (IsTurned (record { index = index; column = column.now; coefficient = coefficient; at_upper = at_upper }))) }
-{
-    match (column.lower, column.upper) {
-        (None, None) => Ok(None),
-        (Some(lower), None) => Ok(Some(from_lower(
-            alloc,
-            index,
-            column,
-            coefficient,
-            at_upper,
-            lower,
-        )?)),
-        (None, Some(upper)) => Ok(Some(from_upper(
-            alloc,
-            index,
-            column,
-            coefficient,
-            at_upper,
-            upper,
-        )?)),
-        (Some(lower), Some(upper)) => {
-            if at_upper {
-                Ok(Some(from_upper(alloc, index, column, coefficient, at_upper, upper)?))
-            } else {
-                Ok(Some(from_lower(alloc, index, column, coefficient, at_upper, lower)?))
+    /// The column turned to its bound: the lower one, unless there is none or the upper one is
+    /// preferred.
+    fn to_bound(self, alloc: Global) -> Result<Option<Piece>, Fault>
+        ensures { IfOk result (λ made. MatchOption made
+            ((self.column.lower ≡ None) × (self.column.upper ≡ None)) (IsTurned self)) }
+    {
+        match (self.column.lower, self.column.upper) {
+            (None, None) => Ok(None),
+            (Some(lower), None) => Ok(Some(self.above_lower(alloc, lower)?)),
+            (None, Some(upper)) => Ok(Some(self.below_upper(alloc, upper)?)),
+            (Some(lower), Some(upper)) => {
+                if self.at_upper {
+                    Ok(Some(self.below_upper(alloc, upper)?))
+                } else {
+                    Ok(Some(self.above_lower(alloc, lower)?))
+                }
             }
         }
     }
-}
 
-/// The column minus its lower bound.
-fn from_lower(
-    alloc: Global,
-    index: u32,
-    column: &Column,
-    coefficient: Frac,
-    at_upper: bool,
-    lower: Frac,
-) -> Result<Piece, Fault>
-    ensures whole { IfOk result (λ s. s.is_whole ≡ column.now.is_whole) }
-    ensures lower { IfOk result
-        (IsFromLower (record { index = index; column = column.now; coefficient = coefficient; at_upper = at_upper }) lower) }
-{
-    let bound = lower_bound(column.is_whole, lower)?;
-    let entries = one_entry(alloc, index, Frac::ratio(1, 1))?;
-    Ok(Piece {
-        entry: coefficient,
-        inequality: Inequality {
-            entries,
-            right: bound,
-        },
-        is_whole: column.is_whole,
-    })
-}
+    /// The column minus its lower bound.
+    fn above_lower(self, alloc: Global, lower: Frac) -> Result<Piece, Fault>
+        ensures whole { IfOk result (λ s. s.is_whole ≡ self.column.is_whole) }
+        ensures lower { IfOk result (IsFromLower self lower) }
+    {
+        let bound = lower_bound(self.column.is_whole, lower)?;
+        let entries = one_entry(alloc, self.index, Frac::ratio(1, 1))?;
+        Ok(Piece {
+            entry: self.coefficient,
+            inequality: Inequality {
+                entries,
+                right: bound,
+            },
+            is_whole: self.column.is_whole,
+        })
+    }
 
-/// The upper bound minus the column.
-fn from_upper(
-    alloc: Global,
-    index: u32,
-    column: &Column,
-    coefficient: Frac,
-    at_upper: bool,
-    upper: Frac,
-) -> Result<Piece, Fault>
-    ensures whole { IfOk result (λ s. s.is_whole ≡ column.now.is_whole) }
-    ensures upper { IfOk result
-        (IsFromUpper (record { index = index; column = column.now; coefficient = coefficient; at_upper = at_upper }) upper) }
-{
-    let bound = upper_bound(column.is_whole, upper)?;
-    let entries = one_entry(alloc, index, Frac::ratio(-1, 1))?;
-    Ok(Piece {
-        entry: -coefficient,
-        inequality: Inequality {
-            entries,
-            right: -bound,
-        },
-        is_whole: column.is_whole,
-    })
+    /// The upper bound minus the column.
+    fn below_upper(self, alloc: Global, upper: Frac) -> Result<Piece, Fault>
+        ensures whole { IfOk result (λ s. s.is_whole ≡ self.column.is_whole) }
+        ensures upper { IfOk result (IsFromUpper self upper) }
+    {
+        let bound = upper_bound(self.column.is_whole, upper)?;
+        let entries = one_entry(alloc, self.index, Frac::ratio(-1, 1))?;
+        Ok(Piece {
+            entry: -self.coefficient,
+            inequality: Inequality {
+                entries,
+                right: -bound,
+            },
+            is_whole: self.column.is_whole,
+        })
+    }
 }
 
 /// The lower bound of a column; that of a whole one is rounded up.
@@ -219,8 +189,5 @@ fn upper_bound(is_whole: bool, upper: Frac) -> Result<Frac, Wide>
 fn rounded_down(x: Frac) -> Result<Frac, Wide>
     ensures { IfOk result (IsUpperBound true x) }
 {
-    match Frac::new(x.floor(), 1) {
-        Some(whole) => Ok(whole),
-        None => Err(Wide),
-    }
+    Frac::new(x.floor(), 1).ok_or(Wide)
 }

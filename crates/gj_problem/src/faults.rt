@@ -1,8 +1,8 @@
 //! Why a row or a cut is not made.
-ghost use Rattle.std.specs.Prelude.{◌≡◌};
+ghost use Rattle.std.specs.Prelude.{◌≡◌, alloc_error};
 
 use gj_frac::Wide;
-use std::alloc::AllocError;
+use std::alloc::{AllocError, AllocFailed};
 use thiserror::Error;
 
 /// Why a row or a cut is not made.
@@ -33,5 +33,15 @@ impl From<AllocError> for Fault {
 
     fn from(error: AllocError) -> Fault {
         Fault::Memory(error)
+    }
+}
+
+impl<T: Drop> From<AllocFailed<T>> for Fault {
+    ghost use Rattle.gj_problem.specs.declared.faults.Fault.TheVariants.{Memory};
+
+    ghost from_gives = { λ _ fault. fault ≡ Memory alloc_error };
+
+    fn from(_error: AllocFailed<T>) -> Fault {
+        Fault::Memory(AllocError)
     }
 }

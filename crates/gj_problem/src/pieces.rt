@@ -1,5 +1,5 @@
 //! Inequalities as the columns of a row.
-ghost use Rattle.std.specs.Prelude.{◌≡◌, IfOk, [], ◌∷◌, ◌++◌};
+ghost use Rattle.std.specs.Prelude.{◌≡◌, IfOk, [], ◌∷◌};
 
 use crate::problem::{Entry, Inequality};
 use gj_frac::Frac;
@@ -18,27 +18,11 @@ pub struct Piece {
     pub is_whole: bool,
 }
 
-/// One more piece.
-pub(crate) fn push_piece(pieces: &mut Vec<Piece>, piece: Piece) -> Result<(), AllocError>
-    ensures { IfOk result (λ _. pieces.new.items ≡ pieces.old.items ++ piece ∷ []) }
-{
-    pieces.push(piece)?;
-    Ok(())
-}
-
-/// One more entry.
-pub(crate) fn push_entry(entries: &mut Vec<Entry>, entry: Entry) -> Result<(), AllocError>
-    ensures { IfOk result (λ _. entries.new.items ≡ entries.old.items ++ entry ∷ []) }
-{
-    entries.push(entry)?;
-    Ok(())
-}
-
 /// One entry alone.
 pub(crate) fn one_entry(alloc: Global, column: u32, value: Frac) -> Result<List<Entry>, AllocError>
     ensures { IfOk result (λ entries. entries ≡ record { column = column; value = value } ∷ []) }
 {
     let mut entries = Vec::new(alloc);
-    push_entry(&mut entries, Entry { column, value })?;
+    entries.push(Entry { column, value })?;
     Ok(List::of(entries))
 }

@@ -5,7 +5,6 @@ ghost use Rattle.gj_problem.specs.Problems.{Holds};
 ghost use Rattle.gj_problem.specs.RoundedCuts.{IsGridValue, IsBelowOnGrid, lower_of, upper_of, IsMoved, IsFreeEntry, IsRoundedOf, RoundedHolds};
 
 use crate::faults::Fault;
-use crate::pieces::push_entry;
 use crate::problem::{Entry, Inequality, Problem};
 use gj_frac::{Frac, Wide};
 use gj_shape::List;
@@ -63,13 +62,10 @@ fn rounded_cut(
             return Ok(RoundedCut::Free(entry.column));
         };
         right = right.checked_add(moved.shift)?;
-        push_entry(
-            &mut entries,
-            Entry {
-                column: entry.column,
-                value: moved.value,
-            },
-        )?;
+        entries.push(Entry {
+            column: entry.column,
+            value: moved.value,
+        })?;
     }
     let right = below_on_grid(right, grid)?;
     Ok(RoundedCut::Cut(Inequality {
@@ -107,20 +103,14 @@ fn moved_entry(problem: &Problem, entry: Entry, grid: u64) -> Result<Option<Move
 fn lower_bound(problem: &Problem, column: u32) -> Option<Frac>
     ensures { result ≡ lower_of problem.now column }
 {
-    match problem.columns.as_slice().get(column as usize) {
-        Some(c) => c.lower,
-        None => None,
-    }
+    problem.columns.as_slice().get(column as usize)?.lower
 }
 
 /// The upper bound of a column.
 fn upper_bound(problem: &Problem, column: u32) -> Option<Frac>
     ensures { result ≡ upper_of problem.now column }
 {
-    match problem.columns.as_slice().get(column as usize) {
-        Some(c) => c.upper,
-        None => None,
-    }
+    problem.columns.as_slice().get(column as usize)?.upper
 }
 
 /// The coefficient x rounded to this value, in a column with this bound.
@@ -156,18 +146,13 @@ fn below_on_grid(x: Frac, grid: u64) -> Result<Frac, Wide>
     ensures { IfOk result (λ y. IsBelowOnGrid grid (rational x) (rational y)) }
 {
     let multiple = scaled(x, grid)?.floor();
-    match Frac::new(multiple, i128::from(grid)) {
-        Some(y) => Ok(y),
-        None => Err(Wide),
-    }
+    Frac::new(multiple, i128::from(grid)).ok_or(Wide)
 }
 
 /// x times the whole number.
 fn scaled(x: Frac, grid: u64) -> Result<Frac, Wide>
     ensures { IfOk result (λ s. rational s ≡ whole (pos grid) *ℚ rational x) }
 {
-    match Frac::new(i128::from(grid), 1) {
-        Some(n) => n.checked_mul(x),
-        None => Err(Wide),
-    }
+    let n = Frac::new(i128::from(grid), 1).ok_or(Wide)?;
+    n.checked_mul(x)
 }

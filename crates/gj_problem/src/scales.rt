@@ -16,10 +16,7 @@ pub fn divided(x: Frac, y: Frac) -> Result<Frac, Wide>
     ensures value { IfOk result (λ z. SameValue (fraction_of z)
         (quotient_of (fraction_of x) (fraction_of y))) }
 {
-    match x.checked_div(y) {
-        Ok(quotient) => Ok(quotient),
-        Err(_) => Err(Wide),
-    }
+    x.checked_div(y).map_err(|_| Wide)
 }
 
 /// The number by which the slack of a constraint is multiplied: its least common denominator if its
@@ -52,10 +49,7 @@ fn with_denominator(m: u128, x: Frac) -> Result<u128, Wide>
 {
     let d = x.den().unsigned_abs();
     let common = gcd(m, d);
-    match (m / common).checked_mul(d) {
-        Some(multiple) => Ok(multiple),
-        None => Err(Wide),
-    }
+    (m / common).checked_mul(d).ok_or(Wide)
 }
 
 /// The fraction that is this whole number, if it fits.
@@ -65,10 +59,7 @@ fn whole_number(n: u128) -> Result<Frac, Wide>
     let Ok(signed) = i128::try_from(n) else {
         return Err(Wide);
     };
-    match Frac::new(signed, 1) {
-        Some(x) => Ok(x),
-        None => Err(Wide),
-    }
+    Frac::new(signed, 1).ok_or(Wide)
 }
 
 /// The scale with the sign of slacks.

@@ -7,7 +7,7 @@ ghost use Rattle.gj_problem.specs.Aggregates.{AreMadeOf, IsAggregate, Weighted, 
 ghost use Rattle.gj_problem.specs.Steps.{IsMadeNext};
 
 use crate::faults::Fault;
-use crate::pieces::{Piece, push_entry, push_piece};
+use crate::pieces::Piece;
 use crate::problem::{Constraint, Entry, Inequality, Problem, Sense};
 use crate::scales::{divided, scale, with_sign};
 use crate::sums::Sum;
@@ -43,8 +43,8 @@ pub(crate) fn added_up(
         sum,
         slacks: Vec::new(alloc),
     };
-    for (i, constraint) in constraints.iter().enumerate() {
-        add_weighted(alloc, &mut made, problem, constraint, multipliers[i])?;
+    for (constraint, multiplier) in constraints.iter().zip(multipliers) {
+        add_weighted(alloc, &mut made, problem, constraint, *multiplier)?;
     }
     Ok(made)
 }
@@ -75,7 +75,7 @@ fn add_weighted(
         return Ok(());
     }
     let piece = slack(alloc, problem, constraint, multiplier)?;
-    push_piece(&mut made.slacks, piece)?;
+    made.slacks.push(piece)?;
     Ok(())
 }
 
@@ -83,10 +83,7 @@ fn add_weighted(
 fn is_equation(sense: Sense) -> bool
     ensures { IsTrue result ↔ (sense ≡ Sense.Equal) }
 {
-    match sense {
-        Sense::AtMost | Sense::AtLeast => false,
-        Sense::Equal => true,
-    }
+    matches!(sense, Sense::Equal)
 }
 
 /// The slack of a constraint with a multiplier, times its scale.
@@ -143,13 +140,10 @@ fn times(alloc: Global, factor: Frac, entries: &[Entry], right: Frac) -> Result<
     let mut scaled = Vec::new(alloc);
     for entry in entries {
         let value = factor.checked_mul(entry.value)?;
-        push_entry(
-            &mut scaled,
-            Entry {
-                column: entry.column,
-                value,
-            },
-        )?;
+        scaled.push(Entry {
+            column: entry.column,
+            value,
+        })?;
     }
     let right = factor.checked_mul(right)?;
     Ok(Inequality {

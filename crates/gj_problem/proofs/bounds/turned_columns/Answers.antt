@@ -1,6 +1,7 @@
 use Rattle.std.proofs.Common.{◌≡◌, ◌+◌, ◌<◌, false, Bool, ℕ, List, [], ◌∷◌, ◌++◌, length, take, drop, get_or, refl, sym, subst, arith}
 use Rattle.gj_rational.specs.Rational.{rational}
-use Rattle.gj_problem.specs.Aggregates.{Held, held, IsLeftOut, IsTurned}
+use Rattle.gj_problem.specs.declared.bounds.Held.{Held}
+use Rattle.gj_problem.specs.Aggregates.{held, IsLeftOut, IsTurned}
 use Rattle.gj_problem.specs.Steps.{AreTurned}
 use Rattle.gj_problem.proofs.OneColumn.{right_begun, right_more}
 use Rattle.gj_problem.proofs.Prefixes.{made_next, held_next, held_split, held_all_taken, default_unused}

@@ -23,9 +23,9 @@ loop-entry-preserved c =
     (λ (made : Option Moved). MatchOption made (IsFreeEntry p n e)
     (λ m. IsMoved n (lower_of p e.column) (upper_of p e.column) (rational e.value) (rational m.value) (rational m.shift)))
     c.in-Some.is c.in_ok-moved.ensures in
-    one_moved p n c.as_slice-entry-items.result.now c.loop-entry.entry-index e f c.loop-entry.entries.items c.push_entry.new.entries.items
+    one_moved p n c.as_slice-entry-items.result.now c.loop-entry.entry-index e f c.loop-entry.entries.items c.push.new.self.items
     (rational c.args.cut.now.right) (rational c.loop-entry.right) (rational c.in_ok-right.right) (rational moved.shift) c.loop-entry-test.true
-    c.entry-item.is c.in_ok-push_entry.ensures
+    c.entry-item.is c.in_ok-push.ensures.items
     (sum_value c.loop-entry.right moved.shift c.in_ok-right.right c.in_ok-right.ensures.value) refl is c.loop-entry.invariant
 
 pub returns-in_default : goal.returns-in_default

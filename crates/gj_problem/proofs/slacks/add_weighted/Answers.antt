@@ -24,4 +24,4 @@ pub returns-clause-slack : goal.returns-clause-slack
 returns-clause-slack c =
     let some : numerator c.args.multiplier ≡ pos 0 → ⊥ = λ none. c.if-num-eq0.false (ap (of_z w128) (c.num.ensures ∙ none)) in
     let unequal : c.args.constraint.now.sense ≡ Equal → ⊥ = λ equal. let t = c.is_equation.ensures.1 equal in absurd (cc) in
-    inr (λ passed. ⊎_elim some unequal passed, c.in_ok-piece.piece, c.in_ok-piece.ensures, c.in_ok-push_piece.ensures)
+    inr (λ passed. ⊎_elim some unequal passed, c.in_ok-piece.piece, c.in_ok-piece.ensures, c.in_ok-push.ensures.items)

@@ -13,7 +13,7 @@ pub loop-entry-preserved : goal.loop-entry-preserved
 loop-entry-preserved c = λ (point : List Rational).
     let made : Entry = record { column = c.entry-item.result.column; value = c.in_ok-value.value } in
     entry_scaled point c.args.entries.now c.loop-entry.entry-index c.entry-item.result made c.args.factor c.loop-entry.scaled.items
-    c.push_entry.new.entries.items c.loop-entry-test.true c.entry-item.is (c.loop-entry.invariant point) c.in_ok-push_entry.ensures refl
+    c.push.new.self.items c.loop-entry-test.true c.entry-item.is (c.loop-entry.invariant point) c.in_ok-push.ensures.items refl
     c.in_ok-value.ensures.value
 
 pub returns : goal.returns
