@@ -1,0 +1,3 @@
+pub mod Lines
+pub mod InputRead
+pub mod Functions
