@@ -3,7 +3,8 @@ ghost use Rattle.std.specs.Prelude.{◌≡◌, ◌↔◌, List, IfOk, IsTrue, Al
 ghost use Rattle.gj_rational.specs.Rational.{Rational, rational, ◌+ℚ◌, ◌*ℚ◌, ◌-ℚ◌};
 ghost use Rattle.gj_problem.specs.Problems.{IsWholeColumn, sum_at, surplus_at};
 ghost use Rattle.gj_problem.specs.Rows.{dot};
-ghost use Rattle.gj_problem.specs.Aggregates.{AreMadeOf, IsAggregate, Weighted, weighted, HasNoSlack, IsSlack};
+ghost use Rattle.gj_problem.specs.Aggregates.{AreMadeOf, IsAggregate, Weighted, weighted};
+ghost use Rattle.gj_problem.specs.Aggregates.{HasNoSlack, IsSlack};
 ghost use Rattle.gj_problem.specs.Steps.{IsMadeNext};
 
 use crate::faults::Fault;
@@ -33,9 +34,11 @@ pub(crate) fn added_up(
 ) -> Result<Aggregate, Fault>
     requires { length multipliers.now ≡ length constraints.now }
     ensures sum { IfOk result (λ made.
-        IsAggregate problem.now (weighted multipliers.now constraints.now) made.sum.coefficients.items made.sum.right) }
+        IsAggregate problem.now (weighted multipliers.now constraints.now)
+        made.sum.coefficients.items made.sum.right) }
     ensures slacks { IfOk result (λ made.
-        AreMadeOf HasNoSlack (IsSlack problem.now) (weighted multipliers.now constraints.now) made.slacks.items) }
+        AreMadeOf HasNoSlack (IsSlack problem.now)
+        (weighted multipliers.now constraints.now) made.slacks.items) }
 {
     let columns = problem.columns.as_slice().len();
     let sum = Sum::of_none(alloc, columns, Frac::ratio(0, 1))?;
@@ -62,10 +65,12 @@ fn add_weighted(
     ensures sum { IfOk result (λ _. (point : List Rational) →
         dot made.new.sum.coefficients.items point -ℚ rational made.new.sum.right
         ≡ (dot made.old.sum.coefficients.items point -ℚ rational made.old.sum.right)
-        +ℚ rational multiplier *ℚ (sum_at point constraint.now.entries -ℚ rational constraint.now.right)) }
+        +ℚ rational multiplier
+        *ℚ (sum_at point constraint.now.entries -ℚ rational constraint.now.right)) }
     ensures slack { IfOk result
         (λ _. let w : Weighted = record { multiplier = multiplier; constraint = constraint.now } in
-        IsMadeNext (HasNoSlack w) (IsSlack problem.now w) made.old.slacks.items made.new.slacks.items) }
+        IsMadeNext (HasNoSlack w) (IsSlack problem.now w)
+        made.old.slacks.items made.new.slacks.items) }
 {
     if multiplier.num() == 0 {
         return Ok(());

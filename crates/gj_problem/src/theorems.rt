@@ -7,10 +7,13 @@ ghost use Rattle.gj_problem.specs.declared.problem.Inequality.{Inequality};
 ghost use Rattle.gj_problem.specs.declared.problem.Column.{Column};
 ghost use Rattle.gj_problem.specs.declared.pieces.Piece.{Piece};
 ghost use Rattle.gj_rational.specs.Rational.{Rational, whole, rational, ◌*ℚ◌, ◌-ℚ◌, ◌≤ℚ◌};
-ghost use Rattle.gj_problem.specs.Problems.{IsFeasible, Holds, IsColumn, IsConstraint, value_at, surplus_at};
-ghost use Rattle.gj_problem.specs.Rows.{IsSignFor, IsConstraintTimes, IsWholeInequality, HasWholeSurplus, IsRounded};
+ghost use Rattle.gj_problem.specs.Problems.{IsFeasible, Holds, IsColumn, IsConstraint, value_at};
+ghost use Rattle.gj_problem.specs.Problems.{surplus_at};
+ghost use Rattle.gj_problem.specs.Rows.{IsSignFor, IsConstraintTimes, IsWholeInequality};
+ghost use Rattle.gj_problem.specs.Rows.{HasWholeSurplus, IsRounded};
 ghost use Rattle.gj_problem.specs.RoundedCuts.{IsBelowOnGrid};
-ghost use Rattle.gj_problem.specs.Aggregates.{IsRow, IsFirstFree, IsSound, AddsUpAt, IsCutOver, IsTurnedBack};
+ghost use Rattle.gj_problem.specs.Aggregates.{IsRow, IsFirstFree, IsSound, AddsUpAt, IsCutOver};
+ghost use Rattle.gj_problem.specs.Aggregates.{IsTurnedBack};
 
 /// A constraint times a whole number of the sign that its sense asks for holds. If the numbers of
 /// an inequality and its columns are whole, so is what its sum has above its right side.
