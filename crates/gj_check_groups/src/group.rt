@@ -1,5 +1,6 @@
 //! The rules on one group.
-ghost use Rattle.std.specs.Prelude.{pos, ◌≡◌, ◌<◌, ◌↔◌, List, All, IfNone, IfSome, IsTrue, get_or, length};
+ghost use Rattle.std.specs.Prelude.{pos, ◌≡◌, ◌<◌, ◌↔◌, List, All, IfNone, IfSome, IsTrue, get_or};
+ghost use Rattle.std.specs.Prelude.{length};
 ghost use Rattle.std.specs.declared.option.Option.TheVariants.{Some, None};
 ghost use Rattle.gj_shape.specs.Additive.{IsTight};
 ghost use Rattle.gj_shape.specs.Elimination.{KeptRow};
@@ -7,7 +8,8 @@ ghost use Rattle.gj_check_groups.specs.RowNumbers.{AreRowNumbers};
 ghost use Rattle.gj_check_groups.specs.KeptTable.{IsTable, AreRowsAt};
 ghost use Rattle.gj_proof.specs.ProofText.{IsRowNameBelow};
 ghost use Rattle.gj_proof.specs.Rules.{MeetsRow, MeetsPivot, MeetsPivotBy};
-ghost use Rattle.gj_check_groups.specs.GroupOutcomes.{IsStepOutcome, IsStepsOutcome, IsGroupOutcome};
+ghost use Rattle.gj_check_groups.specs.GroupOutcomes.{IsStepOutcome, IsStepsOutcome};
+ghost use Rattle.gj_check_groups.specs.GroupOutcomes.{IsGroupOutcome};
 
 use crate::failure::{GroupFailure, GroupRule};
 use crate::modulo::inverse_modulo;

@@ -1,5 +1,6 @@
 //! How many intervals before a grid point are in each component.
-ghost use Rattle.std.specs.Prelude.{ℕ, pos, ◌≡◌, ◌<◌, ◌≤◌, ◌^◌, ◌+ℤ◌, get_or, length, All, unsigned_abs};
+ghost use Rattle.std.specs.Prelude.{ℕ, pos, ◌≡◌, ◌<◌, ◌≤◌, ◌^◌, ◌+ℤ◌, get_or, length, All};
+ghost use Rattle.std.specs.Prelude.{unsigned_abs};
 ghost use Rattle.gj_shape.specs.SlopeRows.{rises, component_in};
 
 /// Adds to each column the number of intervals before one grid point that are in its component,

@@ -1,11 +1,13 @@
 //! Functions by their breakpoints, read.
-ghost use Rattle.std.specs.Prelude.{◌≡◌, ◌≢◌, ◌≤◌, ◌↔◌, [], length, IfOk, IfErr, IsTrue, unsigned_abs};
+ghost use Rattle.std.specs.Prelude.{◌≡◌, ◌≢◌, ◌≤◌, ◌↔◌, [], length, IfOk, IfErr, IsTrue};
+ghost use Rattle.std.specs.Prelude.{unsigned_abs};
 ghost use Rattle.gj_frac.specs.Fraction.{denominator, IsInside};
 ghost use Rattle.gj_lex.specs.Words.{word_texts};
 ghost use Rattle.gj_lex.specs.Parts.{line_part, loop_part, IsFaultOf};
 ghost use Rattle.gj_shape.specs.Limits.{greatest_order};
 ghost use Rattle.gj_shape.specs.Breaks.{no_breaks};
-ghost use Rattle.gj_function_text.specs.BreaksText.{start_rule, break_rule, end_rule, EndsHere, next_break, breaks_part};
+ghost use Rattle.gj_function_text.specs.BreaksText.{start_rule, break_rule, end_rule, EndsHere};
+ghost use Rattle.gj_function_text.specs.BreaksText.{next_break, breaks_part};
 ghost use Rattle.gj_function_text.specs.BreaksRead.{refusal_of, end_refusal};
 
 use gj_frac::Frac;

@@ -7,7 +7,8 @@ ghost use Rattle.gj_lex.specs.Parts.{IsFaultOf};
 ghost use Rattle.gj_lex.specs.SpelledNumbers.{IsCountWord};
 ghost use Rattle.gj_forms.specs.LineForms.{AreOfForm};
 ghost use Rattle.gj_function_text.specs.FamilyLine.{family_form, AreSigns, IsReasonOf, family_rule};
-ghost use Rattle.gj_function_text.specs.FamilyRead.{gmic_words, half_words, two_slope_words, texts_of, IsSign, IsCut};
+ghost use Rattle.gj_function_text.specs.FamilyRead.{gmic_words, half_words, two_slope_words};
+ghost use Rattle.gj_function_text.specs.FamilyRead.{texts_of, IsSign, IsCut};
 ghost use Rattle.gj_function_text.specs.FunctionText.{family_part};
 
 use gj_family::{FamilyFault, gmic, half, two_slope};

@@ -3,10 +3,12 @@ ghost use Rattle.std.specs.Prelude.{◌≡◌, ◌≢◌, ◌↔◌, ◌⊎◌, 
 ghost use Rattle.gj_lex.specs.declared.reason.Reason.{Reason};
 ghost use Rattle.gj_shape.specs.Breaks.{BreakList, AreBreaks, IsOfBreaks};
 ghost use Rattle.gj_shape.specs.FunctionData.{FunctionData, IsWithinBounds};
-ghost use Rattle.gj_function_text.specs.FunctionText.{IsFunctionText, IsWholeFunctionText, IsCanonicalText, canonical_breaks_text};
+ghost use Rattle.gj_function_text.specs.FunctionText.{IsFunctionText, IsWholeFunctionText};
+ghost use Rattle.gj_function_text.specs.FunctionText.{IsCanonicalText, canonical_breaks_text};
 ghost use Rattle.gj_function_text.specs.FirstFault.{IsFirstFaultOfFunction, IsFirstFaultOfWhole};
 ghost use Rattle.gj_function_text.specs.RuleText.{IsRuleText, IsFirstFaultOfRule};
-ghost use Rattle.gj_function_text.specs.LinesOfFunction.{HasLinesOfFunction, HasLinesOfFamily, HasLinesOfBreaks};
+ghost use Rattle.gj_function_text.specs.LinesOfFunction.{HasLinesOfFunction, HasLinesOfFamily};
+ghost use Rattle.gj_function_text.specs.LinesOfFunction.{HasLinesOfBreaks};
 
 /// A text begins with the function text of one function at most, and that ends at one place.
 pub fn one_function_text()

@@ -2,8 +2,11 @@
 ghost use Rattle.std.specs.Prelude.{◌≡◌, ◌≤◌, List, ℕ, drop, length, IfOk, IfErr, MatchResult};
 ghost use Rattle.gj_lex.specs.Parts.{IsFaultOf};
 ghost use Rattle.gj_shape.specs.FunctionData.{FunctionData};
-ghost use Rattle.gj_function_text.specs.FunctionText.{points_text, breaks_text, function_text, whole_function_text, IsFunctionText, IsWholeFunctionText};
-ghost use Rattle.gj_function_text.specs.FirstFault.{IsMemoryFault, NamesFirstFault, NamesFirstFaultOfWhole};
+ghost use Rattle.gj_function_text.specs.FunctionText.{points_text, breaks_text, function_text};
+ghost use Rattle.gj_function_text.specs.FunctionText.{whole_function_text, IsFunctionText};
+ghost use Rattle.gj_function_text.specs.FunctionText.{IsWholeFunctionText};
+ghost use Rattle.gj_function_text.specs.FirstFault.{IsMemoryFault, NamesFirstFault};
+ghost use Rattle.gj_function_text.specs.FirstFault.{NamesFirstFaultOfWhole};
 
 use crate::body::body_at;
 use crate::breaks::breaks_at;

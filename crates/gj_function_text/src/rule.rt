@@ -1,7 +1,9 @@
 //! Rule texts, read.
-ghost use Rattle.std.specs.Prelude.{◌≡◌, ◌≤◌, ◌↔◌, List, ℕ, drop, length, IfOk, IfErr, MatchResult, IsTrue};
+ghost use Rattle.std.specs.Prelude.{◌≡◌, ◌≤◌, ◌↔◌, List, ℕ, drop, length, IfOk, IfErr, MatchResult};
+ghost use Rattle.std.specs.Prelude.{IsTrue};
 ghost use Rattle.gj_lex.specs.Parts.{IsFaultOf, IsRefusal};
-ghost use Rattle.gj_function_text.specs.RuleText.{rule_text, IsRuleText, IsFirstFaultOfRule, BeginsAsRule};
+ghost use Rattle.gj_function_text.specs.RuleText.{rule_text, IsRuleText, IsFirstFaultOfRule};
+ghost use Rattle.gj_function_text.specs.RuleText.{BeginsAsRule};
 
 use gj_lex::{PartFault, Reason, Spelling, begins_with_word, line_number, words_at};
 

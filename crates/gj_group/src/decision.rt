@@ -3,7 +3,8 @@ ghost use Rattle.std.specs.Prelude.{◌≡◌, ◌≤◌, ◌↔◌, IfOk, IsErr
 ghost use Rattle.gj_shape.specs.FunctionData.{IsContinuous, IsWithinBounds};
 ghost use Rattle.gj_shape.specs.Table.{IsMinimalOnGrid};
 ghost use Rattle.gj_residue.specs.Settled.{IsSettled, AnswersRows, AreRowsTooWide};
-ghost use Rattle.gj_group.specs.Decision.{greatest_group_order, own_rows, SaysOfTable, IsFound, IsExtremeOnOwnGrid, IsTooWideGroup};
+ghost use Rattle.gj_group.specs.Decision.{greatest_group_order, own_rows, SaysOfTable, IsFound};
+ghost use Rattle.gj_group.specs.Decision.{IsExtremeOnOwnGrid, IsTooWideGroup};
 
 use crate::faults::GroupFault;
 use crate::table_rows::GroupRows;

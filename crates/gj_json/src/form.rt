@@ -1,9 +1,11 @@
 //! The form of a function in JSON.
-ghost use Rattle.std.specs.Prelude.{◌≡◌, ◌↔◌, List, pos, map, Some, IsTrue, IfSome, IfNone, option_map, option_and_then, codes};
+ghost use Rattle.std.specs.Prelude.{◌≡◌, ◌↔◌, List, pos, map, Some, IsTrue, IfSome, IfNone};
+ghost use Rattle.std.specs.Prelude.{option_map, option_and_then, codes};
 ghost use Rattle.serde_json.specs.Data.{Data};
 ghost use Rattle.serde_json.specs.Find.{get, as_array};
 ghost use Rattle.serde_json.specs.View.{view};
-ghost use Rattle.gj_json.specs.JsonFunction.{integer, list_of, list_at, HasOnlyKeys, HasSideLimits, HasForm};
+ghost use Rattle.gj_json.specs.JsonFunction.{integer, list_of, list_at, HasOnlyKeys, HasSideLimits};
+ghost use Rattle.gj_json.specs.JsonFunction.{HasForm};
 
 use crate::entries::{are_entries, integer, is_entry};
 use serde_json::Value;

@@ -4,8 +4,10 @@ ghost use Rattle.gj_frac.specs.declared.Frac.{Frac};
 ghost use Rattle.gj_shape.specs.FunctionData.{FunctionData};
 ghost use Rattle.serde_json.specs.Data.{Data};
 ghost use Rattle.serde_json.specs.View.{view};
-ghost use Rattle.gj_json.specs.JsonFunction.{SpellsForm, GivesFunction, SaysFunction, HasValue, IsJsonFunction};
-ghost use Rattle.gj_json.specs.FirstReason.{RefusesFractions, RefusesValue, HasFirstReason, IsMemoryFault, NamesJsonReason};
+ghost use Rattle.gj_json.specs.JsonFunction.{SpellsForm, GivesFunction, SaysFunction, HasValue};
+ghost use Rattle.gj_json.specs.JsonFunction.{IsJsonFunction};
+ghost use Rattle.gj_json.specs.FirstReason.{RefusesFractions, RefusesValue, HasFirstReason};
+ghost use Rattle.gj_json.specs.FirstReason.{IsMemoryFault, NamesJsonReason};
 ghost use Rattle.gj_json.specs.Reading.{SpellsNoForm, fault_of_text};
 ghost use Rattle.gj_json.specs.declared.faults.JsonReason.TheVariants.{Syntax};
 

@@ -2,7 +2,8 @@
 ghost use Rattle.std.specs.Prelude.{◌≡◌, List, ℕ, All, codes, IfOk};
 ghost use Rattle.serde_json.specs.Data.{string, array, object, no_members, member};
 ghost use Rattle.serde_json.specs.View.{view, items_view};
-ghost use Rattle.gj_json.specs.JsonText.{strings, IsPrintable, IsProofByte, IsEnded, HasJsonLines, IsReport};
+ghost use Rattle.gj_json.specs.JsonText.{strings, IsPrintable, IsProofByte, IsEnded, HasJsonLines};
+ghost use Rattle.gj_json.specs.JsonText.{IsReport};
 
 use crate::show::line_of;
 use serde_json::{Value, json};

@@ -3,12 +3,14 @@ ghost use Rattle.std.specs.Prelude.{◌≡◌, ◌<◌, ◌≤◌, List, false, 
 ghost use Rattle.gj_frac.specs.declared.Frac.{Frac};
 ghost use Rattle.gj_lex.specs.NumberText.{fraction_text};
 ghost use Rattle.gj_shape.specs.FunctionData.{IsWithinBounds};
-ghost use Rattle.serde_json.specs.Data.{depth as nesting, unsigned, number, string, array, object, no_members, member};
+ghost use Rattle.serde_json.specs.Data.{depth as nesting, unsigned, number, string, array, object};
+ghost use Rattle.serde_json.specs.Data.{no_members, member};
 ghost use Rattle.serde_json.specs.Read.{max_depth};
 ghost use Rattle.serde_json.specs.View.{view};
 ghost use Rattle.serde_json.specs.Written.{has_float};
 ghost use Rattle.gj_json.specs.JsonFunction.{HasValue, IsJsonFunction};
-ghost use Rattle.gj_json.specs.JsonText.{json_line, fraction_strings, AreRatios, IsJsonOf, IsJsonText};
+ghost use Rattle.gj_json.specs.JsonText.{json_line, fraction_strings, AreRatios, IsJsonOf};
+ghost use Rattle.gj_json.specs.JsonText.{IsJsonText};
 
 use gj_frac::Frac;
 use gj_lex::print_frac;

@@ -1,5 +1,6 @@
 //! A sink over memory.
-ghost use Rattle.std.specs.Prelude.{◌≡◌, ◌+◌, ◌-◌, ◌<◌, ◌≤◌, ◌^◌, ◌↔◌, ◌⊎◌, ◌++◌, [], min, Some, length, take, IfOk, IsOk, IsErr, OnErr, Contains};
+ghost use Rattle.std.specs.Prelude.{◌≡◌, ◌+◌, ◌-◌, ◌<◌, ◌≤◌, ◌^◌, ◌↔◌, ◌⊎◌, ◌++◌, [], min, Some};
+ghost use Rattle.std.specs.Prelude.{length, take, IfOk, IsOk, IsErr, OnErr, Contains};
 ghost use Rattle.gj_port.specs.Faults.{HasFailed, one_more};
 ghost use Rattle.gj_port.specs.Sink.{Writes};
 ghost use Rattle.gj_port.specs.MemorySink.{sure_room};
@@ -43,8 +44,14 @@ impl MemSink {
     /// that is reached, stands in `fail`, or if no room is left.
     pub fn new(alloc: Global, room: usize, fail: &[u64]) -> Result<MemSink, AllocError>
         ensures { IfOk result (λ sink. sink ≡
-            record { written = []; room = room; step = 2 ^ 64 - 1; fail = fail.now;
-            calls = 0; faults = 0 }) }
+            record {
+              written = [];
+              room = room;
+              step = 2 ^ 64 - 1;
+              fail = fail.now;
+              calls = 0;
+              faults = 0;
+            }) }
     {
         MemSink::with_step(alloc, room, usize::MAX, fail)
     }
@@ -58,8 +65,14 @@ impl MemSink {
     ) -> Result<MemSink, AllocError>
         requires { 1 ≤ step }
         ensures { IfOk result (λ sink. sink ≡
-            record { written = []; room = room; step = step; fail = fail.now;
-            calls = 0; faults = 0 }) }
+            record {
+              written = [];
+              room = room;
+              step = step;
+              fail = fail.now;
+              calls = 0;
+              faults = 0;
+            }) }
     {
         Ok(MemSink {
             bytes: Vec::with_capacity(alloc, room)?,

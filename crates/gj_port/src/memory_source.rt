@@ -1,5 +1,6 @@
 //! A source over bytes in memory.
-ghost use Rattle.std.specs.Prelude.{◌≡◌, ◌-◌, ◌<◌, ◌≤◌, ◌^◌, ◌↔◌, min, Some, length, drop, IfOk, IsOk, IsErr, OnErr, IsTrue, Contains};
+ghost use Rattle.std.specs.Prelude.{◌≡◌, ◌-◌, ◌<◌, ◌≤◌, ◌^◌, ◌↔◌, min, Some, length, drop, IfOk};
+ghost use Rattle.std.specs.Prelude.{IsOk, IsErr, OnErr, IsTrue, Contains};
 ghost use Rattle.gj_port.specs.Faults.{HasFailed, one_more};
 ghost use Rattle.gj_port.specs.Source.{Reads};
 ghost use Rattle.gj_port.specs.MemorySource.{never_fails};
@@ -41,8 +42,13 @@ impl MemSource {
     /// counted from 1 and staying at 2^64 - 1 once that is reached, stands in `fail`.
     pub fn new(alloc: Global, bytes: &[u8], fail: &[u64]) -> Result<MemSource, AllocError>
         ensures { IfOk result (λ source. source ≡
-            record { left = bytes.now; step = 2 ^ 64 - 1; fail = fail.now;
-            calls = 0; faults = 0 }) }
+            record {
+              left = bytes.now;
+              step = 2 ^ 64 - 1;
+              fail = fail.now;
+              calls = 0;
+              faults = 0;
+            }) }
     {
         MemSource::with_step(alloc, bytes, usize::MAX, fail)
     }

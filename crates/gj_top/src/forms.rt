@@ -4,7 +4,8 @@ ghost use Rattle.gj_function_lines.specs.FunctionLines.{line};
 ghost use Rattle.gj_top.specs.Task.{IsReadingOf};
 ghost use Rattle.gj_json.specs.JsonFunction.{IsJsonFunction};
 ghost use Rattle.gj_top.specs.Forms.{IsFunctionInput, SpellsFunction, IsProofOf, refused_line};
-ghost use Rattle.gj_top.specs.Forms.{RefusesFunctionText, RefusesJson, RefusesFunction, RefusesProofText};
+ghost use Rattle.gj_top.specs.Forms.{RefusesFunctionText, RefusesJson, RefusesFunction};
+ghost use Rattle.gj_top.specs.Forms.{RefusesProofText};
 
 use crate::lines::{numbered_line, worded_line};
 use crate::reply::Unanswered;

@@ -1,7 +1,8 @@
 //! The top call: words and an input in, an answer and a status out.
 #![tactic(auto)]
 
-ghost use Rattle.std.specs.Prelude.{◌≡◌, ◌≢◌, ◌⊎◌, ◌≤◌, ℕ, Bool, List, [], length, Some, IfSome, IsTrue};
+ghost use Rattle.std.specs.Prelude.{◌≡◌, ◌≢◌, ◌⊎◌, ◌≤◌, ℕ, Bool, List, [], length, Some, IfSome};
+ghost use Rattle.std.specs.Prelude.{IsTrue};
 ghost use Rattle.gj_port.specs.Faults.{HasFailed};
 ghost use Rattle.gj_port.specs.Runs.{IsSourceFault, Gains};
 ghost use Rattle.gj_shape.specs.FunctionData.{FunctionData};
@@ -15,7 +16,8 @@ ghost use Rattle.gj_top.specs.Outcome.{IsOutcome, IsUnsure};
 ghost use Rattle.gj_top.specs.Asked.{AskIfExtreme};
 ghost use Rattle.gj_top.specs.Narrow.{HasUncoveredInterval, HasAtMostComponents};
 ghost use Rattle.gj_top.specs.Decisive.{IsDecisive, IsCalledExtreme};
-ghost use Rattle.gj_top.specs.Causes.{IsInput, IsGoodInput, IsTrueRun, IsDoneRun, ReadNothing, IsStatusOf, IsCause, IsStatusOfReply};
+ghost use Rattle.gj_top.specs.Causes.{IsInput, IsGoodInput, IsTrueRun, IsDoneRun, ReadNothing};
+ghost use Rattle.gj_top.specs.Causes.{IsStatusOf, IsCause, IsStatusOfReply};
 
 use gj_port::{Sink, Source, write_all};
 use std::alloc::Global;

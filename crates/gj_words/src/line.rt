@@ -1,6 +1,7 @@
 //! A command line, its words told apart by `clap`.
 
-ghost use Rattle.std.specs.Prelude.{◌≡◌, ◌≢◌, ◌≤◌, ◌↔◌, ◌∷◌, ◌++◌, ℕ, List, true, codes, length, map, None, option_map, Err, IfOk};
+ghost use Rattle.std.specs.Prelude.{◌≡◌, ◌≢◌, ◌≤◌, ◌↔◌, ◌∷◌, ◌++◌, ℕ, List, true, codes, length};
+ghost use Rattle.std.specs.Prelude.{map, None, option_map, Err, IfOk};
 ghost use Rattle.std.specs.List.{list_all};
 ghost use Rattle.std.specs.String.{string_bytes};
 ghost use Rattle.gj_words.specs.Bare.{bare_words, flag_count, is_plain};

@@ -1,6 +1,7 @@
 //! Numbers of commands.
 
-ghost use Rattle.std.specs.Prelude.{◌≡◌, ◌≤◌, ◌<◌, ◌^◌, ◌↔◌, ℕ, decimal, slice_index, IfSome, IsTrue};
+ghost use Rattle.std.specs.Prelude.{◌≡◌, ◌≤◌, ◌<◌, ◌^◌, ◌↔◌, ℕ, decimal, slice_index, IfSome};
+ghost use Rattle.std.specs.Prelude.{IsTrue};
 
 /// The number that the word spells in digits, without a leading zero unless the word is `0`.
 ///
