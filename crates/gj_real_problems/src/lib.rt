@@ -36,7 +36,8 @@ pub fn safe_cuts_hold_over_reals<K: Reals>()
         length at_upper ≡ length p.columns → IsKindWithinBounds kind → IsMinimalKind kind →
         AreSlopesOfKind kind up down →
         IsSafeCutOf kind up down p multipliers at_upper cut → RealSafeCutHolds K.field p cut }
-    ensures held { (p : Problem) (cut : SafeCut) → SafeCutHolds p cut → RealSafeCutHolds K.field p cut }
+    ensures held { (p : Problem) (cut : SafeCut) → SafeCutHolds p cut →
+        RealSafeCutHolds K.field p cut }
     ensures rounded { (p : Problem) (grid : ℕ) (q rounded : Inequality) → RealHolds K.field p q →
         IsRoundedCut p grid q rounded → RealHolds K.field p rounded }
 {}
