@@ -1,5 +1,5 @@
 -- The terms of a row's entries, and the cut that they make.
-use Rattle.std.proofs.Common.{◌≡◌, ℕ, ◌^◌, ◌+◌, ◌<◌, ◌≤◌, ◌++◌, Result, Ok, Err, IfOk, List, [], ◌∷◌, length, get_or, take, map, All, unsigned_abs, sym, ap, ◌∙◌, subst, subst₂, arith}
+use Rattle.std.proofs.Common.{◌≡◌, ℕ, ◌^◌, ◌+◌, ◌<◌, ◌≤◌, ◌++◌, List, [], ◌∷◌, length, get_or, take, map, All, unsigned_abs, sym, ap, ◌∙◌, subst, subst₂, arith}
 use Rattle.std.specs.List.{AllZip}
 use Rattle.std.specs.Int.{◌∣◌}
 use Rattle.std.proofs.lemmas.Nat.Gcd.{le_of_dvd}
@@ -114,8 +114,3 @@ pub gmic_cut_of : (f : Frac) (row : Row) (cut : RowCut) → HasPart (Gmic f) row
 gmic_cut_of f row (Cut terms) part h = (f, h)
 gmic_cut_of f row Integral part h = h
 gmic_cut_of f row OtherFraction part h = absurd (h.1 part)
-
--- what holds of the value of a result, carried over
-pub if_ok_along : {T F : Type 0} {P Q : T → Type 0} (r : Result T F) → IfOk r P → ((x : T) → P x → Q x) → IfOk r Q
-if_ok_along (Ok x) h carried = carried x h
-if_ok_along (Err e) h carried = tt

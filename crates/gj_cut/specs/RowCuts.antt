@@ -14,11 +14,19 @@ use Rattle.gj_row.specs.declared.tableau.Row.{Row}
 use Rattle.gj_cut.specs.declared.cut.Term.{Term}
 use Rattle.gj_cut.specs.declared.cut.RowCut.{RowCut}
 use Rattle.gj_cut.specs.declared.cut.RowCut.TheVariants.{Cut, Integral, OtherFraction}
+use Rattle.gj_cut.specs.declared.right_sides.RightSide.{RightSide}
+use Rattle.gj_cut.specs.declared.right_sides.RightSide.TheVariants as side
 
 -- the fractional part of x is the kind's f
 abbrev pub HasPart : RuleKind → Frac → Type 0
 HasPart (Gmic f) x = HasFractionalPart x (numerator f) (denominator f)
 HasPart (Table shape) x = HasFractionalPart x (pos shape.place) (pos shape.order)
+
+-- what a right side is to the kind
+abbrev pub IsRightSide : RuleKind → Frac → RightSide → Type 0
+IsRightSide kind x side.Whole = IsWhole x
+IsRightSide kind x side.AtPlace = (IsWhole x → ⊥) × HasPart kind x
+IsRightSide kind x side.OtherFraction = (IsWhole x → ⊥) × (HasPart kind x → ⊥)
 
 -- the term of an entry: the coefficient is the kind's value at the entry
 pub record IsTermOfKind (kind : RuleKind) (entry : Entry) (term : Term) : Type 0 where

@@ -1,16 +1,16 @@
 //! The cut of a row by a rule.
-ghost use Rattle.std.specs.Prelude.{◌≡◌, ◌↔◌, IsTrue, IfOk, All};
+ghost use Rattle.std.specs.Prelude.{IfOk, All};
 ghost use Rattle.std.specs.List.{AllZip};
-ghost use Rattle.gj_frac.specs.Fraction.{numerator, denominator, IsWhole, HasDenominatorBelow};
-ghost use Rattle.gj_frac.specs.Floor.{HasFractionalPart};
 ghost use Rattle.gj_row.specs.TableauLimits.{AreWithinLimits, numbers_of};
 ghost use Rattle.gj_rule.specs.Kind.{IsKind, IsKindWithinBounds, IsMinimalKind};
-ghost use Rattle.gj_shape.specs.Limits.{denominator_bound, IsRowNumber};
+ghost use Rattle.gj_shape.specs.Limits.{IsRowNumber};
 ghost use Rattle.gj_rule.specs.Kept.{Evaluates};
 ghost use Rattle.gj_rule.specs.declared.kind.RuleKind.TheVariants.{Gmic};
-ghost use Rattle.gj_cut.specs.RowCuts.{HasPart, IsTermOf, IsCutOf, IsCutOfKind, IsGmicCutOf, HoldsFor};
+ghost use Rattle.gj_cut.specs.RowCuts.{IsRightSide, IsTermOf, IsCutOf, IsGmicCutOf, HoldsFor};
+ghost use Rattle.gj_cut.specs.declared.right_sides.RightSide.TheVariants.{AtPlace};
 
 use crate::cut::{RowCut, Term};
+use crate::right_sides::{RightSide, gmic_place, right_side};
 use gj_frac::Frac;
 use gj_row::{Entry, Row};
 use gj_rule::{Evaluator, Rule, RuleKind, gmic_value};
@@ -33,14 +33,11 @@ pub fn cut_row<E: Evaluator>(alloc: Global, rule: &Rule<E>, row: &Row) -> Result
     ensures cut { IfOk result (IsCutOf E.answers rule.now row.now) }
     ensures holds { IfOk result (λ cut. IsMinimalKind rule.now.kind → HoldsFor row.now cut) }
 {
-    if row.rhs.den() == 1 {
-        return Ok(RowCut::Integral);
+    match right_side(rule, row.rhs) {
+        RightSide::Whole => Ok(RowCut::Integral),
+        RightSide::AtPlace => cut_at_place(alloc, rule, row),
+        RightSide::OtherFraction => Ok(RowCut::OtherFraction),
     }
-    if !has_part(rule, row.rhs) {
-        return Ok(RowCut::OtherFraction);
-    }
-    let terms = terms(alloc, rule, row.entries.as_slice())?;
-    Ok(RowCut::Cut(List::of(terms)))
 }
 
 /// The mixed-integer cut of the row, for f the fractional part of its right side.
@@ -58,46 +55,44 @@ pub fn gmic_cut_row(alloc: Global, row: &Row) -> Result<RowCut, AllocError>
     ensures cut { IfOk result (IsGmicCutOf row.now) }
     ensures holds { IfOk result (HoldsFor row.now) }
 {
-    if row.rhs.den() == 1 {
+    let Some(f) = gmic_place(row) else {
         return Ok(RowCut::Integral);
-    }
-    let f = part_of(row.rhs);
-    cut_by(alloc, RuleKind::Gmic(f), |x| gmic_value(f, x), row)
+    };
+    gmic_cut_by(alloc, f, |x| gmic_value(f, x), row)
 }
 
-/// The fractional part of a right side that is not whole: the f of its mixed-integer cut.
-pub fn part_of(right: Frac) -> Frac
-    requires not_whole { IsWhole right → ⊥ }
-    requires fine { HasDenominatorBelow denominator_bound right }
-    ensures part { HasFractionalPart right (numerator result) (denominator result) }
-    ensures kind { IsKind (Gmic result) }
-{
-    right.fract()
-}
-
-/// The cut of the row by the rule of this kind with this evaluator.
-pub(crate) fn cut_by<E: Evaluator>(
+/// The mixed-integer cut of a row whose right side has the fractional part f, by this evaluator.
+fn gmic_cut_by<E: Evaluator>(
     alloc: Global,
-    kind: RuleKind,
+    f: Frac,
     eval: E,
     row: &Row,
 ) -> Result<RowCut, AllocError>
-    requires kind { IsKind kind }
-    requires evaluates { Evaluates E.can_answer E.answers kind eval }
+    requires kind { IsKind (Gmic f) }
+    requires evaluates { Evaluates E.can_answer E.answers (Gmic f) eval }
+    requires side { IsRightSide (Gmic f) row.now.rhs AtPlace }
     requires limits { AreWithinLimits (numbers_of row.now) }
-    ensures cut { IfOk result (IsCutOfKind kind row.now) }
-    ensures holds { IfOk result (λ cut. IsMinimalKind kind → HoldsFor row.now cut) }
+    ensures cut { IfOk result (IsGmicCutOf row.now) }
+    ensures holds { IfOk result (HoldsFor row.now) }
 {
-    let rule = Rule::new(kind, eval);
-    cut_row(alloc, &rule, row)
+    let rule = Rule::new(RuleKind::Gmic(f), eval);
+    cut_at_place(alloc, &rule, row)
 }
 
-/// Whether the fractional part of x is the rule's f.
-pub fn has_part<E: Evaluator>(rule: &Rule<E>, x: Frac) -> bool
-    ensures part { IsTrue result ↔ HasPart rule.now.kind x }
-    ensures limits { IsKindWithinBounds rule.now.kind }
+/// The cut of a row whose right side has the rule's f for its fractional part.
+fn cut_at_place<E: Evaluator>(
+    alloc: Global,
+    rule: &Rule<E>,
+    row: &Row,
+) -> Result<RowCut, AllocError>
+    requires bounds { IsKindWithinBounds rule.now.kind }
+    requires side { IsRightSide rule.now.kind row.now.rhs AtPlace }
+    requires limits { AreWithinLimits (numbers_of row.now) }
+    ensures cut { IfOk result (IsCutOf E.answers rule.now row.now) }
+    ensures holds { IfOk result (λ cut. IsMinimalKind rule.now.kind → HoldsFor row.now cut) }
 {
-    x.fract() == rule.place()
+    let terms = terms(alloc, rule, row.entries.as_slice())?;
+    Ok(RowCut::Cut(List::of(terms)))
 }
 
 /// The terms of the entries.
@@ -111,11 +106,7 @@ fn terms<E: Evaluator>(
 {
     let mut terms = Vec::with_capacity(alloc, entries.len())?;
     for entry in entries {
-        terms.push(Term {
-            column: entry.column,
-            entry: entry.value,
-            cut: rule.at(entry.value),
-        })?;
+        terms.push(term(rule, *entry))?;
     }
     Ok(terms)
 }

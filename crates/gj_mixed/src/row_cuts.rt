@@ -2,18 +2,21 @@
 ghost use Rattle.std.specs.Prelude.{◌≡◌, ◌<◌, IfOk, All, length, true, false};
 ghost use Rattle.std.specs.List.{AllZip};
 ghost use Rattle.gj_row.specs.TableauLimits.{AreWithinLimits, numbers_of};
-ghost use Rattle.gj_rule.specs.Kind.{IsKind, IsMinimalKind};
+ghost use Rattle.gj_rule.specs.Kind.{IsKind, IsKindWithinBounds, IsMinimalKind};
+ghost use Rattle.gj_rule.specs.declared.kind.RuleKind.TheVariants.{Gmic};
 ghost use Rattle.gj_shape.specs.Limits.{IsRowNumber};
 ghost use Rattle.gj_rule.specs.Kept.{Evaluates};
-ghost use Rattle.gj_cut.specs.RowCuts.{IsTermOf};
-ghost use Rattle.gj_mixed.specs.MixedCuts.{IsWeightTermOf, IsMixedCutOf, IsMixedCutOfKind, IsGmicMixedCutOf, MixedHoldsFor};
+ghost use Rattle.gj_cut.specs.RowCuts.{IsRightSide, IsTermOf};
+ghost use Rattle.gj_cut.specs.declared.right_sides.RightSide.TheVariants.{AtPlace};
+ghost use Rattle.gj_mixed.specs.MixedCuts.{IsWeightTermOf, IsMixedCutOf, IsGmicMixedCutOf, MixedHoldsFor};
 ghost use Rattle.gj_mixed.specs.MixedCuts.{whole_entries, continuous_entries};
-ghost use Rattle.gj_mixed.specs.Slopes.{AreSlopesOfKind, IsSlope, Weighs};
+ghost use Rattle.gj_mixed.specs.Slopes.{AreGmicSlopes, AreSlopesOfKind, IsSlope, Weighs};
 
 use crate::cut::MixedCut;
 use crate::slopes::SlopesAtZero;
 use crate::weights::Slopes;
-use gj_cut::{Term, has_part, part_of, term};
+use gj_cut::{RightSide, Term, gmic_place, right_side, term};
+use gj_frac::Frac;
 use gj_row::{Entry, Row};
 use gj_rule::{Evaluator, Rule, RuleKind, gmic_value};
 use gj_shape::List;
@@ -41,20 +44,11 @@ pub fn cut_mixed<E: Evaluator, G: Evaluator>(
         (IsMixedCutOf E.answers G.answers rule.now slopes.now continuous.now row.now) }
     ensures holds { IfOk result (λ cut. IsMinimalKind rule.now.kind → MixedHoldsFor row.now cut) }
 {
-    if row.rhs.den() == 1 {
-        return Ok(MixedCut::Integral);
+    match right_side(rule, row.rhs) {
+        RightSide::Whole => Ok(MixedCut::Integral),
+        RightSide::AtPlace => cut_at_place(alloc, rule, slopes, row, continuous),
+        RightSide::OtherFraction => Ok(MixedCut::OtherFraction),
     }
-    if !has_part(rule, row.rhs) {
-        return Ok(MixedCut::OtherFraction);
-    }
-    let Terms { terms, weights } = terms_of(
-        alloc,
-        rule,
-        slopes,
-        row.entries.as_slice(),
-        continuous,
-    )?;
-    Ok(MixedCut::Cut(List::of(terms), List::of(weights)))
 }
 
 /// The mixed-integer cut of the row, for f the fractional part of its right side.
@@ -67,14 +61,13 @@ pub fn gmic_cut_mixed(alloc: Global, row: &Row, continuous: &[bool]) -> Result<M
     ensures cut { IfOk result (IsGmicMixedCutOf continuous.now row.now) }
     ensures holds { IfOk result (MixedHoldsFor row.now) }
 {
-    if row.rhs.den() == 1 {
+    let Some(f) = gmic_place(row) else {
         return Ok(MixedCut::Integral);
-    }
-    let f = part_of(row.rhs);
+    };
     let at_zero = SlopesAtZero::of_gmic(f);
-    cut_mixed_by(
+    gmic_cut_by(
         alloc,
-        RuleKind::Gmic(f),
+        f,
         |x| gmic_value(f, x),
         at_zero,
         |c| at_zero.weight(c),
@@ -83,32 +76,59 @@ pub fn gmic_cut_mixed(alloc: Global, row: &Row, continuous: &[bool]) -> Result<M
     )
 }
 
-/// The cut of the row by the rule of this kind with this evaluator, and by these slopes with this
-/// one.
-pub(crate) fn cut_mixed_by<E: Evaluator, G: Evaluator>(
+/// The mixed-integer cut of a row whose right side has the fractional part f, by this evaluator,
+/// and by these slopes with this one.
+fn gmic_cut_by<E: Evaluator, G: Evaluator>(
     alloc: Global,
-    kind: RuleKind,
+    f: Frac,
     eval: E,
     at_zero: SlopesAtZero,
     weigh: G,
     row: &Row,
     continuous: &[bool],
 ) -> Result<MixedCut, AllocError>
-    requires kind { IsKind kind }
-    requires evaluates { Evaluates E.can_answer E.answers kind eval }
+    requires kind { IsKind (Gmic f) }
+    requires evaluates { Evaluates E.can_answer E.answers (Gmic f) eval }
     requires up { IsSlope at_zero.up }
     requires down { IsSlope at_zero.down }
     requires weighs { Weighs G.can_answer G.answers at_zero.up at_zero.down weigh }
-    requires slopes { AreSlopesOfKind kind at_zero.up at_zero.down }
+    requires slopes { AreGmicSlopes f at_zero.up at_zero.down }
+    requires side { IsRightSide (Gmic f) row.now.rhs AtPlace }
     requires limits { AreWithinLimits (numbers_of row.now) }
     requires columns { All (λ entry. entry.column < length continuous.now) row.now.entries }
-    ensures cut { IfOk result
-        (IsMixedCutOfKind kind at_zero.up at_zero.down continuous.now row.now) }
-    ensures holds { IfOk result (λ cut. IsMinimalKind kind → MixedHoldsFor row.now cut) }
+    ensures cut { IfOk result (IsGmicMixedCutOf continuous.now row.now) }
+    ensures holds { IfOk result (MixedHoldsFor row.now) }
 {
-    let rule = Rule::new(kind, eval);
+    let rule = Rule::new(RuleKind::Gmic(f), eval);
     let slopes = Slopes::new(at_zero.up, at_zero.down, weigh);
-    cut_mixed(alloc, &rule, &slopes, row, continuous)
+    cut_at_place(alloc, &rule, &slopes, row, continuous)
+}
+
+/// The cut of a row whose right side has the rule's f for its fractional part.
+fn cut_at_place<E: Evaluator, G: Evaluator>(
+    alloc: Global,
+    rule: &Rule<E>,
+    slopes: &Slopes<G>,
+    row: &Row,
+    continuous: &[bool],
+) -> Result<MixedCut, AllocError>
+    requires bounds { IsKindWithinBounds rule.now.kind }
+    requires side { IsRightSide rule.now.kind row.now.rhs AtPlace }
+    requires limits { AreWithinLimits (numbers_of row.now) }
+    requires columns { All (λ entry. entry.column < length continuous.now) row.now.entries }
+    requires slopes { AreSlopesOfKind rule.now.kind slopes.now.up slopes.now.down }
+    ensures cut { IfOk result
+        (IsMixedCutOf E.answers G.answers rule.now slopes.now continuous.now row.now) }
+    ensures holds { IfOk result (λ cut. IsMinimalKind rule.now.kind → MixedHoldsFor row.now cut) }
+{
+    let Terms { terms, weights } = terms_of(
+        alloc,
+        rule,
+        slopes,
+        row.entries.as_slice(),
+        continuous,
+    )?;
+    Ok(MixedCut::Cut(List::of(terms), List::of(weights)))
 }
 
 /// The terms of whole columns, and those of continuous ones.

@@ -1,19 +1,13 @@
 -- The cut of a problem holds at its feasible points.
-use Rattle.std.proofs.Common.{◌≡◌, ◌≤◌, Bool, List, length, ℤ, pos, ◌+ℤ◌, ◌-ℤ◌, ◌*ℤ◌, ◌<ℤ◌, ◌≤ℤ◌, unsigned_abs, refl, sym, ap, ◌∙◌, arith}
-use Rattle.std.specs.Int.{int_div_euclid}
-use Rattle.std.proofs.lemmas.Int.{ints}
-use Rattle.std.proofs.lemmas.Nat.Gcd.{le_of_dvd}
+use Rattle.std.proofs.Common.{◌≡◌, Bool, List, length, refl}
 use Rattle.gj_frac.specs.declared.Frac.{Frac}
-use Rattle.gj_frac.specs.Floor.{HasFractionalPart}
-use Rattle.gj_frac.specs.Fraction.{numerator, denominator, IsInside, IsWhole}
-use Rattle.gj_frac.proofs.Floors.{quotient_is_floor}
-use Rattle.gj_lemmas.proofs.Divisors.{whole_multiple}
-use Rattle.gj_lemmas.proofs.Integers.{add_mul_z, mul_comm_z, mul_lt_cancel_right_z, mul_lt_mul_right_z, mul_positive_z, one_mul_z, pos_abs_z}
+use Rattle.gj_frac.specs.Fraction.{IsInside}
 use Rattle.gj_shape.specs.FunctionData.{IsWithinBounds}
 use Rattle.gj_rule.specs.Kind.{IsKindValue, IsKindWithinBounds, IsMinimalKind}
 use Rattle.gj_rule.specs.declared.kind.RuleKind.{RuleKind}
 use Rattle.gj_rule.specs.declared.kind.RuleKind.TheVariants.{Gmic, Table}
 use Rattle.gj_cut.specs.RowCuts.{HasPart}
+use Rattle.gj_cut.proofs.RightSides.{part_inside}
 use Rattle.gj_mixed.specs.Slopes.{AreSlopesOfKind}
 use Rattle.gj_mixed.proofs.HeldCuts.{mixed_by_function, mixed_by_gmic}
 use Rattle.gj_problem.specs.declared.problem.Inequality.{Inequality}
@@ -27,34 +21,6 @@ use Rattle.gj_safe_cut.specs.declared.cut.SafeCut.{SafeCut}
 use Rattle.gj_safe_cut.specs.declared.cut.SafeCut.TheVariants.{Cut, Integral, OtherFraction, Free, Wide}
 use Rattle.gj_safe_cut.specs.SafeCuts.{IsCutOfPieces, IsSafeCutOf, IsGmicSafeCutOf, SafeCutHolds}
 use Rattle.gj_safe_cut.proofs.PointCuts.{AreCutsHeld, cut_over}
-
--- ---- the fractional part of a right side that is not whole
-
-whole_multiple_is : (x : Frac) (w : ℤ) → x.num ≡ w *ℤ x.den → IsWhole x
-whole_multiple_is x w h =
-    let d = unsigned_abs x.den in
-    let d_is : pos d ≡ x.den = pos_abs_z x.den (omega (arith, ints, x.lowest.positive)) in
-    let multiple : pos 1 *ℤ x.num ≡ w *ℤ pos d = one_mul_z x.num ∙ h ∙ ap (λ z. w *ℤ z) (sym d_is) in
-    let bound : d ≤ 1 = le_of_dvd (omega arith) (whole_multiple x.num w d 1 x.lowest.coprime multiple) in
-    omega (arith, ints, x.lowest.positive)
-
-pub part_inside : (x f : Frac) → HasFractionalPart x (numerator f) (denominator f) → (IsWhole x → ⊥) → IsInside f
-part_inside x f part not_whole =
-    let w = int_div_euclid x.num x.den in
-    let floor = quotient_is_floor x in
-    let r = x.num -ℤ w *ℤ x.den in
-    let is : r *ℤ f.den ≡ f.num *ℤ x.den = part w floor in
-    let next : (w +ℤ pos 1) *ℤ x.den ≡ w *ℤ x.den +ℤ x.den = add_mul_z w (pos 1) x.den ∙ ap (λ z. w *ℤ x.den +ℤ z) (one_mul_z x.den) in
-    let at_least : pos 0 ≤ℤ r = omega (arith, ints, floor.at_most) in
-    let other : x.num ≡ w *ℤ x.den → ⊥ = λ same. not_whole (whole_multiple_is x w same) in
-    let some : pos 0 <ℤ r = omega (arith, ints) in
-    let below : r <ℤ x.den = omega (arith, ints, floor.next_above) in
-    let low = mul_positive_z r f.den some f.lowest.positive in
-    let high : (r *ℤ f.den) <ℤ (x.den *ℤ f.den) = mul_lt_mul_right_z r x.den f.den f.lowest.positive below in
-    let turned = mul_comm_z x.den f.den in (
-      mul_lt_cancel_right_z (pos 0) f.num x.den x.lowest.positive (omega (arith, ints)),
-      mul_lt_cancel_right_z f.num f.den x.den x.lowest.positive (omega (arith, ints)),
-    )
 
 -- ---- the cuts of rows
 

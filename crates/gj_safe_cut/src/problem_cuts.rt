@@ -9,7 +9,7 @@ ghost use Rattle.gj_safe_cut.specs.SafeCuts.{IsSafeCutOf, IsGmicSafeCutOf, IsCut
 use crate::cut::SafeCut;
 use crate::terms::turned_back;
 use crate::values::Place;
-use gj_cut::has_part;
+use gj_cut::{RightSide, part_of, right_side};
 use gj_frac::Frac;
 use gj_mixed::{Slopes, SlopesAtZero};
 use gj_problem::{Fault, MadeRow, Problem, Row, row_of};
@@ -92,10 +92,10 @@ fn gmic_cut_of_row(alloc: Global, columns: usize, row: &Row) -> Result<SafeCut, 
     ensures { IfOk result (IsGmicCutOfRow
         (row.now.slacks.items ++ row.now.bounds.items) row.now.right) }
 {
-    if row.right.den() == 1 {
+    let Some(f) = part_of(row.right) else {
         return Ok(SafeCut::Integral);
-    }
-    let place = Place::of(row.right);
+    };
+    let place = Place::of(f);
     let slopes = place.slopes()?;
     let cut = turned_back(alloc, columns, row, &place, slopes)?;
     Ok(SafeCut::Cut(cut))
@@ -138,16 +138,16 @@ fn rule_cut_of_row<E: Evaluator, G: Evaluator>(
     ensures is { IfOk result
         (IsCutOfRow rule.now.kind slopes.now.up slopes.now.down (row.now.slacks.items ++ row.now.bounds.items) row.now.right) }
 {
-    if row.right.den() == 1 {
-        return Ok(SafeCut::Integral);
+    match right_side(rule, row.right) {
+        RightSide::Whole => Ok(SafeCut::Integral),
+        RightSide::AtPlace => {
+            let at_zero = SlopesAtZero {
+                up: slopes.up(),
+                down: slopes.down(),
+            };
+            let cut = turned_back(alloc, columns, row, rule, at_zero)?;
+            Ok(SafeCut::Cut(cut))
+        }
+        RightSide::OtherFraction => Ok(SafeCut::OtherFraction),
     }
-    if !has_part(rule, row.right) {
-        return Ok(SafeCut::OtherFraction);
-    }
-    let at_zero = SlopesAtZero {
-        up: slopes.up(),
-        down: slopes.down(),
-    };
-    let cut = turned_back(alloc, columns, row, rule, at_zero)?;
-    Ok(SafeCut::Cut(cut))
 }

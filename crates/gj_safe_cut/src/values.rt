@@ -1,8 +1,7 @@
 //! Values of rules at fractions of any size, if they fit.
 ghost use Rattle.std.specs.Prelude.{◌≡◌, ◌↔◌, pos, IfOk, IsTrue};
 ghost use Rattle.gj_frac.specs.declared.Frac.{Frac};
-ghost use Rattle.gj_frac.specs.Fraction.{SameValue, LessValue, fraction_of, quotient_of, numerator, denominator, IsInside, IsWhole};
-ghost use Rattle.gj_frac.specs.Floor.{HasFractionalPart};
+ghost use Rattle.gj_frac.specs.Fraction.{SameValue, LessValue, fraction_of, quotient_of, IsInside};
 ghost use Rattle.gj_theory.specs.Cuts.{IsGmicValue};
 ghost use Rattle.gj_rule.specs.Kind.{IsKindValue};
 ghost use Rattle.gj_mixed.specs.Slopes.{IsWeight, AreGmicSlopes};
@@ -57,12 +56,12 @@ impl Values for Place {
 }
 
 impl Place {
-    /// The fractional part of a right side that is not whole.
-    pub(crate) fn of(right: Frac) -> Place
-        requires { IsWhole right → ⊥ }
-        ensures { HasFractionalPart right (numerator result.f) (denominator result.f) }
+    /// That for this f.
+    pub(crate) fn of(f: Frac) -> Place
+        requires { IsInside f }
+        ensures { result.f ≡ f }
     {
-        Place { f: right.fract() }
+        Place { f }
     }
 
     /// The slopes of the mixed-integer cut at 0.

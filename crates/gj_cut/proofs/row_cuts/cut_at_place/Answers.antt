@@ -6,12 +6,12 @@ use Rattle.gj_cut.specs.RowCuts.{IsTermOf, HoldsFor}
 use Rattle.gj_cut.specs.declared.cut.Term.{Term}
 use Rattle.gj_cut.specs.declared.cut.RowCut.TheVariants.{Cut}
 use Rattle.gj_cut.proofs.RowTerms.{entries_in_range, holds_at}
-use Rattle.gj_cut.proofs.row_cuts.cut_row.Goals as goal
+use Rattle.gj_cut.proofs.row_cuts.cut_at_place.Goals as goal
 
 pub terms-requires : goal.terms-requires
 terms-requires g c =
     subst (λ (entries : List Entry). All (λ e. IsRowNumber e.value) entries) (sym c.as_slice.ensures)
-    (entries_in_range c.args.row.now c.requires)
+    (entries_in_range c.args.row.now c.requires.limits)
 
 pub returns-clause-holds : goal.returns-clause-holds
 returns-clause-holds g c minimal =
@@ -20,6 +20,5 @@ returns-clause-holds g c minimal =
     let answers = g.E.Evaluator.answers in
     let items = c.in_ok-terms.terms.items in
     subst (λ (terms : List Term). HoldsFor row (Cut terms)) (sym c.of.ensures)
-    (holds_at answers rule rule.kind row items refl c.has_part.ensures.limits minimal
-    (c.has_part.ensures.part.0 c.if-not-has_part.false)
+    (holds_at answers rule rule.kind row items refl c.requires.bounds minimal c.requires.side.1
     (subst (λ (entries : List Entry). AllZip (IsTermOf answers rule) entries items) c.as_slice.ensures c.in_ok-terms.ensures))

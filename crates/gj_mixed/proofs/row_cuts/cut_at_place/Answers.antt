@@ -6,7 +6,7 @@ use Rattle.gj_cut.proofs.RowTerms.{entries_in_range}
 use Rattle.gj_mixed.specs.MixedCuts.{MixedHoldsFor, whole_entries, continuous_entries}
 use Rattle.gj_mixed.specs.declared.cut.MixedCut.TheVariants.{Cut}
 use Rattle.gj_mixed.proofs.MixedTerms.{mixed_holds_at}
-use Rattle.gj_mixed.proofs.row_cuts.cut_mixed.Goals as goal
+use Rattle.gj_mixed.proofs.row_cuts.cut_at_place.Goals as goal
 
 pub terms_of-requires-clause-range : goal.terms_of-requires-clause-range
 terms_of-requires-clause-range g c =
@@ -26,5 +26,5 @@ returns-clause-holds g c minimal =
     let made = c.in_ok-terms.ensures in
     subst₂ (λ (ts ws : List Term). MixedHoldsFor row (Cut ts ws)) (sym c.of.ensures) (sym c.of-2.ensures)
     (mixed_holds_at answers weighs rule slopes rule.kind row (whole_entries continuous c.as_slice.result.now)
-    (continuous_entries continuous c.as_slice.result.now) terms weights refl c.has_part.ensures.limits minimal
-    (c.has_part.ensures.part.0 c.if-not-has_part.false) c.requires.slopes made.terms made.weights)
+    (continuous_entries continuous c.as_slice.result.now) terms weights refl c.requires.bounds minimal c.requires.side.1
+    c.requires.slopes made.terms made.weights)
