@@ -1,5 +1,6 @@
 -- The rules that the claims of the decision meet, and what the table of order 4 q tells of them.
-use Rattle.std.proofs.Common.{◌*◌, ◌⊎◌, inl, inr, arith}
+use Rattle.std.proofs.Common.{◌*◌, ◌⊎◌, inl, inr, Result, Ok, Err, arith}
+use Rattle.std.specs.Prelude.{IfOk}
 use Rattle.gj_shape.specs.Extreme.{IsExtremeTable}
 use Rattle.gj_shape.specs.FunctionData.{FunctionData, IsWithinBounds}
 use Rattle.gj_shape.specs.Table.{table, IsMinimal}
@@ -10,7 +11,8 @@ use Rattle.gj_proof.specs.Rules.{MeetsRules}
 use Rattle.gj_proof.specs.declared.claim.Claim.{Claim}
 use Rattle.gj_proof.specs.declared.claim.Claim.TheVariants.{Minimal, NotMinimal, Cut, Extreme, ExtremeByResidues, NotExtreme}
 use Rattle.gj_proof.specs.declared.numbers.Numbers.TheVariants.{Whole, Residues}
-use Rattle.gj_extreme.specs.Decision.{AreZigzagHalves, AreSlopeHalves, IsDecided, IsByTable}
+use Rattle.gj_extreme.specs.Decision.{AreZigzagHalves, AreSlopeHalves, IsDecided, IsDecision, IsByTable}
+use Rattle.gj_extreme.specs.declared.faults.DecideFault.{DecideFault}
 use Rattle.gj_extreme.proofs.DecidedHalves.{zigzag_halves, slope_halves}
 use Rattle.gj_extreme.proofs.DecidedHolds.{extreme_holds}
 use Rattle.gj_extreme.proofs.DecidedRules.{decided_extreme_rules, decided_residue_rules, decided_halves_rules}
@@ -40,3 +42,7 @@ decided_by_table f (NotExtreme g halves) l h = λ extreme. by_halves extreme h.3
     by_halves extreme (inr slope) =
         let all = (four_times_decides f l h.2).1 extreme in
         halves_deny (table f 1) (f.order * 1) (f.place * 1) (f.scale * 1) _ _ _ (slope_halves f halves l h.1 slope) (all 1 (omega arith))
+
+pub decision_rules : (f : FunctionData) (r : Result Claim DecideFault) → IsWithinBounds f → IsMinimal f → IsDecision f r → IfOk r MeetsRules
+decision_rules f (Ok claim) l minimal h = minimal_rules f claim l minimal h.0
+decision_rules f (Err fault) l minimal h = tt

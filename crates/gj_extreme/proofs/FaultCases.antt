@@ -1,6 +1,6 @@
--- Faults that a part hands on.
-use Rattle.std.proofs.Common.{◌≡◌, ℕ, Result, Ok, Err, refl}
-use Rattle.std.specs.Prelude.{IsErr, IsErrOf}
+-- Faults that a part hands on, with their causes.
+use Rattle.std.proofs.Common.{◌≡◌, Result, Ok, Err, refl, sym, subst}
+use Rattle.std.specs.Prelude.{IfErr, IsErr, IsErrOf}
 use Rattle.std.specs.Result.{IsErrAnd}
 use Rattle.std.specs.declared.alloc.AllocError.{AllocError}
 use Rattle.gj_elim.specs.declared.faults.ElimFault.{ElimFault}
@@ -9,49 +9,58 @@ use Rattle.gj_perturb.specs.declared.faults.SplitFault.{SplitFault}
 use Rattle.gj_perturb.specs.declared.faults.SplitFault.TheVariants as split
 use Rattle.gj_residue.specs.declared.settling.SettleFault.{SettleFault}
 use Rattle.gj_residue.specs.declared.settling.SettleFault.TheVariants as settling
-use Rattle.gj_extreme.specs.Faults.{of_elimination, of_split, of_settling}
+use Rattle.gj_shape.specs.FunctionData.{FunctionData, IsContinuous}
+use Rattle.gj_shape.specs.Table.{IsMinimal}
+use Rattle.gj_proof.specs.declared.claim.Claim.{Claim}
+use Rattle.gj_extreme.specs.Decision.{IsCause, IsDecision, IsTooWide}
+use Rattle.gj_extreme.specs.Faults.{of_elimination, of_split, of_settling, IsMemoryFault}
 use Rattle.gj_extreme.specs.declared.faults.DecideFault.{DecideFault}
 use Rattle.gj_extreme.specs.declared.faults.DecideFault.TheVariants.{NotContinuous, Wide, Memory}
 
--- Wide comes from a part only if the part is too wide
-pub wide_elimination : {T U : Type 0} (r : Result T DecideFault) (x : ElimFault) → IsErr r → IsErrAnd r (λ e. e ≡ of_elimination x) →
-    IsErrOf r Wide → IsErrOf {T = U} (Err x) elimination.Wide
-wide_elimination (Ok v) x is_err h e = absurd cc
-wide_elimination (Err z) elimination.Wide is_err h e = refl
-wide_elimination (Err z) (elimination.Memory m) is_err h e = absurd cc
+-- ---- the cause of a fault, by that of the part
 
-pub wide_split : {T U : Type 0} (r : Result T DecideFault) (x : SplitFault) → IsErr r → IsErrAnd r (λ e. e ≡ of_split x) →
-    IsErrOf r Wide → IsErrOf {T = U} (Err x) split.Wide
-wide_split (Ok v) x is_err h e = absurd cc
-wide_split (Err z) split.Wide is_err h e = refl
-wide_split (Err z) (split.Memory m) is_err h e = absurd cc
+pub elimination_cause : {U : Type 0} (f : FunctionData) (x : ElimFault) → IsMinimal f → IsContinuous f →
+    (IsErrOf {T = U} (Err x) elimination.Wide → IsTooWide f) → IsCause f (of_elimination x)
+elimination_cause f elimination.Wide minimal continuous wide = (minimal, continuous, wide refl)
+elimination_cause f (elimination.Memory m) minimal continuous wide = tt
 
-pub wide_settling : {T U : Type 0} (r : Result T DecideFault) (x : SettleFault) → IsErr r → IsErrAnd r (λ e. e ≡ of_settling x) →
-    IsErrOf r Wide → IsErrOf {T = U} (Err x) settling.Wide
-wide_settling (Ok v) x is_err h e = absurd cc
-wide_settling (Err z) settling.Wide is_err h e = refl
-wide_settling (Err z) (settling.Memory m) is_err h e = absurd cc
+pub split_cause : {U : Type 0} (f : FunctionData) (x : SplitFault) → IsMinimal f → IsContinuous f →
+    (IsErrOf {T = U} (Err x) split.Wide → IsTooWide f) → IsCause f (of_split x)
+split_cause f split.Wide minimal continuous wide = (minimal, continuous, wide refl)
+split_cause f (split.Memory m) minimal continuous wide = tt
 
--- no part but the test of jumps finds one
-pub no_jump_elimination : {T : Type 0} (r : Result T DecideFault) (x : ElimFault) (i : ℕ) → IsErr r → IsErrAnd r (λ e. e ≡ of_elimination x) →
-    IsErrOf r (NotContinuous i) → ⊥
-no_jump_elimination (Ok v) x i is_err h e = absurd cc
-no_jump_elimination (Err z) elimination.Wide i is_err h e = absurd cc
-no_jump_elimination (Err z) (elimination.Memory m) i is_err h e = absurd cc
+pub settling_cause : {U : Type 0} (f : FunctionData) (x : SettleFault) → IsMinimal f → IsContinuous f →
+    (IsErrOf {T = U} (Err x) settling.Wide → IsTooWide f) → IsCause f (of_settling x)
+settling_cause f settling.Wide minimal continuous wide = (minimal, continuous, wide refl)
+settling_cause f (settling.Memory m) minimal continuous wide = tt
 
-pub no_jump_split : {T : Type 0} (r : Result T DecideFault) (x : SplitFault) (i : ℕ) → IsErr r → IsErrAnd r (λ e. e ≡ of_split x) →
-    IsErrOf r (NotContinuous i) → ⊥
-no_jump_split (Ok v) x i is_err h e = absurd cc
-no_jump_split (Err z) split.Wide i is_err h e = absurd cc
-no_jump_split (Err z) (split.Memory m) i is_err h e = absurd cc
+pub memory_cause : (f : FunctionData) (x : DecideFault) → IsMemoryFault x → IsCause f x
+memory_cause f (NotContinuous i) memory = absurd memory
+memory_cause f Wide memory = absurd memory
+memory_cause f (Memory m) memory = tt
 
--- want of memory is neither
-pub no_wide_memory : {T : Type 0} (r : Result T DecideFault) (x : AllocError) → IsErr r → IsErrAnd r (λ e. e ≡ Memory x) →
-    IsErrOf r Wide → ⊥
-no_wide_memory (Ok v) x is_err h e = absurd cc
-no_wide_memory (Err z) x is_err h e = absurd cc
+pub split_memory : {U : Type 0} (x : SplitFault) → (IsErrOf {T = U} (Err x) split.Wide → ⊥) → IsMemoryFault (of_split x)
+split_memory split.Wide narrow = absurd (narrow refl)
+split_memory (split.Memory m) narrow = tt
 
-pub no_jump_memory : {T : Type 0} (r : Result T DecideFault) (x : AllocError) (i : ℕ) → IsErr r → IsErrAnd r (λ e. e ≡ Memory x) →
-    IsErrOf r (NotContinuous i) → ⊥
-no_jump_memory (Ok v) x i is_err h e = absurd cc
-no_jump_memory (Err z) x i is_err h e = absurd cc
+-- ---- a fault that is handed on
+
+pub handed : {T : Type 0} (P : DecideFault → Type 0) (r : Result T DecideFault) (x : DecideFault) → IsErr r → IsErrAnd r (λ e. e ≡ x) →
+    P x → IfErr r P
+handed P (Ok v) x is_err same cause = absurd cc
+handed P (Err e) x is_err same cause = subst P (sym same) cause
+
+pub handed_decision : (f : FunctionData) (r : Result Claim DecideFault) (x : DecideFault) → IsErr r → IsErrAnd r (λ e. e ≡ x) →
+    IsCause f x → IsDecision f r
+handed_decision f (Ok v) x is_err same cause = absurd cc
+handed_decision f (Err e) x is_err same cause = subst (IsCause f) (sym same) cause
+
+pub memory_decision : (f : FunctionData) (r : Result Claim DecideFault) (m : AllocError) → IsErr r → IsErrAnd r (λ e. e ≡ Memory m) →
+    IsDecision f r
+memory_decision f r m is_err same = handed_decision f r (Memory m) is_err same tt
+
+-- the cause of the fault that a result is
+pub cause_of : {T : Type 0} (f : FunctionData) (r : Result T DecideFault) (x y : DecideFault) → IsErr r → IsErrAnd r (λ e. e ≡ x) →
+    IsErrOf r y → IsCause f x → IsCause f y
+cause_of f (Ok v) x y is_err same is cause = absurd cc
+cause_of f (Err e) x y is_err same is cause = let it : x ≡ y = cc in subst (IsCause f) it cause

@@ -1,6 +1,6 @@
 -- The groups of rows that are kept, from their names and the log.
 use Rattle.std.proofs.Common.{◌≡◌, ℕ, ◌+◌, ◌<◌, List, [], ◌∷◌, ◌++◌, length, map, take, get_or, sym, ap, ap₂, ◌∙◌, arith}
-use Rattle.std.proofs.lemmas.List.{get_or-map, length-map, take_more, map-append}
+use Rattle.std.proofs.lemmas.List.{get_or-map, get_or_default, length-map, length_push, take_more, map-append}
 use Rattle.gj_shape.specs.Elimination.{KeptRow}
 use Rattle.gj_shape.specs.FunctionData.{FunctionData}
 use Rattle.gj_shape.specs.SlopeRows.{row_names}
@@ -40,13 +40,18 @@ one_group_more f kept names log groups pushed i name line reduce below names_are
     ∙ ap₂ (λ n l. map (group_of f) (take i kept) ++ record_of n l.0 l.1 ∷ []) name_is parts
     ∙ sym (map-append (group_of f) (take i kept) (k ∷ [])) ∙ ap (map (group_of f)) (sym (take_more kept i no_row below))
 
+pub count_more : {X : Type 0} (xs pushed : List X) (x : X) → pushed ≡ xs ++ x ∷ [] → length pushed ≡ length xs + 1
+count_more xs pushed x e = ap length e ∙ length_push xs x
+
 -- the name of one more kept row, by its number
-pub one_name_more : (f : FunctionData) (kept : List KeptRow) (log : List LogRow) (names pushed : List RowName) (i : ℕ) (name : RowName)
-    (line : LogRow) → i < length kept → log ≡ map log_row kept → line ≡ get_or log i line →
-    name ≡ get_or (row_names f) line.number Period → names ≡ map (name_of f) (take i kept) → pushed ≡ names ++ name ∷ [] →
+pub one_name_more : (f : FunctionData) (kept : List KeptRow) (log : List LogRow) (all names pushed : List RowName) (i : ℕ) (d : RowName)
+    (line : LogRow) → i < length kept → log ≡ map log_row kept → line ≡ get_or log i line → all ≡ row_names f → line.number < length all →
+    names ≡ map (name_of f) (take i kept) → pushed ≡ names ++ get_or all line.number d ∷ [] →
     pushed ≡ map (name_of f) (take (i + 1) kept)
-one_name_more f kept log names pushed i name line below log_is line_read name_is are e =
+one_name_more f kept log all names pushed i d line below log_is line_read all_is low are e =
     let k = get_or kept i no_row in
     let line_is : line ≡ log_row k = line_read ∙ ap (λ l. get_or l i line) log_is ∙ get_or-map log_row kept i no_row line below in
-    e ∙ ap₂ (λ xs x. xs ++ x ∷ []) are (name_is ∙ ap (λ l. get_or (row_names f) l.number Period) line_is)
+    let name_is : get_or all line.number d ≡ name_of f k =
+    get_or_default all line.number d Period low ∙ ap₂ (λ xs l. get_or xs l.number Period) all_is line_is in
+    e ∙ ap₂ (λ xs x. xs ++ x ∷ []) are name_is
     ∙ sym (map-append (name_of f) (take i kept) (k ∷ [])) ∙ ap (map (name_of f)) (sym (take_more kept i no_row below))

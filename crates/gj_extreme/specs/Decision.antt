@@ -1,12 +1,12 @@
 -- Which proof the decision gives of a function, and when its numbers are too wide (Equivariant
 -- Perturbation I; which halves and which rows are own choices).
-use Rattle.std.specs.Prelude.{ℕ, ℤ, pos, ◌≡◌, ◌≢◌, ◌⊎◌, ◌*◌, ◌<◌, ◌≤◌, ◌^◌, ◌<ℤ◌, List, [], Some, length, map, get_or, unsigned_abs}
+use Rattle.std.specs.Prelude.{ℕ, ℤ, pos, ◌≡◌, ◌≢◌, ◌⊎◌, ◌*◌, ◌<◌, ◌≤◌, ◌^◌, ◌<ℤ◌, List, [], Some, Result, Ok, Err, length, map, get_or, unsigned_abs}
 use Rattle.gj_shape.specs.Additive.{IsTight}
 use Rattle.gj_shape.specs.Cover.{AreCoverLines, components_in}
 use Rattle.gj_shape.specs.Elimination.{KeptRow, Elimination, Solution, Passes, at_column, elimination_by, kernel}
 use Rattle.gj_shape.specs.Extreme.{IsExtremeTable}
 use Rattle.gj_shape.specs.FirstViolation.{IsFirstViolation}
-use Rattle.gj_shape.specs.FunctionData.{FunctionData, IsContinuous}
+use Rattle.gj_shape.specs.FunctionData.{FunctionData, IsContinuous, IsFirstJump}
 use Rattle.gj_shape.specs.Limits.{greatest_halves_scale}
 use Rattle.gj_shape.specs.Perturbation.{AreHalvesOf, perturbation_of, zigzag}
 use Rattle.gj_shape.specs.SlopeRows.{row_names}
@@ -16,11 +16,14 @@ use Rattle.gj_shape.specs.declared.extremality.Halves.{Halves}
 use Rattle.gj_shape.specs.declared.extremality.RowName.TheVariants.{Period}
 use Rattle.gj_cover.specs.CoverOf.{IsLeastClass}
 use Rattle.gj_proof.specs.PresentRows.{AreNumbersOf, arithmetic_of, named_row}
+use Rattle.gj_proof.specs.ProofText.{HasText}
 use Rattle.gj_proof.specs.declared.claim.Claim.{Claim}
 use Rattle.gj_proof.specs.declared.claim.Claim.TheVariants.{Minimal, NotMinimal, Cut, Extreme, ExtremeByResidues, NotExtreme}
 use Rattle.gj_proof.specs.declared.numbers.Numbers.{Numbers}
 use Rattle.gj_proof.specs.declared.numbers.Numbers.TheVariants.{Whole, Residues}
 use Rattle.gj_proof.specs.declared.pivot.PivotRow.{PivotRow}
+use Rattle.gj_extreme.specs.declared.faults.DecideFault.{DecideFault}
+use Rattle.gj_extreme.specs.declared.faults.DecideFault.TheVariants.{NotContinuous, Wide, Memory}
 
 -- ---- the linear system for the slopes
 
@@ -132,3 +135,16 @@ pub record IsTooWide (f : FunctionData) : Type 0 where
   pub passes : (Passes (slope_elimination f component n).marked × (length (elimination_over Residues f component n).kept < n))
       ⊎ ((Passes (slope_elimination f component n).marked → ⊥)
       × ((s : Solution) × (kernel n (slope_elimination f component n).kept ≡ Some s) × IsWideBehind f component s))
+
+-- ---- a claim, or a fault with its cause
+
+-- what a fault says of the function
+abbrev pub IsCause : FunctionData → DecideFault → Type 0
+IsCause f (NotContinuous i) = IsMinimal f × IsFirstJump f i
+IsCause f Wide = IsMinimal f × IsContinuous f × IsTooWide f
+IsCause f (Memory e) = Unit {0}
+
+-- what the decision gives, which has a text, or a fault with its cause
+abbrev pub IsDecision : FunctionData → Result Claim DecideFault → Type 0
+IsDecision f (Ok claim) = IsDecided f claim × HasText claim
+IsDecision f (Err fault) = IsCause f fault

@@ -1,13 +1,12 @@
 //! The decision on a function whose intervals are all covered.
-ghost use Rattle.std.specs.Prelude.{ℕ, ◌≡◌, [], Some, length, map, All, IfOk, IsErrOf, IsSome};
+ghost use Rattle.std.specs.Prelude.{◌≡◌, [], Some, length, map, All, IfOk, IsSome};
 ghost use Rattle.gj_shape.specs.Additive.{IsTight};
 ghost use Rattle.gj_shape.specs.FunctionData.{IsContinuous, IsWithinBounds};
 ghost use Rattle.gj_shape.specs.SlopeRows.{component_in};
 ghost use Rattle.gj_shape.specs.Table.{IsMinimal};
 ghost use Rattle.gj_cover.specs.CoverOf.{IsCoverOf};
 ghost use Rattle.gj_faces.specs.TightPairs.{AreTightPairsOf};
-ghost use Rattle.gj_proof.specs.ProofText.{HasText};
-ghost use Rattle.gj_extreme.specs.Decision.{AreAllCovered, IsDecided, IsTooWide};
+ghost use Rattle.gj_extreme.specs.Decision.{AreAllCovered, IsDecision};
 ghost use Rattle.gj_extreme.specs.RowsToCome.{AreInserted};
 
 use crate::faults::DecideFault;
@@ -36,10 +35,7 @@ pub(crate) fn extreme_or_slopes(
     requires continuous { IsContinuous shape.now }
     requires cover { IsCoverOf shape.now.order (IsTight shape.now) cover }
     requires covered { cover.class ≡ [] }
-    ensures decided { IfOk result (IsDecided shape.now) }
-    ensures text { IfOk result HasText }
-    ensures wide { IsErrOf result DecideFault.Wide → IsTooWide shape.now }
-    ensures no_jump { (i : ℕ) → ¬ IsErrOf result (DecideFault.NotContinuous i) }
+    ensures { IsDecision shape.now result }
 {
     let component = numbers_of(alloc, cover.component.as_slice())?;
     let system = SlopeRows::new(alloc, component.as_slice(), cover.count)?;
@@ -67,10 +63,7 @@ fn extreme_or_kernel(
         (length rows.now.row.items) }
     requires inserted { AreInserted shape.now (component_in component.now)
         (length rows.now.row.items) rows.now }
-    ensures decided { IfOk result (IsDecided shape.now) }
-    ensures text { IfOk result HasText }
-    ensures wide { IsErrOf result DecideFault.Wide → IsTooWide shape.now }
-    ensures no_jump { (i : ℕ) → ¬ IsErrOf result (DecideFault.NotContinuous i) }
+    ensures { IsDecision shape.now result }
 {
     if rows.is_full() {
         let groups = groups_of(alloc, rows.names.as_slice(), rows.basis.log())?;

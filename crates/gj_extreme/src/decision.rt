@@ -1,5 +1,5 @@
 //! The decision.
-ghost use Rattle.std.specs.Prelude.{ℕ, ◌≡◌, ◌≤◌, ◌↔◌, List, IfOk, IsErrOf, Err, MatchResult};
+ghost use Rattle.std.specs.Prelude.{ℕ, ◌≡◌, ◌≤◌, ◌↔◌, List, IfOk, Err, MatchResult};
 ghost use Rattle.gj_faces.specs.TightPairs.{AreTightPairsOf};
 ghost use Rattle.gj_cover.specs.CoverOf.{IsCoverOf};
 ghost use Rattle.gj_shape.specs.Additive.{IsTight};
@@ -9,9 +9,9 @@ ghost use Rattle.gj_shape.specs.Table.{IsMinimal};
 ghost use Rattle.gj_shape.specs.TwoSlopes.{HasTwoSlopes};
 ghost use Rattle.gj_shape.specs.declared.extremality.CoverLine.{CoverLine};
 ghost use Rattle.gj_proof.specs.Meaning.{ClaimHolds};
-ghost use Rattle.gj_proof.specs.ProofText.{HasText, IsBounded};
+ghost use Rattle.gj_proof.specs.ProofText.{IsBounded};
 ghost use Rattle.gj_proof.specs.Rules.{MeetsRules};
-ghost use Rattle.gj_extreme.specs.Decision.{AreAllCovered, IsDecided, IsExtremeClaim, IsByTable, IsExtremeOnGrid4, IsTooWide};
+ghost use Rattle.gj_extreme.specs.Decision.{AreAllCovered, IsDecided, IsDecision, IsExtremeClaim, IsByTable, IsExtremeOnGrid4, IsTooWide};
 ghost use Rattle.gj_extreme.specs.Faults.{IsMemoryFault};
 
 use crate::covered::extreme_or_slopes;
@@ -94,13 +94,8 @@ pub fn decide_by_cover(
 /// What is claimed of the function.
 fn claim_of(alloc: Global, shape: &Shape) -> Result<Claim, DecideFault>
     ensures limits { IsWithinBounds shape.now }
-    ensures decided { IfOk result (IsDecided shape.now) }
-    ensures text { IfOk result HasText }
+    ensures decision { IsDecision shape.now result }
     ensures rules { IfOk result MeetsRules }
-    ensures not_continuous { (i : ℕ) → IsErrOf result (DecideFault.NotContinuous i) →
-        IsMinimal shape.now × IsFirstJump shape.now i }
-    ensures wide { IsErrOf result DecideFault.Wide → IsMinimal shape.now × IsContinuous shape.now ×
-        IsTooWide shape.now }
 {
     if let Some(violation) = find_violation(shape) {
         return Ok(Claim::NotMinimal(shape.copy(alloc)?, violation));
@@ -124,10 +119,7 @@ fn claim_by_cover(
     requires continuous { IsContinuous shape.now }
     requires pairs { AreTightPairsOf shape.now pairs.now }
     requires cover { IsCoverOf shape.now.order (IsTight shape.now) cover }
-    ensures decided { IfOk result (IsDecided shape.now) }
-    ensures text { IfOk result HasText }
-    ensures no_jump { (i : ℕ) → ¬ IsErrOf result (DecideFault.NotContinuous i) }
-    ensures wide { IsErrOf result DecideFault.Wide → IsTooWide shape.now }
+    ensures { IsDecision shape.now result }
 {
     if cover.class.as_slice().is_empty() {
         return extreme_or_slopes(alloc, shape, pairs, cover);

@@ -4,7 +4,7 @@ ghost use Rattle.std.specs.Prelude.{◌≡◌};
 use gj_elim::ElimFault;
 use gj_perturb::SplitFault;
 use gj_residue::SettleFault;
-use std::alloc::{AllocError, AllocFailed};
+use std::alloc::AllocError;
 use thiserror::Error;
 
 /// Why there is no proof that a function is extreme, and none that it is not.

@@ -1,8 +1,7 @@
 //! The rows that are kept, as a proof has them.
-ghost use Rattle.std.specs.Prelude.{◌≡◌, List, get_or, length, map, IfOk};
+ghost use Rattle.std.specs.Prelude.{◌≡◌, List, length, map, IfOk};
 ghost use Rattle.gj_shape.specs.Elimination.{KeptRow};
 ghost use Rattle.gj_shape.specs.FunctionData.{FunctionData};
-ghost use Rattle.gj_shape.specs.declared.extremality.RowName.TheVariants.{Period};
 ghost use Rattle.gj_extreme.specs.Decision.{group_of};
 ghost use Rattle.gj_extreme.specs.RowsToCome.{name_of, AreLoggedRows};
 
@@ -23,25 +22,13 @@ pub(crate) fn groups_of(
         AreLoggedRows kept log.now → v.items ≡ map (group_of f) kept) }
 {
     let mut groups = Vec::with_capacity(alloc, log.len())?;
-    for g in 0..log.len() {
-        let line = &log[g];
+    for (name, line) in names.iter().zip(log) {
         let reduce = Vec::from_slice(alloc, line.reduce.as_slice())?;
         groups.push(PivotRow {
-            name: name_at(names, g as u64),
+            name: *name,
             reduce: List::of(reduce),
             pivot: line.pivot,
         })?;
     }
     Ok(groups)
-}
-
-/// The name with this number, and past the last one that of the first row.
-pub(crate) fn name_at(names: &[RowName], number: u64) -> RowName
-    ensures { result ≡ get_or names.now number Period }
-{
-    if number < names.len() as u64 {
-        names[number as usize]
-    } else {
-        RowName::Period
-    }
 }

@@ -43,7 +43,8 @@ pub(crate) fn rows_of(
     ensures rows { IfOk result (AreInserted shape.now
         (component_in system.now.component) system.now.columns) }
     ensures wide { IsErrOf result ElimFault.Wide →
-        Passes (slope_elimination shape.now (component_in system.now.component) system.now.columns).marked }
+        Passes (slope_elimination shape.now (component_in system.now.component)
+        system.now.columns).marked }
 {
     let order = shape.order();
     let mut rows = Rows::new(alloc, system)?;
@@ -73,9 +74,11 @@ fn insert_pairs(
     requires to_come { AreToCome shape.now (component_in system.now.component) system.now.columns
         rows.old (row_names_from shape.now a) }
     ensures to_come { OnOk result
-        (AreToCome shape.now (component_in system.now.component) system.now.columns rows.new (row_names_from shape.now (a + 1))) }
+        (AreToCome shape.now (component_in system.now.component) system.now.columns
+        rows.new (row_names_from shape.now (a + 1))) }
     ensures wide { IsErrOf result ElimFault.Wide →
-        Passes (slope_elimination shape.now (component_in system.now.component) system.now.columns).marked }
+        Passes (slope_elimination shape.now (component_in system.now.component)
+        system.now.columns).marked }
 {
     let row = pairs.row(a);
     let component = system.component();
@@ -150,11 +153,13 @@ impl Rows {
         ensures to_come { OnOk result ((rest : List RowName) →
             AreToCome shape.now (component_in system.now.component) system.now.columns self.old
             (Pair a b ∷ rest) →
-            IsSeen shape.now (component_in system.now.component) system.now.columns a b self.new rest) }
+            IsSeen shape.now (component_in system.now.component) system.now.columns
+            a b self.new rest) }
         ensures wide { IsErrOf result ElimFault.Wide → (rest : List RowName) →
             AreToCome shape.now (component_in system.now.component) system.now.columns self.old
             (Pair a b ∷ rest) →
-            Passes (slope_elimination shape.now (component_in system.now.component) system.now.columns).marked }
+            Passes (slope_elimination shape.now (component_in system.now.component)
+            system.now.columns).marked }
     {
         let place = self.seen.place(a, b);
         let seen = self.seen.pairs[place];
@@ -175,11 +180,13 @@ impl Rows {
         ensures to_come { OnOk result ((rest : List RowName) →
             AreToCome shape.now (component_in system.now.component) system.now.columns
             self.old (name ∷ rest) →
-            IsTaken shape.now (component_in system.now.component) system.now.columns name self.new rest) }
+            IsTaken shape.now (component_in system.now.component) system.now.columns
+            name self.new rest) }
         ensures wide { IsErrOf result ElimFault.Wide → (rest : List RowName) →
             AreToCome shape.now (component_in system.now.component) system.now.columns
             self.old (name ∷ rest) →
-            Passes (slope_elimination shape.now (component_in system.now.component) system.now.columns).marked }
+            Passes (slope_elimination shape.now (component_in system.now.component)
+            system.now.columns).marked }
         ensures seen { self.new.seen ≡ self.old.seen }
     {
         if self.is_full() {

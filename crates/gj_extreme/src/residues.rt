@@ -1,6 +1,6 @@
 //! The decision on a function whose intervals are all covered, if a number of the plain elimination
 //! passes.
-ghost use Rattle.std.specs.Prelude.{ℕ, ◌≡◌, ◌<◌, ◌++◌, List, length, map, All, IfOk, OnOk, IsErrOf};
+ghost use Rattle.std.specs.Prelude.{◌≡◌, ◌<◌, ◌++◌, List, length, map, All, IfOk, OnOk};
 ghost use Rattle.gj_faces.specs.TightPairs.{AreTightPairsOf};
 ghost use Rattle.gj_shape.specs.Elimination.{KeptRow, Passes};
 ghost use Rattle.gj_shape.specs.FunctionData.{FunctionData, IsContinuous, IsWithinBounds};
@@ -8,18 +8,17 @@ ghost use Rattle.gj_shape.specs.SlopeRows.{row_of, row_names, component_in};
 ghost use Rattle.gj_shape.specs.Table.{IsMinimal};
 ghost use Rattle.gj_shape.specs.declared.extremality.RowName.{RowName};
 ghost use Rattle.gj_elim.specs.KeptRows.{log_row};
-ghost use Rattle.gj_proof.specs.ProofText.{HasText};
 ghost use Rattle.gj_system.specs.Components.{IsNameBelow};
-ghost use Rattle.gj_extreme.specs.Decision.{AreAllCovered, IsDecided, IsTooWide, group_of, slope_elimination};
+ghost use Rattle.gj_extreme.specs.Decision.{AreAllCovered, IsDecision, group_of, slope_elimination};
 ghost use Rattle.gj_extreme.specs.RowsToCome.{pairs_from};
 
 use crate::faults::DecideFault;
-use crate::groups::{groups_of, name_at};
+use crate::groups::groups_of;
 use gj_cover::Cover;
 use gj_elim::LogRow;
 use gj_faces::TightPairs;
 use gj_proof::{Claim, PivotRow};
-use gj_residue::{ListedRows, Settled, settle};
+use gj_residue::{ListedRows, log_by_residues};
 use gj_shape::{List, RowName, Shape};
 use gj_system::SlopeRows;
 use std::alloc::{AllocError, Global};
@@ -41,21 +40,13 @@ pub(crate) fn extreme_by_residues(
         (component_in system.now.component) system.now.columns }
     requires passes { Passes (slope_elimination shape.now
         (component_in system.now.component) system.now.columns).marked }
-    ensures decided { IfOk result (IsDecided shape.now) }
-    ensures text { IfOk result HasText }
-    ensures wide { IsErrOf result DecideFault.Wide → IsTooWide shape.now }
-    ensures no_jump { (i : ℕ) → ¬ IsErrOf result (DecideFault.NotContinuous i) }
+    ensures { IsDecision shape.now result }
 {
     let names = names_of(alloc, shape, pairs)?;
     let mut rows = rows_of(alloc, shape.place(), system, names.as_slice())?;
-    match settle(alloc, system.columns(), &mut rows)? {
-        Settled::Residues(log) => {
-            let groups = groups_by_number(alloc, names.as_slice(), log.as_slice())?;
-            Ok(Claim::ExtremeByResidues(shape.copy(alloc)?, cover.lines, List::of(groups)))
-        }
-        Settled::Plain(_log) => unreachable!(),
-        Settled::Kernel(_numbers) => unreachable!(),
-    }
+    let log = log_by_residues(alloc, system.columns(), &mut rows)?;
+    let groups = groups_by_number(alloc, names.as_slice(), log.as_slice())?;
+    Ok(Claim::ExtremeByResidues(shape.copy(alloc)?, cover.lines, List::of(groups)))
 }
 
 /// The names of all rows of the system, in their order.
@@ -99,8 +90,9 @@ fn rows_of(
 ) -> Result<ListedRows, AllocError>
     requires place { place < length system.now.component }
     requires names { All (λ name. IsNameBelow name (length system.now.component)) names.now }
-    ensures { IfOk result (λ rows. rows.all ≡ map
-        (row_of (component_in system.now.component) system.now.columns (length system.now.component) place) names.now) }
+    ensures { IfOk result (λ rows. rows.left ≡ map
+        (row_of (component_in system.now.component) system.now.columns
+        (length system.now.component) place) names.now) }
 {
     let mut rows = Vec::with_capacity(alloc, names.len())?;
     for name in names {
@@ -117,12 +109,13 @@ fn groups_by_number(
     names: &[RowName],
     log: &[LogRow],
 ) -> Result<Vec<PivotRow>, AllocError>
+    requires { All (λ line. line.number < length names.now) log.now }
     ensures { IfOk result (λ v. (f : FunctionData) (kept : List KeptRow) → names.now ≡ row_names f →
         log.now ≡ map log_row kept → v.items ≡ map (group_of f) kept) }
 {
     let mut kept = Vec::with_capacity(alloc, log.len())?;
     for line in log {
-        kept.push(name_at(names, line.number))?;
+        kept.push(names[line.number as usize])?;
     }
     groups_of(alloc, kept.as_slice(), log)
 }

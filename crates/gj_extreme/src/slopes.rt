@@ -1,11 +1,11 @@
 //! The halves of a function whose intervals are all covered, if slopes solve the linear system.
-ghost use Rattle.std.specs.Prelude.{ℕ, ◌≡◌, ◌<◌, List, length, IfOk, IsErrOf};
+ghost use Rattle.std.specs.Prelude.{◌≡◌, ◌<◌, List, length, IfOk, IfErr};
 ghost use Rattle.gj_shape.specs.Perturbation.{AreHalvesInBounds};
 ghost use Rattle.gj_shape.specs.SlopeRows.{component_in};
 ghost use Rattle.gj_shape.specs.FunctionData.{IsWithinBounds, IsContinuous};
 ghost use Rattle.gj_shape.specs.Table.{IsMinimal};
 ghost use Rattle.gj_shape.specs.declared.extremality.CoverLine.{CoverLine};
-ghost use Rattle.gj_extreme.specs.Decision.{AreAllCovered, AreSlopeHalves, IsTooWide};
+ghost use Rattle.gj_extreme.specs.Decision.{AreAllCovered, AreSlopeHalves, IsCause};
 ghost use Rattle.gj_extreme.specs.RowsToCome.{AreInserted};
 
 use crate::faults::DecideFault;
@@ -32,8 +32,7 @@ pub(crate) fn slope_halves(
     requires fewer { length rows.now.basis.kept < length rows.now.row.items }
     ensures halves { IfOk result (AreSlopeHalves shape.now) }
     ensures limits { IfOk result AreHalvesInBounds }
-    ensures wide { IsErrOf result DecideFault.Wide → IsTooWide shape.now }
-    ensures no_jump { (i : ℕ) → ¬ IsErrOf result (DecideFault.NotContinuous i) }
+    ensures cause { IfErr result (IsCause shape.now) }
 {
     let numbers = rows.basis.kernel()?.unwrap();
     let perturbation = from_slopes(alloc, component, numbers.as_slice())?;

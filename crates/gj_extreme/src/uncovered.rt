@@ -1,5 +1,5 @@
 //! The halves of a function with an uncovered interval.
-ghost use Rattle.std.specs.Prelude.{ℕ, ◌≡◌, ◌≢◌, [], IfOk, IsErrOf};
+ghost use Rattle.std.specs.Prelude.{◌≡◌, ◌≢◌, [], IfOk, IfErr};
 ghost use Rattle.gj_shape.specs.Perturbation.{AreHalvesInBounds};
 ghost use Rattle.gj_shape.specs.Additive.{IsTight};
 ghost use Rattle.gj_shape.specs.FunctionData.{IsContinuous};
@@ -7,6 +7,7 @@ ghost use Rattle.gj_shape.specs.Table.{IsMinimal};
 ghost use Rattle.gj_cover.specs.CoverOf.{IsLeastClass};
 ghost use Rattle.gj_theory.specs.Uncovered.{AreUncoveredClasses};
 ghost use Rattle.gj_extreme.specs.Decision.{AreZigzagHalves};
+ghost use Rattle.gj_extreme.specs.Faults.{IsMemoryFault};
 
 use crate::faults::DecideFault;
 use gj_perturb::{split, zigzag};
@@ -26,8 +27,7 @@ pub(crate) fn zigzag_halves(
     requires some { class.now ≢ [] }
     ensures halves { IfOk result (AreZigzagHalves shape.now) }
     ensures limits { IfOk result AreHalvesInBounds }
-    ensures narrow { ¬ IsErrOf result DecideFault.Wide }
-    ensures no_jump { (i : ℕ) → ¬ IsErrOf result (DecideFault.NotContinuous i) }
+    ensures memory { IfErr result IsMemoryFault }
 {
     let order = shape.order();
     let perturbation = zigzag(alloc, order, class)?;

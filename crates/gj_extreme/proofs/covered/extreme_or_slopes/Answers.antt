@@ -1,10 +1,9 @@
 use Rattle.std.proofs.Common.{◌<◌, length, sym, ap, subst, ◌∙◌}
 use Rattle.std.specs.Prelude.{All}
-use Rattle.std.proofs.lemmas.Result.{err_from_is_err_and}
 use Rattle.gj_shape.specs.Additive.{IsTight}
 use Rattle.gj_shape.specs.SlopeRows.{component_in}
 use Rattle.gj_extreme.specs.Decision.{AreAllCovered}
-use Rattle.gj_extreme.proofs.FaultCases.{no_wide_memory, no_jump_memory}
+use Rattle.gj_extreme.proofs.FaultCases.{memory_decision}
 use Rattle.gj_extreme.proofs.CoveredNumbers.{numbers_below, numbers_length, are_all_covered}
 use Rattle.gj_extreme.proofs.covered.extreme_or_slopes.Goals as goal
 
@@ -29,30 +28,11 @@ extreme_or_kernel-requires-clause-covered c =
     (sym (c.in-Ok.ensures.rows.width ∙ c.in_ok-system.ensures.columns))
     (subst (λ xs. AreAllCovered f c.args.cover.lines (component_in xs) c.args.cover.count) (sym c.as_slice-in-Ok.ensures.value) covered)
 
-pub returns-in_err-component-clause-decided : goal.returns-in_err-component-clause-decided
-returns-in_err-component-clause-decided c = rw (err_from_is_err_and c.from_residual.result c.from_residual.ensures.1).1 tt
+pub returns-in_err-component : goal.returns-in_err-component
+returns-in_err-component c =
+    memory_decision c.args.shape.now c.from_residual.result c.in_err-component.field-0.0 c.from_residual.ensures.0 c.from_residual.ensures.1
 
-pub returns-in_err-component-clause-text : goal.returns-in_err-component-clause-text
-returns-in_err-component-clause-text c = rw (err_from_is_err_and c.from_residual.result c.from_residual.ensures.1).1 tt
-
-pub returns-in_err-component-clause-wide : goal.returns-in_err-component-clause-wide
-returns-in_err-component-clause-wide c = λ e.
-    absurd (no_wide_memory c.from_residual.result c.in_err-component.field-0.0 c.from_residual.ensures.0 c.from_residual.ensures.1 e)
-
-pub returns-in_err-component-clause-no_jump : goal.returns-in_err-component-clause-no_jump
-returns-in_err-component-clause-no_jump c = λ i e.
-    no_jump_memory c.from_residual.result c.in_err-component.field-0.0 i c.from_residual.ensures.0 c.from_residual.ensures.1 e
-
-pub returns-in_err-system-clause-decided : goal.returns-in_err-system-clause-decided
-returns-in_err-system-clause-decided c = rw (err_from_is_err_and c.from_residual-in_err-system.result c.from_residual-in_err-system.ensures.1).1 tt
-
-pub returns-in_err-system-clause-text : goal.returns-in_err-system-clause-text
-returns-in_err-system-clause-text c = rw (err_from_is_err_and c.from_residual-in_err-system.result c.from_residual-in_err-system.ensures.1).1 tt
-
-pub returns-in_err-system-clause-wide : goal.returns-in_err-system-clause-wide
-returns-in_err-system-clause-wide c = λ e.
-    absurd (no_wide_memory c.from_residual-in_err-system.result c.in_err-system.field-0.0 c.from_residual-in_err-system.ensures.0 c.from_residual-in_err-system.ensures.1 e)
-
-pub returns-in_err-system-clause-no_jump : goal.returns-in_err-system-clause-no_jump
-returns-in_err-system-clause-no_jump c = λ i e.
-    no_jump_memory c.from_residual-in_err-system.result c.in_err-system.field-0.0 i c.from_residual-in_err-system.ensures.0 c.from_residual-in_err-system.ensures.1 e
+pub returns-in_err-system : goal.returns-in_err-system
+returns-in_err-system c =
+    memory_decision c.args.shape.now c.from_residual-in_err-system.result c.in_err-system.field-0.0 c.from_residual-in_err-system.ensures.0
+    c.from_residual-in_err-system.ensures.1

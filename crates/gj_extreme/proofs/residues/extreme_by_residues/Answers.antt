@@ -1,15 +1,16 @@
-use Rattle.std.proofs.Common.{◌≡◌, ◌≤◌, length, sym, subst, subst₂, ◌∙◌}
+use Rattle.std.proofs.Common.{◌≡◌, ◌<◌, length, sym, ap, subst, subst₂, ◌∙◌}
 use Rattle.std.specs.Prelude.{All}
-use Rattle.std.proofs.lemmas.Result.{err_from_is_err_and}
-use Rattle.gj_shape.specs.Elimination.{elimination, Passes}
-use Rattle.gj_shape.specs.SlopeRows.{row_names, component_in}
-use Rattle.gj_residue.specs.Settled.{IsSettled, IsPlain, IsKernel, IsByResidues, AreRowsTooWide as IsTooWideOf}
+use Rattle.std.proofs.lemmas.List.{length-map}
+use Rattle.gj_shape.specs.SlopeRows.{row_of, row_names, component_in}
+use Rattle.gj_residue.specs.Settled.{IsFullLog}
 use Rattle.gj_system.specs.Components.{IsNameBelow}
 use Rattle.gj_proof.specs.declared.numbers.Numbers.TheVariants.{Residues}
 use Rattle.gj_extreme.specs.Decision.{elimination_over}
+use Rattle.gj_extreme.specs.Faults.{of_settling}
 use Rattle.gj_extreme.proofs.ClaimTexts.{extreme_has_text}
-use Rattle.gj_extreme.proofs.FaultCases.{wide_settling, no_wide_memory, no_jump_memory}
-use Rattle.gj_extreme.proofs.ResidueRows.{rows_can_settle, names_are_below, rows_by_residues, wide_by_residues, rows_are, log_of}
+use Rattle.gj_extreme.proofs.DecidedHalves.{begun_columns}
+use Rattle.gj_extreme.proofs.FaultCases.{settling_cause, handed_decision, memory_decision}
+use Rattle.gj_extreme.proofs.ResidueRows.{names_are_below, rows_by_residues, wide_by_residues, rows_are, log_of}
 use Rattle.gj_extreme.proofs.residues.extreme_by_residues.Goals as goal
 
 pub rows_of-requires-clause-names : goal.rows_of-requires-clause-names
@@ -19,127 +20,71 @@ rows_of-requires-clause-names c =
     (sym (c.as_slice.ensures.value ∙ c.in_ok-names.ensures.names))
     (subst (λ m. All (λ name. IsNameBelow name m) (row_names c.args.shape.now)) (sym q) (names_are_below c.args.shape.now))
 
-pub settle-requires-clause-some : goal.settle-requires-clause-some
-settle-requires-clause-some c =
+pub log_by_residues-requires-clause-lengths : goal.log_by_residues-requires-clause-lengths
+log_by_residues-requires-clause-lengths c =
     let f = c.args.shape.now in
     let comp = component_in c.args.system.now.component in
     let n = c.args.system.now.columns in
-    let are = rows_are f comp n (length c.args.system.now.component) c.place.result c.as_slice.result.now c.in_ok-rows.rows.all
+    let are = rows_are f comp n (length c.args.system.now.component) c.place.result c.as_slice.result.now c.in_ok-rows.rows.left
     c.in_ok-rows.ensures c.requires.components c.place.ensures.value (c.as_slice.ensures.value ∙ c.in_ok-names.ensures.names) in
-    let can = rows_can_settle f c.args.cover.lines comp n c.in_ok-rows.rows.all c.in_ok-names.ensures.limits c.requires.covered are in
-    subst (λ m. 1 ≤ m) (sym c.columns.ensures) can.some
+    subst₂ (λ m rows. All (λ row. length row ≡ m) rows) (sym c.columns.ensures) (sym are) (begun_columns f comp n (row_names f))
 
-pub settle-requires-clause-lengths : goal.settle-requires-clause-lengths
-settle-requires-clause-lengths c =
-    let f = c.args.shape.now in
-    let comp = component_in c.args.system.now.component in
-    let n = c.args.system.now.columns in
-    let are = rows_are f comp n (length c.args.system.now.component) c.place.result c.as_slice.result.now c.in_ok-rows.rows.all
-    c.in_ok-rows.ensures c.requires.components c.place.ensures.value (c.as_slice.ensures.value ∙ c.in_ok-names.ensures.names) in
-    let can = rows_can_settle f c.args.cover.lines comp n c.in_ok-rows.rows.all c.in_ok-names.ensures.limits c.requires.covered are in
-    subst (λ m. All (λ row. length row ≡ m) c.in_ok-rows.rows.all) (sym c.columns.ensures) can.lengths
+pub groups_by_number-requires : goal.groups_by_number-requires
+groups_by_number-requires c =
+    let system = c.args.system.now in
+    let count = ap length c.in_ok-rows.ensures
+    ∙ length-map c.as_slice.result.now (row_of (component_in system.component) system.columns (length system.component) c.place.result)
+    ∙ ap length (c.as_slice.ensures.value ∙ sym c.as_slice-2.ensures.value) in
+    subst (λ lines. All (λ line. line.number < length c.as_slice-2.result.now) lines) (sym c.as_slice-3.ensures.value)
+    (subst (λ m. All (λ line. line.number < m) c.in_ok-log.log.items) count c.in_ok-log.ensures.numbers)
 
-pub settle-requires-clause-entries : goal.settle-requires-clause-entries
-settle-requires-clause-entries c =
+pub returns-in_err-log : goal.returns-in_err-log
+returns-in_err-log c =
     let f = c.args.shape.now in
     let comp = component_in c.args.system.now.component in
     let n = c.args.system.now.columns in
-    let are = rows_are f comp n (length c.args.system.now.component) c.place.result c.as_slice.result.now c.in_ok-rows.rows.all
+    let are = rows_are f comp n (length c.args.system.now.component) c.place.result c.as_slice.result.now c.in_ok-rows.rows.left
     c.in_ok-rows.ensures c.requires.components c.place.ensures.value (c.as_slice.ensures.value ∙ c.in_ok-names.ensures.names) in
-    (rows_can_settle f c.args.cover.lines comp n c.in_ok-rows.rows.all c.in_ok-names.ensures.limits c.requires.covered are).entries
+    handed_decision f c.from_residual-in_err-log.result (of_settling c.in_err-log.field-0.0) c.from_residual-in_err-log.ensures.0
+    c.from_residual-in_err-log.ensures.1
+    (settling_cause f c.in_err-log.field-0.0 c.requires.minimal c.requires.continuous
+    (λ e. wide_by_residues f c.args.cover.lines comp n c.columns.result c.in_ok-rows.rows.left c.requires.covered c.requires.passes are
+    c.columns.ensures (c.in_err-log.ensures.wide e)))
 
-pub returns-in_err-log-clause-wide : goal.returns-in_err-log-clause-wide
-returns-in_err-log-clause-wide c = λ e.
+pub returns : goal.returns
+returns c =
     let f = c.args.shape.now in
     let comp = component_in c.args.system.now.component in
     let n = c.args.system.now.columns in
-    let are = rows_are f comp n (length c.args.system.now.component) c.place.result c.as_slice.result.now c.in_ok-rows.rows.all
+    let all = c.in_ok-rows.rows.left in
+    let log = c.in_ok-log.log.items in
+    let are = rows_are f comp n (length c.args.system.now.component) c.place.result c.as_slice.result.now c.in_ok-rows.rows.left
     c.in_ok-rows.ensures c.requires.components c.place.ensures.value (c.as_slice.ensures.value ∙ c.in_ok-names.ensures.names) in
-    wide_by_residues f c.args.cover.lines comp n c.in_ok-rows.rows.all c.requires.covered c.requires.passes are
-    (subst (λ m. IsTooWideOf m c.in_ok-rows.rows.all) c.columns.ensures
-    (c.in_err-log.ensures.wide (wide_settling c.from_residual-in_err-log.result c.in_err-log.field-0.0
-    c.from_residual-in_err-log.ensures.0 c.from_residual-in_err-log.ensures.1 e)))
-
-pub unreachable-requires : goal.unreachable-requires
-unreachable-requires c =
-    let f = c.args.shape.now in
-    let comp = component_in c.args.system.now.component in
-    let n = c.args.system.now.columns in
-    let are = rows_are f comp n (length c.args.system.now.component) c.place.result c.as_slice.result.now c.in_ok-rows.rows.all
-    c.in_ok-rows.ensures c.requires.components c.place.ensures.value (c.as_slice.ensures.value ∙ c.in_ok-names.ensures.names) in
-    let plain : IsPlain c.columns.result c.in_ok-rows.rows.all c.in-Plain._log =
-    subst (IsSettled c.columns.result c.in_ok-rows.rows.all) c.in-Plain.is c.in_ok-log.ensures.settled in
-    plain.narrow (subst₂ (λ m rs. Passes (elimination m rs).marked) (sym c.columns.ensures) (sym are) c.requires.passes)
-
-pub unreachable-requires-in-Kernel : goal.unreachable-requires-in-Kernel
-unreachable-requires-in-Kernel c =
-    let f = c.args.shape.now in
-    let comp = component_in c.args.system.now.component in
-    let n = c.args.system.now.columns in
-    let are = rows_are f comp n (length c.args.system.now.component) c.place.result c.as_slice.result.now c.in_ok-rows.rows.all
-    c.in_ok-rows.ensures c.requires.components c.place.ensures.value (c.as_slice.ensures.value ∙ c.in_ok-names.ensures.names) in
-    let kernel : IsKernel c.columns.result c.in_ok-rows.rows.all c.in-Kernel._numbers =
-    subst (IsSettled c.columns.result c.in_ok-rows.rows.all) c.in-Kernel.is c.in_ok-log.ensures.settled in
-    kernel.narrow (subst₂ (λ m rs. Passes (elimination m rs).marked) (sym c.columns.ensures) (sym are) c.requires.passes)
-
-pub returns-clause-decided : goal.returns-clause-decided
-returns-clause-decided c =
-    let f = c.args.shape.now in
-    let comp = component_in c.args.system.now.component in
-    let n = c.args.system.now.columns in
-    let all = c.in_ok-rows.rows.all in
-    let log = c.in-Residues.log in
-    let are = rows_are f comp n (length c.args.system.now.component) c.place.result c.as_slice.result.now c.in_ok-rows.rows.all
-    c.in_ok-rows.ensures c.requires.components c.place.ensures.value (c.as_slice.ensures.value ∙ c.in_ok-names.ensures.names) in
-    let settled : IsByResidues c.columns.result c.in_ok-rows.rows.all c.in-Residues.log =
-    subst (IsSettled c.columns.result c.in_ok-rows.rows.all) c.in-Residues.is c.in_ok-log.ensures.settled in
-    let by : IsByResidues n all log = subst (λ m. IsByResidues m all log) c.columns.ensures settled in (
-      c.in_ok-copy-in-Residues.ensures,
-      c.requires.minimal,
-      c.requires.continuous,
-      rows_by_residues f c.args.cover.lines comp n all log c.of.result c.requires.covered c.requires.passes are by
-          (c.of.ensures
-          ∙ c.in_ok-groups-in-Residues.ensures f (elimination_over Residues f comp n).kept
-          (c.as_slice-in-Residues.ensures.value ∙ c.in_ok-names.ensures.names)
-          (c.as_slice-in-Residues-2.ensures ∙ log_of f comp n all log are by)),
+    let full = subst (λ m. IsFullLog m all log) c.columns.ensures c.in_ok-log.ensures.log in
+    let rows = rows_by_residues f c.args.cover.lines comp n all log c.of.result c.requires.covered c.requires.passes are full
+    (c.of.ensures
+    ∙ c.in_ok-groups.ensures f (elimination_over Residues f comp n).kept (c.as_slice-2.ensures.value ∙ c.in_ok-names.ensures.names)
+    (c.as_slice-3.ensures.value ∙ log_of f comp n all log are full)) in (
+      (c.in_ok-copy.ensures, c.requires.minimal, c.requires.continuous, rows),
+      extreme_has_text Residues f c.in_ok-copy.field-0 c.args.cover.lines c.of.result c.in_ok-names.ensures.limits c.in_ok-copy.ensures rows,
     )
 
-pub returns-clause-text : goal.returns-clause-text
-returns-clause-text c =
-    let decided = returns-clause-decided c in
-    extreme_has_text Residues c.args.shape.now c.in_ok-copy-in-Residues.field-0 c.args.cover.lines c.of.result
-    c.in_ok-names.ensures.limits decided.0 decided.3
+pub returns-in_err-names : goal.returns-in_err-names
+returns-in_err-names c =
+    memory_decision c.args.shape.now c.from_residual.result c.in_err-names.field-0.0 c.from_residual.ensures.0
+    c.from_residual.ensures.1
 
-pub returns-in_err-names-clause-decided : goal.returns-in_err-names-clause-decided
-returns-in_err-names-clause-decided c = rw (err_from_is_err_and c.from_residual.result c.from_residual.ensures.1).1 tt
+pub returns-in_err-rows : goal.returns-in_err-rows
+returns-in_err-rows c =
+    memory_decision c.args.shape.now c.from_residual-in_err-rows.result c.in_err-rows.field-0.0 c.from_residual-in_err-rows.ensures.0
+    c.from_residual-in_err-rows.ensures.1
 
-pub returns-in_err-names-clause-text : goal.returns-in_err-names-clause-text
-returns-in_err-names-clause-text c = rw (err_from_is_err_and c.from_residual.result c.from_residual.ensures.1).1 tt
+pub returns-in_err-groups : goal.returns-in_err-groups
+returns-in_err-groups c =
+    memory_decision c.args.shape.now c.from_residual-in_err-groups.result c.in_err-groups.field-0.0 c.from_residual-in_err-groups.ensures.0
+    c.from_residual-in_err-groups.ensures.1
 
-pub returns-in_err-names-clause-wide : goal.returns-in_err-names-clause-wide
-returns-in_err-names-clause-wide c = λ e.
-    absurd (no_wide_memory c.from_residual.result c.in_err-names.field-0.0 c.from_residual.ensures.0 c.from_residual.ensures.1 e)
-
-pub returns-in_err-names-clause-no_jump : goal.returns-in_err-names-clause-no_jump
-returns-in_err-names-clause-no_jump c = λ i e.
-    no_jump_memory c.from_residual.result c.in_err-names.field-0.0 i c.from_residual.ensures.0 c.from_residual.ensures.1 e
-
-pub returns-in_err-rows-clause-decided : goal.returns-in_err-rows-clause-decided
-returns-in_err-rows-clause-decided c = rw (err_from_is_err_and c.from_residual-in_err-rows.result c.from_residual-in_err-rows.ensures.1).1 tt
-
-pub returns-in_err-rows-clause-text : goal.returns-in_err-rows-clause-text
-returns-in_err-rows-clause-text c = rw (err_from_is_err_and c.from_residual-in_err-rows.result c.from_residual-in_err-rows.ensures.1).1 tt
-
-pub returns-in_err-rows-clause-wide : goal.returns-in_err-rows-clause-wide
-returns-in_err-rows-clause-wide c = λ e.
-    absurd (no_wide_memory c.from_residual-in_err-rows.result c.in_err-rows.field-0.0 c.from_residual-in_err-rows.ensures.0 c.from_residual-in_err-rows.ensures.1 e)
-
-pub returns-in_err-rows-clause-no_jump : goal.returns-in_err-rows-clause-no_jump
-returns-in_err-rows-clause-no_jump c = λ i e.
-    no_jump_memory c.from_residual-in_err-rows.result c.in_err-rows.field-0.0 i c.from_residual-in_err-rows.ensures.0 c.from_residual-in_err-rows.ensures.1 e
-
-pub returns-in_err-log-clause-decided : goal.returns-in_err-log-clause-decided
-returns-in_err-log-clause-decided c = rw (err_from_is_err_and c.from_residual-in_err-log.result c.from_residual-in_err-log.ensures.1).1 tt
-
-pub returns-in_err-log-clause-text : goal.returns-in_err-log-clause-text
-returns-in_err-log-clause-text c = rw (err_from_is_err_and c.from_residual-in_err-log.result c.from_residual-in_err-log.ensures.1).1 tt
+pub returns-in_err-copy : goal.returns-in_err-copy
+returns-in_err-copy c =
+    memory_decision c.args.shape.now c.from_residual-in_err-copy.result c.in_err-copy.field-0.0 c.from_residual-in_err-copy.ensures.0
+    c.from_residual-in_err-copy.ensures.1

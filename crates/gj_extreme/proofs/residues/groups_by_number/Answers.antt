@@ -1,15 +1,16 @@
-use Rattle.std.proofs.Common.{◌≡◌, ◌+◌, List, length, map, take, get_or, sym, ap, subst, ◌∙◌, arith}
+use Rattle.std.proofs.Common.{◌≡◌, ◌+◌, ◌<◌, List, length, map, take, sym, ap, subst, ◌∙◌, arith}
 use Rattle.std.proofs.Math.Seq.{take-length}
-use Rattle.std.proofs.lemmas.List.{length-map, length_push}
+use Rattle.std.proofs.lemmas.List.{length-map}
+use Rattle.std.proofs.lemmas.List.Elements.{All-get_or}
 use Rattle.gj_frac.proofs.Refusals.{on_ok_along}
 use Rattle.gj_shape.specs.Elimination.{KeptRow}
 use Rattle.gj_shape.specs.FunctionData.{FunctionData}
 use Rattle.gj_shape.specs.SlopeRows.{row_names}
-use Rattle.gj_shape.specs.declared.extremality.RowName.TheVariants.{Period}
 use Rattle.gj_elim.specs.KeptRows.{log_row}
+use Rattle.gj_elim.specs.declared.log.LogRow.{LogRow}
 use Rattle.gj_extreme.specs.Decision.{group_of}
 use Rattle.gj_extreme.specs.RowsToCome.{name_of, AreLoggedRows}
-use Rattle.gj_extreme.proofs.GroupLists.{one_name_more}
+use Rattle.gj_extreme.proofs.GroupLists.{count_more, one_name_more}
 use Rattle.gj_extreme.proofs.RenumberedKernel.{lines_of_log}
 use Rattle.gj_extreme.proofs.residues.groups_by_number.Goals as goal
 
@@ -18,16 +19,15 @@ loop-line-init c = (ap length c.in_ok-kept.ensures.items, λ f kept names log. c
 
 pub loop-line-preserved : goal.loop-line-preserved
 loop-line-preserved c =
-    let len = length_push c.loop-line.kept.items c.name_at.result in
-    let pushed = ap length c.in_ok-push.ensures.items in
-    let before = c.loop-line.invariant.0 in (
-      (let more : length c.push.new.self.items ≡ c.loop-line.line-index + 1 = omega arith in more),
+    let more = count_more c.loop-line.kept.items c.push.new.self.items _ c.in_ok-push.ensures.items in
+    let line = c.line-item.result in
+    let low = subst (λ (l : LogRow). l.number < length c.args.names.now) (sym c.line-item.is)
+    (All-get_or (λ l. l.number < length c.args.names.now) c.args.log.now c.loop-line.line-index line (omega arith) c.requires) in (
+      more ∙ ap (λ n. n + 1) c.loop-line.invariant.0,
       λ f kept names log.
           let whole = ap length log ∙ length-map kept log_row in
-          one_name_more f kept c.args.log.now c.loop-line.kept.items c.push.new.self.items c.loop-line.line-index c.name_at.result
-          c.line-item.result (omega arith) log c.line-item.is
-          (c.name_at.ensures ∙ ap (λ l. get_or l c.line-item.result.number Period) names) (c.loop-line.invariant.1 f kept names log)
-          c.in_ok-push.ensures.items,
+          one_name_more f kept c.args.log.now c.args.names.now c.loop-line.kept.items c.push.new.self.items c.loop-line.line-index _
+          line (omega arith) log c.line-item.is names low (c.loop-line.invariant.1 f kept names log) c.in_ok-push.ensures.items,
     )
 
 pub groups_of-requires : goal.groups_of-requires
