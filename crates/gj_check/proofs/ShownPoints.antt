@@ -20,14 +20,11 @@ use Rattle.gj_shape.specs.declared.violations.Violation.TheVariants as violation
 use Rattle.gj_shape.proofs.AtLemmas.{at_below}
 use Rattle.gj_shape.proofs.LeastDenominator.{denominator_some}
 use Rattle.gj_shape.proofs.TableLemmas.{table_of_order}
+use Rattle.gj_theory.specs.Cuts.{IsValueOf}
 use Rattle.gj_proof.specs.Rules.{IsCoordinate, MeetsPoint, coordinates_of}
 use Rattle.gj_check.specs.Coordinates.{AreCoordinates, IsScaledOpposite}
 use Rattle.gj_check.proofs.Ratios.{denominator_is, sum_over, less_over, negative_over, one_over}
 use Rattle.gj_check.proofs.SamePlaces.{value_over, value_on, values_fit_sum}
-
--- y is the value of f at x, as `value_at` gives it
-abbrev pub IsValueOf : FunctionData → Frac → Frac → Type 0
-IsValueOf f x y = IsValueAt f (numerator x *ℤ pos f.order) (unsigned_abs (denominator x)) y
 
 -- ---- coordinates as points
 

@@ -1,6 +1,6 @@
 //! The rule `point`: a violation is shown at its points.
-ghost use Rattle.std.specs.Prelude.{pos, ◌≡◌, ◌≢◌, ◌↔◌, ◌<◌, ◌≤◌, ◌^◌, ◌*ℤ◌, ◌<ℤ◌, [], ◌∷◌, IsTrue, unsigned_abs};
-ghost use Rattle.gj_frac.specs.Fraction.{IsRatio, numerator, denominator, LessValue, fraction_of};
+ghost use Rattle.std.specs.Prelude.{pos, ◌≡◌, ◌≢◌, ◌↔◌, ◌<◌, ◌≤◌, ◌^◌, ◌*ℤ◌, [], ◌∷◌, IsTrue, unsigned_abs};
+ghost use Rattle.gj_frac.specs.Fraction.{IsRatio};
 ghost use Rattle.gj_shape.specs.FunctionData.{IsWithinBounds};
 ghost use Rattle.gj_shape.specs.Violation.{ShowsViolation};
 ghost use Rattle.gj_shape.specs.declared.violations.Violation.TheVariants as violation;
@@ -18,7 +18,7 @@ pub(crate) fn is_shown(shape: &Shape, violation: Violation) -> bool
 {
     let values = shape.value_numerators();
     match violation {
-        Violation::Zero => is_nonzero(values[0]),
+        Violation::Zero => values[0] != 0,
         Violation::Negative(x) => is_coordinate(x) && is_negative_at(shape, x),
         Violation::Asymmetric(x) => is_coordinate(x) && is_asymmetric_at(shape, x),
         Violation::Superadditive(x, y) => {
@@ -27,27 +27,13 @@ pub(crate) fn is_shown(shape: &Shape, violation: Violation) -> bool
     }
 }
 
-/// Whether the number is not 0.
-fn is_nonzero(n: i64) -> bool
-    ensures { IsTrue result ↔ (n ≢ pos 0) }
-{
-    n != 0
-}
-
 /// Whether the value at x is negative.
 fn is_negative_at(shape: &Shape, x: Frac) -> bool
     requires limits { IsWithinBounds shape.now }
     requires coordinates { AreCoordinates (x ∷ []) }
     ensures { IsTrue result ↔ ShowsViolation shape.now (violation.Negative x) }
 {
-    is_negative(shape.value_at(x))
-}
-
-/// Whether the fraction is less than 0.
-fn is_negative(x: Frac) -> bool
-    ensures { IsTrue result ↔ (numerator x <ℤ pos 0) }
-{
-    x.num() < 0
+    shape.value_at(x).num() < 0
 }
 
 /// Whether the values at x and at f - x do not add up to 1.
@@ -57,14 +43,8 @@ fn is_asymmetric_at(shape: &Shape, x: Frac) -> bool
     ensures { IsTrue result ↔ ShowsViolation shape.now (violation.Asymmetric x) }
 {
     let opposite = scaled_opposite(shape, x);
-    is_not_one(shape.value_at(x) + shape.value_scaled(opposite))
-}
-
-/// Whether the fraction is not 1.
-fn is_not_one(x: Frac) -> bool
-    ensures { IsTrue result ↔ (numerator x ≢ denominator x) }
-{
-    x.num() != x.den()
+    let sum = shape.value_at(x) + shape.value_scaled(opposite);
+    sum.num() != sum.den()
 }
 
 /// The number q (f - x), q being the order.
@@ -102,12 +82,5 @@ fn is_superadditive_at(shape: &Shape, x: Frac, y: Frac) -> bool
     ensures { IsTrue result ↔ ShowsViolation shape.now (violation.Superadditive x y) }
 {
     let sum = shape.value_at(x) + shape.value_at(y);
-    is_less(sum, shape.value_at(x + y))
-}
-
-/// Whether the first fraction is less than the second.
-fn is_less(x: Frac, y: Frac) -> bool
-    ensures { IsTrue result ↔ LessValue (fraction_of x) (fraction_of y) }
-{
-    x < y
+    sum < shape.value_at(x + y)
 }

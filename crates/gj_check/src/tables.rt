@@ -1,5 +1,5 @@
 //! Minimal tables: the tests of the values of one period.
-ghost use Rattle.std.specs.Prelude.{ℤ, List, pos, ◌≡◌, ◌↔◌, ◌+◌, ◌*◌, ◌<◌, ◌≤◌, ◌<ℤ◌, IsTrue, IfOk, length, unsigned_abs};
+ghost use Rattle.std.specs.Prelude.{ℕ, ℤ, List, pos, ◌≡◌, ◌↔◌, ◌+◌, ◌*◌, ◌<◌, ◌≤◌, ◌<ℤ◌, IsTrue, IfOk, length, unsigned_abs};
 ghost use Rattle.gj_shape.specs.FunctionData.{at};
 ghost use Rattle.gj_shape.specs.Limits.{greatest_halves_order};
 ghost use Rattle.gj_shape.specs.Table.{IsMinimalTable};
@@ -79,19 +79,14 @@ fn is_subadditive_over<E: Entry>(
     requires fits { scale <ℤ pos E.bound }
     ensures { IfOk result (λ all. IsTrue all ↔ IsSubadditiveList values.now) }
 {
-    let periods = two_periods::<E>(alloc, values, place, scale)?;
+    let periods = two_periods::<E>(alloc, values)?;
     Ok(has_subadditive_totals(periods.as_slice(), values.len(), place))
 }
 
 /// The values of two periods as entries.
-fn two_periods<E: Entry>(
-    alloc: Global,
-    values: &[i128],
-    place: usize,
-    scale: i128,
-) -> Result<Vec<E>, AllocError>
-    requires table { IsTableInRange values.now place scale }
-    requires fits { scale <ℤ pos E.bound }
+fn two_periods<E: Entry>(alloc: Global, values: &[i128]) -> Result<Vec<E>, AllocError>
+    requires { (place : ℕ) × (scale : ℤ) × IsTableInRange values.now place scale
+        × (scale <ℤ pos E.bound) }
     ensures { IfOk result (λ v. AreTwoPeriods E.number v.items values.now) }
 {
     let n = values.len();

@@ -1,3 +1,5 @@
+use Rattle.std.proofs.Common.{◌≢◌, rules}
+use Rattle.gj_frac.specs.Fraction.{numerator, denominator}
 use Rattle.gj_check.proofs.TestsInTurn.{in_other_words}
 use Rattle.gj_check.proofs.ShownPoints.{one_fine, one_within, coordinate_small, opposite_fine, asymmetric_fits, asymmetric_shown}
 use Rattle.gj_check.proofs.points.is_asymmetric_at.Goals as goal
@@ -13,16 +15,16 @@ value_scaled-requires c =
     opposite_fine c.args.shape.now c.args.x c.scaled_opposite-opposite.result c.requires.coordinates
     c.scaled_opposite-opposite.ensures
 
-pub add-requires : goal.add-requires
-add-requires c =
+pub add-sum-requires : goal.add-sum-requires
+add-sum-requires c =
     asymmetric_fits c.args.shape.now c.args.x c.scaled_opposite-opposite.result c.value_at.result c.value_scaled.result
     c.requires.limits c.requires.coordinates c.scaled_opposite-opposite.ensures c.value_at.ensures.value
     c.value_scaled.ensures
 
 pub returns : goal.returns
 returns c =
-    in_other_words _ _ _ c.is_not_one.ensures
+    in_other_words _ (numerator c.add-sum.result ≢ denominator c.add-sum.result) _ (search rules)
     (asymmetric_shown c.args.shape.now c.args.x c.scaled_opposite-opposite.result c.value_at.result
     c.value_scaled.result
-    c.add.result c.requires.limits (one_within c.args.x c.requires.coordinates) c.scaled_opposite-opposite.ensures
-    c.value_at.ensures.value c.value_scaled.ensures c.add.ensures)
+    c.add-sum.result c.requires.limits (one_within c.args.x c.requires.coordinates) c.scaled_opposite-opposite.ensures
+    c.value_at.ensures.value c.value_scaled.ensures c.add-sum.ensures)

@@ -1,15 +1,15 @@
-use Rattle.std.proofs.Common.{pos, get_or, w64, FitsSigned, ap, ◌∙◌, rules}
-use Rattle.std.proofs.lemmas.Int.{to_z-of_z}
+use Rattle.std.proofs.Common.{◌≢◌, pos, get_or, w64, FitsSigned, ap, rules}
 use Rattle.gj_check.proofs.TestsInTurn.{first_fails, first_passes, in_other_words}
 use Rattle.gj_check.proofs.ShownPoints.{point_read, zero_read}
 use Rattle.gj_check.proofs.points.is_shown.Goals as goal
 
 pub returns-in-Zero : goal.returns-in-Zero
 returns-in-Zero c =
-    let fits : FitsSigned w64 (get_or c.value_numerators-values.result.now 0 (pos 0)) = search rules in
-    in_other_words _ _ _ c.is_nonzero.ensures
-    (zero_read c.args.shape.now c.args.violation _ c.value_numerators-values.ensures.limits c.in-Zero.is
-    (to_z-of_z w64 _ fits ∙ ap (λ xs. get_or xs 0 (pos 0)) c.value_numerators-values.ensures.value))
+    let n = get_or c.value_numerators-values.result.now 0 (pos 0) in
+    let fits : FitsSigned w64 n = search rules in
+    in_other_words _ (n ≢ pos 0) _ (search rules)
+    (zero_read c.args.shape.now c.args.violation n c.value_numerators-values.ensures.limits c.in-Zero.is
+    (ap (λ xs. get_or xs 0 (pos 0)) c.value_numerators-values.ensures.value))
 
 pub returns-then-is_coordinate : goal.returns-then-is_coordinate
 returns-then-is_coordinate c =

@@ -1,3 +1,5 @@
+use Rattle.std.proofs.Common.{rules}
+use Rattle.gj_frac.specs.Fraction.{LessValue, fraction_of}
 use Rattle.gj_check.proofs.TestsInTurn.{in_other_words}
 use Rattle.gj_check.proofs.ShownPoints.{first_fine, second_fine, first_within, second_within, coordinates_fit_sum, values_fit, sum_fine, sum_small, superadditive_shown}
 use Rattle.gj_check.proofs.points.is_superadditive_at.Goals as goal
@@ -24,7 +26,7 @@ value_at-requires-3-clause-size c = sum_small c.args.x c.args.y c.add.result c.r
 
 pub returns : goal.returns
 returns c =
-    in_other_words _ _ _ c.is_less.ensures
+    in_other_words _ (LessValue (fraction_of c.add-sum.result) (fraction_of c.value_at-3.result)) _ (search rules)
     (superadditive_shown c.args.shape.now c.args.x c.args.y c.add.result c.value_at.result c.value_at-2.result
     c.value_at-3.result c.add-sum.result c.requires.limits (first_within c.args.x c.args.y c.requires.coordinates)
     (second_within c.args.x c.args.y c.requires.coordinates) c.add.ensures c.value_at.ensures.value

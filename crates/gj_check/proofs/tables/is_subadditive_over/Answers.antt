@@ -4,6 +4,9 @@ use Rattle.gj_check.proofs.TestsInTurn.{in_other_words}
 use Rattle.gj_check.proofs.TableTests.{have_periods, totals_decide}
 use Rattle.gj_check.proofs.tables.is_subadditive_over.Goals as goal
 
+pub two_periods-requires : goal.two_periods-requires
+two_periods-requires g c = (c.args.place, c.args.scale, c.requires.table, c.requires.fits)
+
 pub has_subadditive_totals-requires-clause-periods : goal.has_subadditive_totals-requires-clause-periods
 has_subadditive_totals-requires-clause-periods g c =
     have_periods g.E.Entry.number _ c.args.values.now

@@ -4,17 +4,17 @@ use Rattle.gj_check.proofs.tables.two_periods.Goals as goal
 
 pub of-requires-clause-low : goal.of-requires-clause-low
 of-requires-clause-low g c =
-    let t = c.requires.table in
-    (value_fits _ _ _ _ _ _ t c.requires.fits (rest_value c.args.values.now _ _ c.loop-i.i _ t c.wrapped.ensures)).0
+    let (place, scale, t, fits) = c.requires in
+    (value_fits _ _ _ _ _ _ t fits (rest_value c.args.values.now _ _ c.loop-i.i _ t c.wrapped.ensures)).0
 
 pub of-requires-clause-high : goal.of-requires-clause-high
 of-requires-clause-high g c =
-    let t = c.requires.table in
-    (value_fits _ _ _ _ _ _ t c.requires.fits (rest_value c.args.values.now _ _ c.loop-i.i _ t c.wrapped.ensures)).1
+    let (place, scale, t, fits) = c.requires in
+    (value_fits _ _ _ _ _ _ t fits (rest_value c.args.values.now _ _ c.loop-i.i _ t c.wrapped.ensures)).1
 
 pub loop-i-preserved : goal.loop-i-preserved
 loop-i-preserved g c =
-    let t = c.requires.table in
+    let (place, scale, t, fits) = c.requires in
     let values = c.args.values.now in
     let value = rest_value values _ _ c.loop-i.i _ t c.wrapped.ensures in
     one_more_entry g.E.Entry.number c.loop-i.entries.items c.push.new.self.items values c.loop-i.i _ (c.of.ensures ∙ value)
