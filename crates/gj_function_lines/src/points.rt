@@ -15,7 +15,7 @@ use gj_shape::{Point, PointFault, Points};
 use std::alloc::Global;
 
 /// The words of a point.
-#[derive(Clone, Copy, Debug)]
+#[derive(Clone, Copy)]
 pub(crate) enum PointWords<'a> {
     /// One fraction for the value and both limits.
     One(&'a [u8]),
@@ -24,7 +24,7 @@ pub(crate) enum PointWords<'a> {
 }
 
 /// The line of a point in a text.
-#[derive(Clone, Copy, Debug)]
+#[derive(Clone, Copy)]
 struct PointLine<'a> {
     /// The text from the line on.
     start: &'a [u8],
