@@ -22,9 +22,10 @@ pub(crate) struct Alone {
 }
 
 impl Alone {
-    ghost use Rattle.std.specs.Prelude.{◌≡◌, ◌<◌, false, IsTrue};
+    ghost use Rattle.std.specs.Prelude.{ℕ, ◌≡◌, ◌<◌, false, IsTrue};
     ghost use Rattle.gj_sets.specs.IndexSets.{has};
-    ghost use Rattle.gj_shape.specs.Given.{IsOrder};
+    ghost use Rattle.gj_shape.specs.FunctionData.{FunctionData};
+    ghost use Rattle.gj_shape.specs.Limits.{greatest_order};
     ghost use Rattle.gj_faces.specs.Alone.{AreAlone};
     ghost use Rattle.gj_faces.specs.Listed.{IsMaximalIn};
     ghost use Rattle.gj_faces.specs.TightPairs.{AreTightPairsOf};
@@ -76,13 +77,12 @@ impl Alone {
 
     /// The kind of the one maximal face of the square (a, b) that is no triangle.
     #[inline]
-    pub(crate) fn edge_kind(&self, shape: &Shape, a: u32, b: u32) -> FaceKind
-        requires order { IsOrder shape.now.order }
-        requires alone { AreAlone shape.now a self.now }
-        requires second { b < shape.now.order }
+    pub(crate) fn edge_kind(&self, b: u32) -> FaceKind
+        requires within { b < greatest_order }
         requires one { IsTrue (has self.now.edges b) }
         ensures plain { is_triangle result ≡ false }
-        ensures maximal { IsMaximalIn shape.now (record { kind = result; a = a; b = b }) }
+        ensures maximal { (f : FunctionData) (a : ℕ) → AreAlone f a self.now → b < f.order →
+            IsMaximalIn f (record { kind = result; a = a; b = b }) }
     {
         let place = b as usize;
         if self.vertex.contains(place) {

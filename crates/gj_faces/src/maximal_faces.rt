@@ -1,7 +1,7 @@
 //! The maximal additive faces.
 ghost use Rattle.std.specs.Prelude.{◌≡◌, ◌+◌, ◌*◌, ◌<◌, ◌≤◌, ◌↔◌, [], ◌∷◌, IfOk, OnOk, IsTrue, vec_capacity, vec_len};
-ghost use Rattle.gj_shape.specs.FunctionData.{IsContinuous};
-ghost use Rattle.gj_shape.specs.Given.{IsOrder};
+ghost use Rattle.gj_shape.specs.FunctionData.{FunctionData, IsContinuous};
+ghost use Rattle.gj_shape.specs.Limits.{greatest_order};
 ghost use Rattle.gj_shape.specs.Table.{IsMinimal};
 ghost use Rattle.gj_shape.specs.WalkOrder.{faces_of_square};
 ghost use Rattle.gj_faces.specs.Listed.{AreMaximalFaces, HoldAdditive, TellTightPairs, IsMaximalIn};
@@ -52,68 +52,42 @@ pub fn push_maximal_row(
         (faces_of_row shape.now.order a) faces.old.items faces.new.items) }
 {
     faces.reserve(2 * shape.order() as usize)?;
-    push_row(faces, &Alone::of(pairs, shape, a), shape, a);
-    Ok(())
-}
-
-/// Adds the maximal faces of row a: at most two a square, for which the list has room.
-fn push_row(faces: &mut Vec<Face>, alone: &Alone, shape: &Shape, a: u32)
-    requires order { IsOrder shape.now.order }
-    requires alone { AreAlone shape.now a alone.now }
-    requires room { vec_len faces.old + 2 * shape.now.order ≤ vec_capacity faces.old }
-    ensures { AddsMaximal shape.now (faces_of_row shape.now.order a)
-        faces.old.items faces.new.items }
-{
+    let alone = Alone::of(pairs, shape, a);
     let mut from = 0;
     while let Some(b) = alone.any.first_from(from) {
-        push_square(faces, alone, shape, a, b as u32);
+        push_square(faces, &alone, a, b as u32);
         from = b + 1;
     }
+    Ok(())
 }
 
 /// Adds the maximal faces of the square (a, b): one that is no triangle, or at most two triangles.
 #[inline]
-fn push_square(faces: &mut Vec<Face>, alone: &Alone, shape: &Shape, a: u32, b: u32)
-    requires order { IsOrder shape.now.order }
-    requires alone { AreAlone shape.now a alone.now }
-    requires second { b < shape.now.order }
+fn push_square(faces: &mut Vec<Face>, alone: &Alone, a: u32, b: u32)
+    requires within { b < greatest_order }
     requires room { vec_len faces.old + 2 ≤ vec_capacity faces.old }
-    ensures added { AddsMaximal shape.now (faces_of_square a b) faces.old.items faces.new.items }
+    ensures added { (f : FunctionData) → AreAlone f a alone.now → b < f.order →
+        AddsMaximal f (faces_of_square a b) faces.old.items faces.new.items }
     ensures few { vec_len faces.new ≤ vec_len faces.old + 2 }
     ensures capacity { vec_capacity faces.new ≡ vec_capacity faces.old }
 {
     let place = b as usize;
     if alone.edges.contains(place) {
-        let kind = alone.edge_kind(shape, a, b);
+        let kind = alone.edge_kind(b);
         faces.push_reserved(Face { kind, a, b });
     } else {
-        push_if(
-            faces,
-            alone.lower.contains(place),
-            shape,
-            FaceKind::Lower,
-            a,
-            b,
-        );
-        push_if(
-            faces,
-            alone.upper.contains(place),
-            shape,
-            FaceKind::Upper,
-            a,
-            b,
-        );
+        push_if(faces, alone.lower.contains(place), FaceKind::Lower, a, b);
+        push_if(faces, alone.upper.contains(place), FaceKind::Upper, a, b);
     }
 }
 
 /// Adds the face if it is maximal.
 #[inline]
-fn push_if(faces: &mut Vec<Face>, is_maximal: bool, shape: &Shape, kind: FaceKind, a: u32, b: u32)
-    requires maximal { IsTrue is_maximal ↔ IsMaximalIn shape.now
-        (record { kind = kind; a = a; b = b }) }
+fn push_if(faces: &mut Vec<Face>, is_maximal: bool, kind: FaceKind, a: u32, b: u32)
     requires room { vec_len faces.old < vec_capacity faces.old }
-    ensures added { AddsMaximal shape.now (record { kind = kind; a = a; b = b } ∷ [])
-        faces.old.items faces.new.items }
+    ensures added { (f : FunctionData) →
+        IsTrue is_maximal ↔ IsMaximalIn f (record { kind = kind; a = a; b = b }) →
+        AddsMaximal f (record { kind = kind; a = a; b = b } ∷ []) faces.old.items faces.new.items }
     ensures few { vec_len faces.new ≤ vec_len faces.old + 1 }
     ensures capacity { vec_capacity faces.new ≡ vec_capacity faces.old }
 {

@@ -2,7 +2,7 @@ use Rattle.std.proofs.Common.{◌+◌, ◌*◌, ◌-◌, ◌≤◌, flat_map, ve
 use Rattle.std.specs.List.{range_with_len}
 use Rattle.gj_shape.specs.WalkOrder.{faces_of_square}
 use Rattle.gj_faces.specs.Added.{AddsMaximal}
-use Rattle.gj_faces.proofs.maximal_faces.push_row.Given as goal
+use Rattle.gj_faces.proofs.maximal_faces.push_maximal_row.Given as goal
 
 abbrev pub invariant-loop-b : goal.invariant-loop-b
 invariant-loop-b l =
