@@ -181,7 +181,7 @@ fn is_strict(bytes: &[u8]) -> bool
 fn ends_with_return(bytes: &[u8]) -> bool
     ensures { IsTrue result ↔ (slice_index bytes.now (length bytes.now - 1) ≡ 13) }
 {
-    !bytes.is_empty() && bytes[bytes.len() - 1] == b'\r'
+    matches!(bytes.last(), Some(b'\r'))
 }
 
 /// Whether the bytes are words with one space between them.
