@@ -8,7 +8,8 @@ use Rattle.gj_proof.specs.declared.cut.CutLine.{CutLine}
 use Rattle.gj_proof.specs.declared.cut.CutTerm.{CutTerm}
 use Rattle.gj_proof.specs.declared.pivot.PivotRow.{PivotRow}
 
-abbrev own_line : ProofLine → List ℕ → OwnLine
+-- a line of a claim's own
+abbrev pub own_line : ProofLine → List ℕ → OwnLine
 own_line name bytes = record { name = name; bytes = bytes }
 
 -- one for each covered interval

@@ -227,17 +227,11 @@ abbrev pub step_demands_by : Numbers → ℕ → ℕ → List ℕ → List Deman
 step_demands_by numbers g r [] = []
 step_demands_by numbers g r (c ∷ more) = reduce g r ∷ (size_demands numbers g r ++ step_demands_by numbers g (r + 1) more)
 
-abbrev pub step_demands : ℕ → ℕ → List ℕ → List Demand
-step_demands g r columns = step_demands_by Whole g r columns
-
 -- the demands on groups, from the g-th on
 abbrev pub group_demands_by : Numbers → ℕ → List PivotRow → List Demand
 group_demands_by numbers g [] = []
 group_demands_by numbers g (one ∷ more) =
     row g ∷ step_demands_by numbers g 0 one.reduce ++ pivot g ∷ group_demands_by numbers (g + 1) more
-
-abbrev pub group_demands : ℕ → List PivotRow → List Demand
-group_demands g rows = group_demands_by Whole g rows
 
 -- the demands of a claim that a function is extreme, by rows of these numbers
 abbrev pub extreme_demands : Numbers → List CoverLine → List PivotRow → List Demand

@@ -1,5 +1,5 @@
 //! The lines of cuts, read.
-ghost use Rattle.std.specs.Prelude.{◌≡◌, ◌++◌, codes, IfOk, IfErr, IfSome, IfNone, OnSome};
+ghost use Rattle.std.specs.Prelude.{ℕ, List, ◌≡◌, ◌++◌, codes, IfOk, IfErr, IfSome, IfNone, OnSome};
 ghost use Rattle.gj_frac.specs.declared.Frac.{Frac};
 ghost use Rattle.gj_lex.specs.LineFaults.{IsRefusedFor};
 ghost use Rattle.gj_lex.specs.Name.{IsName};
@@ -199,7 +199,7 @@ fn next_term(alloc: Global, text: &[u8]) -> Result<Option<(CutTerm, &[u8])>, Par
         return Ok(Some((term, rest)));
     }
     match line_with_word(Spelling::Strict, text, b"term") {
-        Some(line) => Ok(Some(term_at(alloc, text, line)?)),
+        Some(line) => Ok(Some(term_at(alloc, line)?)),
         None => Ok(None),
     }
 }
@@ -219,15 +219,16 @@ fn printed_term(alloc: Global, text: &[u8]) -> Option<(CutTerm, &[u8])>
     Some((CutTerm { name, entry, cut }, rest))
 }
 
-/// The term in the next line of the text, which is this line, and what follows the line.
-fn term_at<'a>(
-    alloc: Global,
-    _text: &[u8],
-    line: TextLine<'a>,
-) -> Result<(CutTerm, &'a [u8]), PartFault>
-    requires { HasLine Strict _text.now line.start.now (word_texts line.bytes.now) line.rest.now }
-    ensures found { IfOk result (λ r. (form_part term_form).Reads _text.now r.0 r.1.now) }
-    ensures fault { IfErr result (IsFaultOf (form_part term_form) _text.now) }
+/// The term in the line, and what follows the line.
+fn term_at<'a>(alloc: Global, line: TextLine<'a>) -> Result<(CutTerm, &'a [u8]), PartFault>
+    ensures found { (text : List ℕ) →
+        HasLine Strict text line.entry.start.now (word_texts line.entry.bytes.now)
+        line.entry.rest.now →
+        IfOk result (λ r. (form_part term_form).Reads text r.0 r.1.now) }
+    ensures fault { (text : List ℕ) →
+        HasLine Strict text line.entry.start.now (word_texts line.entry.bytes.now)
+        line.entry.rest.now →
+        IfErr result (IsFaultOf (form_part term_form) text) }
 {
     match term_in(alloc, line.bytes) {
         Ok(term) => Ok((term, line.rest)),
