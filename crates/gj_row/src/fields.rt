@@ -1,5 +1,5 @@
 //! The words in the fields of a record.
-ghost use Rattle.std.specs.Prelude.{◌≡◌, ◌<◌, ◌≤◌, ◌^◌, ◌++◌, ◌∷◌, [], Some, IfOk, length, replicate, reverse, slice_get, not};
+ghost use Rattle.std.specs.Prelude.{◌≡◌, ◌<◌, ◌≤◌, ◌+◌, ◌^◌, ◌++◌, ◌∷◌, [], Some, IfOk, IsTrue, length, replicate, reverse, slice_get, take, not};
 ghost use Rattle.std.specs.List.{count_by, position, position_or_len};
 ghost use Rattle.csv.specs.Records.{fields_of};
 ghost use Rattle.gj_lex.specs.Words.{is_blank};
@@ -8,6 +8,7 @@ ghost use Rattle.gj_row.specs.Reading.{fields_behind, fields_in, fields_of_line,
 
 use csv::ByteRecord;
 use std::alloc::{AllocError, Global};
+use std::simd::prelude::*;
 
 /// So many bytes are counted at once, in numbers of one byte.
 const PART: usize = 240;
@@ -107,7 +108,33 @@ fn leading_commas(line: &[u8]) -> usize
     ensures count { result ≡ position_or_len (λ b. not (is_comma b)) line.now }
     ensures within { result ≤ length line.now }
 {
-    first_filled(line).unwrap_or(line.len())
+    if line.is_empty() || line[0] != b',' {
+        return 0;
+    }
+    let left = behind_parts_of_commas(line);
+    let more = first_filled(left).unwrap_or(left.len());
+    line.len() - left.len() + more
+}
+
+/// What the line has behind the parts of 16 commas that it begins with.
+fn behind_parts_of_commas(line: &[u8]) -> &[u8]
+    ensures count { position_or_len (λ b. not (is_comma b)) line.now + length result.now ≡
+        length line.now + position_or_len (λ b. not (is_comma b)) result.now }
+    ensures shorter { length result.now ≤ length line.now }
+{
+    let mut left = line;
+    while left.len() >= 16 && begins_with_commas(left) {
+        left = &left[16..];
+    }
+    left
+}
+
+/// Whether the first 16 bytes are commas. They are compared at once.
+fn begins_with_commas(line: &[u8]) -> bool
+    requires { 16 ≤ length line.now }
+    ensures { IsTrue result → take 16 line.now ≡ replicate 16 44 }
+{
+    u8x16::from_slice(line).simd_eq(u8x16::splat(b',')).all()
 }
 
 /// Where the first byte stands that is no comma.
