@@ -1,6 +1,6 @@
 //! Numbers printed in their one spelling.
 
-ghost use Rattle.std.specs.Prelude.{◌≡◌, ◌≤◌, ◌++◌, length, drop, decimal, OnOk, OnErr};
+ghost use Rattle.std.specs.Prelude.{◌≡◌, ◌≤◌, ◌+◌, ◌++◌, ◌∷◌, [], length, drop, decimal, OnOk, OnErr};
 ghost use Rattle.std.specs.Fmt.{signed_decimal};
 ghost use Rattle.gj_lex.specs.NumberText.{count_line, fraction_text, denominator_text};
 
@@ -10,6 +10,9 @@ use std::alloc::{AllocError, Global};
 
 /// The length of the longest text: a sign, a `/`, and twice the 39 digits of a number of 128 bits.
 const SPACE: usize = 80;
+
+/// The length of the longest text of two fractions, with a space before each and a line feed.
+const PAIR_SPACE: usize = 163;
 
 /// Appends a count in canonical form: its digits, without a leading zero.
 ///
@@ -45,22 +48,64 @@ pub fn print_frac(_alloc: Global, out: &mut Vec<u8>, x: Frac) -> Result<(), Allo
     ensures err { OnErr result (out.new.items ≡ out.old.items) }
 {
     let mut text = [0; SPACE];
-    let end = write_denominator(&mut text, x.den().unsigned_abs());
-    let start = write_signed(&mut text, end, x.num());
+    let start = write_fraction(&mut text, SPACE, x);
     out.extend_from_slice(&text[start..])
 }
 
-/// Writes a denominator to the end of the text, and says where it begins.
-fn write_denominator(text: &mut [u8], den: u128) -> usize
-    requires { length text.old ≡ SPACE }
-    ensures written { drop result text.new ≡ denominator_text den }
-    ensures room { 40 ≤ result }
-    ensures within { result ≤ SPACE }
+/// Appends the end of a line of two fractions in canonical form: a space before each, and a line
+/// feed behind them.
+///
+/// An error says that memory ran out; `out` is then as it was.
+pub fn print_pair(out: &mut Vec<u8>, x: Frac, y: Frac) -> Result<(), AllocError>
+    ensures ok { OnOk result (out.new.items ≡
+        out.old.items ++ 32 ∷ fraction_text x ++ 32 ∷ fraction_text y ++ 10 ∷ []) }
+    ensures err { OnErr result (out.new.items ≡ out.old.items) }
+{
+    let mut text = [0; PAIR_SPACE];
+    text[PAIR_SPACE - 1] = b'\n';
+    let second = write_spaced(&mut text, PAIR_SPACE - 1, y);
+    let first = write_spaced(&mut text, second, x);
+    out.extend_from_slice(&text[first..])
+}
+
+/// Writes a space and a fraction into the text so that they end before `end`, and says where they
+/// begin.
+fn write_spaced(text: &mut [u8], end: usize, x: Frac) -> usize
+    requires room { 81 ≤ end }
+    requires within { end ≤ length text.old }
+    ensures written { drop result text.new ≡ 32 ∷ fraction_text x ++ drop end text.old }
+    ensures begins { result ≤ end }
+    ensures room { end ≤ result + 81 }
+{
+    let start = write_fraction(text, end, x);
+    text[start - 1] = b' ';
+    start - 1
+}
+
+/// Writes a fraction into the text so that it ends before `end`, and says where it begins.
+fn write_fraction(text: &mut [u8], end: usize, x: Frac) -> usize
+    requires room { 80 ≤ end }
+    requires within { end ≤ length text.old }
+    ensures written { drop result text.new ≡ fraction_text x ++ drop end text.old }
+    ensures begins { result ≤ end }
+    ensures room { end ≤ result + 80 }
+{
+    let middle = write_denominator(text, end, x.den().unsigned_abs());
+    write_signed(text, middle, x.num())
+}
+
+/// Writes a denominator into the text so that it ends before `end`, and says where it begins.
+fn write_denominator(text: &mut [u8], end: usize, den: u128) -> usize
+    requires room { 40 ≤ end }
+    requires within { end ≤ length text.old }
+    ensures written { drop result text.new ≡ denominator_text den ++ drop end text.old }
+    ensures begins { result ≤ end }
+    ensures room { end ≤ result + 40 }
 {
     if den < 2 {
-        return text.len();
+        return end;
     }
-    let start = write_digits(text, text.len(), den) - 1;
+    let start = write_digits(text, end, den) - 1;
     text[start] = b'/';
     start
 }
@@ -71,6 +116,7 @@ fn write_signed(text: &mut [u8], end: usize, n: i128) -> usize
     requires within { end ≤ length text.old }
     ensures written { drop result text.new ≡ signed_decimal n ++ drop end text.old }
     ensures begins { result ≤ end }
+    ensures room { end ≤ result + 40 }
 {
     let start = write_digits(text, end, n.unsigned_abs());
     if n >= 0 {

@@ -6,7 +6,7 @@ ghost use Rattle.gj_proof.specs.ProofText.{AreSubjectLines, subject_of_rule, row
 use crate::cut::{CutLine, CutRule, CutTerm};
 use gj_frac::Frac;
 use gj_function_lines::push_function_lines;
-use gj_lex::{Name, print_frac};
+use gj_lex::{Name, print_frac, print_pair};
 use std::alloc::{AllocError, Global};
 
 /// Appends the lines of a rule: `rule gmic`, or those of its function. An error says that memory
@@ -44,7 +44,7 @@ pub fn push_row(alloc: Global, out: &mut Vec<u8>, row: &CutLine) -> Result<(), A
         CutLine::Cut(name, right, terms) => {
             push_named(alloc, out, b"cut ", name, *right)?;
             out.push(b'\n')?;
-            push_terms(alloc, out, terms.as_slice())
+            push_terms(out, terms.as_slice())
         }
         CutLine::Skip(name, right, reason) => {
             push_named(alloc, out, b"skip ", name, *right)?;
@@ -57,27 +57,22 @@ pub fn push_row(alloc: Global, out: &mut Vec<u8>, row: &CutLine) -> Result<(), A
 }
 
 /// Appends the lines of terms.
-fn push_terms(alloc: Global, out: &mut Vec<u8>, terms: &[CutTerm]) -> Result<(), AllocError>
+fn push_terms(out: &mut Vec<u8>, terms: &[CutTerm]) -> Result<(), AllocError>
     ensures { OnOk result (out.new.items ≡ out.old.items ++ flat_map term_line terms.now) }
 {
     for term in terms {
-        push_term(alloc, out, term)?;
+        push_term(out, term)?;
     }
     Ok(())
 }
 
 /// Appends the line of a term.
-fn push_term(alloc: Global, out: &mut Vec<u8>, term: &CutTerm) -> Result<(), AllocError>
+fn push_term(out: &mut Vec<u8>, term: &CutTerm) -> Result<(), AllocError>
     ensures { OnOk result (out.new.items ≡ out.old.items ++ term_line term.now) }
 {
     out.extend_from_slice(b"term ")?;
     out.extend_from_slice(term.name.bytes())?;
-    out.push(b' ')?;
-    print_frac(alloc, out, term.entry)?;
-    out.push(b' ')?;
-    print_frac(alloc, out, term.cut)?;
-    out.push(b'\n')?;
-    Ok(())
+    print_pair(out, term.entry, term.cut)
 }
 
 /// Appends a word, a name, a space and a fraction. An error says that memory ran out; `out` may
