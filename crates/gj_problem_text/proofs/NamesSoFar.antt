@@ -8,10 +8,6 @@ use Rattle.std.proofs.lemmas.List.Sums.{fails_before_first}
 use Rattle.indexmap.specs.IndexSet.{insert_key}
 use denote.Ref.{Bor}
 
--- two names behind references have the same bytes
-abbrev pub same_bytes : Bor (List ℕ) → Bor (List ℕ) → Bool
-same_bytes x y = pointwise nat_eq x.now y.now
-
 abbrev pub names_of : List (Bor (List ℕ)) → List (List ℕ)
 names_of keys = map (λ name. name.now) keys
 
@@ -32,7 +28,7 @@ none_passes p xs e = list_any_none p xs (λ i d below. by (ltb (position_or_len 
     by false is i d below = fails_before_first p xs i d (omega (arith, ltb-false (position_or_len p xs) (length xs) is))
 
 pub one_more : (keys : List (Bor (List ℕ))) (name : Bor (List ℕ)) (next : List (Bor (List ℕ))) (old : List (List ℕ)) →
-    names_of keys ≡ old → position (pointwise nat_eq name.now) old ≡ None → next ≡ insert_key same_bytes keys name →
+    names_of keys ≡ old → position (pointwise nat_eq name.now) old ≡ None → next ≡ insert_key (λ x y. pointwise nat_eq x.now y.now) keys name →
     names_of next ≡ old ++ name.now ∷ []
 one_more keys name next old view none is =
     let new = none_passes (λ k. pointwise nat_eq name.now k.now) keys (place_among keys name.now ∙ rw view none) in

@@ -10,7 +10,6 @@ use Rattle.gj_safe_cut.specs.declared.cut.SafeCut.{SafeCut}
 use Rattle.gj_safe_cut.specs.declared.cut.SafeCut.TheVariants.{Cut, Integral, OtherFraction, Free, Wide}
 use Rattle.gj_proof.specs.ProofText.{AreSubjectLines, subject_of_rule}
 use Rattle.gj_proof.specs.declared.cut.CutRule.{CutRule}
-use Rattle.gj_proof.specs.declared.cut.CutRule.TheVariants.{Gmic}
 use Rattle.gj_problem_text.specs.Cuts.{AreAnswers, none_turned}
 use Rattle.gj_problem_text.specs.declared.task.Task.{Task}
 
@@ -50,7 +49,3 @@ pub record IsCutsTextBy (r : CutRule) (s : Task) (text : List ℕ) : Type 0 wher
   pub rule_lines : List ℕ
   pub rule_lines_are : AreSubjectLines (subject_of_rule r) rule_lines
   pub text_is : text ≡ line (codes "gj-safe 1") ++ rule_lines ++ flat_map (cut_lines s.names) cuts ++ line (codes "end")
-
--- the same by the mixed-integer cut
-abbrev pub IsCutsTextOf : Task → List ℕ → Type 0
-IsCutsTextOf = IsCutsTextBy Gmic

@@ -1,7 +1,7 @@
 //! The text of a problem with multipliers, read, and the text of its cuts, printed.
 //!
-//! [`safe_cuts_text`] makes mixed-integer cuts. [`safe_reply`] also makes cuts by a function, whose
-//! text stands in front of that of the problem.
+//! [`safe_reply`] makes mixed-integer cuts, or cuts by a function, whose text stands in front of that
+//! of the problem.
 #![tactic(auto)]
 
 mod answers;
@@ -24,4 +24,3 @@ pub use laws::{one_problem_text, one_safe_input};
 pub use read::read_problem;
 pub use reply::{SafeReply, safe_reply};
 pub use task::{Request, Task};
-pub use text::safe_cuts_text;

@@ -1,22 +1,18 @@
 //! From the text of a problem with its rule to the text of its cuts.
-ghost use Rattle.std.specs.Prelude.{◌≡◌, ◌++◌, codes, IfOk, IfErr, IfSome, IfNone, MatchResult};
-ghost use Rattle.gj_proof.specs.ProofText.{violation_line};
-ghost use Rattle.gj_shape.specs.FunctionData.{IsFirstJump};
+ghost use Rattle.std.specs.Prelude.{IfOk, IfErr, IfSome, IfNone, MatchResult};
 ghost use Rattle.gj_problem_text.specs.FirstFault.{IsMemoryFault};
 ghost use Rattle.gj_problem_text.specs.Ready.{IsReady};
 ghost use Rattle.gj_problem_text.specs.SafeInputs.{IsSafeInput, NamesFirstFaultOfInput};
-ghost use Rattle.gj_problem_text.specs.SafeReplies.{MakesSafeCuts, NamesFirstJump, IsSafeReply};
+ghost use Rattle.gj_problem_text.specs.SafeReplies.{MakesSafeCuts, IsSafeReply};
 ghost use Rattle.gj_problem_text.specs.declared.input.SafeInput.{SafeInput};
 ghost use Rattle.gj_problem_text.specs.declared.task.Task.{Task};
 
 use crate::faults::ProblemFault;
 use crate::input::{SafeInput, read_safe_input};
 use crate::text::cuts_text;
-use gj_frac::Frac;
-use gj_function_lines::push_fraction_line;
 use gj_minimal::find_violation;
-use gj_proof::{CutRule, push_violation_line};
-use gj_shape::{Shape, Violation};
+use gj_proof::CutRule;
+use gj_refusals::{jump_text, violation_text};
 use std::alloc::{AllocError, Global};
 
 /// The reply to a problem text with its rule.
@@ -89,24 +85,4 @@ fn objection_to(alloc: Global, rule: &CutRule) -> Result<Option<SafeReply>, Allo
         return Ok(Some(SafeReply::NotContinuous(text)));
     }
     Ok(None)
-}
-
-/// The line that names a violation.
-fn violation_text(alloc: Global, violation: Violation) -> Result<Vec<u8>, AllocError>
-    ensures { IfOk result (λ text. text.items ≡ codes "no function " ++ violation_line violation) }
-{
-    let mut text = Vec::from_slice(alloc, b"no function ")?;
-    push_violation_line(alloc, &mut text, violation)?;
-    Ok(text)
-}
-
-/// The line that names the first jump, at `index`/q.
-fn jump_text(alloc: Global, shape: &Shape, index: u32) -> Result<Vec<u8>, AllocError>
-    requires { IsFirstJump shape.now index }
-    ensures { IfOk result (λ text. NamesFirstJump shape.now text.items) }
-{
-    let mut text = Vec::new(alloc);
-    let point = Frac::ratio(i64::from(index), shape.order());
-    push_fraction_line(alloc, &mut text, b"not continuous ", point)?;
-    Ok(text)
 }

@@ -1,9 +1,10 @@
 -- A reply as an answer, and what a first fault says of an answer.
-use Rattle.std.proofs.Common.{◌≡◌, ℕ, List, refl, ap, ◌∙◌}
+use Rattle.std.proofs.Common.{◌≡◌, ℕ, List, ap, ◌∙◌}
 use Rattle.gj_lex.specs.declared.reason.Reason.{Reason}
 use Rattle.gj_problem_text.specs.SafeInputs.{IsFirstFaultOfInput}
-use Rattle.gj_problem_text.proofs.InputParts.{no_fault, one_fault}
-use Rattle.gj_safe.specs.Answers.{IsAnswer, IsReplyTo, refused_line}
+use Rattle.gj_problem_text.proofs.InputParts.{one_fault}
+use Rattle.gj_refusals.specs.Lines.{refused_line}
+use Rattle.gj_safe.specs.Answers.{IsAnswer, IsReplyTo}
 use Rattle.gj_safe.specs.declared.answer.End.{End}
 use Rattle.gj_safe.specs.declared.answer.End.TheVariants.{Done, Refused, NotContinuous, NoFunction}
 

@@ -1,5 +1,5 @@
 -- Why a run ends as it does, and what it then wrote.
-use Rattle.std.proofs.Common.{◌≡◌, ◌≢◌, ◌⊎◌, ◌<◌, ◌≤◌, inl, inr, ℕ, List, [], length, IfSome, Option, Some, String, refl, sym, subst, arith}
+use Rattle.std.proofs.Common.{◌≡◌, ◌⊎◌, ◌<◌, ◌≤◌, inl, inr, ℕ, true, List, [], length, IfSome, Option, Some, String, refl, subst, arith}
 use Rattle.std.proofs.lemmas.Option.{IfSome_then}
 use Rattle.std.specs.declared.alloc.Global.{Global}
 use Rattle.gj_port.specs.Runs.{Gains}
@@ -7,8 +7,10 @@ use Rattle.gj_lex.specs.declared.reason.Reason.{Reason}
 use Rattle.gj_problem_text.specs.SafeInputs.{IsSafeInput, IsFirstFaultOfInput}
 use Rattle.gj_problem_text.specs.declared.input.SafeInput.{SafeInput}
 use Rattle.gj_problem_text.proofs.InputParts.{one_input, no_fault}
+use Rattle.gj_refusals.specs.InputRead.{input_limit, IsReadWhole}
+use Rattle.gj_refusals.proofs.InputRead.{told_input}
 use Rattle.gj_safe.specs.Answers.{IsTrueAnswer, IsReplyBy, IsReplyTo, IsCutsOf}
-use Rattle.gj_safe.specs.Told.{IsReadWhole, IsRefused, IsTold, IsToldOf, IsStatusBy, input_limit, status_of}
+use Rattle.gj_safe.specs.Told.{IsRefused, IsTold, IsToldOf, IsStatusBy, status_of}
 use Rattle.gj_safe.specs.Runs.{IsTrueRun, IsDoneRun, IsCause, IsOutcome}
 use Rattle.gj_safe.specs.declared.answer.End.{End}
 use Rattle.gj_safe.specs.declared.answer.End.TheVariants as end
@@ -16,11 +18,10 @@ use Rattle.gj_safe.specs.declared.status.Status.{Status}
 use Rattle.gj_safe.specs.declared.status.Status.TheVariants.{Done, Words, Input, ReadFault, WriteFault, Memory, NotContinuous, NoFunction}
 
 -- what was told of an input that was read whole is told of the one that the source told
-of_input : (input own : List ℕ) (left after : Option (List ℕ)) (s : Status) (text : List ℕ) → left ≡ Some input → IsReadWhole own left after →
+of_input : (input own : List ℕ) (left after : Option (List ℕ)) (s : Status) (text : List ℕ) → left ≡ Some input → IsReadWhole true own left after →
     IsToldOf own s text → IsToldOf input s text
 of_input input own left after s text is whole t =
-    let read : IsReadWhole own (Some input) after = subst (λ (l : Option (List ℕ)). IsReadWhole own l after) is whole in
-    subst (λ (i : List ℕ). IsToldOf i s text) (sym read.0) t
+    subst (λ (i : List ℕ). IsToldOf i s text) (told_input input own left after is whole) t
 
 pub cause_of_told : (words : List (String Global)) (Fault : Type 0) (left after : Option (List ℕ)) (s : Status) (text : List ℕ) → words ≡ [] →
     (input : List ℕ) → left ≡ Some input → IsTold words Fault left after s text → IsCause input s

@@ -1,14 +1,15 @@
 -- How the text of a problem with its rule is answered (own).
-use Rattle.std.specs.Prelude.{ℕ, ◌≡◌, List, ◌++◌, All, codes, decimal, flat_map}
-use Rattle.gj_lex.specs.Reason.{reason_word}
+use Rattle.std.specs.Prelude.{ℕ, ◌≡◌, List, ◌++◌, All, codes, flat_map}
 use Rattle.gj_lex.specs.declared.reason.Reason.{Reason}
 use Rattle.gj_function_lines.specs.FunctionLines.{line}
 use Rattle.gj_safe_cut.specs.SafeCuts.{SafeCutHolds}
 use Rattle.gj_safe_cut.specs.declared.cut.SafeCut.{SafeCut}
 use Rattle.gj_proof.specs.ProofText.{AreSubjectLines, subject_of_rule}
+use Rattle.gj_refusals.specs.Functions.{NamesViolation, NamesJump}
+use Rattle.gj_refusals.specs.Lines.{refused_line}
 use Rattle.gj_problem_text.specs.CutText.{cut_lines, IsCutsTextBy}
 use Rattle.gj_problem_text.specs.SafeInputs.{IsSafeInput, IsFirstFaultOfInput}
-use Rattle.gj_problem_text.specs.SafeReplies.{MakesSafeCuts, NamesViolation, NamesJump}
+use Rattle.gj_problem_text.specs.SafeReplies.{MakesSafeCuts}
 use Rattle.gj_problem_text.specs.declared.input.SafeInput.{SafeInput}
 use Rattle.gj_safe.specs.declared.answer.End.{End}
 use Rattle.gj_safe.specs.declared.answer.End.TheVariants.{Done, Refused, NotContinuous, NoFunction}
@@ -39,10 +40,6 @@ IsReplyTo input end text = (asked : SafeInput) × IsSafeInput input asked × IsR
 -- the text is that of the cuts that the input asks for
 abbrev pub IsCutsOf : List ℕ → List ℕ → Type 0
 IsCutsOf input text = IsReplyTo input Done text
-
--- the line that refuses an input for its n-th line
-abbrev pub refused_line : ℕ → Reason → List ℕ
-refused_line n reason = line (codes "refused line " ++ decimal n ++ codes " " ++ reason_word reason)
 
 -- the text refuses the input for its first fault
 abbrev pub IsRefusal : List ℕ → List ℕ → Type 0

@@ -2,8 +2,9 @@
 use Rattle.std.specs.Prelude.{ℕ, ◌≡◌, ◌⊎◌, ◌<◌, List, [], ◌++◌, length, Option, Some, String}
 use Rattle.std.specs.declared.alloc.Global.{Global}
 use Rattle.gj_port.specs.Runs.{Gains, GainsFront}
+use Rattle.gj_refusals.specs.InputRead.{IsReadInPart}
 use Rattle.gj_safe.specs.Answers.{IsTrueAnswer, IsCutsOf}
-use Rattle.gj_safe.specs.Told.{IsReadInPart, IsTold, IsToldOf}
+use Rattle.gj_safe.specs.Told.{IsTold, IsToldOf}
 use Rattle.gj_safe.specs.declared.status.Status.{Status}
 use Rattle.gj_safe.specs.declared.status.Status.TheVariants.{ReadFault, WriteFault, Memory}
 

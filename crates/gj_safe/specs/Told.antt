@@ -1,8 +1,8 @@
 -- What a run tells: a status and a text, and what it read for them (own).
-use Rattle.std.specs.Prelude.{ℕ, ◌≡◌, ◌≢◌, ◌⊎◌, ◌+◌, ◌<◌, ◌≤◌, List, [], drop, length, codes, IfSome, Option, Some, String}
+use Rattle.std.specs.Prelude.{ℕ, ◌≡◌, ◌≢◌, ◌⊎◌, ◌<◌, ◌≤◌, true, List, [], length, Option, String}
 use Rattle.std.specs.declared.alloc.Global.{Global}
-use Rattle.gj_port.specs.Whole.{TakesUpTo}
-use Rattle.gj_function_lines.specs.FunctionLines.{line}
+use Rattle.gj_refusals.specs.InputRead.{input_limit, IsReadWhole, IsReadInPart}
+use Rattle.gj_refusals.specs.Lines.{words_line, fault_line, long_line}
 use Rattle.gj_problem_text.specs.declared.input.SafeInput.{SafeInput}
 use Rattle.gj_safe.specs.declared.answer.End.{End}
 use Rattle.gj_safe.specs.declared.answer.End.TheVariants as end
@@ -11,33 +11,6 @@ use Rattle.gj_safe.specs.declared.status.Status.TheVariants.{Done, Words, Input,
 use Rattle.gj_safe.specs.declared.told.Told.{Told}
 use Rattle.gj_safe.specs.declared.told.Told.TheVariants as told
 use Rattle.gj_safe.specs.Answers.{IsReplyBy, IsReplyTo, IsRefusal}
-
--- the most bytes that are read of an input
-abbrev pub input_limit : ℕ
-input_limit = 16777216
-
--- the lines that are told if no input is answered
-abbrev pub words_line : List ℕ
-words_line = line (codes "words refused")
-
-abbrev pub fault_line : List ℕ
-fault_line = line (codes "read fault")
-
-abbrev pub long_line : List ℕ
-long_line = line (codes "refused long")
-
--- ---- what the source, if it tells its bytes, has left
-
--- the input is all that the source had, of which it has left what stands behind the limit and one
--- byte more
-abbrev pub IsReadWhole : List ℕ → Option (List ℕ) → Option (List ℕ) → Type 0
-IsReadWhole input left after = IfSome left (λ told. (told ≡ input) × (after ≡ Some (drop (input_limit + 1) input)))
-
--- at most the limit was read
-abbrev pub IsReadInPart : Option (List ℕ) → Option (List ℕ) → Type 0
-IsReadInPart left after = IfSome left (λ told. TakesUpTo input_limit told after)
-
--- ---- what is told
 
 -- the input is longer than the limit, or it is not and is refused
 abbrev pub IsRefused : List ℕ → List ℕ → Type 0
@@ -57,7 +30,7 @@ abbrev pub IsTold : List (String Global) → Type 0 → Option (List ℕ) → Op
 IsTold words Fault left after Words text = (words ≢ []) × (after ≡ left) × (text ≡ words_line)
 IsTold words Fault left after ReadFault text = (words ≡ []) × Fault × IsReadInPart left after × (text ≡ fault_line)
 IsTold words Fault left after status text =
-    (words ≡ []) × ((input : List ℕ) × IsReadWhole input left after × IsToldOf input status text)
+    (words ≡ []) × ((input : List ℕ) × IsReadWhole true input left after × IsToldOf input status text)
 
 -- ---- what is told as a value of the program
 

@@ -4,10 +4,11 @@ ghost use Rattle.gj_lex.specs.declared.reason.Reason.{Reason};
 ghost use Rattle.gj_problem_text.specs.SafeInputs.{IsSafeInput, IsFirstFaultOfInput};
 ghost use Rattle.gj_problem_text.specs.SafeReplies.{IsSafeReply};
 ghost use Rattle.gj_problem_text.specs.declared.input.SafeInput.{SafeInput};
-ghost use Rattle.gj_safe.specs.Answers.{IsAnswer, IsReplyBy, refused_line};
+ghost use Rattle.gj_refusals.specs.Lines.{refused_line};
+ghost use Rattle.gj_safe.specs.Answers.{IsAnswer, IsReplyBy};
 
-use crate::lines::refusal;
 use gj_problem_text::{ProblemFault, SafeReply, safe_reply};
+use gj_refusals::refusal;
 use std::alloc::{AllocError, Global};
 
 /// How an input is answered.

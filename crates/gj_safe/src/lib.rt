@@ -8,14 +8,15 @@ ghost use Rattle.gj_port.specs.Faults.{HasFailed};
 ghost use Rattle.gj_port.specs.Runs.{IsSourceFault, Gains};
 ghost use Rattle.gj_problem_text.specs.SafeInputs.{IsSafeInput, IsFirstFaultOfInput};
 ghost use Rattle.gj_problem_text.specs.declared.input.SafeInput.{SafeInput};
-ghost use Rattle.gj_safe.specs.Told.{input_limit, words_line, fault_line, IsStatusBy};
+ghost use Rattle.gj_refusals.specs.InputRead.{input_limit};
+ghost use Rattle.gj_refusals.specs.Lines.{words_line, fault_line};
+ghost use Rattle.gj_safe.specs.Told.{IsStatusBy};
 ghost use Rattle.gj_safe.specs.Runs.{IsTrueRun, IsDoneRun, IsOutcome, IsCause};
 
 use gj_port::{Sink, Source, write_all};
 use std::alloc::Global;
 
 mod answer;
-mod lines;
 mod status;
 mod told;
 

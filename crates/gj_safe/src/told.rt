@@ -1,15 +1,14 @@
 //! What a run tells, before it is written.
 ghost use Rattle.std.specs.Prelude.{◌≡◌, ◌≤◌, [], IfOk, OnErr};
 ghost use Rattle.gj_port.specs.Runs.{IsSourceFault};
-ghost use Rattle.gj_safe.specs.Told.{IsReadInPart, IsTold, told_status, told_text, status_of};
+ghost use Rattle.gj_refusals.specs.InputRead.{IsReadInPart};
+ghost use Rattle.gj_safe.specs.Told.{IsTold, told_status, told_text, status_of};
 
 use crate::answer::{Answer, End, answer_to};
 use crate::status::Status;
 use gj_port::{ReadError, Source, read_all};
+use gj_refusals::INPUT_LIMIT;
 use std::alloc::{AllocError, Global};
-
-/// The most bytes that are read of an input.
-const INPUT_LIMIT: usize = 16_777_216;
 
 /// What a run tells. The three lines that the program always has take no memory.
 #[derive(Drop)]

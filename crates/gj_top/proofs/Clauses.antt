@@ -1,8 +1,10 @@
 -- What follows from the outcome of a run.
 use Rattle.std.proofs.Common.{◌≡◌, ◌≢◌, ◌⊎◌, inl, inr, ℕ, ◌+◌, ◌≤◌, Bool, true, false, List, [], ◌++◌, length, IsTrue, IfSome, Option}
-use Rattle.std.proofs.Common.{None, Some, String, refl, sym, ap, subst, ◌∙◌, arith}
+use Rattle.std.proofs.Common.{None, Some, String, refl, ap, subst, ◌∙◌, arith}
 use Rattle.std.proofs.lemmas.List.{drop_all}
 use Rattle.std.specs.declared.alloc.Global.{Global}
+use Rattle.gj_refusals.specs.InputRead.{input_limit, IsReadWhole}
+use Rattle.gj_refusals.proofs.InputRead.{told_input}
 use Rattle.gj_words.specs.declared.requests.Request.{Request}
 use Rattle.gj_top.specs.declared.reply.End.{End}
 use Rattle.gj_top.specs.declared.reply.End.TheVariants as end
@@ -12,7 +14,7 @@ use Rattle.gj_top.specs.Command.{IsNamed, promise_for, task_for}
 use Rattle.gj_top.specs.Promise.{Form, reads, Spells}
 use Rattle.gj_top.specs.Promise.Form.{reading, reading_nothing}
 use Rattle.gj_top.specs.Task.{Task, IsInForm, IsReply}
-use Rattle.gj_top.specs.Answer.{IsAnswerTo, IsRequestAnswer, IsAnswer, IsUnanswered, IsWithinLimit, IsReadWhole, input_limit}
+use Rattle.gj_top.specs.Answer.{IsAnswerTo, IsRequestAnswer, IsAnswer, IsUnanswered, IsWithinLimit}
 use Rattle.gj_top.specs.Answer.IsAnswerTo.{too_long, refused, replied}
 use Rattle.gj_top.specs.Answer.IsUnanswered.{unread, so_far}
 use Rattle.gj_top.specs.Answer.IsAnswer.{no_request, read_fault, of_request}
@@ -54,8 +56,7 @@ moved : (c : Request) (b : Bool) (own input : List ℕ) (left after : Option (Li
     reads (promise_for c).form ≡ b → (IsTrue b → left ≡ Some input) → IsReadWhole b own left after → IsAnswerTo (task_for c) own s text →
     IsAnswerTo (task_for c) input s text
 moved c true own input left after s text e given whole a =
-    let read : IsReadWhole true own (Some input) after = subst (λ (l : Option (List ℕ)). IsReadWhole true own l after) (given refl) whole in
-    subst (λ (i : List ℕ). IsAnswerTo (task_for c) i s text) (sym read.0) a
+    subst (λ (i : List ℕ). IsAnswerTo (task_for c) i s text) (told_input input own left after (given refl) whole) a
 moved c false own input left after s text e given whole a = unread_answer c own input s text e a
 
 answer_to_input : (words : List (String Global)) (left after : Option (List ℕ)) (s : Status) (text input : List ℕ) → IsInput words left input →

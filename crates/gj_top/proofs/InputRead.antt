@@ -1,7 +1,6 @@
 -- The answer to an input that was read whole, and to one that is too long.
-use Rattle.std.proofs.Common.{◌≡◌, ℕ, ◌+◌, ◌<◌, ◌≤◌, Bool, true, List, length, replicate, IfSome, Option, None, Some, Ok, Err}
-use Rattle.std.proofs.Common.{IfOk, Result, String, Vec, vec_len, refl, sym, ap, subst, ◌∙◌, arith}
-use Rattle.std.proofs.lemmas.List.{drop_all, length-replicate}
+use Rattle.std.proofs.Common.{◌≡◌, ℕ, ◌<◌, ◌≤◌, Bool, true, List, length, IfSome, Option, Ok, Err}
+use Rattle.std.proofs.Common.{IfOk, Result, String, Vec, vec_len, refl, sym, subst}
 use Rattle.std.proofs.lemmas.Result.{IfOk-weaker}
 use Rattle.std.specs.declared.alloc.Global.{Global}
 use Rattle.std.specs.declared.alloc.AllocError.{AllocError}
@@ -12,18 +11,14 @@ use Rattle.gj_words.specs.declared.requests.Request.{Request}
 use Rattle.gj_top.specs.declared.status.Status.TheVariants.{Input}
 use Rattle.gj_top.specs.Command.{IsNamed, promise_for, task_for}
 use Rattle.gj_top.specs.Promise.{reads}
-use Rattle.gj_top.specs.Answer.{IsAnswerTo, IsAnswer, IsReadWhole, answer_status, answer_text, input_limit, long_line}
+use Rattle.gj_refusals.specs.InputRead.{input_limit, IsReadWhole}
+use Rattle.gj_refusals.specs.Lines.{long_line}
+use Rattle.gj_refusals.proofs.InputRead.{read_whole, read_longer}
+use Rattle.gj_top.specs.Answer.{IsAnswerTo, IsAnswer, answer_status, answer_text}
 use Rattle.gj_top.specs.Answer.IsAnswerTo.{too_long}
 use Rattle.gj_top.specs.Answer.IsAnswer.{of_request}
 
 module _ (words : List (String Global)) (Fault : Type 0) (c : Request) (named : IsNamed words c) (read : reads (promise_for c).form ≡ true) where
-  -- what was read is all that the source told
-  read_whole : (left after : Option (List ℕ)) (bytes : Vec ℕ Global) → vec_len bytes ≤ input_limit →
-      IfSome left (λ l. TakesAll input_limit l after (Ok bytes)) → IsReadWhole true bytes.items left after
-  read_whole None after bytes within t = tt
-  read_whole (Some all) after bytes within t =
-      (sym t.0, t.1 ∙ ap Some (sym (drop_all (input_limit + 1) bytes.items (omega (arith, bytes.ok)))))
-
   pub answer_of_read : (left after : Option (List ℕ)) (bytes : Vec ℕ Global) (result : Result Answer AllocError) → vec_len bytes ≤ input_limit →
       IfSome left (λ l. TakesAll input_limit l after (Ok bytes)) →
       IfOk result (λ a. IsAnswerTo (task_for c) bytes.items (answer_status a) (answer_text a)) →
@@ -46,11 +41,6 @@ module _ (words : List (String Global)) (Fault : Type 0) (c : Request) (named : 
     answer = too_long (record { read = read; long = long; status_is = refl; spelled = refl });
   })
 
-  -- some input is longer
-  longer : (n : ℕ) → (input : List ℕ) × (n < length input)
-  longer n = (replicate (n + 1) 0, omega (arith, length-replicate {A = ℕ}))
-
   pub answer_of_long : (left after : Option (List ℕ)) → IfSome left (λ l. TakesAll input_limit l after (Err TooLong)) →
       IsAnswer words Fault left after Input long_line
-  answer_of_long None after t = long_answer (longer input_limit).0 None after (longer input_limit).1 tt
-  answer_of_long (Some all) after t = long_answer all (Some all) after (let more = t.0 in omega arith) (refl, t.1)
+  answer_of_long left after t = let (input, long, whole) = read_longer left after t in long_answer input left after long whole

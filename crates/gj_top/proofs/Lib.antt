@@ -20,6 +20,7 @@ pub mod OneReported
 pub mod OneTable
 pub mod OneVerdict
 pub mod ProofBytes
+pub mod Refusals
 pub mod Shown
 pub mod Sound
 pub mod TextLaws

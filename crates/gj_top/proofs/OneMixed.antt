@@ -34,8 +34,9 @@ use Rattle.gj_proof.specs.declared.cut.CutTerm.{CutTerm}
 use Rattle.gj_proof.specs.declared.cut.SkipReason.TheVariants.{Integral, Other}
 use Rattle.gj_top.specs.declared.reply.End.{End}
 use Rattle.gj_top.specs.declared.reply.End.TheVariants as end
-use Rattle.gj_top.specs.Cut.{CutInput, SpellsCutInput, NamesViolation}
-use Rattle.gj_top.specs.Mixed.{NamesJump, IsMixedReply, mixed}
+use Rattle.gj_refusals.specs.Functions.{NamesViolation, NamesJump}
+use Rattle.gj_top.specs.Cut.{CutInput, SpellsCutInput}
+use Rattle.gj_top.specs.Mixed.{IsMixedReply, mixed}
 use Rattle.gj_top.proofs.Determined.{IsDetermined}
 use Rattle.gj_row.proofs.OneTableau.{one_each}
 use Rattle.gj_top.proofs.OneCuts.{one_cut_spelled, one_cut_refusal, by_rule_bounds, one_violation_text, no_violation, same_cut_term}

@@ -1,8 +1,8 @@
 -- The answer of the program: its status and its text, and what it read for them (own).
-use Rattle.std.specs.Prelude.{ℕ, ◌≡◌, ◌+◌, ◌<◌, ◌≤◌, Bool, true, false, List, drop, length, codes, IsTrue, IfSome, Option, Some, String}
+use Rattle.std.specs.Prelude.{ℕ, ◌≡◌, ◌<◌, ◌≤◌, List, length, IsTrue, Option, String}
 use Rattle.std.specs.declared.alloc.Global.{Global}
-use Rattle.gj_port.specs.Whole.{TakesUpTo}
-use Rattle.gj_function_lines.specs.FunctionLines.{line}
+use Rattle.gj_refusals.specs.InputRead.{input_limit, IsReadWhole, IsReadInPart}
+use Rattle.gj_refusals.specs.Lines.{words_line, fault_line, long_line}
 use Rattle.gj_words.specs.declared.requests.Request.{Request}
 use Rattle.gj_top.specs.declared.answer.Answer.{Answer}
 use Rattle.gj_top.specs.declared.answer.Answer.TheVariants as answer
@@ -13,20 +13,6 @@ use Rattle.gj_top.specs.Command.{IsNamed, NameNone, promise_for, task_for}
 use Rattle.gj_top.specs.Reply.{status_of}
 use Rattle.gj_top.specs.Promise.{reads}
 use Rattle.gj_top.specs.Task.{Task, IsReply}
-
--- the most bytes that are read of an input
-abbrev pub input_limit : ℕ
-input_limit = 16777216
-
--- the lines that are written if no input was answered
-abbrev pub words_line : List ℕ
-words_line = line (codes "words refused")
-
-abbrev pub fault_line : List ℕ
-fault_line = line (codes "read fault")
-
-abbrev pub long_line : List ℕ
-long_line = line (codes "refused long")
 
 -- ---- the answer to an input, if nothing fails
 
@@ -61,16 +47,6 @@ pub data IsAnswerTo (task : Task) (input : List ℕ) (status : Status) (text : L
   replied : IsReplied task input status text → IsAnswerTo task input status text
 
 -- ---- the answer to words, and what the source, if it tells its bytes, has left
-
--- the input is all that the source had, of which it has left what stands behind the limit and one
--- byte more; or the source is as it was, if nothing is read
-abbrev pub IsReadWhole : Bool → List ℕ → Option (List ℕ) → Option (List ℕ) → Type 0
-IsReadWhole true input left after = IfSome left (λ told. (told ≡ input) × (after ≡ Some (drop (input_limit + 1) input)))
-IsReadWhole false input left after = after ≡ left
-
--- at most the limit was read
-abbrev pub IsReadInPart : Option (List ℕ) → Option (List ℕ) → Type 0
-IsReadInPart left after = IfSome left (λ told. TakesUpTo input_limit told after)
 
 -- the words name no request: the source is as it was
 pub record IsWordsAnswer (words : List (String Global)) (left after : Option (List ℕ)) (status : Status) (text : List ℕ) : Type 0 where

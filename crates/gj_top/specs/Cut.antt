@@ -2,8 +2,6 @@
 -- its rows (Gomory and Johnson 1972; the form is own).
 use Rattle.std.specs.Prelude.{ℕ, ◌≡◌, List, [], ◌∷◌, ◌++◌, All, codes, decimal}
 use Rattle.std.specs.List.{AllZip}
-use Rattle.gj_shape.specs.FirstViolation.{IsFirstViolation}
-use Rattle.gj_shape.specs.declared.violations.Violation.{Violation}
 use Rattle.gj_lex.specs.TextLines.{HasLines}
 use Rattle.gj_lex.specs.declared.spelling.Spelling.TheVariants.{Lenient}
 use Rattle.gj_function_lines.specs.FunctionLines.{line}
@@ -15,12 +13,13 @@ use Rattle.gj_row.specs.FirstFault.{IsFirstFaultOfTableau, reason_word}
 use Rattle.gj_row.specs.TableauText.{IsTableauText}
 use Rattle.gj_row.specs.declared.faults.RowReason.{RowReason}
 use Rattle.gj_proof.specs.Meaning.{CutLineHolds}
-use Rattle.gj_proof.specs.ProofText.{IsProofText, violation_line}
+use Rattle.gj_proof.specs.ProofText.{IsProofText}
 use Rattle.gj_proof.specs.Rules.{MeetsRules}
 use Rattle.gj_proof.specs.declared.claim.Claim.TheVariants as claim
 use Rattle.gj_proof.specs.declared.cut.CutLine.{CutLine}
 use Rattle.gj_proof.specs.declared.cut.CutRule.{CutRule}
 use Rattle.gj_proof.specs.declared.cut.CutRule.TheVariants.{Gmic, Table}
+use Rattle.gj_refusals.specs.Functions.{NamesViolation}
 use Rattle.gj_claims.specs.CutLines.{IsLineFor}
 use Rattle.gj_claims.specs.CutRules.{MakesCuts}
 pub use Rattle.gj_top.specs.declared.cut_input.CutInput.{CutInput}
@@ -91,11 +90,6 @@ pub record AreCutsOf (input : CutInput) (text : List ℕ) : Type 0 where
 pub record AreCheckedCutsOf (input : CutInput) (text : List ℕ) : Type 0 where
   pub cuts : AreCutsOf input text
   pub rules : MeetsRules (claim.Cut input.rule cuts.lines)
-
--- the text names the first violation of a function that is not minimal
-abbrev pub NamesViolation : CutRule → List ℕ → Type 0
-NamesViolation Gmic text = ⊥
-NamesViolation (Table f) text = (v : Violation) × IsFirstViolation f v × (text ≡ codes "no function " ++ violation_line v)
 
 -- the cuts of the rows, if the rule makes cuts; and else the first violation
 abbrev pub IsCutReply : CutInput → End → List ℕ → Type 0

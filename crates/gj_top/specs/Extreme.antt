@@ -16,13 +16,13 @@ use Rattle.gj_proof.specs.declared.numbers.Numbers.{Numbers}
 use Rattle.gj_proof.specs.ProofText.{IsProofText, extreme_claim}
 use Rattle.gj_proof.specs.Meaning.{ClaimHolds, ShowHalves}
 use Rattle.gj_proof.specs.Rules.{MeetsRules}
+use Rattle.gj_refusals.specs.Functions.{NamesFirstJump}
 use Rattle.gj_extreme.specs.Decision.{IsDecided, IsTooWide}
 use Rattle.gj_top.specs.declared.reply.End.{End}
 use Rattle.gj_top.specs.declared.reply.End.TheVariants.{Done, Wide, NotContinuous}
 use Rattle.gj_top.specs.Promise.{Promise}
 use Rattle.gj_top.specs.Task.{Task}
 use Rattle.gj_top.specs.Report.{proof_promise, proof_task}
-use Rattle.gj_top.specs.Continuity.{NamesFirstJump}
 use Rattle.gj_top.specs.Minimal.{IsNotMinimalText}
 
 -- the text is the proof text of what the decision gives of f: a claim that holds, and that meets

@@ -1,8 +1,7 @@
 -- The forms of input, and how an input outside one is refused (own).
-use Rattle.std.specs.Prelude.{ℕ, ◌≡◌, ◌⊎◌, Bool, true, false, List, ◌++◌, codes, decimal}
+use Rattle.std.specs.Prelude.{ℕ, ◌≡◌, ◌⊎◌, Bool, true, false, List, ◌++◌, codes}
 use Rattle.gj_lex.specs.declared.reason.Reason.{Reason}
 use Rattle.gj_lex.specs.declared.spelling.Spelling.TheVariants.{Lenient}
-use Rattle.gj_lex.specs.Reason.{reason_word}
 use Rattle.gj_lex.specs.TextLines.{HasNothing}
 use Rattle.gj_shape.specs.FunctionData.{FunctionData}
 use Rattle.gj_function_lines.specs.FunctionLines.{line}
@@ -14,6 +13,7 @@ use Rattle.gj_proof.specs.declared.claim.Claim.{Claim}
 use Rattle.gj_json.specs.JsonFunction.{IsJsonFunction}
 use Rattle.gj_json.specs.FirstReason.{HasFirstReason, reason_word as json_reason_word}
 use Rattle.gj_json.specs.declared.faults.JsonReason.{JsonReason}
+use Rattle.gj_refusals.specs.Lines.{refused_line}
 use Rattle.gj_top.specs.declared.reply.End.{End}
 use Rattle.gj_top.specs.Promise.{Form, Promise}
 use Rattle.gj_top.specs.Promise.Form.{reading}
@@ -53,10 +53,6 @@ abbrev pub proof_form : Form Claim
 proof_form = reading IsProofOf
 
 -- ---- refusals
-
--- the line that refuses an input for its n-th line
-abbrev pub refused_line : ℕ → Reason → List ℕ
-refused_line n reason = line (codes "refused line " ++ decimal n ++ codes " " ++ reason_word reason)
 
 -- the text names the line that is the first at fault, and the reason
 pub record NamesFault (IsFirst : ℕ → Reason → Type 0) (text : List ℕ) : Type 0 where

@@ -2,21 +2,13 @@
 -- continuous, are answered with the mixed cuts of its rows (Gomory and Johnson 1972; the form is
 -- own).
 use Rattle.std.specs.Prelude.{ℕ, List}
-use Rattle.gj_shape.specs.Table.{IsMinimal}
-use Rattle.gj_proof.specs.declared.cut.CutRule.{CutRule}
-use Rattle.gj_proof.specs.declared.cut.CutRule.TheVariants.{Gmic, Table}
+use Rattle.gj_refusals.specs.Functions.{NamesViolation, NamesJump}
 use Rattle.gj_listings.specs.MixedLines.{AreMixedCutsOf, MakesMixedCuts}
 use Rattle.gj_top.specs.declared.reply.End.{End}
 use Rattle.gj_top.specs.declared.reply.End.TheVariants.{Done, NotContinuous, NoFunction}
 use Rattle.gj_top.specs.Promise.{Promise}
 use Rattle.gj_top.specs.Task.{Task}
-use Rattle.gj_top.specs.Continuity.{NamesFirstJump}
-use Rattle.gj_top.specs.Cut.{CutInput, cut_input, RefusesCutInput, NamesViolation}
-
--- the text names the first jump of a minimal function
-abbrev pub NamesJump : CutRule → List ℕ → Type 0
-NamesJump Gmic text = ⊥
-NamesJump (Table f) text = IsMinimal f × NamesFirstJump f text
+use Rattle.gj_top.specs.Cut.{CutInput, cut_input, RefusesCutInput}
 
 -- the mixed cuts of the rows, if the rule makes such cuts; of a function that is not minimal the
 -- first violation is named, and of a minimal one that jumps the first jump

@@ -1,6 +1,6 @@
 -- What a command does: what it promises, how it refuses an input that spells nothing, and how it
 -- answers a thing (own).
-use Rattle.std.specs.Prelude.{ℕ, List, Result, Ok, Err}
+use Rattle.std.specs.Prelude.{ℕ, ◌≡◌, List, Result, Ok, Err}
 use Rattle.gj_top.specs.declared.reply.End.{End}
 use Rattle.gj_top.specs.declared.reply.End.TheVariants.{Done}
 use Rattle.gj_top.specs.declared.reply.Reply.{Reply}
@@ -36,6 +36,11 @@ HasEnd task end = (thing : task.promise.Thing) × (text : List ℕ) × task.work
 abbrev pub IsTaskRefusal : (List ℕ → List ℕ → Type 0) → List ℕ → Unanswered → Type 0
 IsTaskRefusal refuses input (Refused text) = refuses input text.items
 IsTaskRefusal refuses input (Memory e) = Unit {0}
+
+-- this line refuses an input, unless there was no memory
+abbrev pub IsRefusedWith : List ℕ → Unanswered → Type 0
+IsRefusedWith line (Refused text) = text.items ≡ line
+IsRefusedWith line (Memory e) = Unit {0}
 
 -- what came of reading an input that spells a thing or is refused
 abbrev pub IsReadingOf : {Thing : Type 0} → (List ℕ → Thing → Type 0) → (List ℕ → List ℕ → Type 0) → List ℕ →

@@ -1,7 +1,6 @@
 //! The command `cut`: the cuts of the rows of a tableau, by a function or by the mixed-integer cut.
-ghost use Rattle.std.specs.Prelude.{◌≡◌, ◌++◌, codes, IfOk};
+ghost use Rattle.std.specs.Prelude.{IfOk};
 ghost use Rattle.gj_row.specs.TableauLimits.{IsTableau};
-ghost use Rattle.gj_proof.specs.ProofText.{violation_line};
 ghost use Rattle.gj_claims.specs.CutRules.{PassesTests};
 ghost use Rattle.gj_top.specs.Task.{IsAnswering};
 ghost use Rattle.gj_top.specs.Cut.{AreCheckedCutsOf, IsCutReply, cut};
@@ -9,9 +8,9 @@ ghost use Rattle.gj_top.specs.Cut.{AreCheckedCutsOf, IsCutReply, cut};
 use crate::cut_input::{CutInput, cut_input_of};
 use crate::reply::{End, Reply, Unanswered};
 use gj_claims::{cuts_proof, violation_of_rule};
-use gj_proof::{CutRule, push_violation_line, write_proof};
+use gj_proof::{CutRule, write_proof};
+use gj_refusals::violation_text;
 use gj_row::Tableau;
-use gj_shape::Violation;
 use std::alloc::{AllocError, Global};
 
 /// The cuts of the rows of the tableau behind the function or the rule that the input begins with,
@@ -50,14 +49,5 @@ fn cuts_text(alloc: Global, rule: CutRule, tableau: &Tableau) -> Result<Vec<u8>,
 {
     let proof = cuts_proof(alloc, rule, tableau)?;
     let text = write_proof(alloc, &proof)?;
-    Ok(text)
-}
-
-/// The line that names the first violation of a function.
-pub(crate) fn violation_text(alloc: Global, violation: Violation) -> Result<Vec<u8>, AllocError>
-    ensures { IfOk result (λ text. text.items ≡ codes "no function " ++ violation_line violation) }
-{
-    let mut text = Vec::from_slice(alloc, b"no function ")?;
-    push_violation_line(alloc, &mut text, violation)?;
     Ok(text)
 }

@@ -5,11 +5,11 @@ ghost use Rattle.gj_row.specs.TableauText.{IsTableauText};
 ghost use Rattle.gj_top.specs.Task.{IsReadingOf, IsTaskRefusal};
 ghost use Rattle.gj_top.specs.Cut.{SpellsCutInput, BeginsWithRule, RefusesCutInput};
 
-use crate::forms::refusal;
-use crate::lines::numbered_line;
+use crate::forms::refused;
 use crate::reply::Unanswered;
 use gj_function_text::{TextFault, begins_as_rule, read_function, read_rule};
 use gj_proof::CutRule;
+use gj_refusals::numbered_line;
 use gj_row::{RowFault, Tableau};
 use std::alloc::Global;
 
@@ -40,14 +40,12 @@ fn rule_of(alloc: Global, input: &[u8]) -> Result<(CutRule, usize), Unanswered>
     if begins_as_rule(input) {
         match read_rule(input) {
             Ok(len) => Ok((CutRule::Gmic, len)),
-            Err((at_line, reason)) => Err(Unanswered::Refused(refusal(alloc, at_line, reason)?)),
+            Err((at_line, reason)) => Err(refused(alloc, at_line, reason)),
         }
     } else {
         match read_function(alloc, input) {
             Ok((shape, len)) => Ok((CutRule::Table(shape), len)),
-            Err(TextFault::Refused(at_line, reason)) => {
-                Err(Unanswered::Refused(refusal(alloc, at_line, reason)?))
-            }
+            Err(TextFault::Refused(at_line, reason)) => Err(refused(alloc, at_line, reason)),
             Err(TextFault::Memory(error)) => Err(Unanswered::Memory(error)),
         }
     }

@@ -4,11 +4,11 @@ ghost use Rattle.gj_top.specs.Task.{IsAnswering};
 ghost use Rattle.gj_top.specs.Report.{IsToldReply};
 ghost use Rattle.gj_top.specs.Extreme.{IsExtremality, extreme};
 
-use crate::continuity::jump_line;
 use crate::forms::function_of;
 use crate::reply::{End, Reply, Unanswered};
 use crate::report::proof_text;
 use gj_extreme::{DecideFault, decide};
+use gj_refusals::jump_text;
 use gj_shape::Shape;
 use std::alloc::{AllocError, Global};
 
@@ -32,7 +32,7 @@ fn verdict_on(alloc: Global, shape: &Shape, json: bool) -> Result<Reply, AllocEr
         }),
         Err(DecideFault::NotContinuous(index)) => Ok(Reply {
             end: End::NotContinuous,
-            text: jump_line(alloc, shape, index)?,
+            text: jump_text(alloc, shape, index)?,
         }),
         Err(DecideFault::Wide) => Ok(Reply {
             end: End::Wide,

@@ -1,20 +1,19 @@
 //! The forms of input: each is read whole, or refused with the line that says why.
-ghost use Rattle.std.specs.Prelude.{◌≡◌, IfOk};
-ghost use Rattle.gj_function_lines.specs.FunctionLines.{line};
-ghost use Rattle.gj_top.specs.Task.{IsReadingOf};
+ghost use Rattle.gj_top.specs.Task.{IsReadingOf, IsRefusedWith};
 ghost use Rattle.gj_json.specs.JsonFunction.{IsJsonFunction};
-ghost use Rattle.gj_top.specs.Forms.{IsFunctionInput, SpellsFunction, IsProofOf, refused_line};
-ghost use Rattle.gj_top.specs.Forms.{RefusesFunctionText, RefusesJson, RefusesFunction};
-ghost use Rattle.gj_top.specs.Forms.{RefusesProofText};
+ghost use Rattle.gj_refusals.specs.Lines.{refused_line};
+ghost use Rattle.gj_top.specs.Forms.{IsFunctionInput, SpellsFunction, IsProofOf};
+ghost use Rattle.gj_top.specs.Forms.{RefusesFunctionText, RefusesJson, RefusesFunction, RefusesProofText};
 
-use crate::lines::{numbered_line, worded_line};
+use crate::lines::worded_line;
 use crate::reply::Unanswered;
 use gj_function_text::{TextFault, read_whole_function};
 use gj_json::{JsonFault, read_json};
 use gj_lex::Reason;
 use gj_proof::{Proof, ProofFault, read_proof};
+use gj_refusals::refusal;
 use gj_shape::Shape;
-use std::alloc::{AllocError, Global};
+use std::alloc::Global;
 
 /// The function that the input spells: a function text, or with `json` a function in JSON.
 pub(crate) fn function_of(alloc: Global, input: &[u8], json: bool) -> Result<Shape, Unanswered>
@@ -33,9 +32,7 @@ pub(crate) fn function_text_of(alloc: Global, input: &[u8]) -> Result<Shape, Una
 {
     match read_whole_function(alloc, input) {
         Ok(shape) => Ok(shape),
-        Err(TextFault::Refused(at_line, reason)) => {
-            Err(Unanswered::Refused(refusal(alloc, at_line, reason)?))
-        }
+        Err(TextFault::Refused(at_line, reason)) => Err(refused(alloc, at_line, reason)),
         Err(TextFault::Memory(error)) => Err(Unanswered::Memory(error)),
     }
 }
@@ -60,16 +57,17 @@ pub(crate) fn proof_of(alloc: Global, input: &[u8]) -> Result<Proof, Unanswered>
 {
     match read_proof(alloc, input) {
         Ok(proof) => Ok(proof),
-        Err(ProofFault::Refused(at_line, reason)) => {
-            Err(Unanswered::Refused(refusal(alloc, at_line, reason)?))
-        }
+        Err(ProofFault::Refused(at_line, reason)) => Err(refused(alloc, at_line, reason)),
         Err(ProofFault::Memory(error)) => Err(Unanswered::Memory(error)),
     }
 }
 
-/// The line that refuses an input for a line of it.
-pub(crate) fn refusal(alloc: Global, at_line: u64, reason: Reason) -> Result<Vec<u8>, AllocError>
-    ensures { IfOk result (λ text. text.items ≡ refused_line at_line reason) }
+/// The answer to an input that is refused for a line of it.
+pub(crate) fn refused(alloc: Global, at_line: u64, reason: Reason) -> Unanswered
+    ensures { IsRefusedWith (refused_line at_line reason) result }
 {
-    numbered_line(alloc, b"refused line ", at_line, reason.word())
+    match refusal(alloc, at_line, reason) {
+        Ok(line) => Unanswered::Refused(line),
+        Err(error) => Unanswered::Memory(error),
+    }
 }

@@ -13,6 +13,7 @@ ghost use Rattle.gj_function_text.specs.FunctionText.{IsWholeFunctionText};
 ghost use Rattle.gj_proof.specs.declared.claim.Claim.{Claim};
 ghost use Rattle.gj_proof.specs.ProofText.{IsBounded, IsProofText};
 ghost use Rattle.gj_json.specs.JsonText.{IsReport};
+ghost use Rattle.gj_refusals.specs.InputRead.{input_limit};
 ghost use Rattle.gj_words.specs.declared.requests.Request.{Request};
 ghost use Rattle.gj_top.specs.Task.{IsReply};
 ghost use Rattle.gj_top.specs.Forms.{SpellsFunction};
@@ -23,7 +24,7 @@ ghost use Rattle.gj_top.specs.Check.{check};
 ghost use Rattle.gj_top.specs.Written.{IsWrittenProof};
 ghost use Rattle.gj_top.specs.Decisive.{CallsExtreme, IsExtremeByOrder4q};
 ghost use Rattle.gj_top.specs.Extreme.{extreme};
-ghost use Rattle.gj_top.specs.Answer.{IsAnswerTo, input_limit};
+ghost use Rattle.gj_top.specs.Answer.{IsAnswerTo};
 
 /// Every proof that `minimal`, `extreme` or `cut` writes is one that `check` accepts, if its text
 /// is within the limit of length of an input. What `minimal` and `extreme` write always is.

@@ -1,27 +1,8 @@
 //! Lines of an answer.
-ghost use Rattle.std.specs.Prelude.{◌≡◌, ◌++◌, codes, decimal, IfOk};
+ghost use Rattle.std.specs.Prelude.{◌≡◌, ◌++◌, IfOk};
 ghost use Rattle.gj_function_lines.specs.FunctionLines.{line};
 
 use std::alloc::{AllocError, Global};
-
-/// A line that names a line or a record of the input by its number, and says something of it.
-pub(crate) fn numbered_line(
-    alloc: Global,
-    front: &[u8],
-    at_line: u64,
-    word: &str,
-) -> Result<Vec<u8>, AllocError>
-    ensures { IfOk result (λ text. text.items ≡ line
-        (front.now ++ decimal at_line ++ codes " " ++ word.now)) }
-{
-    let number = at_line.to_string(alloc)?;
-    let mut text = Vec::from_slice(alloc, front)?;
-    text.extend_from_slice(number.as_bytes())?;
-    text.push(b' ')?;
-    text.extend_from_slice(word.as_bytes())?;
-    text.push(b'\n')?;
-    Ok(text)
-}
 
 /// A line that ends with the word.
 pub(crate) fn worded_line(alloc: Global, front: &[u8], word: &str) -> Result<Vec<u8>, AllocError>

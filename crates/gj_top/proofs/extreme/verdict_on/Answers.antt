@@ -3,8 +3,8 @@ use Rattle.gj_top.specs.Extreme.{IsDecisionText}
 use Rattle.gj_top.proofs.OneReport.{told}
 use Rattle.gj_top.proofs.extreme.verdict_on.Goals as goal
 
-pub jump_line-requires : goal.jump_line-requires
-jump_line-requires c =
+pub jump_text-requires : goal.jump_text-requires
+jump_text-requires c =
     (c.in-Err-NotContinuous.ensures.not_continuous c.in-Err-NotContinuous.index (cc (c.in-Err-NotContinuous.field-0-is))).1
 
 pub returns-in_ok-proof_text-in-Ok : goal.returns-in_ok-proof_text-in-Ok
@@ -19,10 +19,10 @@ returns-in_ok-proof_text-in-Ok c =
     })
     c.in_ok-proof_text-in-Ok.field-0.items c.in_ok-proof_text-in-Ok.ensures
 
-pub returns-in_ok-jump_line-in-Err-NotContinuous : goal.returns-in_ok-jump_line-in-Err-NotContinuous
-returns-in_ok-jump_line-in-Err-NotContinuous c = (
+pub returns-in_ok-jump_text-in-Err-NotContinuous : goal.returns-in_ok-jump_text-in-Err-NotContinuous
+returns-in_ok-jump_text-in-Err-NotContinuous c = (
   (c.in-Err-NotContinuous.ensures.not_continuous c.in-Err-NotContinuous.index (cc (c.in-Err-NotContinuous.field-0-is))).0,
-  c.in_ok-jump_line-in-Err-NotContinuous.ensures,
+  c.in_ok-jump_text-in-Err-NotContinuous.ensures,
 )
 
 pub returns-in_ok-from_slice-in-Err-Wide : goal.returns-in_ok-from_slice-in-Err-Wide
