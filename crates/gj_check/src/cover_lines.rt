@@ -1,6 +1,7 @@
 //! The rule `cover`: each cover line opens a component, or puts an interval into the component of
 //! another.
-ghost use Rattle.std.specs.Prelude.{ℕ, ◌≡◌, ◌↔◌, ◌+◌, ◌<◌, ◌≤◌, ◌++◌, List, All, IsTrue, IfOk, length};
+ghost use Rattle.std.specs.Prelude.{ℕ, ◌≡◌, ◌↔◌, ◌+◌, ◌<◌, ◌≤◌, ◌++◌, List, All, IsTrue, IfOk};
+ghost use Rattle.std.specs.Prelude.{length};
 ghost use Rattle.gj_shape.specs.Limits.{greatest_order};
 ghost use Rattle.gj_shape.specs.Additive.{IsAdditive, IsTight};
 ghost use Rattle.gj_shape.specs.Cover.{IsOneOf, links_of, triangle_projections};

@@ -1,5 +1,6 @@
 //! The rules `fraction` and `value`: fractional parts, and the values of cuts.
-ghost use Rattle.std.specs.Prelude.{ℤ, ◌≡◌, ◌-◌, ◌*◌, ◌+ℤ◌, ◌-ℤ◌, ◌*ℤ◌, ◌<◌, ◌^◌, ◌↔◌, pos, IsTrue, unsigned_abs};
+ghost use Rattle.std.specs.Prelude.{ℤ, ◌≡◌, ◌-◌, ◌*◌, ◌+ℤ◌, ◌-ℤ◌, ◌*ℤ◌, ◌<◌, ◌^◌, ◌↔◌, pos, IsTrue};
+ghost use Rattle.std.specs.Prelude.{unsigned_abs};
 ghost use Rattle.gj_frac.specs.Floor.{IsFloor, HasFractionalPart};
 ghost use Rattle.gj_frac.specs.Fraction.{IsRatio, numerator, denominator, IsWhole};
 ghost use Rattle.gj_shape.specs.Limits.{IsRowNumber};

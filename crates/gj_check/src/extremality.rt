@@ -1,6 +1,7 @@
 //! The rules on the proof that a function is extreme, in the order of its lines.
 ghost use Rattle.std.specs.Prelude.{◌≡◌, ◌+◌, OnOk, IfOk, IfErr, All, length};
-ghost use Rattle.gj_proof.specs.ProofText.{extreme_claim, IsCoverLineBelow, IsPivotRowBelow, group_lines};
+ghost use Rattle.gj_proof.specs.ProofText.{extreme_claim, IsCoverLineBelow, IsPivotRowBelow};
+ghost use Rattle.gj_proof.specs.ProofText.{group_lines};
 ghost use Rattle.gj_proof.specs.Rules.{MeetsRules};
 ghost use Rattle.gj_check.specs.FirstFailure.{IsCheckFaultOf};
 ghost use Rattle.gj_check.specs.GroupRules.{rule_on_groups as checked_rule};

@@ -1,13 +1,16 @@
 //! The rules on halves: two different minimal tables that average to that of the function.
-ghost use Rattle.std.specs.Prelude.{ℕ, pos, ◌≡◌, ◌↔◌, ◌+ℤ◌, ◌*ℤ◌, ◌*◌, ◌<◌, ◌≤◌, ◌≤ℤ◌, IsTrue, OnOk, IfOk, IfErr, IfSome, IfNone, length, unsigned_abs};
+ghost use Rattle.std.specs.Prelude.{ℕ, pos, ◌≡◌, ◌↔◌, ◌+ℤ◌, ◌*ℤ◌, ◌*◌, ◌<◌, ◌≤◌, ◌≤ℤ◌, IsTrue};
+ghost use Rattle.std.specs.Prelude.{OnOk, IfOk, IfErr, IfSome, IfNone, length, unsigned_abs};
 ghost use Rattle.gj_shape.specs.Perturbation.{AreHalvesInBounds};
 ghost use Rattle.gj_shape.specs.FunctionData.{IsWithinBounds, IsContinuous, at};
 ghost use Rattle.gj_shape.specs.Limits.{greatest_halves_scale};
 ghost use Rattle.gj_shape.specs.Table.{table};
-ghost use Rattle.gj_proof.specs.Rules.{MeetsRules, MeetsScale, MeetsRange, MeetsAverage, IsMinimalHalf};
+ghost use Rattle.gj_proof.specs.Rules.{MeetsRules, MeetsScale, MeetsRange, MeetsAverage};
+ghost use Rattle.gj_proof.specs.Rules.{IsMinimalHalf};
 ghost use Rattle.gj_proof.specs.declared.claim.Claim.TheVariants as claim;
 ghost use Rattle.gj_check.specs.FirstFailure.{IsCheckFaultOf};
-ghost use Rattle.gj_check.specs.HalvesRules.{IsHalvesRefinement, IsPairsOutcome, AreDifferent, IsBetween};
+ghost use Rattle.gj_check.specs.HalvesRules.{IsHalvesRefinement, IsPairsOutcome, AreDifferent};
+ghost use Rattle.gj_check.specs.HalvesRules.{IsBetween};
 
 use crate::faults::CheckFault;
 use crate::minimality::is_minimal;

@@ -5,8 +5,10 @@ ghost use Rattle.gj_shape.specs.FunctionData.{IsWithinBounds};
 ghost use Rattle.gj_shape.specs.FirstViolation.{Passes, PassesAll};
 ghost use Rattle.gj_shape.specs.FirstViolation.Test.{zero_at_zero};
 ghost use Rattle.gj_theory.specs.EarlierTests.{PassesSymmetry};
-ghost use Rattle.gj_check.specs.Tests.{HasNonnegativeValues, IsSymmetric, IsSubadditiveOnGrid, IsSubadditive};
-ghost use Rattle.gj_check.specs.Numerators.{HasNoNegative, AreSmall, AreOpposite, AreOppositeBetween};
+ghost use Rattle.gj_check.specs.Tests.{HasNonnegativeValues, IsSymmetric, IsSubadditiveOnGrid};
+ghost use Rattle.gj_check.specs.Tests.{IsSubadditive};
+ghost use Rattle.gj_check.specs.Numerators.{HasNoNegative, AreSmall, AreOpposite};
+ghost use Rattle.gj_check.specs.Numerators.{AreOppositeBetween};
 ghost use Rattle.gj_check.specs.Lanes.{AreLanesOf};
 ghost use Rattle.gj_check.specs.Tables.{AreTwoPeriods};
 

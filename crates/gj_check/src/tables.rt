@@ -1,9 +1,12 @@
 //! Minimal tables: the tests of the values of one period.
-ghost use Rattle.std.specs.Prelude.{ℕ, ℤ, List, pos, ◌≡◌, ◌↔◌, ◌+◌, ◌*◌, ◌<◌, ◌≤◌, ◌<ℤ◌, IsTrue, IfOk, length, unsigned_abs};
+ghost use Rattle.std.specs.Prelude.{ℕ, ℤ, List, pos, ◌≡◌, ◌↔◌, ◌+◌, ◌*◌, ◌<◌, ◌≤◌, ◌<ℤ◌, IsTrue};
+ghost use Rattle.std.specs.Prelude.{IfOk, length, unsigned_abs};
 ghost use Rattle.gj_shape.specs.FunctionData.{at};
 ghost use Rattle.gj_shape.specs.Limits.{greatest_halves_order};
 ghost use Rattle.gj_shape.specs.Table.{IsMinimalTable};
-ghost use Rattle.gj_check.specs.Tables.{IsTableInRange, IsSymmetricList, IsSubadditiveUpTo, IsSubadditiveList, HasSubadditiveTotal, HasSubadditiveTotals, HaveTwoPeriods, AreTwoPeriods};
+ghost use Rattle.gj_check.specs.Tables.{IsTableInRange, IsSymmetricList, IsSubadditiveUpTo};
+ghost use Rattle.gj_check.specs.Tables.{IsSubadditiveList, HasSubadditiveTotal};
+ghost use Rattle.gj_check.specs.Tables.{HasSubadditiveTotals, HaveTwoPeriods, AreTwoPeriods};
 
 use crate::entries::Entry;
 use crate::pieces::wrapped;

@@ -1,9 +1,11 @@
 //! The first face in walk order that joins two intervals or covers one.
-ghost use Rattle.std.specs.Prelude.{◌≡◌, ◌≢◌, ◌⊎◌, ◌↔◌, ◌+◌, ◌%◌, ◌<◌, ◌^◌, IsTrue, IfSome, IfNone, MatchOption};
+ghost use Rattle.std.specs.Prelude.{◌≡◌, ◌≢◌, ◌⊎◌, ◌↔◌, ◌+◌, ◌%◌, ◌<◌, ◌^◌, IsTrue, IfSome, IfNone};
+ghost use Rattle.std.specs.Prelude.{MatchOption};
 ghost use Rattle.gj_shape.specs.Additive.{IsAdditive};
 ghost use Rattle.gj_shape.specs.Cover.{IsFirstFace, IsDirectlyCovered};
 ghost use Rattle.gj_cover.specs.Table.{IsTightInTable, JoinsBy, AreJoinedBy, CoversBy};
-ghost use Rattle.gj_cover.specs.FirstFound.{FindsFirst, IsThis, IsFaceReached, AddsFirst, IsEarlier};
+ghost use Rattle.gj_cover.specs.FirstFound.{FindsFirst, IsThis, IsFaceReached, AddsFirst};
+ghost use Rattle.gj_cover.specs.FirstFound.{IsEarlier};
 ghost use Rattle.gj_cover.specs.Links.{LeadsBy, IsPairInRow, IsAcross};
 
 use crate::squares::covering_in_square;

@@ -3,9 +3,10 @@
 //! [`cut_row`] makes the cut of a row by a rule: its coefficients are the rule's values at the
 //! row's entries. It holds if the rule is minimal: at each solution of the row in whole numbers,
 //! the nonbasic ones not negative, the sum of the coefficients times the nonbasic variables is at
-//! least 1. [`gmic_cut_row`] makes the mixed-integer cut of a row. [`part_of`] tells whether a right
-//! side is whole, [`right_side`] what it is to a rule, and [`gmic_place`] the f of the mixed-integer
-//! cut of a row. [`term`] makes the term of an entry.
+//! least 1. [`gmic_cut_row`] makes the mixed-integer cut of a row.
+//!
+//! [`part_of`] tells whether a right side is whole, [`right_side`] what it is to a rule, and
+//! [`gmic_place`] the f of the mixed-integer cut of a row. [`term`] makes the term of an entry.
 #![tactic(auto)]
 
 mod cut;

@@ -48,7 +48,8 @@ pub fn cut_row<E: Evaluator>(alloc: Global, rule: &Rule<E>, row: &Row) -> Result
 /// ```text
 /// let tableau = Tableau::read(alloc, b"basic,rhs,x1,x2\nx0,8/5,7/5,-1/5\n")?;
 /// let cut = gmic_cut_row(alloc, &tableau.rows.as_slice()[0])?;
-/// // f is 3/5; the terms are those of the columns 0 and 1, with the coefficients 2/3 and 1/2: 2/3 x1 + 1/2 x2 >= 1
+/// // f is 3/5; the terms are those of the columns 0 and 1, with the coefficients 2/3 and 1/2:
+/// // 2/3 x1 + 1/2 x2 >= 1
 /// ```
 pub fn gmic_cut_row(alloc: Global, row: &Row) -> Result<RowCut, AllocError>
     requires { AreWithinLimits (numbers_of row.now) }

@@ -11,7 +11,8 @@ ghost use Rattle.gj_shape.specs.declared.extremality.CoverLine.{CoverLine};
 ghost use Rattle.gj_proof.specs.Meaning.{ClaimHolds};
 ghost use Rattle.gj_proof.specs.ProofText.{IsBounded};
 ghost use Rattle.gj_proof.specs.Rules.{MeetsRules};
-ghost use Rattle.gj_extreme.specs.Decision.{AreAllCovered, IsDecided, IsDecision, IsExtremeClaim, IsByTable, IsExtremeOnGrid4, IsTooWide};
+ghost use Rattle.gj_extreme.specs.Decision.{AreAllCovered, IsDecided, IsDecision, IsExtremeClaim};
+ghost use Rattle.gj_extreme.specs.Decision.{IsByTable, IsExtremeOnGrid4, IsTooWide};
 ghost use Rattle.gj_extreme.specs.Faults.{IsMemoryFault};
 
 use crate::covered::extreme_or_slopes;
@@ -40,8 +41,15 @@ use std::alloc::Global;
 /// group problem I".
 ///
 /// ```rust
-/// let values = [Frac::ratio(0, 1), Frac::ratio(1, 3), Frac::ratio(2, 3), Frac::ratio(1, 1), Frac::ratio(1, 2)];
-/// let shape = Shape::new(alloc, 5, 3, &values, &values, &values)?; // the mixed-integer cut for f = 3/5
+/// // the mixed-integer cut for f = 3/5
+/// let values = [
+///     Frac::ratio(0, 1),
+///     Frac::ratio(1, 3),
+///     Frac::ratio(2, 3),
+///     Frac::ratio(1, 1),
+///     Frac::ratio(1, 2),
+/// ];
+/// let shape = Shape::new(alloc, 5, 3, &values, &values, &values)?;
 /// let proof = decide(alloc, &shape)?; // proof.claim() is Claim::Extreme(..)
 /// ```
 pub fn decide(alloc: Global, shape: &Shape) -> Result<Proof, DecideFault>

@@ -1,6 +1,7 @@
 //! The rows of the linear system for the slopes, inserted in their order until there is one for
 //! each component.
-ghost use Rattle.std.specs.Prelude.{ℕ, ◌≡◌, ◌<◌, ◌≤◌, ◌+◌, ◌-◌, ◌^◌, ◌↔◌, ◌∷◌, List, length, IfOk, OnOk, IsErrOf, IsTrue};
+ghost use Rattle.std.specs.Prelude.{ℕ, ◌≡◌, ◌<◌, ◌≤◌, ◌+◌, ◌-◌, ◌^◌, ◌↔◌, ◌∷◌, List, length, IfOk};
+ghost use Rattle.std.specs.Prelude.{OnOk, IsErrOf, IsTrue};
 ghost use Rattle.gj_faces.specs.TightPairs.{AreTightPairsOf};
 ghost use Rattle.gj_shape.specs.Elimination.{Passes};
 ghost use Rattle.gj_shape.specs.FunctionData.{FunctionData, IsWithinBounds};
@@ -9,7 +10,8 @@ ghost use Rattle.gj_shape.specs.declared.extremality.RowName.{RowName};
 ghost use Rattle.gj_shape.specs.declared.extremality.RowName.TheVariants.{Pair};
 ghost use Rattle.gj_system.specs.Components.{IsNameBelow};
 ghost use Rattle.gj_extreme.specs.Decision.{slope_elimination};
-ghost use Rattle.gj_extreme.specs.RowsToCome.{AreToCome, AreInserted, IsReady, IsSeen, IsTaken, row_names_from};
+ghost use Rattle.gj_extreme.specs.RowsToCome.{AreToCome, AreInserted, IsReady, IsSeen, IsTaken};
+ghost use Rattle.gj_extreme.specs.RowsToCome.{row_names_from};
 
 use crate::seen::{SeenPair, SeenPairs};
 use gj_elim::{Basis, ElimFault, Inserted};

@@ -1,5 +1,6 @@
 //! The tight pairs of a function, row by row, off its values in lanes.
-ghost use Rattle.std.specs.Prelude.{ℕ, pos, ◌≡◌, ◌↔◌, ◌+◌, ◌*◌, ◌-ℤ◌, ◌<◌, ◌≤◌, ◌^◌, length, IfOk, IsTrue};
+ghost use Rattle.std.specs.Prelude.{ℕ, pos, ◌≡◌, ◌↔◌, ◌+◌, ◌*◌, ◌-ℤ◌, ◌<◌, ◌≤◌, ◌^◌, length, IfOk};
+ghost use Rattle.std.specs.Prelude.{IsTrue};
 ghost use Rattle.gj_shape.specs.Limits.{greatest_order};
 ghost use Rattle.gj_lanes.specs.Lanes.{AreInRange};
 ghost use Rattle.gj_faces.specs.Rows.{AreRows};

@@ -1,10 +1,13 @@
 //! The points of a function, read.
-ghost use Rattle.std.specs.Prelude.{◌≡◌, ◌↔◌, ◌++◌, [], ◌∷◌, ℕ, List, length, codes, IsTrue, IfSome, IfNone, IfOk, IfErr};
+ghost use Rattle.std.specs.Prelude.{◌≡◌, ◌↔◌, ◌++◌, [], ◌∷◌, ℕ, List, length, codes, IsTrue};
+ghost use Rattle.std.specs.Prelude.{IfSome, IfNone, IfOk, IfErr};
 ghost use Rattle.gj_lex.specs.Words.{word_texts};
 ghost use Rattle.gj_lex.specs.Parts.{line_part, IsFaultOf};
 ghost use Rattle.gj_shape.specs.declared.points.Point.{Point};
-ghost use Rattle.gj_function_lines.specs.FunctionGrammar.{AreThreeSame, spelled_point_rule, point_rule, points_part};
-ghost use Rattle.gj_function_lines.specs.Reading.{words_of_point, IsOneOrThree, numbers_rule, IsPointLine, refusal_of};
+ghost use Rattle.gj_function_lines.specs.FunctionGrammar.{AreThreeSame, spelled_point_rule};
+ghost use Rattle.gj_function_lines.specs.FunctionGrammar.{point_rule, points_part};
+ghost use Rattle.gj_function_lines.specs.Reading.{words_of_point, IsOneOrThree, numbers_rule};
+ghost use Rattle.gj_function_lines.specs.Reading.{IsPointLine, refusal_of};
 ghost use Rattle.gj_function_lines.specs.declared.points.PointWords.{PointWords};
 
 use crate::printed::printed_point;

@@ -1,12 +1,15 @@
 //! The lines of a function, printed.
-ghost use Rattle.std.specs.Prelude.{◌≡◌, ◌<◌, [], ◌∷◌, ◌++◌, ℕ, List, codes, flat_map, IsTrue, OnOk};
+ghost use Rattle.std.specs.Prelude.{◌≡◌, ◌<◌, [], ◌∷◌, ◌++◌, ℕ, List, codes, flat_map, IsTrue};
+ghost use Rattle.std.specs.Prelude.{OnOk};
 ghost use Rattle.gj_lex.specs.NumberText.{fraction_text};
 ghost use Rattle.gj_forms.specs.LineForms.{bytes_of};
 ghost use Rattle.gj_shape.specs.FunctionData.{at};
 ghost use Rattle.gj_shape.specs.Points.{ArePointsOf, IsPointAt};
 ghost use Rattle.gj_shape.specs.Breaks.{point_at};
 ghost use Rattle.gj_function_lines.specs.BreakLines.{break_line};
-ghost use Rattle.gj_function_lines.specs.FunctionLines.{fraction_line, order_line, place_line, number_fields, has_no_jump, numbers_of, point_line, AreFunctionLines};
+ghost use Rattle.gj_function_lines.specs.FunctionLines.{fraction_line, order_line, place_line};
+ghost use Rattle.gj_function_lines.specs.FunctionLines.{number_fields, has_no_jump, numbers_of};
+ghost use Rattle.gj_function_lines.specs.FunctionLines.{point_line, AreFunctionLines};
 ghost use Rattle.gj_shape.specs.declared.points.Point.{Point};
 
 use gj_frac::Frac;

@@ -1,5 +1,6 @@
 //! The line of a point in the form in which it is printed, read in one pass.
-ghost use Rattle.std.specs.Prelude.{◌≡◌, ◌<◌, ◌^◌, ◌++◌, ◌∷◌, pos, length, slice_index, codes, decimal, IfSome, IsTrue};
+ghost use Rattle.std.specs.Prelude.{◌≡◌, ◌<◌, ◌^◌, ◌++◌, ◌∷◌, pos, length, slice_index, codes};
+ghost use Rattle.std.specs.Prelude.{decimal, IfSome, IsTrue};
 ghost use Rattle.std.specs.Char.{IsAsciiDigit};
 ghost use Rattle.std.specs.Fmt.{signed_decimal};
 ghost use Rattle.gj_frac.specs.Fraction.{numerator, denominator};

@@ -1,5 +1,6 @@
 //! How a text begins.
-ghost use Rattle.std.specs.Prelude.{◌≡◌, ◌↔◌, ◌<◌, IsTrue, IfSome, IfNone, OnSome, length, slice_index};
+ghost use Rattle.std.specs.Prelude.{◌≡◌, ◌↔◌, ◌<◌, IsTrue, IfSome, IfNone, OnSome, length};
+ghost use Rattle.std.specs.Prelude.{slice_index};
 ghost use Rattle.gj_lex.specs.Words.{word_texts};
 ghost use Rattle.gj_lex.specs.TextLines.{HasLine};
 ghost use Rattle.gj_lex.specs.Parts.{BeginsWithLine, BeginsWithWord};

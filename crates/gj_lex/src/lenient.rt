@@ -1,8 +1,10 @@
 //! Numbers read in any of their spellings.
 
-ghost use Rattle.std.specs.Prelude.{◌≡◌, ◌↔◌, ◌^◌, ◌<◌, ◌||◌, ◌==◌, ◌+◌, ◌*◌, ◌≤◌, ℕ, ℤ, pos, length, ◌++◌, slice_index, IfSome, IsSome, IsSomeAnd};
+ghost use Rattle.std.specs.Prelude.{◌≡◌, ◌↔◌, ◌^◌, ◌<◌, ◌||◌, ◌==◌, ◌+◌, ◌*◌, ◌≤◌, ℕ, ℤ, pos};
+ghost use Rattle.std.specs.Prelude.{length, ◌++◌, slice_index, IfSome, IsSome, IsSomeAnd};
 ghost use Rattle.std.specs.List.{position, position_or_len};
-ghost use Rattle.std.specs.Str.Parse.{IsNumeral, digits_value, digits_value_after, without_leading_sign};
+ghost use Rattle.std.specs.Str.Parse.{IsNumeral, digits_value, digits_value_after};
+ghost use Rattle.std.specs.Str.Parse.{without_leading_sign};
 ghost use Rattle.gj_frac.specs.Fraction.{IsRatio};
 ghost use Rattle.gj_lex.specs.NumberText.{IsNumberText, IsWritten};
 

@@ -1,6 +1,7 @@
 //! Numbers in either spelling.
 
-ghost use Rattle.std.specs.Prelude.{◌≡◌, ◌↔◌, ◌<◌, ◌^◌, ◌+◌, ℕ, length, slice_index, IfSome, IfNone, IsTrue, All};
+ghost use Rattle.std.specs.Prelude.{◌≡◌, ◌↔◌, ◌<◌, ◌^◌, ◌+◌, ℕ, length, slice_index, IfSome};
+ghost use Rattle.std.specs.Prelude.{IfNone, IsTrue, All};
 ghost use Rattle.std.specs.Char.{IsAsciiDigit};
 ghost use Rattle.std.specs.Str.Parse.{IsNumeral, digits_value};
 ghost use Rattle.gj_frac.specs.declared.Frac.{Frac};

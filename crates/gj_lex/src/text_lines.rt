@@ -1,9 +1,13 @@
 //! The lines of a text, in either spelling.
 
-ghost use Rattle.std.specs.Prelude.{◌≡◌, ◌≢◌, ◌-◌, ◌==◌, ◌↔◌, ◌<◌, ◌∷◌, ◌++◌, [], ℕ, List, All, length, drop, slice_index, IfSome, IfNone, IfOk, IfErr, OnOk, IsTrue};
+ghost use Rattle.std.specs.Prelude.{◌≡◌, ◌≢◌, ◌-◌, ◌==◌, ◌↔◌, ◌<◌, ◌∷◌, ◌++◌, [], ℕ, List, All};
+ghost use Rattle.std.specs.Prelude.{length, drop, slice_index, IfSome, IfNone, IfOk, IfErr, OnOk};
+ghost use Rattle.std.specs.Prelude.{IsTrue};
 ghost use Rattle.std.specs.List.{position, slice_split};
 ghost use Rattle.gj_lex.specs.Words.{word_texts};
-ghost use Rattle.gj_lex.specs.TextLines.{is_line_feed, AreBytesOf, HasFirstWords, HasNextLine, IsSkipped, IsSkippedText, HasLine, HasNothing, IsWord, HasStrictLine, IsLineNumber};
+ghost use Rattle.gj_lex.specs.TextLines.{is_line_feed, AreBytesOf, HasFirstWords, HasNextLine};
+ghost use Rattle.gj_lex.specs.TextLines.{IsSkipped, IsSkippedText, HasLine, HasNothing, IsWord};
+ghost use Rattle.gj_lex.specs.TextLines.{HasStrictLine, IsLineNumber};
 ghost use Rattle.gj_lex.specs.Parts.{line_part, words_rule, IsFaultOf, IsRefusal, IsNoLine, IsTail};
 
 use crate::fault::PartFault;

@@ -1,8 +1,10 @@
 //! Words of a line.
 
-ghost use Rattle.std.specs.Prelude.{◌≡◌, ◌↔◌, ◌+◌, ◌≤◌, ℕ, List, [], ◌∷◌, not, length, drop, map, IfOk, IfNone, IfSome, IsTrue};
+ghost use Rattle.std.specs.Prelude.{◌≡◌, ◌↔◌, ◌+◌, ◌≤◌, ℕ, List, [], ◌∷◌, not, length, drop, map};
+ghost use Rattle.std.specs.Prelude.{IfOk, IfNone, IfSome, IsTrue};
 ghost use Rattle.std.specs.List.{position, position_or_len};
-ghost use Rattle.gj_lex.specs.Words.{AllBlank, AreWords, HasAtFront, IsNextWord, is_blank, word_text, word_texts};
+ghost use Rattle.gj_lex.specs.Words.{AllBlank, AreWords, HasAtFront, IsNextWord, is_blank};
+ghost use Rattle.gj_lex.specs.Words.{word_text, word_texts};
 
 use std::alloc::{AllocError, Global};
 

@@ -1,5 +1,6 @@
 //! Points on grids, and the coarsest grid with a point near a corner at which a number is negative.
-ghost use Rattle.std.specs.Prelude.{ℕ, ℤ, pos, ◌≡◌, ◌+◌, ◌-◌, ◌*◌, ◌<◌, ◌≤◌, ◌^◌, ◌+ℤ◌, ◌*ℤ◌, ◌<ℤ◌, ◌≤ℤ◌, unsigned_abs};
+ghost use Rattle.std.specs.Prelude.{ℕ, ℤ, pos, ◌≡◌, ◌+◌, ◌-◌, ◌*◌, ◌<◌, ◌≤◌, ◌^◌, ◌+ℤ◌, ◌*ℤ◌, ◌<ℤ◌};
+ghost use Rattle.std.specs.Prelude.{◌≤ℤ◌, unsigned_abs};
 ghost use Rattle.gj_frac.specs.Fraction.{IsRatio};
 ghost use Rattle.gj_shape.specs.FirstViolation.{IsLeastFrom};
 

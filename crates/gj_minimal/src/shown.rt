@@ -1,9 +1,12 @@
 //! The violation that a failed test shows.
-ghost use Rattle.std.specs.Prelude.{ℕ, ℤ, pos, ◌≡◌, ◌<◌, ◌*◌, ◌<ℤ◌, length, sum, get_or, unsigned_abs, ◌^◌, ◌+◌};
+ghost use Rattle.std.specs.Prelude.{ℕ, ℤ, pos, ◌≡◌, ◌<◌, ◌*◌, ◌<ℤ◌, length, sum, get_or};
+ghost use Rattle.std.specs.Prelude.{unsigned_abs, ◌^◌, ◌+◌};
 ghost use Rattle.gj_shape.specs.FunctionData.{at};
 ghost use Rattle.gj_shape.specs.Faces.{corners_of, limits_of};
-ghost use Rattle.gj_shape.specs.FirstViolation.{Shows, ShowsNearCorner, first_coordinates, second_coordinates};
-ghost use Rattle.gj_shape.specs.FirstViolation.Test.{nonnegative_after, nonnegative_before, symmetric_between};
+ghost use Rattle.gj_shape.specs.FirstViolation.{Shows, ShowsNearCorner, first_coordinates};
+ghost use Rattle.gj_shape.specs.FirstViolation.{second_coordinates};
+ghost use Rattle.gj_shape.specs.FirstViolation.Test.{nonnegative_after, nonnegative_before};
+ghost use Rattle.gj_shape.specs.FirstViolation.Test.{symmetric_between};
 ghost use Rattle.gj_complex.specs.Squares.{limits_in};
 ghost use Rattle.gj_theory.specs.EarlierTests.{PassesSymmetry};
 ghost use Rattle.gj_shape.specs.SlopeRows.{total};

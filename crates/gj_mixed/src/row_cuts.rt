@@ -8,7 +8,8 @@ ghost use Rattle.gj_shape.specs.Limits.{IsRowNumber};
 ghost use Rattle.gj_rule.specs.Kept.{Evaluates};
 ghost use Rattle.gj_cut.specs.RowCuts.{IsRightSide, IsTermOf};
 ghost use Rattle.gj_cut.specs.declared.right_sides.RightSide.TheVariants.{AtPlace};
-ghost use Rattle.gj_mixed.specs.MixedCuts.{IsWeightTermOf, IsMixedCutOf, IsGmicMixedCutOf, MixedHoldsFor};
+ghost use Rattle.gj_mixed.specs.MixedCuts.{IsWeightTermOf, IsMixedCutOf, IsGmicMixedCutOf};
+ghost use Rattle.gj_mixed.specs.MixedCuts.{MixedHoldsFor};
 ghost use Rattle.gj_mixed.specs.MixedCuts.{whole_entries, continuous_entries};
 ghost use Rattle.gj_mixed.specs.Slopes.{AreGmicSlopes, AreSlopesOfKind, IsSlope, Weighs};
 
@@ -150,7 +151,8 @@ fn terms_of<E: Evaluator, G: Evaluator>(
     ensures terms { IfOk result (λ made. AllZip (IsTermOf E.answers rule.now)
         (whole_entries continuous.now entries.now) made.terms.items) }
     ensures weights { IfOk result (λ made.
-        AllZip (IsWeightTermOf G.answers slopes.now) (continuous_entries continuous.now entries.now) made.weights.items) }
+        AllZip (IsWeightTermOf G.answers slopes.now)
+        (continuous_entries continuous.now entries.now) made.weights.items) }
 {
     let mut terms = Vec::with_capacity(alloc, entries.len())?;
     let mut weights = Vec::new(alloc);

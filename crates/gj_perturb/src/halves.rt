@@ -1,5 +1,7 @@
 //! The two functions that a perturbation gives.
-ghost use Rattle.std.specs.Prelude.{ℕ, ℤ, pos, ◌≡◌, ◌+◌, ◌*◌, ◌+ℤ◌, ◌*ℤ◌, ◌<◌, ◌≤◌, ◌^◌, length, map, get_or, All, IfOk, OnOk, IsErrOf, MatchOption, unsigned_abs};
+ghost use Rattle.std.specs.Prelude.{ℕ, ℤ, pos, ◌≡◌, ◌+◌, ◌*◌, ◌+ℤ◌, ◌*ℤ◌, ◌<◌, ◌≤◌, ◌^◌, length};
+ghost use Rattle.std.specs.Prelude.{map, get_or, All, IfOk, OnOk, IsErrOf, MatchOption};
+ghost use Rattle.std.specs.Prelude.{unsigned_abs};
 ghost use Rattle.std.specs.List.{range_with_len};
 ghost use Rattle.gj_shape.specs.FunctionData.{IsWithinBounds, IsContinuous, at};
 ghost use Rattle.gj_shape.specs.Limits.{greatest_halves_scale};

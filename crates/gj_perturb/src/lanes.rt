@@ -1,7 +1,8 @@
 //! The slacks at the corners of the complex, over lanes of 32 bits, so that the processor finds
 //! several at once.
 ghost use Rattle.std.specs.Prelude.{ℕ, ◌≡◌, ◌≢◌, ◌⊎◌, ◌+◌, ◌*◌, ◌<◌, ◌≤◌, min};
-ghost use Rattle.gj_perturb.specs.Lanes.{AreSubadditive, AreLeast, IsLeastAt, IsInRow, IsInRows, no_slack};
+ghost use Rattle.gj_perturb.specs.Lanes.{AreSubadditive, AreLeast, IsLeastAt, IsInRow, IsInRows};
+ghost use Rattle.gj_perturb.specs.Lanes.{no_slack};
 
 /// The least positive slack at the corners (i, j) with i and j below n, less 1, of a table over two
 /// periods of n lanes each; `u32::MAX` if none is positive.

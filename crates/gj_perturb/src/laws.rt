@@ -1,5 +1,6 @@
 //! When the perturbations of this crate can be split.
-ghost use Rattle.std.specs.Prelude.{ℕ, ℤ, pos, ◌≡◌, ◌≢◌, ◌*◌, ◌<◌, List, All, Contains, length, map, get_or};
+ghost use Rattle.std.specs.Prelude.{ℕ, ℤ, pos, ◌≡◌, ◌≢◌, ◌*◌, ◌<◌, List, All, Contains, length};
+ghost use Rattle.std.specs.Prelude.{map, get_or};
 ghost use Rattle.std.specs.List.{range_with_len};
 ghost use Rattle.gj_frac.specs.Fraction.{Fits};
 ghost use Rattle.gj_shape.specs.Additive.{IsTight};

@@ -1,5 +1,6 @@
 //! Perturbations as tables: the zigzag of a class of intervals, and the sums of slopes.
-ghost use Rattle.std.specs.Prelude.{ℕ, ℤ, pos, ◌≡◌, ◌-ℤ◌, ◌+ℤ◌, ◌*◌, ◌<◌, ◌≤◌, ◌==◌, length, map, All, Any, IfOk, IsErrOf, if◌then◌else◌};
+ghost use Rattle.std.specs.Prelude.{ℕ, ℤ, pos, ◌≡◌, ◌-ℤ◌, ◌+ℤ◌, ◌*◌, ◌<◌, ◌≤◌, ◌==◌, length, map};
+ghost use Rattle.std.specs.Prelude.{All, Any, IfOk, IsErrOf, if◌then◌else◌};
 ghost use Rattle.std.specs.List.{range_with_len, list_any};
 ghost use Rattle.std.specs.Result.{OkIff};
 ghost use Rattle.gj_frac.specs.Fraction.{Fits};

@@ -11,7 +11,8 @@ ghost use Rattle.gj_lex.specs.declared.spelling.Spelling.TheVariants.{Strict};
 ghost use Rattle.gj_lex.specs.declared.reason.Reason.TheVariants.{Number};
 ghost use Rattle.gj_forms.specs.LineForms.{AreOfForm, AreLine, BreaksForm};
 ghost use Rattle.gj_proof.specs.ProofText.{reason_word, term_line};
-ghost use Rattle.gj_proof.specs.ProofGrammar.{head_form, term_form, form_part, rule_part, terms_part, row_part, rows_part};
+ghost use Rattle.gj_proof.specs.ProofGrammar.{head_form, term_form, form_part, rule_part};
+ghost use Rattle.gj_proof.specs.ProofGrammar.{terms_part, row_part, rows_part};
 ghost use Rattle.gj_proof.specs.HeadWords.{texts_of_head};
 ghost use Rattle.gj_proof.specs.declared.cut.SkipReason.{SkipReason};
 

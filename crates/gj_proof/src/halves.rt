@@ -6,7 +6,8 @@ ghost use Rattle.gj_lex.specs.Words.{word_texts};
 ghost use Rattle.gj_lex.specs.Parts.{IsFaultOf};
 ghost use Rattle.gj_forms.specs.LineForms.{AreLine, BreaksForm};
 ghost use Rattle.gj_proof.specs.ProofText.{pair_line};
-ghost use Rattle.gj_proof.specs.ProofGrammar.{IsHeadInBounds, halves_form, pair_form, form_part, pairs_part, halves_part};
+ghost use Rattle.gj_proof.specs.ProofGrammar.{IsHeadInBounds, halves_form, pair_form, form_part};
+ghost use Rattle.gj_proof.specs.ProofGrammar.{pairs_part, halves_part};
 ghost use Rattle.gj_proof.specs.declared.halves.HalvesHead.{HalvesHead};
 
 use crate::bounds::is_head_in_bounds;

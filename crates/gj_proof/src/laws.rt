@@ -8,7 +8,9 @@ ghost use Rattle.gj_shape.specs.declared.extremality.CoverLine.{CoverLine};
 ghost use Rattle.gj_proof.specs.declared.claim.Claim.{Claim};
 ghost use Rattle.gj_proof.specs.declared.numbers.Numbers.{Numbers};
 ghost use Rattle.gj_proof.specs.declared.pivot.PivotRow.{PivotRow};
-ghost use Rattle.gj_proof.specs.ProofText.{ProofLine, extreme_claim, IsBounded, IsShort, HaveFewSteps, longest_extreme_text, IsProofText, HasBytes, HasNumber};
+ghost use Rattle.gj_proof.specs.ProofText.{ProofLine, extreme_claim, IsBounded, IsShort};
+ghost use Rattle.gj_proof.specs.ProofText.{HaveFewSteps, longest_extreme_text, IsProofText};
+ghost use Rattle.gj_proof.specs.ProofText.{HasBytes, HasNumber};
 ghost use Rattle.gj_proof.specs.ProofGrammar.{proof_text};
 ghost use Rattle.gj_proof.specs.FirstFault.{IsFirstFaultOfProof};
 

@@ -1,7 +1,9 @@
 //! The layout of a proof text: the numbers of its lines, counted from 1.
 ghost use Rattle.std.specs.Prelude.{◌≡◌, ◌+◌, ◌<◌, ◌≤◌, ◌^◌, [], ◌∷◌, IfOk, OnErr, length};
 ghost use Rattle.gj_shape.specs.FunctionData.{IsWithinBounds};
-ghost use Rattle.gj_proof.specs.ProofText.{subject_of_rule, subject_lines, modulus_lines, row_lines, term_lines, covered_lines, reduction_lines, group_lines, IsBoundedRule};
+ghost use Rattle.gj_proof.specs.ProofText.{subject_of_rule, subject_lines, modulus_lines};
+ghost use Rattle.gj_proof.specs.ProofText.{row_lines, term_lines, covered_lines, reduction_lines};
+ghost use Rattle.gj_proof.specs.ProofText.{group_lines, IsBoundedRule};
 ghost use Rattle.gj_proof.specs.ProofText.Subject.{function};
 
 use crate::cut::{CutLine, CutRule, CutTerm};

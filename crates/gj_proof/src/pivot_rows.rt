@@ -5,7 +5,8 @@ ghost use Rattle.gj_lex.specs.Parts.{IsFaultOf};
 ghost use Rattle.gj_lex.specs.declared.reason.Reason.TheVariants.{Number};
 ghost use Rattle.gj_forms.specs.LineForms.{AreLine, BreaksForm};
 ghost use Rattle.gj_shape.specs.Limits.{greatest_order};
-ghost use Rattle.gj_proof.specs.ProofGrammar.{row_name_form, column_form, form_part, steps_part, group_part, groups_part};
+ghost use Rattle.gj_proof.specs.ProofGrammar.{row_name_form, column_form, form_part, steps_part};
+ghost use Rattle.gj_proof.specs.ProofGrammar.{group_part, groups_part};
 
 use crate::fields::count_below;
 use crate::pivot::PivotRow;

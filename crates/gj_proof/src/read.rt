@@ -5,10 +5,12 @@ ghost use Rattle.gj_lex.specs.Words.{word_texts};
 ghost use Rattle.gj_lex.specs.Parts.{IsFaultOf};
 ghost use Rattle.gj_forms.specs.LineForms.{AreOfForm, AreLine};
 ghost use Rattle.gj_proof.specs.ProofText.{IsBounded, IsProofText, extreme_claim};
-ghost use Rattle.gj_proof.specs.ProofGrammar.{title_form, claim_form, form_part, claim_part, extreme_part, proof_text};
+ghost use Rattle.gj_proof.specs.ProofGrammar.{title_form, claim_form, form_part, claim_part};
+ghost use Rattle.gj_proof.specs.ProofGrammar.{extreme_part, proof_text};
 ghost use Rattle.gj_proof.specs.FirstFault.{NamesFirstFault, IsMemoryFault};
 ghost use Rattle.gj_proof.specs.declared.claim.Claim.{Claim};
-ghost use Rattle.gj_proof.specs.declared.claim.ClaimWord.TheVariants.{Minimal, NotMinimal, Cut, NotExtreme};
+ghost use Rattle.gj_proof.specs.declared.claim.ClaimWord.TheVariants.{Minimal, NotMinimal, Cut};
+ghost use Rattle.gj_proof.specs.declared.claim.ClaimWord.TheVariants.{NotExtreme};
 
 use crate::claim::{Claim, ClaimWord, Proof};
 use crate::cover_lines::cover_lines_at;

@@ -2,7 +2,9 @@
 
 ghost use Rattle.std.specs.Prelude.{◌≡◌, ◌++◌, ℕ, List, IfOk, OnOk};
 ghost use Rattle.gj_forms.specs.LineForms.{bytes_of};
-ghost use Rattle.gj_proof.specs.ProofText.{subject_of, numbers_of, AreSubjectLines, title_fields, claim_fields, claim_word, violation_line, own_text, HasText, IsProofText};
+ghost use Rattle.gj_proof.specs.ProofText.{subject_of, numbers_of, AreSubjectLines, title_fields};
+ghost use Rattle.gj_proof.specs.ProofText.{claim_fields, claim_word, violation_line, own_text};
+ghost use Rattle.gj_proof.specs.ProofText.{HasText, IsProofText};
 
 use crate::claim::{Claim, Proof};
 use crate::numbers::Numbers;

@@ -1,7 +1,8 @@
 //! The lines of cuts, printed.
 ghost use Rattle.std.specs.Prelude.{◌≡◌, ◌++◌, ℕ, List, codes, flat_map, OnOk};
 ghost use Rattle.gj_lex.specs.NumberText.{fraction_text};
-ghost use Rattle.gj_proof.specs.ProofText.{AreSubjectLines, subject_of_rule, row_line, term_line, terms_of, row_text};
+ghost use Rattle.gj_proof.specs.ProofText.{AreSubjectLines, subject_of_rule, row_line, term_line};
+ghost use Rattle.gj_proof.specs.ProofText.{terms_of, row_text};
 
 use crate::cut::{CutLine, CutRule, CutTerm};
 use gj_frac::Frac;

@@ -4,7 +4,8 @@ ghost use Rattle.std.specs.Fmt.{signed_decimal};
 ghost use Rattle.gj_frac.specs.Fraction.{Fits};
 ghost use Rattle.gj_shape.specs.Perturbation.{AreHalvesInBounds};
 ghost use Rattle.gj_function_lines.specs.FunctionLines.{line};
-ghost use Rattle.gj_proof.specs.ProofText.{group_line, reduction_line, modulus_text, extreme_text, halves_line, pair_line, group_text, halves_text};
+ghost use Rattle.gj_proof.specs.ProofText.{group_line, reduction_line, modulus_text, extreme_text};
+ghost use Rattle.gj_proof.specs.ProofText.{halves_line, pair_line, group_text, halves_text};
 
 use crate::numbers::{MODULUS, Numbers};
 use crate::pivot::PivotRow;

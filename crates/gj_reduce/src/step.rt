@@ -96,10 +96,10 @@ fn combine(u: i128, row: &mut [i128], w: i128, kept: &[i128]) -> Result<(), Wide
 /// Reduces a row by a kept row with its pivot at the column.
 ///
 /// In the place of the row come u times the row less w times the kept row, divided by the greatest
-/// common divisor of their entries: u is the pivot and w the row's entry at the column, both divided
-/// by their greatest common divisor. The kept row has numbers of at most 2^127 - 1 in absolute
-/// value, and so has the row afterwards. `Wide` exactly if a product or a difference on the way
-/// passes that; some entries are changed then.
+/// common divisor of their entries. Here u is the pivot and w the row's entry at the column, both
+/// divided by their greatest common divisor. The kept row has numbers of at most 2^127 - 1 in
+/// absolute value, and so has the row afterwards. `Wide` exactly if a product or a difference on
+/// the way passes that; some entries are changed then.
 pub fn reduce_by(kept: &[i128], row: &mut [i128], column: usize) -> Result<(), Wide>
     requires columns { length kept.now ≡ length row.old }
     requires within { column < length row.old }

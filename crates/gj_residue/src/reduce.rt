@@ -28,7 +28,8 @@ pub(crate) fn reduce_row(
     requires count { length row.old < 2 ^ 32 }
     requires empty { reduce.old.items ≡ [] }
     ensures left { IfOk result (λ left. IsLeft (modulo modulus)
-        (insertion_by (modulo modulus) (kept_residues log.now rows.now) (range_with_len 0 (length row.old)) (numbers_of row.old))
+        (insertion_by (modulo modulus) (kept_residues log.now rows.now)
+        (range_with_len 0 (length row.old)) (numbers_of row.old))
         left (numbers_of row.new) reduce.new.items) }
     ensures within { IfOk result (λ left. IfSome left (λ c. c < length row.old)) }
     ensures below { OnOk result (AreResidues row.new) }

@@ -1,10 +1,12 @@
 //! The words in the fields of a record.
-ghost use Rattle.std.specs.Prelude.{◌≡◌, ◌<◌, ◌≤◌, ◌+◌, ◌^◌, ◌++◌, ◌∷◌, [], Some, IfOk, IsTrue, length, replicate, reverse, slice_get, take, not};
+ghost use Rattle.std.specs.Prelude.{◌≡◌, ◌<◌, ◌≤◌, ◌+◌, ◌^◌, ◌++◌, ◌∷◌, [], Some, IfOk, IsTrue};
+ghost use Rattle.std.specs.Prelude.{length, replicate, reverse, slice_get, take, not};
 ghost use Rattle.std.specs.List.{count_by, position, position_or_len};
 ghost use Rattle.csv.specs.Records.{fields_of};
 ghost use Rattle.gj_lex.specs.Words.{is_blank};
 ghost use Rattle.gj_row.specs.TableauText.{word_of, without_blanks_before};
-ghost use Rattle.gj_row.specs.Reading.{fields_behind, fields_in, fields_of_line, is_comma, words_in, words_of_fields};
+ghost use Rattle.gj_row.specs.Reading.{fields_behind, fields_in, fields_of_line, is_comma};
+ghost use Rattle.gj_row.specs.Reading.{words_in, words_of_fields};
 
 use csv::ByteRecord;
 use std::alloc::{AllocError, Global};

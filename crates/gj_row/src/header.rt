@@ -1,5 +1,6 @@
 //! Record 1 of a tableau, and its names.
-ghost use Rattle.std.specs.Prelude.{◌≡◌, ◌<◌, ◌≤◌, ◌↔◌, ◌++◌, ◌∷◌, [], ℕ, List, Some, IfOk, IfErr, OnOk, IsTrue, length, slice_get};
+ghost use Rattle.std.specs.Prelude.{◌≡◌, ◌<◌, ◌≤◌, ◌↔◌, ◌++◌, ◌∷◌, [], ℕ, List, Some, IfOk, IfErr};
+ghost use Rattle.std.specs.Prelude.{OnOk, IsTrue, length, slice_get};
 ghost use Rattle.csv.specs.Records.{fields_of};
 ghost use Rattle.gj_row.specs.TableauLimits.{most_columns, AreNames};
 ghost use Rattle.gj_row.specs.TableauText.{header_of};

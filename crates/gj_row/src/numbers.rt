@@ -1,5 +1,6 @@
 //! The numbers of a row.
-ghost use Rattle.std.specs.Prelude.{◌≡◌, ◌<◌, ◌≤◌, ◌+◌, ◌++◌, pos, Some, IfOk, IfErr, IfSome, IfNone, length, drop, map};
+ghost use Rattle.std.specs.Prelude.{◌≡◌, ◌<◌, ◌≤◌, ◌+◌, ◌++◌, pos, Some, IfOk, IfErr, IfSome};
+ghost use Rattle.std.specs.Prelude.{IfNone, length, drop, map};
 ghost use Rattle.csv.specs.Records.{fields_of};
 ghost use Rattle.gj_frac.specs.declared.Frac.{Frac};
 ghost use Rattle.gj_frac.specs.Fraction.{IsRatio};
@@ -10,7 +11,8 @@ ghost use Rattle.gj_shape.specs.Denominators.{Extends};
 ghost use Rattle.gj_row.specs.TableauLimits.{most_columns, most_entries};
 ghost use Rattle.gj_row.specs.TableauText.{SpellsEntry, entry_at, is_zero, word_of};
 ghost use Rattle.gj_row.specs.FirstFault.{HasNumberFault};
-ghost use Rattle.gj_row.specs.Reading.{StopsNumber, StopsEntry, HasRead, NamesReason, fields_in, fields_of_line, words_in, words_of_fields};
+ghost use Rattle.gj_row.specs.Reading.{StopsNumber, StopsEntry, HasRead, NamesReason, fields_in};
+ghost use Rattle.gj_row.specs.Reading.{fields_of_line, words_in, words_of_fields};
 
 use crate::faults::{RecordFault, RowReason};
 use crate::fields::{Fields, field_behind_empty, first_field, word_at, word_of};

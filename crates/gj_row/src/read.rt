@@ -1,9 +1,14 @@
 //! Tableaux, read.
-ghost use Rattle.std.specs.Prelude.{◌≡◌, ◌<◌, ◌≤◌, ◌++◌, ◌∷◌, [], IfOk, IfErr, OnOk, MatchResult, length, true, false};
-ghost use Rattle.gj_row.specs.TableauLimits.{most_columns, most_entries, most_rows, IsTableau, names_of, entry_count};
+ghost use Rattle.std.specs.Prelude.{◌≡◌, ◌<◌, ◌≤◌, ◌++◌, ◌∷◌, [], IfOk, IfErr, OnOk, MatchResult};
+ghost use Rattle.std.specs.Prelude.{length, true, false};
+ghost use Rattle.gj_row.specs.TableauLimits.{most_columns, most_entries, most_rows, IsTableau};
+ghost use Rattle.gj_row.specs.TableauLimits.{names_of, entry_count};
 ghost use Rattle.gj_row.specs.TableauText.{IsTableauText};
 ghost use Rattle.gj_row.specs.FirstFault.{HasRowFault, IsFirstFaultOfTableau, IsNewName};
-ghost use Rattle.gj_row.specs.Reading.{IsMemoryFault, NamesRecord, NamesReason, ReadsRow, HoldsBehindFirst, HoldsBehindHeader, HoldsOfText, StandsBehind, bytes_of, fields_in, tableau_of, words_of_fields};
+ghost use Rattle.gj_row.specs.Reading.{IsMemoryFault, NamesRecord, NamesReason, ReadsRow};
+ghost use Rattle.gj_row.specs.Reading.{HoldsBehindFirst, HoldsBehindHeader, HoldsOfText};
+ghost use Rattle.gj_row.specs.Reading.{StandsBehind, bytes_of, fields_in, tableau_of};
+ghost use Rattle.gj_row.specs.Reading.{words_of_fields};
 ghost use Rattle.gj_row.specs.declared.tableau.Tableau.{Tableau};
 
 use crate::faults::{RecordFault, RowFault, RowReason};

@@ -5,7 +5,8 @@
 ghost use Rattle.std.specs.Prelude.{◌≡◌, [], IfOk, IfSome, IfNone, All, true, false, not};
 ghost use Rattle.std.specs.List.{position};
 ghost use Rattle.csv.specs.Reading.{strip_bom};
-ghost use Rattle.gj_row.specs.Reading.{IsAtEnd, IsFirstLine, ReaderStandsBehind, StandsBehind, StepsOver, fields_in, is_line_end};
+ghost use Rattle.gj_row.specs.Reading.{IsAtEnd, IsFirstLine, ReaderStandsBehind, StandsBehind};
+ghost use Rattle.gj_row.specs.Reading.{StepsOver, fields_in, is_line_end};
 
 use crate::fields::Fields;
 use csv::{Reader, ReaderBuilder};

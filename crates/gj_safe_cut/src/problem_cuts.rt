@@ -4,7 +4,8 @@ ghost use Rattle.gj_rule.specs.Kind.{IsKindWithinBounds, IsMinimalKind};
 ghost use Rattle.gj_mixed.specs.Slopes.{AreSlopesOfKind};
 ghost use Rattle.gj_problem.specs.declared.problem.Inequality.{Inequality};
 ghost use Rattle.gj_safe_cut.specs.declared.cut.SafeCut.TheVariants.{Cut};
-ghost use Rattle.gj_safe_cut.specs.SafeCuts.{IsSafeCutOf, IsGmicSafeCutOf, IsCutOfRow, IsGmicCutOfRow, SafeCutHolds};
+ghost use Rattle.gj_safe_cut.specs.SafeCuts.{IsSafeCutOf, IsGmicSafeCutOf, IsCutOfRow};
+ghost use Rattle.gj_safe_cut.specs.SafeCuts.{IsGmicCutOfRow, SafeCutHolds};
 
 use crate::cut::SafeCut;
 use crate::terms::turned_back;
@@ -61,7 +62,8 @@ pub fn safe_cut<E: Evaluator, G: Evaluator>(
     requires at_upper { length at_upper.now ≡ length problem.now.columns }
     ensures is { IfOk result (IsSafeCutOf rule.now.kind slopes.now.up slopes.now.down problem.now
         multipliers.now at_upper.now) }
-    ensures holds { IfOk result (λ cut. IsMinimalKind rule.now.kind → SafeCutHolds problem.now cut) }
+    ensures holds { IfOk result (λ cut. IsMinimalKind rule.now.kind →
+        SafeCutHolds problem.now cut) }
 {
     match rule_cut(alloc, rule, slopes, problem, multipliers, at_upper) {
         Ok(cut) => Ok(cut),
@@ -136,7 +138,8 @@ fn rule_cut_of_row<E: Evaluator, G: Evaluator>(
     ensures limits { IfOk result (λ cut. (q : Inequality) → cut ≡ Cut q →
         IsKindWithinBounds rule.now.kind) }
     ensures is { IfOk result
-        (IsCutOfRow rule.now.kind slopes.now.up slopes.now.down (row.now.slacks.items ++ row.now.bounds.items) row.now.right) }
+        (IsCutOfRow rule.now.kind slopes.now.up slopes.now.down
+        (row.now.slacks.items ++ row.now.bounds.items) row.now.right) }
 {
     match right_side(rule, row.right) {
         RightSide::Whole => Ok(SafeCut::Integral),

@@ -4,7 +4,8 @@ ghost use Rattle.gj_port.specs.Runs.{IsSourceFault};
 ghost use Rattle.gj_refusals.specs.InputRead.{input_limit};
 ghost use Rattle.gj_words.specs.Grammar.{IsInBounds};
 ghost use Rattle.gj_top.specs.Command.{task_for};
-ghost use Rattle.gj_top.specs.Answer.{IsAnswer, IsAnswerTo, IsUnanswered, answer_status, answer_text};
+ghost use Rattle.gj_top.specs.Answer.{IsAnswer, IsAnswerTo, IsUnanswered, answer_status};
+ghost use Rattle.gj_top.specs.Answer.{answer_text};
 
 use crate::command::{reads_input, reply_to, request_of};
 use crate::reply::{Reply, Unanswered};

@@ -3,7 +3,8 @@ ghost use Rattle.gj_top.specs.Task.{IsReadingOf, IsRefusedWith};
 ghost use Rattle.gj_json.specs.JsonFunction.{IsJsonFunction};
 ghost use Rattle.gj_refusals.specs.Lines.{refused_line};
 ghost use Rattle.gj_top.specs.Forms.{IsFunctionInput, SpellsFunction, IsProofOf};
-ghost use Rattle.gj_top.specs.Forms.{RefusesFunctionText, RefusesJson, RefusesFunction, RefusesProofText};
+ghost use Rattle.gj_top.specs.Forms.{RefusesFunctionText, RefusesJson, RefusesFunction};
+ghost use Rattle.gj_top.specs.Forms.{RefusesProofText};
 
 use crate::lines::worded_line;
 use crate::reply::Unanswered;
