@@ -20,10 +20,10 @@ pub struct Task {
     pub names: List<Name>,
     /// The problem.
     pub problem: Problem,
-    /// How many entries its constraints have.
+    /// How many entries its constraints have: at most 100,000 if a text tells the task.
     pub entries: u32,
     /// The rows that give cuts.
     pub requests: List<Request>,
-    /// The cuts are rounded to multiples of one over this.
+    /// The cuts are rounded to multiples of one over this. It is not 0 if a text tells the task.
     pub grid: Option<u32>,
 }
