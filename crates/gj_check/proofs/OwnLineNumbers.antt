@@ -21,11 +21,8 @@ use Rattle.gj_proof.proofs.LineLists.{names}
 use Rattle.gj_proof.proofs.LineNumbers.{number_of_own}
 use Rattle.gj_proof.proofs.OwnLines.{IsOwn, own_lines_are_own}
 use Rattle.gj_check_groups.proofs.ClaimGroups.{number_in_extreme}
-use Rattle.gj_proof.proofs.LineCounts.{length-covered, length-reductions}
+use Rattle.gj_proof.proofs.LineCounts.{own_line, length-covered, length-reductions}
 use Rattle.gj_proof.proofs.AtPlaces.{split_there}
-
-abbrev own_line : ProofLine → List ℕ → OwnLine
-own_line name bytes = record { name = name; bytes = bytes }
 
 -- the lines of a function
 pub function_lines : (f : FunctionData) → length (subject_lines (function f)) ≡ f.order + 2
