@@ -1,11 +1,13 @@
 //! The cuts that a problem text asks for.
-ghost use Rattle.std.specs.Prelude.{◌≡◌, ◌<◌, ◌++◌, All, List, true, flat_map, length, slice_set, IfSome, IfOk, OnOk};
+ghost use Rattle.std.specs.Prelude.{◌≡◌, ◌<◌, ◌++◌, All, List, true, flat_map, length, slice_set};
+ghost use Rattle.std.specs.Prelude.{IfSome, IfOk, OnOk};
 ghost use Rattle.gj_problem.specs.Problems.{Holds};
 ghost use Rattle.gj_safe_cut.specs.SafeCuts.{SafeCutHolds};
 ghost use Rattle.gj_safe_cut.specs.declared.cut.SafeCut.{SafeCut};
 ghost use Rattle.gj_problem_text.specs.AnswersMade.{IsRequestStep};
 ghost use Rattle.gj_problem_text.specs.CutText.{cut_lines};
-ghost use Rattle.gj_problem_text.specs.Cuts.{IsRoundedTo, IsOnGridOf, IsCutBy, IsAnswer, AreAnswers, none_turned};
+ghost use Rattle.gj_problem_text.specs.Cuts.{IsRoundedTo, IsOnGridOf, IsCutBy, IsAnswer};
+ghost use Rattle.gj_problem_text.specs.Cuts.{AreAnswers, none_turned};
 ghost use Rattle.gj_problem_text.specs.Ready.{HasMultipliers, IsReady};
 ghost use Rattle.gj_problem_text.specs.SafeReplies.{MakesSafeCuts};
 
@@ -63,8 +65,8 @@ fn push_request(
     requires grid { IfSome task.now.grid (λ n. 0 < n) }
     requires multipliers { HasMultipliers (length task.now.problem.constraints) request.now }
     requires at_upper { length at_upper.old.items ≡ length task.now.problem.columns }
-    ensures step { OnOk result (IsRequestStep rule.now task.now at_upper.old.items out.old.items request.now
-        at_upper.new.items out.new.items) }
+    ensures step { OnOk result (IsRequestStep rule.now task.now at_upper.old.items
+        out.old.items request.now at_upper.new.items out.new.items) }
     ensures count { OnOk result (length at_upper.new.items ≡ length at_upper.old.items) }
 {
     match request {
@@ -110,7 +112,8 @@ fn push_answer(
     requires grid { IfSome task.now.grid (λ n. 0 < n) }
     requires multipliers { length multipliers.now ≡ length task.now.problem.constraints }
     requires at_upper { length at_upper.now ≡ length task.now.problem.columns }
-    ensures { OnOk result ((cut : SafeCut) × IsAnswer rule.now task.now multipliers.now at_upper.now cut
+    ensures { OnOk result ((cut : SafeCut)
+        × IsAnswer rule.now task.now multipliers.now at_upper.now cut
         × SafeCutHolds task.now.problem cut
         × (out.new.items ≡ out.old.items ++ cut_lines task.now.names cut)) }
 {
@@ -167,7 +170,8 @@ fn on_grid(
 ) -> Result<SafeCut, AllocError>
     requires { IfSome grid (λ n. 0 < n) }
     ensures is { IfOk result (IsOnGridOf problem.now grid cut) }
-    ensures holds { IfOk result (λ answer. SafeCutHolds problem.now cut → SafeCutHolds problem.now answer) }
+    ensures holds { IfOk result (λ answer. SafeCutHolds problem.now cut →
+        SafeCutHolds problem.now answer) }
 {
     let Some(grid) = grid else {
         return Ok(cut);

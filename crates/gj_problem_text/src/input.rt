@@ -3,7 +3,8 @@ ghost use Rattle.std.specs.Prelude.{◌≡◌, ◌≤◌, drop, length, IfOk, If
 ghost use Rattle.gj_function_text.specs.FunctionText.{IsFunctionText};
 ghost use Rattle.gj_problem_text.specs.FirstFault.{IsMemoryFault};
 ghost use Rattle.gj_problem_text.specs.Ready.{IsReady};
-ghost use Rattle.gj_problem_text.specs.SafeInputs.{BeginsAsFunction, IsSafeInput, NamesFirstFaultOfInput};
+ghost use Rattle.gj_problem_text.specs.SafeInputs.{BeginsAsFunction, IsSafeInput};
+ghost use Rattle.gj_problem_text.specs.SafeInputs.{NamesFirstFaultOfInput};
 
 use crate::faults::ProblemFault;
 use crate::read::{read_problem, unruled_text_at};

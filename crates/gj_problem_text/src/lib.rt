@@ -1,7 +1,7 @@
 //! The text of a problem with multipliers, read, and the text of its cuts, printed.
 //!
-//! [`safe_reply`] makes mixed-integer cuts, or cuts by a function, whose text stands in front of that
-//! of the problem.
+//! [`safe_reply`] makes mixed-integer cuts, or cuts by a function, whose text stands in front of
+//! that of the problem.
 #![tactic(auto)]
 
 mod answers;

@@ -1,7 +1,8 @@
 //! Cuts, printed.
 ghost use Rattle.std.specs.Prelude.{◌≡◌, ◌++◌, flat_map, OnOk};
 ghost use Rattle.gj_forms.specs.LineForms.{line_of};
-ghost use Rattle.gj_problem_text.specs.CutText.{cut_form, free_form, name_at, cut_term_line, cut_lines};
+ghost use Rattle.gj_problem_text.specs.CutText.{cut_form, free_form, name_at, cut_term_line};
+ghost use Rattle.gj_problem_text.specs.CutText.{cut_lines};
 ghost use Rattle.gj_safe_cut.specs.declared.cut.SafeCut.TheVariants.{Cut};
 
 use gj_frac::Frac;

@@ -1,9 +1,14 @@
 //! A task with one more line.
-ghost use Rattle.std.specs.Prelude.{◌≡◌, ◌≢◌, ◌≤◌, ◌∷◌, ◌++◌, [], None, length, IfSome, IfNone, IfOk, IfErr, IsTrue, ◌↔◌, codes};
+ghost use Rattle.std.specs.Prelude.{◌≡◌, ◌≢◌, ◌≤◌, ◌∷◌, ◌++◌, [], None, length, IfSome, IfNone};
+ghost use Rattle.std.specs.Prelude.{IfOk, IfErr, IsTrue, ◌↔◌, codes};
 ghost use Rattle.gj_lex.specs.LineFaults.{IsRefusedFor, IsMemory};
 ghost use Rattle.gj_lex.specs.declared.reason.Reason.TheVariants as reason;
 ghost use Rattle.gj_problem_text.specs.LinesRead.{line_told};
-ghost use Rattle.gj_problem_text.specs.Tasks.{Adds, Refuses, AddsColumn, RefusesColumn, AddsConstraint, RefusesConstraint, AddsEntry, RefusesEntry, AddsUpper, AddsSum, AddsGrid, Unless, Never, IsKnown, TakesEntries, AreLonger, SpellsBound, IsBound, most_columns};
+ghost use Rattle.gj_problem_text.specs.Tasks.{Adds, Refuses, AddsColumn, RefusesColumn};
+ghost use Rattle.gj_problem_text.specs.Tasks.{AddsConstraint, RefusesConstraint, AddsEntry};
+ghost use Rattle.gj_problem_text.specs.Tasks.{RefusesEntry, AddsUpper, AddsSum, AddsGrid, Unless};
+ghost use Rattle.gj_problem_text.specs.Tasks.{Never, IsKnown, TakesEntries, AreLonger, SpellsBound};
+ghost use Rattle.gj_problem_text.specs.Tasks.{IsBound, most_columns};
 
 use crate::lines::Line;
 use crate::places::Places;
