@@ -76,5 +76,8 @@ fn ratio(numerator: i128, denominator: i128) -> Frac
     requires denominator_fits { unsigned_abs denominator < 2 ^ 127 }
     ensures { IsRatio result numerator denominator }
 {
+    if let (Ok(n), Ok(d)) = (u64::try_from(numerator), u64::try_from(denominator)) {
+        return Frac::of_small(n, d);
+    }
     Frac::new(numerator, denominator).unwrap()
 }
