@@ -1,5 +1,5 @@
 -- Texts written over a part of a text (own).
-use Rattle.std.proofs.Common.{◌≡◌, ℕ, ◌+◌, ◌-◌, ◌<◌, ◌≤◌, List, ◌++◌, length, take, decimal, ap, subst, ◌∙◌, sym, arith}
+use Rattle.std.proofs.Common.{◌≡◌, ℕ, ◌+◌, ◌<◌, ◌≤◌, List, ◌++◌, length, take, decimal, ap, subst, ◌∙◌, sym, arith}
 use Rattle.std.proofs.lemmas.List.{take-append-le, length-take-le, length-append, take_at, take-take}
 use Rattle.std.proofs.lemmas.Fmt.{length-decimal-le}
 use Rattle.std.proofs.Math.Seq.{take-append-add}
