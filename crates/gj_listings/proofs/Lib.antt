@@ -1,2 +1,3 @@
 pub mod FacesTexts
 pub mod MixedRowLines
+pub mod WrittenPieces

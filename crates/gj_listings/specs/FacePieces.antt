@@ -5,7 +5,7 @@ use Rattle.gj_shape.specs.declared.faces.FaceKind.{FaceKind}
 use Rattle.gj_shape.specs.WalkOrder.{position_of_kind}
 use Rattle.gj_function_lines.specs.FunctionLines.{line}
 use Rattle.gj_function_lines.specs.FaceLines.{face_word}
-use Rattle.gj_listings.specs.declared.face_lines.Piece.{Piece}
+use Rattle.gj_listings.specs.declared.piece.Piece.{Piece}
 use Rattle.gj_listings.specs.declared.face_lines.Starts.{Starts}
 
 -- the text of a piece

@@ -2,29 +2,20 @@
 //!
 //! There may be hundreds of thousands of lines, so the piece up to the row is put together once a
 //! row, and the piece behind it once a column.
-ghost use Rattle.std.specs.Prelude.{◌≡◌, ◌+◌, ◌<◌, ◌≤◌, [], ◌++◌, All, codes, decimal, flat_map, length, IfOk, OnOk};
+ghost use Rattle.std.specs.Prelude.{◌≡◌, ◌+◌, ◌*◌, ◌<◌, ◌≤◌, [], ◌++◌, All, codes, decimal, flat_map, length, take, IfOk, OnOk};
+ghost use Rattle.gj_shape.specs.Limits.{greatest_order};
 ghost use Rattle.gj_function_lines.specs.FunctionLines.{line};
 ghost use Rattle.gj_function_lines.specs.FaceLines.{face_text, face_word};
 ghost use Rattle.gj_listings.specs.FacePieces.{text_of, AreStarts, AreEnds, HasPieces};
 
+use crate::piece::{Piece, ROOM};
 use gj_function_lines::face_word;
 use gj_shape::{Face, FaceKind};
 use itoa::Buffer;
 use std::alloc::{AllocError, Global};
 
-/// The room of a piece, in which a word of at most 10 bytes, a space, and a number of at most 10
-/// digits fit. With its length a piece then has 32 bytes, so that it is found in a list by a shift.
-const ROOM: usize = 28;
-
-/// A text of at most 28 bytes.
-///
-/// All of its room is copied and what is behind the text cut off again, since a copy of so many
-/// bytes that are known beforehand is fast.
-#[derive(Clone, Copy)]
-pub(crate) struct Piece {
-    bytes: [u8; ROOM],
-    length: u32,
-}
+/// The room of a line: that of two pieces.
+const LINE_ROOM: usize = 2 * ROOM;
 
 /// The beginnings of the lines of the faces of one row of squares: the word of the kind, a space
 /// and the row.
@@ -36,7 +27,9 @@ pub(crate) struct Starts {
 }
 
 /// The beginnings for a row.
+#[tactic(auto, using(crate::proofs::WrittenPieces::has_few_digits))]
 pub(crate) fn starts_of(row: u32) -> Starts
+    requires { row < greatest_order }
     ensures starts { AreStarts result }
     ensures row { result.row ≡ row }
 {
@@ -66,6 +59,9 @@ pub(crate) fn ends_below(alloc: Global, n: u32) -> Result<Vec<Piece>, AllocError
 }
 
 /// Appends the line of each face.
+///
+/// The text is first made as long as it can become, and then cut off behind the last line. So room
+/// is asked for once for all lines.
 pub(crate) fn push_face_lines(
     out: &mut Vec<u8>,
     starts: &Starts,
@@ -75,48 +71,44 @@ pub(crate) fn push_face_lines(
     requires starts { AreStarts starts.now }
     requires ends { AreEnds ends.now }
     requires faces { All (HasPieces starts.now ends.now) faces.now }
+    requires few { length faces.now ≤ 6 * greatest_order }
     ensures { OnOk result (out.new.items ≡ out.old.items ++ flat_map
         (λ face. line (face_text face)) faces.now) }
 {
-    for face in faces {
-        push_face_line(out, starts, ends, *face)?;
-    }
+    let before = out.len();
+    out.resize(before + LINE_ROOM * faces.len(), 0)?;
+    let length = write_face_lines(&mut out[before..], starts, ends, faces);
+    out.truncate(before + length);
     Ok(())
 }
 
-/// Appends the line of a face.
-fn push_face_line(
-    out: &mut Vec<u8>,
-    starts: &Starts,
-    ends: &[Piece],
-    face: Face,
-) -> Result<(), AllocError>
+/// Writes the line of each face to the front of the text, and says where they end.
+fn write_face_lines(text: &mut [u8], starts: &Starts, ends: &[Piece], faces: &[Face]) -> usize
     requires starts { AreStarts starts.now }
     requires ends { AreEnds ends.now }
-    requires face { HasPieces starts.now ends.now face }
-    ensures { OnOk result (out.new.items ≡ out.old.items ++ line (face_text face)) }
+    requires faces { All (HasPieces starts.now ends.now) faces.now }
+    requires room { LINE_ROOM * length faces.now ≤ length text.old }
+    ensures written { take result text.new ≡ flat_map (λ face. line (face_text face)) faces.now }
+    ensures within { result ≤ length text.new }
+    ensures length { length text.new ≡ length text.old }
 {
-    push_piece(out, &starts.pieces[face.kind.position() as usize])?;
-    push_piece(out, &ends[face.b as usize])
-}
-
-/// Appends the text of a piece.
-#[inline(always)]
-fn push_piece(out: &mut Vec<u8>, piece: &Piece) -> Result<(), AllocError>
-    ensures { OnOk result (out.new.items ≡ out.old.items ++ text_of piece.now) }
-{
-    let before = out.len();
-    out.extend_from_slice(&piece.bytes)?;
-    out.truncate(before + piece.length as usize);
-    Ok(())
+    let mut end = 0;
+    for face in faces {
+        let middle = starts.pieces[face.kind.position() as usize].write(text, end);
+        end = ends[face.b as usize].write(text, middle);
+    }
+    end
 }
 
 /// The beginning for a kind and a row of these digits.
 fn start(kind: FaceKind, digits: &[u8]) -> Piece
-    requires { length digits.now ≤ 10 }
+    requires { length digits.now ≤ 3 }
     ensures { text_of result ≡ face_word kind ++ codes " " ++ digits.now }
 {
-    joined(joined(joined(empty(), face_word(kind)), b" "), digits)
+    Piece::empty()
+        .followed_by(face_word(kind))
+        .followed_by(b" ")
+        .followed_by(digits)
 }
 
 /// The end for a column.
@@ -125,30 +117,8 @@ fn end(column: u32) -> Piece
 {
     let mut buffer = Buffer::new();
     let digits = buffer.format(column).as_bytes();
-    joined(joined(joined(empty(), b" "), digits), b"\n")
-}
-
-/// No text.
-fn empty() -> Piece
-    ensures text { text_of result ≡ [] }
-    ensures length { result.length ≡ 0 }
-{
-    Piece {
-        bytes: [0; ROOM],
-        length: 0,
-    }
-}
-
-/// The text of the piece with one more behind it.
-fn joined(piece: Piece, text: &[u8]) -> Piece
-    requires { piece.length + length text.now ≤ ROOM }
-    ensures text { text_of result ≡ text_of piece ++ text.now }
-    ensures length { result.length ≡ piece.length + length text.now }
-{
-    let mut longer = piece;
-    for byte in text {
-        longer.bytes[longer.length as usize] = *byte;
-        longer.length += 1;
-    }
-    longer
+    Piece::empty()
+        .followed_by(b" ")
+        .followed_by(digits)
+        .followed_by(b"\n")
 }

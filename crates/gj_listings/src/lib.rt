@@ -17,6 +17,7 @@ mod group;
 mod mixed;
 mod mixed_lines;
 mod named;
+mod piece;
 
 pub use faces::faces_text;
 pub use group::group_text;

@@ -1,8 +1,8 @@
-use Rattle.std.proofs.Common.{◌++◌, All, length, flat_map, ap, subst, sym, ◌∙◌}
+use Rattle.std.proofs.Common.{◌++◌, All, length, flat_map, ap, subst, sym, ◌∙◌, arith}
 use Rattle.gj_function_lines.specs.FunctionLines.{line}
 use Rattle.gj_function_lines.specs.FaceLines.{face_text}
 use Rattle.gj_listings.specs.FacePieces.{HasPieces}
-use Rattle.gj_listings.proofs.FacesTexts.{no_rows_pushed, one_row_pushed, row_has_pieces}
+use Rattle.gj_listings.proofs.FacesTexts.{no_rows_pushed, one_row_pushed, row_has_pieces, row_is_short}
 use Rattle.gj_listings.proofs.faces.push_maximal_faces.Goals as goal
 
 pub loop-a-init : goal.loop-a-init
@@ -10,6 +10,7 @@ loop-a-init c = record {
   pushed = no_rows_pushed c.args.shape.now c.args.out.now.items;
   ends = c.in_ok-ends.ensures.ends;
   count = c.in_ok-ends.ensures.count ∙ c.order.ensures.value;
+  limits = c.order.ensures.limits;
 }
 
 pub push_face_lines-requires-clause-faces : goal.push_face_lines-requires-clause-faces
@@ -21,6 +22,12 @@ push_face_lines-requires-clause-faces c =
     c.clear.ensures.items c.in_ok-push_maximal_row.ensures c.starts_of.ensures.row
     (ap length c.as_slice.ensures.value ∙ c.loop-a.invariant.count))
 
+pub push_face_lines-requires-clause-few : goal.push_face_lines-requires-clause-few
+push_face_lines-requires-clause-few c =
+    let short = row_is_short c.args.shape.now c.loop-a.a c.clear.new.self.items c.push_maximal_row.new.faces.items c.clear.ensures.items
+    c.in_ok-push_maximal_row.ensures in
+    omega (arith, short, c.loop-a.invariant.limits.order_high, ap length c.as_slice-in-loop-a.ensures.value)
+
 pub loop-a-preserved : goal.loop-a-preserved
 loop-a-preserved c = record {
   pushed = one_row_pushed c.args.shape.now c.loop-a.a c.args.out.now.items c.loop-a.out.items c.push_face_lines.new.out.items
@@ -30,4 +37,5 @@ loop-a-preserved c = record {
       ∙ ap (λ xs. c.loop-a.out.items ++ flat_map (λ face. line (face_text face)) xs) c.as_slice-in-loop-a.ensures.value);
   ends = c.loop-a.invariant.ends;
   count = c.loop-a.invariant.count;
+  limits = c.loop-a.invariant.limits;
 }

@@ -1,4 +1,5 @@
 use Rattle.std.proofs.Common.{◌≡◌, length}
+use Rattle.gj_shape.specs.FunctionData.{IsWithinBounds}
 use Rattle.gj_listings.specs.FacePieces.{AreEnds}
 use Rattle.gj_listings.specs.FacesText.{AreRowsPushed}
 use Rattle.gj_listings.proofs.faces.push_maximal_faces.Given as goal
@@ -8,4 +9,5 @@ invariant-loop-a l = record {
   pushed : AreRowsPushed l.shape l.a l.fn.out.items l.out.items;
   ends : AreEnds l.ends.items;
   count : length l.ends.items ≡ l.shape.order;
+  limits : IsWithinBounds l.shape;
 }
