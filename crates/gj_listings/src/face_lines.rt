@@ -2,7 +2,8 @@
 //!
 //! There may be hundreds of thousands of lines, so the piece up to the row is put together once a
 //! row, and the piece behind it once a column.
-ghost use Rattle.std.specs.Prelude.{◌≡◌, ◌+◌, ◌*◌, ◌<◌, ◌≤◌, [], ◌++◌, All, codes, decimal, flat_map, length, take, IfOk, OnOk};
+ghost use Rattle.std.specs.Prelude.{◌≡◌, ◌+◌, ◌*◌, ◌<◌, ◌≤◌, [], ◌++◌, All, codes, decimal};
+ghost use Rattle.std.specs.Prelude.{flat_map, length, take, IfOk, OnOk};
 ghost use Rattle.gj_shape.specs.Limits.{greatest_order};
 ghost use Rattle.gj_function_lines.specs.FunctionLines.{line};
 ghost use Rattle.gj_function_lines.specs.FaceLines.{face_text, face_word};

@@ -2,7 +2,8 @@
 ghost use Rattle.std.specs.Prelude.{◌≡◌, ◌++◌, flat_map, IfOk, OnOk, length};
 ghost use Rattle.gj_row.specs.TableauLimits.{IsTableau};
 ghost use Rattle.gj_proof.specs.ProofText.{IsBoundedRule};
-ghost use Rattle.gj_listings.specs.MixedLines.{AreInColumns, AreMixedCutsOf, MakesMixedCuts, NamesMixedCut, mixed_row_text, weight_line};
+ghost use Rattle.gj_listings.specs.MixedLines.{AreInColumns, AreMixedCutsOf, MakesMixedCuts};
+ghost use Rattle.gj_listings.specs.MixedLines.{NamesMixedCut, mixed_row_text, weight_line};
 ghost use Rattle.gj_listings.specs.declared.mixed_lines.MixedLine.{MixedLine};
 
 use crate::mixed_lines::push_mixed_lines;
