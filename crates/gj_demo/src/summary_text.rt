@@ -72,7 +72,7 @@ fn text_of(
     push_count_line(&mut text, b"uncovered ", order - covered)?;
     push_count_line(&mut text, b"components ", components)?;
     text.extend_from_slice(b"verdict not-extreme\n")?;
-    push_halves_line(alloc, &mut text, halves)?;
+    push_halves_line(&mut text, halves)?;
     Ok(text)
 }
 

@@ -36,7 +36,7 @@ fn push_verdict(alloc: Global, out: &mut Vec<u8>, answer: &GroupAnswer) -> Resul
         GroupAnswer::Extreme => out.extend_from_slice(b"verdict extreme\n"),
         GroupAnswer::NotExtreme(halves) => {
             out.extend_from_slice(b"verdict not-extreme\n")?;
-            push_halves(alloc, out, halves)
+            push_halves(out, halves)
         }
     }
 }

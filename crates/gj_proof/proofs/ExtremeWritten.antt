@@ -1,28 +1,15 @@
 -- The lines of claims of extremality, written one part after another.
-use Rattle.std.proofs.Common.{◌≡◌, ℕ, ◌+◌, ◌<◌, min, ℤ, pos, Option, Some, Result, OnOk, IfSome, List, [], ◌∷◌, ◌++◌, length, take, flat_map, zip, get_or, sym, ap, subst, ◌∙◌, arith}
-use Rattle.std.specs.Fmt.{signed_decimal}
+use Rattle.std.proofs.Common.{◌≡◌, ℕ, ◌+◌, ◌<◌, min, ℤ, pos, Result, OnOk, List, [], ◌∷◌, ◌++◌, length, take, flat_map, zip, get_or, sym, ap, ◌∙◌, arith}
 use Rattle.std.proofs.Math.Seq.{take-length}
 use Rattle.std.proofs.lemmas.Grind.{flat_map-append}
 use Rattle.std.proofs.lemmas.List.{append_assoc, append-nil, take_more}
 use Rattle.std.proofs.lemmas.Result.{on_ok_weaker}
 use Rattle.std.proofs.lemmas.Slice.Zip.{length-zip, get_or-zip}
-use Rattle.gj_frac.specs.Fraction.{IsRatio, Fits}
-use Rattle.gj_frac.specs.declared.Frac.{Frac}
-use Rattle.gj_lex.specs.NumberText.{fraction_text}
 use Rattle.gj_shape.specs.declared.extremality.CoverLine.{CoverLine}
 use Rattle.gj_function_lines.specs.FaceLines.{cover_line}
 use Rattle.gj_proof.specs.ProofText.{pair_line, group_text, modulus_text, extreme_text}
 use Rattle.gj_proof.specs.declared.numbers.Numbers.{Numbers}
 use Rattle.gj_proof.specs.declared.pivot.PivotRow.{PivotRow}
-use Rattle.gj_forms.proofs.WholeNumbers.{text_of_ratio}
-
--- a whole number, printed as the fraction over 1
-pub whole_pushed : {E : Type 0} (r : Result (Unit {0}) E) (o : Option Frac) (x : Frac) (m n : ℤ) (old new : List ℕ) → Fits n → m ≡ n →
-    o ≡ Some x → IfSome o (λ y. IsRatio y m (pos 1)) → OnOk r (new ≡ old ++ fraction_text x) → OnOk r (new ≡ old ++ signed_decimal n)
-whole_pushed r o x m n old new fits same o_is is =
-    let value : IsRatio x n (pos 1) =
-    subst (λ (k : ℤ). IsRatio x k (pos 1)) same (subst (λ (p : Option Frac). IfSome p (λ y. IsRatio y m (pos 1))) o_is is) in
-    on_ok_weaker r (λ e. e ∙ ap (λ t. old ++ t) (text_of_ratio x n fits value))
 
 -- one pair more
 pub pair_pushed : (first second : List ℤ) (i n : ℕ) (x y : ℤ) (start old new : List ℕ) → i < length first → i < length second → n ≡ i + 1 →

@@ -66,20 +66,18 @@ fn push_own_lines(alloc: Global, out: &mut Vec<u8>, claim: &Claim) -> Result<(),
         Claim::NotMinimal(_, violation) => push_violation_line(alloc, out, *violation),
         Claim::Cut(_, rows) => push_rows(alloc, out, rows.as_slice()),
         Claim::Extreme(_, lines, rows) => push_extreme_lines(
-            alloc,
             out,
             Numbers::Whole,
             lines.as_slice(),
             rows.as_slice(),
         ),
         Claim::ExtremeByResidues(_, lines, rows) => push_extreme_lines(
-            alloc,
             out,
             Numbers::Residues,
             lines.as_slice(),
             rows.as_slice(),
         ),
-        Claim::NotExtreme(_, halves) => push_halves(alloc, out, halves),
+        Claim::NotExtreme(_, halves) => push_halves(out, halves),
     }
 }
 

@@ -9,16 +9,15 @@ ghost use Rattle.gj_proof.specs.ProofText.{halves_line, pair_line, group_text, h
 
 use crate::numbers::{MODULUS, Numbers};
 use crate::pivot::PivotRow;
-use gj_frac::Frac;
 use gj_function_lines::push_cover_lines;
-use gj_lex::{print_count, print_frac};
+use gj_lex::print_count;
 use gj_shape::{CoverLine, Halves, RowName};
-use std::alloc::{AllocError, Global};
+use itoa::Buffer;
+use std::alloc::AllocError;
 
 /// Appends the lines of a proof that a function is extreme by rows of these numbers: those of the
 /// covered intervals, that of the modulus, and those of the groups.
 pub(crate) fn push_extreme_lines(
-    alloc: Global,
     out: &mut Vec<u8>,
     numbers: Numbers,
     lines: &[CoverLine],
@@ -28,19 +27,19 @@ pub(crate) fn push_extreme_lines(
         lines.now rows.now) }
 {
     push_cover_lines(out, lines)?;
-    push_modulus(alloc, out, numbers)?;
+    push_modulus(out, numbers)?;
     push_groups(out, rows)
 }
 
 /// Appends the line of the modulus, by residues.
-fn push_modulus(alloc: Global, out: &mut Vec<u8>, numbers: Numbers) -> Result<(), AllocError>
+fn push_modulus(out: &mut Vec<u8>, numbers: Numbers) -> Result<(), AllocError>
     ensures { OnOk result (out.new.items ≡ out.old.items ++ modulus_text numbers) }
 {
     match numbers {
         Numbers::Whole => Ok(()),
         Numbers::Residues => {
             out.extend_from_slice(b"modulus")?;
-            push_whole_line(alloc, out, MODULUS)
+            push_whole_line(out, MODULUS)
         }
     }
 }
@@ -101,74 +100,61 @@ fn push_column(out: &mut Vec<u8>, word: &[u8], column: u32) -> Result<(), AllocE
 
 /// Appends the lines of halves: `halves N S`, and a line `pair A B` for the values of both at each
 /// index. An error says that memory ran out; `out` may then have a part of them.
-pub fn push_halves(alloc: Global, out: &mut Vec<u8>, halves: &Halves) -> Result<(), AllocError>
+pub fn push_halves(out: &mut Vec<u8>, halves: &Halves) -> Result<(), AllocError>
     requires { AreHalvesInBounds halves.now }
     ensures { OnOk result (out.new.items ≡ out.old.items ++ halves_text halves.now) }
 {
-    push_halves_line(alloc, out, halves)?;
-    push_pairs(
-        alloc,
-        out,
-        halves.first.as_slice(),
-        halves.second.as_slice(),
-    )
+    push_halves_line(out, halves)?;
+    push_pairs(out, halves.first.as_slice(), halves.second.as_slice())
 }
 
 /// Appends the line `halves N S`, with the order and the scale of halves. An error says that memory
 /// ran out; `out` may then have a part of it.
-pub fn push_halves_line(alloc: Global, out: &mut Vec<u8>, halves: &Halves) -> Result<(), AllocError>
+pub fn push_halves_line(out: &mut Vec<u8>, halves: &Halves) -> Result<(), AllocError>
     requires { AreHalvesInBounds halves.now }
     ensures { OnOk result (out.new.items ≡ out.old.items ++ halves_line halves.now) }
 {
     out.extend_from_slice(b"halves ")?;
     print_count(out, halves.order)?;
-    push_whole_line(alloc, out, halves.scale)
+    push_whole_line(out, halves.scale)
 }
 
 /// Appends the lines of the halves' values.
-fn push_pairs(
-    alloc: Global,
-    out: &mut Vec<u8>,
-    first: &[i128],
-    second: &[i128],
-) -> Result<(), AllocError>
+fn push_pairs(out: &mut Vec<u8>, first: &[i128], second: &[i128]) -> Result<(), AllocError>
     requires first { All Fits first.now }
     requires second { All Fits second.now }
     ensures { OnOk result (out.new.items ≡ out.old.items ++ flat_map pair_line
         (zip first.now second.now)) }
 {
     for (x, y) in first.iter().zip(second) {
-        push_pair(alloc, out, *x, *y)?;
+        push_pair(out, *x, *y)?;
     }
     Ok(())
 }
 
 /// Appends the line of a pair of values.
-fn push_pair(alloc: Global, out: &mut Vec<u8>, x: i128, y: i128) -> Result<(), AllocError>
-    requires first { Fits x }
-    requires second { Fits y }
+fn push_pair(out: &mut Vec<u8>, x: i128, y: i128) -> Result<(), AllocError>
     ensures { OnOk result (out.new.items ≡ out.old.items ++ pair_line (x, y)) }
 {
     out.extend_from_slice(b"pair ")?;
-    push_whole(alloc, out, x)?;
-    push_whole_line(alloc, out, y)
+    push_whole(out, x)?;
+    push_whole_line(out, y)
 }
 
 /// Appends a space, a whole number and the end of the line.
-fn push_whole_line(alloc: Global, out: &mut Vec<u8>, n: i128) -> Result<(), AllocError>
-    requires { Fits n }
+fn push_whole_line(out: &mut Vec<u8>, n: i128) -> Result<(), AllocError>
     ensures { OnOk result (out.new.items ≡ out.old.items ++ line (codes " " ++ signed_decimal n)) }
 {
     out.push(b' ')?;
-    push_whole(alloc, out, n)?;
+    push_whole(out, n)?;
     out.push(b'\n')?;
     Ok(())
 }
 
 /// Appends a whole number.
-fn push_whole(alloc: Global, out: &mut Vec<u8>, n: i128) -> Result<(), AllocError>
-    requires { Fits n }
+fn push_whole(out: &mut Vec<u8>, n: i128) -> Result<(), AllocError>
     ensures { OnOk result (out.new.items ≡ out.old.items ++ signed_decimal n) }
 {
-    print_frac(alloc, out, Frac::new(n, 1).unwrap())
+    let mut buffer = Buffer::new();
+    out.extend_from_slice(buffer.format(n).as_bytes())
 }
