@@ -83,6 +83,12 @@ impl Frac {
         ensures { IsRatio result (pos num) (pos den) }
     {
         let divisor = gcd_in_64_bits(num, den);
+        if divisor == 1 {
+            return Frac {
+                num: i128::from(num),
+                den: i128::from(den),
+            };
+        }
         Frac {
             num: i128::from(num / divisor),
             den: i128::from(den / divisor),
@@ -113,6 +119,17 @@ impl Frac {
         if let (Ok(num), Ok(den)) = (u64::try_from(num), u64::try_from(den)) {
             return Frac::of_small(num, den);
         }
+        Frac::reduced_in_128_bits(num, den)
+    }
+
+    /// The same, whatever the sizes and the signs of the parts.
+    #[inline(never)]
+    fn reduced_in_128_bits(num: i128, den: i128) -> Frac
+        requires zero { unsigned_abs den ≢ 0 }
+        requires num_fits { unsigned_abs num < 2 ^ 127 }
+        requires den_fits { unsigned_abs den < 2 ^ 127 }
+        ensures { IsRatio result num den }
+    {
         let divisor = common_divisor(num, den);
         Frac::coprime(quotient(num, divisor), quotient(den, divisor))
     }

@@ -34,6 +34,9 @@ fn narrow_product(n: i64, m: i64) -> i128
 pub fn product(n: i128, m: i128) -> Result<i128, Wide>
     ensures { OkIff result (Fits (n *ℤ m)) (n *ℤ m) }
 {
+    if m == 0 {
+        return Ok(0);
+    }
     if is_narrow(n) && is_narrow(m) {
         return Ok(narrow_product(n as i64, m as i64));
     }
