@@ -56,6 +56,7 @@ impl Frac {
     /// The fraction `num/den` in lowest terms.
     ///
     /// None if `den` is 0, or if one of the two is -2^127, whose absolute value does not fit.
+    #[inline]
     pub fn new(num: i128, den: i128) -> Option<Frac>
         ensures none { IsNone result ↔ ((den ≡ pos 0) ⊎ (unsigned_abs num ≡ 2 ^ 127) ⊎
             (unsigned_abs den ≡ 2 ^ 127)) }
