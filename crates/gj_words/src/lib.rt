@@ -8,10 +8,10 @@
 //! Every other word that begins with `-` is refused, so `--` and `--help` are.
 //!
 //! The grammar stands in `specs/Grammar.antt`, which says what words spell what request, and
-//! `one_request` says that they spell at most one. `read_words` gives that request. It tells the
-//! words apart by the crate `clap`, which knows a command line as three positionals and one flag;
-//! how often the flag stands, which words begin with `-` and what the numbers are, are tests of
-//! this crate's own.
+//! `one_request` says that they spell at most one. `read_words` gives that request. One word alone
+//! that is not the flag is the command word. All other words it tells apart by the crate `clap`,
+//! which knows a command line as three positionals and one flag; how often the flag stands, which
+//! words begin with `-` and what the numbers are, are tests of this crate's own.
 #![tactic(auto)]
 
 mod laws;

@@ -1,4 +1,4 @@
-//! A command line, its words told apart by `clap`.
+//! A command line, its words told apart; where there are several, by `clap`.
 
 ghost use Rattle.std.specs.Prelude.{◌≡◌, ◌≢◌, ◌≤◌, ◌↔◌, ◌∷◌, ◌++◌, ℕ, List, true, codes, length};
 ghost use Rattle.std.specs.Prelude.{map, None, option_map, Err, IfOk};
@@ -39,6 +39,8 @@ pub(crate) enum Operands<'a> {
 
 /// The command line of these words, each of which is the flag or does not begin with `-`.
 ///
+/// Most lines are one word alone, the command word. That is told without `clap`.
+///
 /// `Refused` exactly if none or more than three of them are left without the flag.
 pub(crate) fn parse<'a>(alloc: Global, words: &'a [String]) -> Result<Line<'a>, WordFault>
     requires plain { list_all is_plain (map string_bytes words.now) ≡ true }
@@ -48,6 +50,15 @@ pub(crate) fn parse<'a>(alloc: Global, words: &'a [String]) -> Result<Line<'a>, 
         (rest : List (List ℕ)) → length rest ≤ 2 →
         bare_words (map string_bytes words.entry.now) ≢ name ∷ rest }
 {
+    if let [word] = words
+        && !word.starts_with('-')
+    {
+        return Ok(Line {
+            name: word.as_str(),
+            operands: Operands::Nothing,
+            json: false,
+        });
+    }
     let command = our_command(alloc)?;
     let matches = match command.try_get_matches_from(words) {
         Ok(matches) => matches,

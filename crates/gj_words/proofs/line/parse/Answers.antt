@@ -19,8 +19,8 @@ unreachable-requires c =
     let none : None ≡ Some h.name = ap (option_map (λ s. s.now)) (sym c.in_default.is) ∙ c.get_str.ensures ∙ h.name_is in
     cc
 
-pub returns-clause-ok : goal.returns-clause-ok
-returns-clause-ok c =
+pub returns-2-clause-ok : goal.returns-2-clause-ok
+returns-2-clause-ok c =
     let same = c.in_ok-command.ensures in
     let h = holds _ (map string_bytes c.args.words.now) c.in-Ok.matches same c.requires.plain c.requires.once
     (c.in-Ok.ensures.kinds (simple_and_free _ same)) (c.in-Ok.ensures.matches (simple _ same)).0 in
