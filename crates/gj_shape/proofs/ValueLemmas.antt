@@ -27,6 +27,13 @@ congruent_to_remainder (negsuc a) p some =
     let below = mod-lt a some in
     (negsuc (a / p), omega (arith, ints))
 
+-- a number is congruent to its remainder by m d, put together again from its parts by d
+pub congruent_to_parts : (n : ℤ) (m d e place : ℕ) → 0 < m * d → e ≡ d → pos place ≡ int_rem_euclid n (pos (m * d)) →
+    IsCongruent n (pos (place / e * d + place % e)) (m * d)
+congruent_to_parts n m d e place some same is =
+    let together : place / e * d + place % e ≡ place = ap (λ k. place / k * d + place % k) same ∙ div-add-mod' place d in
+    subst (λ z. IsCongruent n z (m * d)) (sym (ap pos together ∙ is)) (congruent_to_remainder n (m * d) some)
+
 pub congruent_join : (i n j : ℤ) (p : ℕ) → IsCongruent i n p → IsCongruent n j p → IsCongruent i j p
 congruent_join i n j p (k, e) (l, g) =
     let both = add_mul_z k l (pos p) in

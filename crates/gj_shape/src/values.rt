@@ -1,5 +1,5 @@
 //! The value of a function at a fraction.
-ghost use Rattle.std.specs.Prelude.{◌≡◌, ◌<◌, ◌≤◌, ◌*◌, ◌^◌, ℕ, ◌≢◌, pos, ◌*ℤ◌, ◌+ℤ◌, length};
+ghost use Rattle.std.specs.Prelude.{◌≡◌, ◌<◌, ◌≤◌, ◌+◌, ◌*◌, ◌^◌, ℕ, ◌≢◌, pos, ◌*ℤ◌, ◌+ℤ◌, length};
 ghost use Rattle.std.specs.Prelude.{unsigned_abs};
 ghost use Rattle.gj_frac.specs.Fraction.{IsRatio, numerator, denominator};
 ghost use Rattle.gj_shape.specs.Limits.{IsSmallNumber};
@@ -46,10 +46,7 @@ impl Shape {
         requires few { steps ≤ 2 ^ 62 }
         ensures { IsValueAt self.now n steps result }
     {
-        let period = u128::from(self.order()) * u128::from(steps);
-        let place = place_within(n, period);
-        let index = (place / u128::from(steps)) as usize;
-        let remainder = (place % u128::from(steps)) as u64;
+        let (index, remainder) = place_within(n, self.order(), steps);
         let numerator = self.entry_or_value(self.value_numerators(), index, remainder, steps);
         fraction(numerator, self.common_denominator() * i128::from(steps))
     }
@@ -80,14 +77,36 @@ impl Shape {
     }
 }
 
-/// The least natural number that differs from n by a multiple of the period.
-fn place_within(n: i128, period: u128) -> u128
-    requires some { 0 < period }
-    requires fits { period < 2 ^ 127 }
-    ensures below { result < period }
-    ensures congruent { IsCongruent n (pos result) period }
+/// The index i below q and the remainder r below `steps` for which n/(q steps) differs from
+/// i/q + r/(q steps) by a whole number, for the order q.
+fn place_within(n: i128, order: u32, steps: u64) -> (usize, u64)
+    requires order { 0 < order }
+    requires steps { 0 < steps }
+    ensures index { result.0 < order }
+    ensures remainder { result.1 < steps }
+    ensures congruent { IsCongruent n (pos (result.0 * steps + result.1)) (order * steps) }
 {
-    n.rem_euclid(period as i128) as u128
+    let period = u128::from(order) * u128::from(steps);
+    if let (Ok(n), Ok(period)) = (i64::try_from(n), i64::try_from(period)) {
+        let place = n.rem_euclid(period) as u64;
+        return ((place / steps) as usize, place % steps);
+    }
+    place_in_128_bits(n, order, steps)
+}
+
+/// The same, whatever the sizes of n and of q `steps`.
+#[inline(never)]
+fn place_in_128_bits(n: i128, order: u32, steps: u64) -> (usize, u64)
+    requires order { 0 < order }
+    requires steps { 0 < steps }
+    ensures index { result.0 < order }
+    ensures remainder { result.1 < steps }
+    ensures congruent { IsCongruent n (pos (result.0 * steps + result.1)) (order * steps) }
+{
+    let period = u128::from(order) * u128::from(steps);
+    let place = n.rem_euclid(period as i128) as u128;
+    let steps = u128::from(steps);
+    ((place / steps) as usize, (place % steps) as u64)
 }
 
 /// A weight of at most 2^62 times an entry.
@@ -106,5 +125,8 @@ pub(crate) fn fraction(numerator: i128, denominator: i128) -> Frac
     requires denominator_fits { unsigned_abs denominator < 2 ^ 127 }
     ensures { IsRatio result numerator denominator }
 {
+    if let (Ok(n), Ok(d)) = (u64::try_from(numerator), u64::try_from(denominator)) {
+        return Frac::of_small(n, d);
+    }
     Frac::new(numerator, denominator).unwrap()
 }
