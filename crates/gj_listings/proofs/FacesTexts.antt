@@ -1,8 +1,8 @@
 -- The text of the faces, the cover lines and the uncovered intervals of a function, printed piece
 -- by piece.
-use Rattle.std.proofs.Common.{◌≡◌, ℕ, zero, suc, ◌+◌, ◌*◌, ◌<◌, ◌≤◌, ◌↔◌, List, [], ◌∷◌, ◌++◌, All, codes, flat_map, Option, None, Some, is_some, true, false, refl, sym, ap, subst, ◌∙◌, append_assoc, length, arith}
+use Rattle.std.proofs.Common.{◌≡◌, ℕ, ◌+◌, ◌<◌, ◌↔◌, List, [], ◌∷◌, ◌++◌, All, codes, flat_map, Option, None, Some, is_some, true, false, refl, sym, ap, subst, ◌∙◌, append_assoc, length, arith}
 use Rattle.std.specs.List.{range_with_len}
-use Rattle.std.proofs.lemmas.List.{append-nil, flat_map_more, length-append}
+use Rattle.std.proofs.lemmas.List.{append-nil, flat_map_more}
 use Rattle.std.proofs.lemmas.List.Concat.{flat_map-append}
 use Rattle.std.proofs.lemmas.List.Elements.{All-nil, All-cons, All-head, All-tail, All-map}
 use Rattle.std.proofs.Math.Nat.{zero-add}
@@ -19,7 +19,7 @@ use Rattle.gj_faces.specs.Added.{AddsMaximal, faces_of_row}
 use Rattle.gj_faces.specs.Listed.{IsMaximalIn}
 use Rattle.gj_faces.proofs.AddedFaces.{picked_row, all_rows_picked}
 use Rattle.gj_faces.specs.Picked.{ArePicked, none, kept, dropped}
-use Rattle.gj_faces.proofs.PickedFaces.{picked_joined, joined_more}
+use Rattle.gj_faces.proofs.PickedFaces.{picked_joined}
 use Rattle.gj_cover.specs.CoverOf.{IsCoverOf, number_at}
 use Rattle.gj_cover.specs.declared.covered.Cover.{Cover}
 use Rattle.gj_cover.proofs.TruePlaces.{range_next}
@@ -66,30 +66,6 @@ row_has_pieces f a starts ends empty row is h at count =
     (Vertex ∷ Horizontal ∷ Vertical ∷ Diagonal ∷ Lower ∷ Upper ∷ [])
     (λ k kind within. (sym at, let low : b < length ends = omega (arith, below, count) in low))) in
     subst (All (HasPieces starts ends)) (sym whole) (picked_keeps (HasPieces starts ends) (IsMaximalIn f) each h.picked)
-
--- no more elements are picked than there are
-picked_fewer : {X : Type 0} (P : X → Type 0) {xs ys : List X} → ArePicked P xs ys → length ys ≤ length xs
-picked_fewer P none = omega arith
-picked_fewer P (kept {x} {xs} {ys} h more) = let few : length ys ≤ length xs = picked_fewer P more in omega arith
-picked_fewer P (dropped {x} {xs} {ys} h more) = let few : length ys ≤ length xs = picked_fewer P more in omega arith
-
--- a row of n squares has six faces a square
-count_faces : (a n : ℕ) → length (flat_map (faces_of_square a) (range_with_len 0 n)) ≡ 6 * n
-count_faces a zero = refl
-count_faces a (suc n) =
-    let row : ℕ → List Face = λ m. flat_map (faces_of_square a) (range_with_len 0 m) in
-    let before : length (row n) ≡ 6 * n = count_faces a n in
-    let step : length (row (n + 1)) ≡ length (row n) + 6 =
-    ap length (joined_more (faces_of_square a) n) ∙ length-append (row n) (faces_of_square a n) in
-    let next : n + 1 ≡ suc n = omega arith in
-    subst (λ m. length (row m) ≡ 6 * m) next (omega (arith, step, before))
-
--- so many faces are added to an empty row at most
-pub row_is_short : (f : FunctionData) (a : ℕ) (empty row : List Face) → empty ≡ [] → AddsMaximal f (faces_of_row f.order a) empty row →
-    length row ≤ 6 * f.order
-row_is_short f a empty row is h =
-    let whole : length row ≡ length h.added = ap length (h.items ∙ ap (λ xs. xs ++ h.added) is) in
-    omega (arith, whole, picked_fewer (IsMaximalIn f) h.picked, count_faces a f.order)
 
 -- ---- the uncovered intervals
 

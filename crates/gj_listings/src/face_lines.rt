@@ -18,6 +18,10 @@ use std::alloc::{AllocError, Global};
 /// The room of a line: that of two pieces.
 const LINE_ROOM: usize = 2 * ROOM;
 
+/// How many lines are written at a time at most. Room for so many is less than 2 KB, and that is
+/// cleared faster than the same in longer runs.
+const FEW: usize = 60;
+
 /// The beginnings of the lines of the faces of one row of squares: the word of the kind, a space
 /// and the row.
 #[derive(Clone, Copy)]
@@ -59,10 +63,7 @@ pub(crate) fn ends_below(alloc: Global, n: u32) -> Result<Vec<Piece>, AllocError
     Ok(ends)
 }
 
-/// Appends the line of each face.
-///
-/// The text is first made as long as it can become, and then cut off behind the last line. So room
-/// is asked for once for all lines.
+/// Appends the line of each face, a few at a time.
 pub(crate) fn push_face_lines(
     out: &mut Vec<u8>,
     starts: &Starts,
@@ -72,7 +73,32 @@ pub(crate) fn push_face_lines(
     requires starts { AreStarts starts.now }
     requires ends { AreEnds ends.now }
     requires faces { All (HasPieces starts.now ends.now) faces.now }
-    requires few { length faces.now ≤ 6 * greatest_order }
+    ensures { OnOk result (out.new.items ≡ out.old.items ++ flat_map
+        (λ face. line (face_text face)) faces.now) }
+{
+    let mut left = faces;
+    while !left.is_empty() {
+        let (few, rest) = left.split_at(left.len().min(FEW));
+        push_few_lines(out, starts, ends, few)?;
+        left = rest;
+    }
+    Ok(())
+}
+
+/// Appends the lines of a few faces.
+///
+/// The text is first made as long as it can become, and then cut off behind the last line. So room
+/// is asked for once for all of them.
+fn push_few_lines(
+    out: &mut Vec<u8>,
+    starts: &Starts,
+    ends: &[Piece],
+    faces: &[Face],
+) -> Result<(), AllocError>
+    requires starts { AreStarts starts.now }
+    requires ends { AreEnds ends.now }
+    requires faces { All (HasPieces starts.now ends.now) faces.now }
+    requires few { length faces.now ≤ FEW }
     ensures { OnOk result (out.new.items ≡ out.old.items ++ flat_map
         (λ face. line (face_text face)) faces.now) }
 {

@@ -1,22 +1,25 @@
-use Rattle.std.proofs.Common.{◌≡◌, ◌+◌, ◌-◌, ◌*◌, ◌++◌, length, replicate, vec_len, ap, ◌∙◌, arith}
-use Rattle.std.proofs.lemmas.List.{take_all}
-use Rattle.std.proofs.lemmas.List.Edits.{length-between}
-use Rattle.gj_listings.proofs.WrittenPieces.{lines_behind}
+use Rattle.std.proofs.Common.{◌≡◌, ◌++◌, All, flat_map, take, ap, subst, sym, ◌∙◌, append_assoc, take-append-drop}
+use Rattle.std.proofs.lemmas.List.Concat.{flat_map-append}
+use Rattle.std.proofs.lemmas.List.Elements.{All-drop}
+use Rattle.gj_function_lines.specs.FunctionLines.{line}
+use Rattle.gj_function_lines.specs.FaceLines.{face_text}
+use Rattle.gj_listings.specs.FacePieces.{HasPieces}
 use Rattle.gj_listings.proofs.face_lines.push_face_lines.Goals as goal
 
-pub returns : goal.returns
-returns c =
-    let old = c.args.out.now.items in
-    let before = c.len-before.result in
-    let lines = c.write_face_lines-length in
-    let whole = c.deref_mut.result.now in
-    let all : length whole ≡ c.resize.new.self.len = c.deref_mut.ensures.len in
-    let part : length lines.new.text ≡ length whole - before =
-    lines.ensures.length ∙ length-between whole before (length whole) (omega arith) in
-    let longest = before + 32 * length c.args.faces.now in
-    let zeros = replicate (longest - vec_len c.args.out.now) 0 in
-    let kept = take_all longest old (omega arith) in
-    lines_behind before lines.result c.resize.new.self.len _ old zeros whole lines.new.text _ c.truncate.new.self.items _
-    (omega arith)
-    (c.deref_mut.ensures.value ∙ c.in_ok-resize.ensures.items ∙ ap (λ xs. xs ++ zeros) kept)
-    lines.ensures.within (omega (arith, all, part, c.in_ok-resize.ensures.len)) c.truncate.ensures.items lines.ensures.written
+pub loop-left-preserved : goal.loop-left-preserved
+loop-left-preserved c =
+    let out = c.loop-left.out.items in
+    let left = c.loop-left.left.now in
+    let few = c.split_at.result.0.now in
+    let rest = c.split_at.result.1.now in
+    let has = HasPieces c.args.starts.now c.args.ends.now in
+    let whole : few ++ rest ≡ left =
+    ap (λ xs. xs ++ rest) c.split_at.ensures.front ∙ ap (λ xs. take c.min.result left ++ xs) c.split_at.ensures.back
+    ∙ take-append-drop c.min.result left in
+    record {
+      written = ap (λ xs. xs ++ flat_map (λ face. line (face_text face)) rest) c.in_ok-push_few_lines.ensures
+          ∙ append_assoc out (flat_map (λ face. line (face_text face)) few) (flat_map (λ face. line (face_text face)) rest)
+          ∙ ap (λ xs. out ++ xs) (sym (flat_map-append (λ face. line (face_text face)) few rest))
+          ∙ ap (λ xs. out ++ flat_map (λ face. line (face_text face)) xs) whole ∙ c.loop-left.invariant.written;
+      pieces = subst (All has) (sym c.split_at.ensures.back) (All-drop has c.min.result left c.loop-left.invariant.pieces);
+    }

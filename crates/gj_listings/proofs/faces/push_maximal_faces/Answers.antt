@@ -1,8 +1,8 @@
-use Rattle.std.proofs.Common.{◌++◌, All, length, flat_map, ap, subst, sym, ◌∙◌, arith}
+use Rattle.std.proofs.Common.{◌++◌, All, length, flat_map, ap, subst, sym, ◌∙◌}
 use Rattle.gj_function_lines.specs.FunctionLines.{line}
 use Rattle.gj_function_lines.specs.FaceLines.{face_text}
 use Rattle.gj_listings.specs.FacePieces.{HasPieces}
-use Rattle.gj_listings.proofs.FacesTexts.{no_rows_pushed, one_row_pushed, row_has_pieces, row_is_short}
+use Rattle.gj_listings.proofs.FacesTexts.{no_rows_pushed, one_row_pushed, row_has_pieces}
 use Rattle.gj_listings.proofs.faces.push_maximal_faces.Goals as goal
 
 pub loop-a-init : goal.loop-a-init
@@ -21,12 +21,6 @@ push_face_lines-requires-clause-faces c =
     (row_has_pieces c.args.shape.now c.loop-a.a starts ends c.clear.new.self.items c.push_maximal_row.new.faces.items
     c.clear.ensures.items c.in_ok-push_maximal_row.ensures c.starts_of.ensures.row
     (ap length c.as_slice.ensures.value ∙ c.loop-a.invariant.count))
-
-pub push_face_lines-requires-clause-few : goal.push_face_lines-requires-clause-few
-push_face_lines-requires-clause-few c =
-    let short = row_is_short c.args.shape.now c.loop-a.a c.clear.new.self.items c.push_maximal_row.new.faces.items c.clear.ensures.items
-    c.in_ok-push_maximal_row.ensures in
-    omega (arith, short, c.loop-a.invariant.limits.order_high, ap length c.as_slice-in-loop-a.ensures.value)
 
 pub loop-a-preserved : goal.loop-a-preserved
 loop-a-preserved c = record {
