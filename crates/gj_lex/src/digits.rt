@@ -156,6 +156,7 @@ pub(crate) fn write_digits(text: &mut [u8], end: usize, n: u128) -> usize
 }
 
 /// The same, whatever the size of the number.
+#[inline(never)]
 fn write_long_digits(text: &mut [u8], end: usize, n: u128) -> usize
     requires within { end ≤ length text.old }
     requires room { 39 ≤ end }

@@ -3,8 +3,8 @@
 //! A text is lenient or strict (`Spelling`); in both a line is a list of words. `line_at` gives the
 //! next line, `words_at` a line of given words, `end_at` that nothing follows, and `split_word` and
 //! its like the words of a line; `fraction_of`, `is_count` and `count_of` read numbers,
-//! `print_frac`, `print_pair` and `print_count` print them, and `push_count_line` a line of a word
-//! and a count.
+//! `print_frac`, `print_pair`, `print_count` and `print_counts` print them, and `push_count_line` a
+//! line of a word and a count.
 //! None of the readers takes memory.
 //!
 //! A form of text is a part made of lines, `specs/Parts.antt`: it says what a text spells and which
@@ -39,7 +39,7 @@ pub use laws::{
 pub use lenient::read_number;
 pub use line_fault::LineFault;
 pub use name::{Name, NameFault, name_of};
-pub use print::{print_count, print_frac, print_pair, push_count_line};
+pub use print::{print_count, print_counts, print_frac, print_pair, push_count_line};
 pub use reason::Reason;
 pub use spelled::{count_of, fraction_of, is_count};
 pub use spelling::Spelling;

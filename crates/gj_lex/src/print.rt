@@ -15,6 +15,9 @@ const SPACE: usize = 80;
 /// The length of the longest text of two fractions, with a space before each and a line feed.
 const PAIR_SPACE: usize = 163;
 
+/// Room for two counts, with a space before each and a byte behind them.
+const COUNTS_SPACE: usize = 81;
+
 /// Appends a count in canonical form: its digits, without a leading zero.
 ///
 /// An error says that memory ran out; `out` is then as it was.
@@ -67,6 +70,35 @@ pub fn print_pair(out: &mut Vec<u8>, x: Frac, y: Frac) -> Result<(), AllocError>
     let second = write_spaced(&mut text, PAIR_SPACE - 1, y);
     let first = write_spaced(&mut text, second, x);
     out.extend_from_slice(&text[first..])
+}
+
+/// Appends two counts in canonical form, a space before each, and a byte behind them.
+///
+/// An error says that memory ran out; `out` is then as it was.
+pub fn print_counts(out: &mut Vec<u8>, m: u32, n: u32, behind: u8) -> Result<(), AllocError>
+    ensures ok { OnOk result (out.new.items ≡
+        out.old.items ++ 32 ∷ decimal m ++ 32 ∷ decimal n ++ behind ∷ []) }
+    ensures err { OnErr result (out.new.items ≡ out.old.items) }
+{
+    let mut text = [0; COUNTS_SPACE];
+    text[COUNTS_SPACE - 1] = behind;
+    let second = write_spaced_count(&mut text, COUNTS_SPACE - 1, n);
+    let first = write_spaced_count(&mut text, second, m);
+    out.extend_from_slice(&text[first..])
+}
+
+/// Writes a space and a count into the text so that they end before `end`, and says where they
+/// begin.
+fn write_spaced_count(text: &mut [u8], end: usize, n: u32) -> usize
+    requires room { 40 ≤ end }
+    requires within { end ≤ length text.old }
+    ensures written { drop result text.new ≡ 32 ∷ decimal n ++ drop end text.old }
+    ensures begins { result ≤ end }
+    ensures room { end ≤ result + 40 }
+{
+    let start = write_digits(text, end, u128::from(n));
+    text[start - 1] = b' ';
+    start - 1
 }
 
 /// Writes a space and a fraction into the text so that they end before `end`, and says where they
