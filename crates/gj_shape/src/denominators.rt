@@ -60,6 +60,40 @@ pub(crate) fn with_point(scale: u32, point: Point) -> Result<u32, FractionFault>
     ensures least { IfOk result (ExtendsBy scale (fractions_of point)) }
     ensures fault { IfErr result (IsRefusedBehind scale (fractions_of point)) }
 {
+    if goes_with(scale, point.left)
+        && goes_with(scale, point.value)
+        && goes_with(scale, point.right)
+    {
+        return Ok(scale);
+    }
+    with_point_by_parts(scale, point)
+}
+
+/// Whether the numerator is at most 2^20 in absolute value and the denominator divides `scale`, as
+/// those of most fractions of a function.
+fn goes_with(scale: u32, x: Frac) -> bool
+    requires { 0 < scale }
+    ensures { IsTrue result → Extends greatest_value scale x scale }
+{
+    if x.num().unsigned_abs() > GREATEST_VALUE {
+        return false;
+    }
+    if scale > GREATEST_DENOMINATOR {
+        return false;
+    }
+    if x.den() > i128::from(scale) {
+        return false;
+    }
+    scale % (x.den() as u32) == 0
+}
+
+/// The same as `with_point`, one fraction after another.
+#[inline(never)]
+fn with_point_by_parts(scale: u32, point: Point) -> Result<u32, FractionFault>
+    requires { 0 < scale }
+    ensures least { IfOk result (ExtendsBy scale (fractions_of point)) }
+    ensures fault { IfErr result (IsRefusedBehind scale (fractions_of point)) }
+{
     let with_left = extended(scale, point.left)?;
     let with_value = extended(with_left, point.value)?;
     extended(with_value, point.right)

@@ -30,7 +30,7 @@ pub(crate) fn numerators(alloc: Global, xs: &[Frac], scale: u32) -> Result<Vec<i
 {
     let mut items = Vec::with_capacity(alloc, xs.len())?;
     for x in xs {
-        items.push(numerator_over(*x, scale))?;
+        items.push_reserved(numerator_over(*x, scale));
     }
     Ok(items)
 }

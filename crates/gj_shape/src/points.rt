@@ -86,16 +86,16 @@ impl Model for Points {
 }
 
 impl Points {
-    /// No points.
-    pub fn new(alloc: Global) -> Points
-        ensures { result ≡ [] }
+    /// No points, with room for `count` of them.
+    pub fn with_room(alloc: Global, count: usize) -> Result<Points, AllocError>
+        ensures { IfOk result (λ points. points ≡ []) }
     {
-        Points {
-            left: Vec::new(alloc),
-            value: Vec::new(alloc),
-            right: Vec::new(alloc),
+        Ok(Points {
+            left: Vec::with_capacity(alloc, count)?,
+            value: Vec::with_capacity(alloc, count)?,
+            right: Vec::with_capacity(alloc, count)?,
             scale: 1,
-        }
+        })
     }
 
     /// Adds a point behind the others. Its limit from the left, its value and its limit from the
