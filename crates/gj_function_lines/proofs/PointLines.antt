@@ -9,11 +9,11 @@ use Rattle.gj_lex.specs.NumberText.{fraction_text}
 use Rattle.gj_shape.specs.FunctionData.{FunctionData, IsWithinBounds, at}
 use Rattle.gj_shape.proofs.AtLemmas.{at_below}
 use Rattle.gj_shape.specs.Points.{lefts, values, rights, ArePointsOf, IsPointAt}
-use Rattle.gj_forms.specs.LineForms.{bytes_of}
+use Rattle.gj_forms.specs.LineForms.{bytes_of, line_of}
 use Rattle.gj_forms.specs.LineForms.Field.{word, fraction}
 use Rattle.gj_shape.specs.Breaks.{point_at}
 use Rattle.gj_shape.specs.declared.breaks.Break.{Break}
-use Rattle.gj_function_lines.specs.BreakLines.{break_line}
+use Rattle.gj_function_lines.specs.BreakLines.{break_form, break_line}
 use Rattle.gj_function_lines.specs.FunctionLines.{order_line, place_line, number_fields, has_no_jump, numbers_of, point_line, lines_of, AreFunctionLines}
 use Rattle.gj_function_lines.proofs.ClearLines.{bytes_before, no_jump_where_same, number_of_even, numbers_of_jump}
 use Rattle.gj_shape.specs.declared.points.Point.{Point}
@@ -108,6 +108,20 @@ break_pushed b before first second third first_is second_is h =
   where
     joined : (x numbers : List ℕ) → (before ++ codes "point " ++ x ++ codes " ") ++ numbers ≡ before ++ (codes "point " ++ (x ++ 32 ∷ numbers))
     joined x numbers = simp append_assoc
+
+-- and that of one without a jump in two
+pub even_break_pushed : {E : Type 0} (b : Break) (r : Result (Unit {0}) E) (before first now : List ℕ) → has_no_jump (point_at b) ≡ true →
+    first ≡ before ++ codes "point" → OnOk r (now ≡ first ++ 32 ∷ fraction_text b.x ++ 32 ∷ fraction_text b.value ++ 10 ∷ []) →
+    OnOk r (now ≡ before ++ break_line b)
+even_break_pushed b (Err e) before first now even first_is h = tt
+even_break_pushed b (Ok u) before first now even first_is h =
+    let x = fraction_text b.x in
+    let v = fraction_text b.value in
+    h ∙ ap (λ t. t ++ 32 ∷ x ++ 32 ∷ v ++ 10 ∷ []) first_is ∙ joined x v
+    ∙ ap (λ n. before ++ line_of break_form (b.x, n)) (sym (number_of_even (point_at b) even))
+  where
+    joined : (x v : List ℕ) → (before ++ codes "point") ++ 32 ∷ x ++ 32 ∷ v ++ 10 ∷ [] ≡ before ++ (codes "point" ++ 32 ∷ (x ++ 32 ∷ (v ++ 10 ∷ [])))
+    joined x v = simp append_assoc
 
 -- the text before has gained the lines of the first n points of the function
 pub record ArePushed (f : FunctionData) (n : ℕ) (before now : List ℕ) : Type 0 where

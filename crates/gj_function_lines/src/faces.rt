@@ -4,7 +4,7 @@ ghost use Rattle.gj_forms.specs.LineForms.{bytes_of};
 ghost use Rattle.gj_forms.specs.LineForms.Field.{word, count};
 ghost use Rattle.gj_function_lines.specs.FaceLines.{face_word, cover_line};
 
-use gj_lex::print_count;
+use gj_lex::print_counts;
 use gj_shape::{CoverLine, Face, FaceKind};
 use std::alloc::AllocError;
 
@@ -23,11 +23,8 @@ pub fn push_cover_lines(out: &mut Vec<u8>, lines: &[CoverLine]) -> Result<(), Al
 fn push_cover_line(out: &mut Vec<u8>, line: CoverLine) -> Result<(), AllocError>
     ensures { OnOk result (out.new.items ≡ out.old.items ++ cover_line line) }
 {
-    out.extend_from_slice(b"cover ")?;
-    print_count(out, line.interval)?;
-    out.push(b' ')?;
-    print_count(out, line.from)?;
-    out.push(b' ')?;
+    out.extend_from_slice(b"cover")?;
+    print_counts(out, line.interval, line.from, b' ')?;
     push_face(out, line.face)
 }
 
@@ -37,12 +34,7 @@ fn push_face(out: &mut Vec<u8>, face: Face) -> Result<(), AllocError>
         (word (face_word face.kind) ∷ count face.a ∷ count face.b ∷ [])) }
 {
     out.extend_from_slice(face_word(face.kind))?;
-    out.push(b' ')?;
-    print_count(out, face.a)?;
-    out.push(b' ')?;
-    print_count(out, face.b)?;
-    out.push(b'\n')?;
-    Ok(())
+    print_counts(out, face.a, face.b, b'\n')
 }
 
 /// The word of a kind of face.

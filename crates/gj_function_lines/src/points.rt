@@ -47,7 +47,7 @@ pub(crate) fn points_at(
     ensures found { IfOk result (λ r. (points_part spelling count []).Reads text.now r.0 r.1.now) }
     ensures fault { IfErr result (IsFaultOf (points_part spelling count []) text.now) }
 {
-    let mut points = Points::new(alloc);
+    let mut points = Points::with_room(alloc, count as usize)?;
     let mut rest = text;
     for _ in 0..count {
         rest = point_at(spelling, rest, &mut points)?;

@@ -13,7 +13,7 @@ ghost use Rattle.gj_function_lines.specs.FunctionLines.{point_line, AreFunctionL
 ghost use Rattle.gj_shape.specs.declared.points.Point.{Point};
 
 use gj_frac::Frac;
-use gj_lex::{print_frac, push_count_line};
+use gj_lex::{print_frac, print_pair, push_count_line};
 use gj_shape::{Break, Point, Shape};
 use std::alloc::{AllocError, Global};
 
@@ -129,6 +129,17 @@ fn point_at(shape: &Shape, i: u32) -> Point
 ///
 /// An error says that memory ran out; `out` may then have a part of it.
 pub fn push_break_line(alloc: Global, out: &mut Vec<u8>, point: Break) -> Result<(), AllocError>
+    ensures { OnOk result (out.new.items ≡ out.old.items ++ break_line point) }
+{
+    if has_no_jump(limits_of(point)) {
+        out.extend_from_slice(b"point")?;
+        return print_pair(out, point.x, point.value);
+    }
+    push_break_by_parts(alloc, out, point)
+}
+
+/// The same, whether the limits are the value or not.
+fn push_break_by_parts(alloc: Global, out: &mut Vec<u8>, point: Break) -> Result<(), AllocError>
     ensures { OnOk result (out.new.items ≡ out.old.items ++ break_line point) }
 {
     out.extend_from_slice(b"point ")?;

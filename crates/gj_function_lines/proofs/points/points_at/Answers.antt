@@ -4,11 +4,11 @@ use Rattle.gj_function_lines.proofs.PointsRead.{goes_on_at_first, goes_on, fault
 use Rattle.gj_function_lines.proofs.points.points_at.Goals as goal
 
 pub loop-init : goal.loop-init
-loop-init c = rw c.new-points.ensures (goes_on_at_first _ _ _ _ (omega arith))
+loop-init c = rw c.in_ok-points.ensures (goes_on_at_first _ _ _ _ (omega arith))
 
 pub returns-in_err-rest-clause-fault : goal.returns-in_err-rest-clause-fault
 returns-in_err-rest-clause-fault c =
-    let p = err_from_is_err_and c.from_residual.result c.from_residual.ensures.1 in
+    let p = err_from_is_err_and c.from_residual-in_err-rest.result c.from_residual-in_err-rest.ensures.1 in
     rw (p.1, p.2) (faults_on _ _ _ _ _ _ _ c.loop-test.true c.loop.invariant c.in_err-rest.ensures.fault)
 
 pub loop-preserved : goal.loop-preserved
