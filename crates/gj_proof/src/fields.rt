@@ -32,10 +32,20 @@ pub(crate) fn three_fields_of<'a>(
 }
 
 /// What stands behind this text, if the bytes begin with it.
+///
+/// A text of a few bytes is sought byte by byte, in less than a call of `strip_prefix` takes.
 pub(crate) fn behind_text<'a>(bytes: &'a [u8], text: &[u8]) -> Option<&'a [u8]>
     ensures { IfSome result (λ rest. bytes.now ≡ text.now ++ rest.now) }
 {
-    bytes.strip_prefix(text)
+    let mut rest = bytes;
+    for byte in text {
+        let (first, behind) = rest.split_first()?;
+        if *first != *byte {
+            return None;
+        }
+        rest = behind;
+    }
+    Some(rest)
 }
 
 /// What stands before the first such byte, and what behind it.
