@@ -1,8 +1,9 @@
 -- The laws of canonical texts.
-use Rattle.std.proofs.Common.{◌≡◌, ◌≢◌, ℕ, zero, suc, ◌^◌, ◌<◌, ◌≤◌, ℤ, pos, negsuc, neg_ℤ, ◌<ℤ◌, unsigned_abs, List, [], ◌∷◌, ◌++◌, length, get_or, take, drop, decimal, Option, None, Some, IsSome, IfSome, Bool, true, false, unwrap_or, cond, nat_lt, ◌==◌, refl, sym, ◌∙◌, ap, subst, arith}
+use Rattle.std.proofs.Common.{◌≡◌, ◌≢◌, ℕ, zero, suc, ◌^◌, ◌<◌, ◌≤◌, ℤ, pos, negsuc, neg_ℤ, ◌*ℤ◌, ◌<ℤ◌, unsigned_abs, List, [], ◌∷◌, ◌++◌, length, get_or, take, drop, decimal, Option, None, Some, IsSome, IfSome, Bool, true, false, unwrap_or, cond, nat_lt, ◌==◌, refl, sym, ◌∙◌, ap, subst, arith}
 use Rattle.std.specs.List.{position, position_or_len}
 use Rattle.std.specs.Str.Parse.{AllDigits}
 use Rattle.std.specs.Fmt.{signed_decimal}
+use Rattle.std.specs.Int.{IsGcd}
 use Rattle.std.proofs.Math.Seq.{take-append_seam, drop-append_seam}
 use lib.Pointwise.{pointwise}
 use mir.Val.{to_z, of_z}
@@ -19,6 +20,7 @@ use Rattle.gj_frac.specs.Fraction.{IsRatio}
 use Rattle.gj_frac.specs.Lowest.{IsLowest}
 use Rattle.gj_frac.specs.SameParts.{same_parts_same}
 use Rattle.gj_lemmas.proofs.Divisors.{same_ratio}
+use Rattle.gj_lemmas.proofs.Integers.{mul_cancel_right_z, positive_some_z, abs_neg_z}
 use Rattle.gj_lex.specs.NumberText.{denominator_text, ratio_text, fraction_text}
 use Rattle.gj_lex.proofs.Decimals.{same_from_decimal}
 
@@ -186,6 +188,31 @@ parts_of_text word n d small some e =
 pub lowest_parts : (x : Frac) (n d : ℤ) → IsRatio x n d → IsLowest n d → (x.num ≡ n) × (x.den ≡ d)
 lowest_parts x n d is h =
     same_ratio x.num x.den n d x.lowest.coprime h.coprime x.lowest.positive h.positive is
+
+-- a fraction that is n/d and has the denominator d has the numerator n
+pub same_numerator : (x : Frac) (n d : ℤ) → IsRatio x n d → x.den ≡ d → x.num ≡ n
+same_numerator x n d is e =
+    mul_cancel_right_z x.num n d (is ∙ ap (λ z. n *ℤ z) e) (subst (λ z. unsigned_abs z ≢ 0) e (positive_some_z x.den x.lowest.positive))
+
+-- a fraction with its sign turned has the same denominator
+pub turned_parts : (x z : Frac) → IsRatio z (neg_ℤ x.num) x.den → (z.num ≡ neg_ℤ x.num) × (z.den ≡ x.den)
+turned_parts x z is =
+    let same = sym (abs_neg_z x.num) in
+    lowest_parts z (neg_ℤ x.num) x.den is (record {
+      positive = x.lowest.positive;
+      num_fits = subst (λ k. k < 2 ^ 127) same x.lowest.num_fits;
+      den_fits = x.lowest.den_fits;
+      coprime = subst (λ k. IsGcd k (unsigned_abs x.den) 1) same x.lowest.coprime;
+    })
+
+-- what is in lowest terms is so without its sign
+pub lowest_size : (n d : ℤ) → IsLowest n d → IsLowest (pos (unsigned_abs n)) d
+lowest_size n d h = record {
+  positive = h.positive;
+  num_fits = h.num_fits;
+  den_fits = h.den_fits;
+  coprime = h.coprime;
+}
 
 -- what is read from the two parts of a fraction is that fraction
 pub canonical_only : (r : Option Frac) (x : Frac) (n d : ℤ) → n ≡ x.num → d ≡ x.den →

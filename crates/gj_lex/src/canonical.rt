@@ -34,7 +34,29 @@ pub fn read_canonical(word: &[u8]) -> Option<Frac>
 }
 
 /// The fraction `num/den`, if that is in lowest terms.
+///
+/// If both numbers are below 2^64, all is done in 64 bits.
 fn in_lowest_terms(num: i128, den: i128) -> Option<Frac>
+    requires { pos 0 <ℤ den }
+    ensures found { IfSome result (λ x. (numerator x ≡ num) × (denominator x ≡ den)) }
+    ensures only { IsLowest num den → IsSome result }
+{
+    let (Ok(size), Ok(bottom)) = (u64::try_from(num.unsigned_abs()), u64::try_from(den)) else {
+        return long_in_lowest_terms(num, den);
+    };
+    let x = Frac::of_small(size, bottom);
+    if x.den() != den {
+        return None;
+    }
+    if num < 0 {
+        return Some(-x);
+    }
+    Some(x)
+}
+
+/// The same, whatever the sizes of the numbers.
+#[inline(never)]
+fn long_in_lowest_terms(num: i128, den: i128) -> Option<Frac>
     ensures found { IfSome result (λ x. (numerator x ≡ num) × (denominator x ≡ den)) }
     ensures only { IsLowest num den → IsSome result }
 {
@@ -48,6 +70,7 @@ fn in_lowest_terms(num: i128, den: i128) -> Option<Frac>
 /// The numerator and the denominator that the word spells, in lowest terms or not.
 fn read_parts(word: &[u8]) -> Option<(i128, i128)>
     ensures found { IfSome result (λ parts. word.now ≡ ratio_text parts.0 parts.1) }
+    ensures positive { IfSome result (λ parts. pos 0 <ℤ parts.1) }
     ensures only { (n d : ℤ) → unsigned_abs n < 2 ^ 127 → unsigned_abs d < 2 ^ 127 → pos 0 <ℤ d →
         word.now ≡ ratio_text n d → result ≡ Some (n, d) }
 {
