@@ -45,6 +45,9 @@ impl Piece {
     }
 
     /// Writes the text into another from `start` on, and says where it ends.
+    ///
+    /// The bytes are taken out first. So it is plain that the two do not overlap, which would be
+    /// asked at each piece otherwise.
     #[inline(always)]
     pub(crate) fn write(&self, text: &mut [u8], start: usize) -> usize
         requires { start + ROOM ≤ length text.old }
@@ -52,7 +55,8 @@ impl Piece {
         ensures end { result ≤ start + ROOM }
         ensures length { length text.new ≡ length text.old }
     {
-        text[start..start + ROOM].copy_from_slice(&self.bytes);
+        let bytes = self.bytes;
+        text[start..start + ROOM].copy_from_slice(&bytes);
         start + self.length as usize
     }
 }
