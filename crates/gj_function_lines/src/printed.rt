@@ -9,6 +9,7 @@ ghost use Rattle.gj_function_lines.specs.FunctionLines.{point_line};
 
 use crate::print::has_no_jump;
 use gj_frac::Frac;
+use gj_lex::behind_text;
 use gj_shape::Point;
 
 /// The least number of 18 digits: from it on no further digit is read.
@@ -20,7 +21,7 @@ const LEAST_OF_18_DIGITS: u64 = 100_000_000_000_000_000;
 pub(crate) fn printed_point(text: &[u8]) -> Option<(Point, &[u8])>
     ensures { IfSome result (λ r. text.now ≡ point_line r.0 ++ r.1.now) }
 {
-    let (first, rest) = printed_fraction(behind_point(text)?)?;
+    let (first, rest) = printed_fraction(behind_text(text, b"point ")?)?;
     match behind_byte(rest, b'\n') {
         Some(rest) => Some((
             Point {
@@ -48,21 +49,6 @@ fn printed_jump(left: Frac, text: &[u8]) -> Option<(Point, &[u8])>
         return None;
     }
     Some((point, rest))
-}
-
-/// What follows the word `point` and a space, if the text begins with these.
-///
-/// A prefix of a few bytes is tested byte by byte, in less than a call of `strip_prefix` takes.
-fn behind_point(text: &[u8]) -> Option<&[u8]>
-    ensures { IfSome result (λ rest. text.now ≡ codes "point " ++ rest.now) }
-{
-    let rest = behind_byte(text, b'p')?;
-    let rest = behind_byte(rest, b'o')?;
-    let rest = behind_byte(rest, b'i')?;
-    let rest = behind_byte(rest, b'n')?;
-    let rest = behind_byte(rest, b't')?;
-    let rest = behind_byte(rest, b' ')?;
-    Some(rest)
 }
 
 /// What follows the byte, if the text begins with it.

@@ -1,6 +1,6 @@
 //! How a text begins.
-ghost use Rattle.std.specs.Prelude.{◌≡◌, ◌↔◌, ◌<◌, IsTrue, IfSome, IfNone, OnSome, length};
-ghost use Rattle.std.specs.Prelude.{slice_index};
+ghost use Rattle.std.specs.Prelude.{◌≡◌, ◌↔◌, ◌<◌, ◌++◌, IsTrue, IfSome, IfNone, OnSome, length};
+ghost use Rattle.std.specs.Prelude.{slice_index, ℕ, List};
 ghost use Rattle.gj_lex.specs.Words.{word_texts};
 ghost use Rattle.gj_lex.specs.TextLines.{HasLine};
 ghost use Rattle.gj_lex.specs.Parts.{BeginsWithLine, BeginsWithWord};
@@ -45,6 +45,25 @@ pub fn line_with_word<'a>(spelling: Spelling, text: &'a [u8], word: &[u8]) -> Op
         }
         Err(_) => None,
     }
+}
+
+/// What stands behind this text, if the bytes begin with it. It takes no memory.
+///
+/// A text of a few bytes is sought byte by byte, in less than a call of `strip_prefix` takes.
+#[inline]
+pub fn behind_text<'a>(bytes: &'a [u8], text: &[u8]) -> Option<&'a [u8]>
+    ensures found { IfSome result (λ rest. bytes.now ≡ text.now ++ rest.now) }
+    ensures none { IfNone result ((rest : List ℕ) → bytes.now ≡ text.now ++ rest → ⊥) }
+{
+    let mut rest = bytes;
+    for byte in text {
+        let (first, behind) = rest.split_first()?;
+        if *first != *byte {
+            return None;
+        }
+        rest = behind;
+    }
+    Some(rest)
 }
 
 /// Whether the next line of the text can begin with this word, by the first byte of the text: a

@@ -28,7 +28,7 @@ mod spelling;
 mod text_lines;
 mod words;
 
-pub use begins::{begins_with_line, begins_with_word, line_with_word};
+pub use begins::{begins_with_line, begins_with_word, behind_text, line_with_word};
 pub use canonical::{read_canonical, read_count};
 pub use cursor::{Cursor, LineSpan};
 pub use fault::PartFault;

@@ -11,9 +11,9 @@ ghost use Rattle.gj_function_lines.specs.FaceLines.{face_word, cover_line};
 ghost use Rattle.gj_proof.specs.ProofText.{IsCoverLineBelow};
 ghost use Rattle.gj_proof.specs.ProofGrammar.{cover_form, form_part, covered_part};
 
-use crate::fields::{behind_text, count_below, five_fields_of, split_at_byte};
+use crate::fields::{count_below, five_fields_of, split_at_byte};
 use gj_function_lines::face_word;
-use gj_lex::{PartFault, Reason, Spelling, line_at};
+use gj_lex::{PartFault, Reason, Spelling, behind_text, line_at};
 use gj_shape::{CoverLine, Face, FaceKind};
 use std::alloc::Global;
 

@@ -17,11 +17,11 @@ ghost use Rattle.gj_proof.specs.HeadWords.{texts_of_head};
 ghost use Rattle.gj_proof.specs.declared.cut.SkipReason.{SkipReason};
 
 use crate::cut::{CutLine, CutRule, CutTerm, SkipReason};
-use crate::fields::{behind_text, number_of, split_at_byte, three_fields_of};
+use crate::fields::{number_of, split_at_byte, three_fields_of};
 use gj_frac::Frac;
 use gj_function_lines::function_at;
 use gj_lex::{
-    LineFault, Name, PartFault, Reason, Spelling, TextLine, begins_with_line, line_at,
+    LineFault, Name, PartFault, Reason, Spelling, TextLine, begins_with_line, behind_text, line_at,
     line_with_word, name_of, two_fields_of, words_at,
 };
 use gj_shape::List;

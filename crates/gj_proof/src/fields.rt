@@ -31,23 +31,6 @@ pub(crate) fn three_fields_of<'a>(
     Some((first, second, third))
 }
 
-/// What stands behind this text, if the bytes begin with it.
-///
-/// A text of a few bytes is sought byte by byte, in less than a call of `strip_prefix` takes.
-pub(crate) fn behind_text<'a>(bytes: &'a [u8], text: &[u8]) -> Option<&'a [u8]>
-    ensures { IfSome result (λ rest. bytes.now ≡ text.now ++ rest.now) }
-{
-    let mut rest = bytes;
-    for byte in text {
-        let (first, behind) = rest.split_first()?;
-        if *first != *byte {
-            return None;
-        }
-        rest = behind;
-    }
-    Some(rest)
-}
-
 /// What stands before the first such byte, and what behind it.
 pub(crate) fn split_at_byte(bytes: &[u8], mark: u8) -> Option<(&[u8], &[u8])>
     ensures { IfSome result (λ r. bytes.now ≡ r.0.now ++ mark ∷ r.1.now) }

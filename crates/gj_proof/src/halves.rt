@@ -11,8 +11,8 @@ ghost use Rattle.gj_proof.specs.ProofGrammar.{pairs_part, halves_part};
 ghost use Rattle.gj_proof.specs.declared.halves.HalvesHead.{HalvesHead};
 
 use crate::bounds::is_head_in_bounds;
-use crate::fields::{behind_text, split_at_byte, whole_of};
-use gj_lex::{PartFault, Reason, Spelling, count_of, line_at, two_fields_of};
+use crate::fields::{split_at_byte, whole_of};
+use gj_lex::{PartFault, Reason, Spelling, behind_text, count_of, line_at, two_fields_of};
 use gj_shape::{Halves, List};
 use std::alloc::Global;
 
