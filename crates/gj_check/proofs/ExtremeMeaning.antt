@@ -12,7 +12,7 @@ use Rattle.gj_check_groups.proofs.GroupsInTurn.{rows_behind_push}
 use Rattle.gj_lemmas.proofs.Lists.{All-front, All-back, made_has}
 use Rattle.gj_shape.specs.Additive.{IsTight}
 use Rattle.gj_shape.specs.Cover.{HasComponent, components_in}
-use Rattle.gj_shape.specs.Elimination.{KeptRow, at_column, scaled, reduced, entries_of, row_with_pivot, kept_entries, kept_behind}
+use Rattle.gj_shape.specs.Elimination.{KeptRow, at_column, scaled, row_with_pivot, kept_entries, kept_behind}
 use Rattle.gj_shape.specs.Extreme.{IsExtreme}
 use Rattle.gj_shape.specs.FunctionData.{FunctionData, IsWithinBounds, IsContinuous}
 use Rattle.gj_shape.specs.Residues.{residue, residues, inverse, times_inverse, modulo, SolvesModulo}
@@ -36,7 +36,6 @@ use Rattle.gj_theory.proofs.LineComponents.{component_of_line}
 use Rattle.gj_theory.proofs.LineIntervals.{line_for_each}
 use Rattle.gj_theory.proofs.MinimalFromTests.{minimal_from_tests}
 use Rattle.gj_theory.proofs.SlopePerturbations.{first_rows_hold, pair_row_holds}
-use Rattle.gj_theory.proofs.Steps.{length-reduced}
 use Rattle.gj_proof.specs.declared.numbers.Numbers.{Numbers}
 use Rattle.gj_proof.specs.declared.numbers.Numbers.TheVariants.{Whole, Residues}
 use Rattle.gj_proof.specs.declared.pivot.PivotRow.{PivotRow}

@@ -1,5 +1,5 @@
 -- The faces of the complex in walk order (own).
-use Rattle.std.specs.Prelude.{ℕ, ◌+◌, ◌-◌, ◌<◌, Option, Some, None, List, [], ◌∷◌, ◌++◌, map, flat_map}
+use Rattle.std.specs.Prelude.{ℕ, ◌+◌, ◌-◌, ◌<◌, Option, Some, None, List, [], ◌∷◌, ◌++◌, flat_map}
 use Rattle.std.specs.List.{range_with_len}
 pub use Rattle.gj_shape.specs.WalkOrder.{faces_in, faces_of_square, faces_of}
 use Rattle.gj_shape.specs.declared.faces.Face.{Face}

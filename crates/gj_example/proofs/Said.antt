@@ -1,8 +1,8 @@
 -- What the claim of a decision says of the function that was decided.
-use Rattle.std.proofs.Common.{◌≡◌, ◌∙◌, sym, subst, refl, List, arith, Result, Ok, Err}
+use Rattle.std.proofs.Common.{◌≡◌, sym, subst, refl, List, arith, Result, Ok, Err}
 use Rattle.std.specs.Result.{IsErr, IsErrAnd}
 use Rattle.gj_shape.specs.Extreme.{IsExtreme}
-use Rattle.gj_shape.specs.FunctionData.{FunctionData, IsWithinBounds}
+use Rattle.gj_shape.specs.FunctionData.{FunctionData}
 use Rattle.gj_shape.specs.Table.{IsMinimal}
 use Rattle.gj_shape.specs.declared.extremality.CoverLine.{CoverLine}
 use Rattle.gj_proof.specs.declared.pivot.PivotRow.{PivotRow}

@@ -1,6 +1,6 @@
 -- Of a minimal function that is half the sum of two valid functions, both are minimal; what is
 -- extreme is minimal.
-use Rattle.std.proofs.Common.{◌≡◌, ◌≢◌, ℕ, true, List, [], ◌∷◌, map, refl, sym, subst, subst₂, ap, ap₂, ◌∙◌}
+use Rattle.std.proofs.Common.{◌≡◌, ◌≢◌, List, [], ◌∷◌, map, refl, sym, subst, ap, ap₂, ◌∙◌}
 use Rattle.gj_fields.specs.Fields.{OrderedField, AtMost}
 use Rattle.gj_fields.specs.Functions.{total_of, IsValid, IsMinimalAmong, IsExtremeAmong}
 use Rattle.gj_fields.proofs.Ring.{ring, cancel}

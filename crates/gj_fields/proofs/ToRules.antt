@@ -2,7 +2,7 @@
 use Rattle.std.proofs.Common.{◌≡◌, ◌≢◌, Bool, true, false, ◌⊎◌, inl, inr, ⊎_elim, List, [], ◌∷◌, ◌++◌, map, refl, sym, subst, subst₂, ap, ap₂, ◌∙◌}
 use Rattle.gj_fields.specs.Fields.{OrderedField, AtMost, number}
 use Rattle.gj_fields.specs.Functions.{IsSamePoint, total_of, IsFunction, IsValid, IsMinimalAmong, HasRules}
-use Rattle.gj_fields.proofs.Ring.{Term, IsSame, value, ring}
+use Rattle.gj_fields.proofs.Ring.{ring}
 use Rattle.gj_fields.proofs.Ring.Term.{var, nil, unit, neg, ◌⊕◌, ◌⊗◌}
 use Rattle.gj_fields.proofs.Order.{either, add_le, le_refl, le_of_eq, le_of_not, zero_le_one, by_one, by_two, by_three}
 use Rattle.gj_fields.proofs.Points.{same_point, point_sym, point_plus, point_trans, at_same_point, total_low, total-append, values-append}

@@ -4,7 +4,7 @@ use Rattle.gj_lex.specs.Parts.{LineRule, IsExactRule}
 use Rattle.gj_lex.specs.declared.spelling.Spelling.{Spelling}
 use Rattle.gj_lex.specs.declared.reason.Reason.{Reason}
 use Rattle.gj_lex.proofs.SpelledWords.{one_fraction, one_count}
-use Rattle.gj_forms.specs.LineForms.{Field, with_numbers, first_of, others_of, LineForm}
+use Rattle.gj_forms.specs.LineForms.{Field, with_numbers, LineForm}
 use Rattle.gj_forms.specs.LineForms.Field.{word, fraction, count, whole}
 use Rattle.gj_forms.specs.SpelledForms.{IsWordOf, SpellFields, Spell, rule_in, made_rule}
 use Rattle.gj_forms.proofs.FieldWords.{IfAlike, AreAlike}

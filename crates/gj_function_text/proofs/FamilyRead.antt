@@ -1,7 +1,6 @@
 -- How the words that were read name a function of a family, or none.
 use Rattle.std.proofs.Common.{◌≡◌, inl, inr, ℕ, pos, List, [], ◌∷◌, Bool, true, false, All, get_or, refl, sym, subst, ◌∙◌, arith, codes}
 use Rattle.std.proofs.lemmas.List.Elements.{All-map}
-use Rattle.gj_lex.specs.declared.reason.Reason.{Reason}
 use Rattle.gj_lex.specs.declared.spelling.Spelling.TheVariants.{Lenient}
 use Rattle.std.proofs.lemmas.Int.{ints}
 use Rattle.gj_frac.specs.declared.Frac.{Frac}

@@ -1,5 +1,5 @@
 -- What is printed for a function says it.
-use Rattle.std.proofs.Common.{◌≡◌, inl, inr, ℕ, pos, ℤ, List, [], ◌∷◌, length, map, Some, codes, refl, sym, ap, subst, subst₂, ◌∙◌, arith}
+use Rattle.std.proofs.Common.{◌≡◌, inl, inr, ℕ, pos, ℤ, List, [], ◌∷◌, length, map, Some, codes, refl, sym, ap, subst, subst₂, ◌∙◌}
 use Rattle.std.specs.List.{AllZip, All}
 use Rattle.std.proofs.lemmas.List.Elements.{All-cons, All-nil}
 use Rattle.std.proofs.lemmas.List.{length-map}
@@ -15,7 +15,7 @@ use Rattle.gj_shape.specs.KeptPoints.{points_of}
 use Rattle.gj_shape.specs.Points.{lefts, values, rights, ArePointsOf}
 use Rattle.gj_shape.proofs.GivenFractions.{given_as}
 use Rattle.gj_shape.proofs.GivenPoints.{given_by_points}
-use Rattle.gj_shape.proofs.PointLists.{HaveLists, have_lists}
+use Rattle.gj_shape.proofs.PointLists.{have_lists}
 use Rattle.serde_json.specs.Data.{Data, string, array, object, number, unsigned, member, no_members}
 use Rattle.gj_json.specs.JsonFunction.{list_of, IsKey, IsEntry, AreEntries, HasForm, SpellsNumber, HasFractions, SaysFunction}
 use Rattle.gj_json.specs.JsonText.{fraction_strings, AreRatios, function_value, IsJsonOf}

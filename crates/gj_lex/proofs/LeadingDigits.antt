@@ -1,5 +1,5 @@
 -- A word of at most 19 bytes that writes a number without a sign, cut where its first digits end.
-use Rattle.std.proofs.Common.{◌≡◌, ◌≢◌, ℕ, zero, suc, ◌+◌, ◌*◌, ◌^◌, ◌<◌, ◌≤◌, List, [], ◌∷◌, ◌++◌, length, get_or, take, drop, Option, None, Some, IfSome, IsSome, ◌↔◌, pos, true, refl, sym, ◌∙◌, ap, subst, arith, append-nil, take-append-drop}
+use Rattle.std.proofs.Common.{◌≡◌, ◌≢◌, ℕ, zero, suc, ◌+◌, ◌*◌, ◌^◌, ◌<◌, ◌≤◌, List, [], ◌∷◌, ◌++◌, length, get_or, take, drop, Option, Some, IfSome, IsSome, ◌↔◌, pos, true, refl, sym, ◌∙◌, ap, subst, arith, append-nil, take-append-drop}
 use Rattle.std.specs.Char.{digit_value}
 use Rattle.std.specs.List.{position_or_len}
 use Rattle.std.specs.Str.Parse.{AllDigits, IsNumeral, digits_value, digits_value_after}

@@ -1,7 +1,7 @@
 -- The parts of a problem text with its rule.
 use Rattle.std.proofs.Common.{◌≡◌, inl, inr, ℕ, List, Result, Ok, Err, MatchResult, IfOk, IfErr, refl, sym, subst, ◌∙◌}
 use Rattle.gj_lex.specs.TextLines.{HasNothing}
-use Rattle.gj_lex.specs.Parts.{Part, words_rule, line_part, end_part, IsExactPart, IsFaultOf, IsTail}
+use Rattle.gj_lex.specs.Parts.{Part, words_rule, end_part, IsExactPart, IsFaultOf, IsTail}
 use Rattle.gj_lex.specs.declared.fault.PartFault.{PartFault}
 use Rattle.gj_lex.specs.declared.reason.Reason.{Reason}
 use Rattle.gj_lex.specs.declared.spelling.Spelling.TheVariants.{Lenient}

@@ -23,13 +23,13 @@ use Rattle.gj_fields.proofs.Order.{either}
 use Rattle.gj_fields.proofs.Points.{at_same_point}
 use Rattle.gj_fields.proofs.Wholes.{whole_plus, whole_mono, whole_order}
 use Rattle.gj_fields.proofs.Floors.{floor_is}
-use Rattle.gj_reals.specs.RealFunctions.{real_function, real_place, slope_up, slope_down}
+use Rattle.gj_reals.specs.RealFunctions.{real_function}
 use Rattle.gj_reals.proofs.AtFractions.{value_at_fraction}
 use Rattle.gj_reals.proofs.AtReals.{order_some, rules_at_reals, inverse_low}
 use Rattle.gj_reals.proofs.Lift.{whole_negative, whole_times}
 use Rattle.gj_real_cuts.specs.Gmic.{part_of, gmic_at, gmic}
 use Rattle.gj_real_cuts.specs.RealRows.{number_of, IsRealValue}
-use Rattle.gj_real_cuts.proofs.Over.{whole_some, over, over_times, is_over, over_same, over_product, over_most, most_over, over_plus_whole, over_negative, over_rest, over_inverse, tops_most, most_tops, whole_over}
+use Rattle.gj_real_cuts.proofs.Over.{whole_some, over, over_times, over_same, over_product, over_most, most_over, over_plus_whole, over_negative, over_rest, over_inverse, tops_most, most_tops, whole_over}
 use Rattle.gj_real_cuts.proofs.RowCuts.{point_of_whole}
 
 -- what is above 0 is not 0

@@ -1,8 +1,8 @@
 -- The mixed-integer cut meets the rules, and lies under its two lines through each whole number.
 use Rattle.std.proofs.Common.{◌≡◌, ◌≢◌, ℤ, pos, neg_ℤ, ◌+ℤ◌, ◌≤ℤ◌, true, false, ◌⊎◌, inl, inr, ⊎_elim, [], ◌∷◌, refl, sym, subst, subst₂, ap, ap₂, ◌∙◌, arith}
 use Rattle.std.proofs.lemmas.Int.{ints, by_lt_z}
-use Rattle.gj_fields.specs.Fields.{OrderedField, HasFloor, AtMost, number, whole}
-use Rattle.gj_fields.specs.Functions.{IsFunction, HasRules}
+use Rattle.gj_fields.specs.Fields.{OrderedField, HasFloor, AtMost, whole}
+use Rattle.gj_fields.specs.Functions.{HasRules}
 use Rattle.gj_real_cuts.specs.Gmic.{part_of, gmic_at, gmic}
 use Rattle.gj_fields.proofs.Ring.{ring}
 use Rattle.gj_fields.proofs.Ring.Term.{var, nil, unit, neg, ◌⊕◌, ◌⊗◌}

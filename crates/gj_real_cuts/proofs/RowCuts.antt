@@ -12,7 +12,7 @@ use Rattle.gj_fields.proofs.Points.{total-append, values-append}
 use Rattle.gj_fields.proofs.Wholes.{above, below, whole_parts, whole_plus}
 use Rattle.gj_fields.proofs.Mixed.{mixed_cut}
 use Rattle.gj_reals.proofs.Lift.{whole_negative}
-use Rattle.gj_real_cuts.specs.RealRows.{number_of, sum_of_products, IsRealSolution, RealCutHolds, IsRealValue}
+use Rattle.gj_real_cuts.specs.RealRows.{number_of, sum_of_products, RealCutHolds, IsRealValue}
 
 module _ {R : Type 0} (K : OrderedField R) where
   open K use {plus, times, zero as o, one as e, negative}

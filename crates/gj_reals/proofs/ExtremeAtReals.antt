@@ -1,6 +1,6 @@
 -- A continuous extreme function is extreme among the valid functions on the numbers of a field with
 -- floors.
-use Rattle.std.proofs.Common.{◌≡◌, ◌≢◌, ℕ, zero, suc, ◌+◌, ◌*◌, ◌%◌, ◌<◌, ◌≤◌, ℤ, pos, ◌+ℤ◌, Bool, true, false, ltb, ◌⊎◌, inl, inr, ⊎_elim, List, [], ◌∷◌, refl, sym, subst, subst₂, ap, ap₂, ◌∙◌, mul-pos, arith}
+use Rattle.std.proofs.Common.{◌≡◌, ◌≢◌, ℕ, zero, ◌+◌, ◌*◌, ◌%◌, ◌<◌, ◌≤◌, pos, true, false, ltb, ◌⊎◌, inl, inr, ⊎_elim, [], ◌∷◌, refl, sym, ap, ap₂, ◌∙◌, mul-pos, arith}
 use Rattle.std.proofs.Math.Nat.{mod-lt, mod-mod}
 use Rattle.gj_shape.specs.Additive.{IsTight}
 use Rattle.gj_shape.specs.Cover.{IsCovered}
@@ -22,7 +22,7 @@ use Rattle.gj_fields.proofs.Wholes.{whole_plus, number_times}
 use Rattle.gj_reals.specs.RealFunctions.{index_of, real_function, real_place}
 use Rattle.gj_reals.proofs.Places.{index_is, index_low}
 use Rattle.gj_reals.proofs.AtReals.{HasParts, some_parts, number_some, inverse_at, order_some, rules_at_reals}
-use Rattle.gj_reals.proofs.Lines.{FollowsTight, point, next_point, sum_points, at_remainder, tight_values, on_line, line, Value, additive_at}
+use Rattle.gj_reals.proofs.Lines.{FollowsTight, point, next_point, sum_points, at_remainder, tight_values, Value, additive_at}
 use Rattle.gj_reals.proofs.Slopes.{slope_on_covered}
 use Rattle.gj_reals.proofs.GridSystem.{only_zero_on_grid}
 

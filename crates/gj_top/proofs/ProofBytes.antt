@@ -1,5 +1,5 @@
 -- The bytes of a proof text are printable or line feeds, and the last is a line feed.
-use Rattle.std.proofs.Common.{◌≡◌, inl, inr, ℕ, ◌+◌, ◌<◌, ◌≤◌, ◌^◌, ℤ, pos, ◌≤ℤ◌, zip, nat_le, ◌&&◌, Bool, true, false, List, [], ◌∷◌, ◌++◌, flat_map, codes, decimal}
+use Rattle.std.proofs.Common.{◌≡◌, inl, inr, ℕ, ◌+◌, ◌<◌, ◌≤◌, ◌^◌, ℤ, pos, ◌≤ℤ◌, zip, nat_le, ◌&&◌, Bool, true, List, [], ◌∷◌, ◌++◌, flat_map, codes, decimal}
 use Rattle.std.proofs.Common.{refl, sym, subst, ◌∙◌, arith, append_assoc}
 use Rattle.std.specs.List.{All, list_all}
 use Rattle.std.specs.Char.{IsAsciiDigit}

@@ -1,6 +1,6 @@
 -- Functions from fractions to fractions: what valid, minimal and extreme mean (Gomory and Johnson
 -- 1972).
-use Rattle.std.specs.Prelude.{ℕ, pos, ◌*◌, ◌*ℤ◌, ◌<ℤ◌, ◌≤ℤ◌, List, [], ◌∷◌, map, All, unsigned_abs}
+use Rattle.std.specs.Prelude.{ℕ, pos, ◌*◌, ◌<ℤ◌, ◌≤ℤ◌, List, [], ◌∷◌, map, All, unsigned_abs}
 use Rattle.gj_frac.specs.Fraction.{Fraction, SameValue, AtMostValue, sum_of}
 use Rattle.gj_shape.specs.FunctionData.{FunctionData}
 use Rattle.gj_shape.specs.Violation.{value_of}

@@ -1,4 +1,4 @@
-use Rattle.std.proofs.Common.{◌≡◌, ◌∙◌, sym, subst, refl, rules}
+use Rattle.std.proofs.Common.{◌∙◌, sym, subst, refl, rules}
 use Rattle.gj_example.proofs.Said.{SaysExtreme, extreme_if_said, said_if_extreme, no_extreme_claim, same_fault}
 use Rattle.gj_example.proofs.verdict.is_extreme.Goals as goal
 

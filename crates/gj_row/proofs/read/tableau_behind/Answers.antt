@@ -1,4 +1,4 @@
-use Rattle.std.proofs.Common.{◌∷◌, [], ℕ, List, subst}
+use Rattle.std.proofs.Common.{◌∷◌, ℕ, List, subst}
 use Rattle.std.proofs.lemmas.Result.{err_from_is_err_and}
 use Rattle.gj_row.specs.TableauText.{IsTableauText}
 use Rattle.gj_row.specs.FirstFault.{HasHeaderFault, IsFirstFaultOfTableau}
