@@ -40,6 +40,7 @@ pub(crate) fn free_column(log: &[LogRow], columns: u32) -> Option<u32>
 /// Takes a row through the columns from one on, and adds to `reduce` the columns at which it is
 /// reduced. The answer is the column at which something is left of the row. After an error the row
 /// and the columns are no longer used.
+#[inline(never)]
 fn reduce_exactly(
     log: &[LogRow],
     rows: &[List<i128>],

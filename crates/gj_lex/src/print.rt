@@ -60,7 +60,7 @@ pub fn print_frac(_alloc: Global, out: &mut Vec<u8>, x: Frac) -> Result<(), Allo
 /// feed behind them.
 ///
 /// An error says that memory ran out; `out` is then as it was.
-#[inline]
+#[inline(always)]
 pub fn print_pair(out: &mut Vec<u8>, x: Frac, y: Frac) -> Result<(), AllocError>
     ensures ok { OnOk result (out.new.items ≡
         out.old.items ++ 32 ∷ fraction_text x ++ 32 ∷ fraction_text y ++ 10 ∷ []) }
