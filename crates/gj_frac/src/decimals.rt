@@ -55,6 +55,7 @@ impl Frac {
     ///
     /// No divisor is sought if `num` is below 2^64 in absolute value and there are at most 19
     /// places: a power of 10 has no prime factors but 2 and 5.
+    #[inline(always)]
     pub fn decimal(num: i128, places: usize) -> Frac
         requires places { places ≤ 38 }
         requires num_fits { unsigned_abs num < 2 ^ 127 }

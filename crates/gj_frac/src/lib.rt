@@ -110,8 +110,11 @@ impl Frac {
         self.den
     }
 
-    /// The fraction `num/den` in lowest terms.
-    fn reduced(num: i128, den: i128) -> Frac
+    /// The fraction `num/den` in lowest terms, without the tests of `new`.
+    ///
+    /// Both parts are below 2^127 in absolute value, and den is not 0. Parts from 0 up to 2^64 - 1
+    /// are reduced in 64 bits.
+    pub fn reduced(num: i128, den: i128) -> Frac
         requires zero { unsigned_abs den ≢ 0 }
         requires num_fits { unsigned_abs num < 2 ^ 127 }
         requires den_fits { unsigned_abs den < 2 ^ 127 }

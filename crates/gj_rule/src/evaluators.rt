@@ -23,10 +23,10 @@ pub fn gmic_value(f: Frac, x: Frac) -> Frac
     let part = product(rest.num(), f.den());
     let place = product(f.num(), rest.den());
     if part <= place {
-        return ratio(part, place);
+        return Frac::reduced(part, place);
     }
     let one = product(rest.den(), f.den());
-    ratio(one - part, one - place)
+    Frac::reduced(one - part, one - place)
 }
 
 /// Whether x can stand in a row: its denominator is at most 2^31 - 1, and it is at most 2^31 in
@@ -56,7 +56,7 @@ pub fn quotient(n: i128, d: i128, m: i128, e: i128) -> Frac
     requires e_small { unsigned_abs e ≤ 2 ^ 62 }
     ensures { IsRatio result (n *ℤ e) (d *ℤ m) }
 {
-    ratio(product(n, e), product(d, m))
+    Frac::reduced(product(n, e), product(d, m))
 }
 
 /// The product of two whole numbers of at most 2^62 in absolute value.
@@ -67,17 +67,4 @@ fn product(n: i128, m: i128) -> i128
     ensures fits { unsigned_abs result ≤ 2 ^ 124 }
 {
     i128::from(n as i64) * i128::from(m as i64)
-}
-
-/// The fraction with this numerator and denominator.
-fn ratio(numerator: i128, denominator: i128) -> Frac
-    requires zero { unsigned_abs denominator ≢ 0 }
-    requires numerator_fits { unsigned_abs numerator < 2 ^ 127 }
-    requires denominator_fits { unsigned_abs denominator < 2 ^ 127 }
-    ensures { IsRatio result numerator denominator }
-{
-    if let (Ok(n), Ok(d)) = (u64::try_from(numerator), u64::try_from(denominator)) {
-        return Frac::of_small(n, d);
-    }
-    Frac::new(numerator, denominator).unwrap()
 }

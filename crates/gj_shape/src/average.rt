@@ -7,7 +7,7 @@ ghost use Rattle.gj_shape.specs.Average.{AreHalfSums, IsAverageOf};
 
 use crate::faults::ShapeFault;
 use crate::shape::Shape;
-use crate::values::{fraction, weighted};
+use crate::values::weighted;
 use gj_frac::Frac;
 use std::alloc::{AllocError, Global};
 
@@ -79,7 +79,7 @@ fn half_sums(
     let mut items = Vec::with_capacity(alloc, entries.len())?;
     for i in 0..entries.len() {
         let numerator = weighted(other_scale, entries[i]) + weighted(scale, other_entries[i]);
-        items.push(fraction(numerator, denominator))?;
+        items.push(Frac::reduced(numerator, denominator))?;
     }
     Ok(items)
 }

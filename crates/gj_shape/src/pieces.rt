@@ -14,7 +14,7 @@ use crate::faults::ShapeFault;
 use crate::numerators::numerator_over;
 use crate::points::Point;
 use crate::shape::Shape;
-use crate::values::{fraction, weighted};
+use crate::values::weighted;
 use gj_frac::{Frac, lcm};
 use std::alloc::{AllocError, Global};
 
@@ -73,7 +73,7 @@ fn on_line(start: i64, end: i64, scale: u32, steps: u32, i: u32) -> Frac
     ensures { IsRatio result (pos (steps - i) *ℤ start +ℤ pos i *ℤ end) (pos (scale * steps)) }
 {
     let numerator = weighted(u64::from(steps - i), start) + weighted(u64::from(i), end);
-    fraction(numerator, i128::from(u64::from(scale) * u64::from(steps)))
+    Frac::reduced(numerator, i128::from(u64::from(scale) * u64::from(steps)))
 }
 
 /// The function of order `q` with f = `k/q` and these points.

@@ -86,7 +86,7 @@ impl Model for Points {
 }
 
 impl Points {
-    /// No points, with room for `count` of them.
+    /// No points, with room for `count` of them. An error says that memory ran out.
     pub fn with_room(alloc: Global, count: usize) -> Result<Points, AllocError>
         ensures { IfOk result (λ points. points ≡ []) }
     {

@@ -7,7 +7,6 @@ ghost use Rattle.gj_shape.specs.Refinement.{refined, AreRefined, IsRefinement};
 use crate::faults::ShapeFault;
 use crate::limits::GREATEST_ORDER;
 use crate::shape::Shape;
-use crate::values::fraction;
 use gj_frac::Frac;
 use std::alloc::{AllocError, Global};
 
@@ -66,7 +65,7 @@ impl Shape {
                 u64::from(i % times),
                 u64::from(times),
             );
-            items.push(fraction(numerator, scale))?;
+            items.push(Frac::reduced(numerator, scale))?;
         }
         Ok(items)
     }

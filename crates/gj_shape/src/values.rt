@@ -48,7 +48,7 @@ impl Shape {
     {
         let (index, remainder) = place_within(n, self.order(), steps);
         let numerator = self.entry_or_value(self.value_numerators(), index, remainder, steps);
-        fraction(numerator, self.common_denominator() * i128::from(steps))
+        Frac::reduced(numerator, self.common_denominator() * i128::from(steps))
     }
 
     /// `steps` times what stands at index/q + remainder/(q steps), for the order q: the entry of
@@ -116,17 +116,4 @@ pub(crate) fn weighted(weight: u64, entry: i64) -> i128
     ensures fits { unsigned_abs result ≤ 2 ^ 125 }
 {
     i128::from(weight) * i128::from(entry)
-}
-
-/// The fraction with this numerator and denominator.
-pub(crate) fn fraction(numerator: i128, denominator: i128) -> Frac
-    requires zero { unsigned_abs denominator ≢ 0 }
-    requires numerator_fits { unsigned_abs numerator < 2 ^ 127 }
-    requires denominator_fits { unsigned_abs denominator < 2 ^ 127 }
-    ensures { IsRatio result numerator denominator }
-{
-    if let (Ok(n), Ok(d)) = (u64::try_from(numerator), u64::try_from(denominator)) {
-        return Frac::of_small(n, d);
-    }
-    Frac::new(numerator, denominator).unwrap()
 }

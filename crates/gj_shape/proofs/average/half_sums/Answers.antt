@@ -14,14 +14,14 @@ use mir.Syntax.{w128}
 pub overflow_add-numerator : goal.overflow_add-numerator
 overflow_add-numerator c = omega (arith, ints)
 
-pub fraction-requires-clause-zero : goal.fraction-requires-clause-zero
-fraction-requires-clause-zero c =
+pub reduced-requires-clause-zero : goal.reduced-requires-clause-zero
+reduced-requires-clause-zero c =
     let whole = double_product _ _ c.args.scale c.args.other_scale c.from.ensures c.from-2.ensures c.requires.high c.requires.other_high in
     let some = mul-pos c.requires.low c.requires.other_low in
     omega (arith, ints)
 
-pub fraction-requires-clause-denominator_fits : goal.fraction-requires-clause-denominator_fits
-fraction-requires-clause-denominator_fits c =
+pub reduced-requires-clause-den_fits : goal.reduced-requires-clause-den_fits
+reduced-requires-clause-den_fits c =
     let whole = double_product _ _ c.args.scale c.args.other_scale c.from.ensures c.from-2.ensures c.requires.high c.requires.other_high in
     let below = scales_below c.args.scale c.args.other_scale c.requires.high c.requires.other_high in
     omega (arith, ints)
@@ -42,12 +42,12 @@ loop-i-preserved c =
     let numerator = sum ∙ ap₂ (λ a b. a +ℤ b) (c.weighted.ensures.value ∙ ap (λ z. pos o *ℤ z) x)
     (c.weighted-in-loop-i.ensures.value ∙ ap (λ z. pos s *ℤ z) y) in
     let denominator = double_product _ _ s o c.from.ensures c.from-2.ensures c.requires.high c.requires.other_high in
-    let is : IsRatio c.fraction.result (pos o *ℤ at xs i +ℤ pos s *ℤ at ys i) (pos (2 * (s * o))) =
-    subst₂ (λ a b. IsRatio c.fraction.result a b) numerator denominator c.fraction.ensures in
+    let is : IsRatio c.reduced.result (pos o *ℤ at xs i +ℤ pos s *ℤ at ys i) (pos (2 * (s * o))) =
+    subst₂ (λ a b. IsRatio c.reduced.result a b) numerator denominator c.reduced.ensures in
     let pushed = c.in_ok-push.ensures.items in
     record {
       count = ap length pushed ∙ length_push _ _ ∙ ap (λ n. n + 1) c.loop-i.invariant.count;
       fractions = subst (AreOver _ _) (sym pushed)
-          (are_over_push (λ j. pos o *ℤ at xs j +ℤ pos s *ℤ at ys j) (2 * (s * o)) _ c.fraction.result i
+          (are_over_push (λ j. pos o *ℤ at xs j +ℤ pos s *ℤ at ys j) (2 * (s * o)) _ c.reduced.result i
           c.loop-i.invariant.count c.loop-i.invariant.fractions is);
     }

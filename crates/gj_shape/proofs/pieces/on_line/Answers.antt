@@ -19,4 +19,4 @@ returns c =
     let product = ap₂ (λ m n. m * n) c.from-3.ensures c.from-4.ensures in
     let denominator : to_z w128 (of_z w128 c.from-5.result) ≡ pos (a.scale * a.steps) =
     to_z-of_z w128 c.from-5.result (search rules) ∙ c.from-5.ensures ∙ ap pos product in
-    subst₂ (λ m n. IsRatio c.fraction.result m n) numerator denominator c.fraction.ensures
+    subst₂ (λ m n. IsRatio c.reduced.result m n) numerator denominator c.reduced.ensures

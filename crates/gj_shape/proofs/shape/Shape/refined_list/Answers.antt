@@ -29,11 +29,11 @@ loop-i-preserved c =
     let denominator : to_z w128 (of_z w128 (to_z w128 (of_z w128 c.common_denominator.result) *ℤ to_z w128 (of_z w128
     c.from.result))) ≡ pos (f.scale * m) =
     ap₂ (λ x y. to_z w128 (of_z w128 (x *ℤ y))) scale times ∙ to_z-of_z w128 _ fits in
-    let is : IsRatio c.fraction.result (refined f xs m i) (pos (f.scale * m)) =
-    subst₂ (λ a b. IsRatio c.fraction.result a b) numerator denominator c.fraction.ensures in
+    let is : IsRatio c.reduced.result (refined f xs m i) (pos (f.scale * m)) =
+    subst₂ (λ a b. IsRatio c.reduced.result a b) numerator denominator c.reduced.ensures in
     let pushed = c.in_ok-push.ensures.items in
     record {
       count = ap length pushed ∙ length_push _ _ ∙ ap (λ n. n + 1) c.loop-i.invariant.count;
       fractions = subst (AreOver _ _) (sym pushed)
-          (are_over_push (refined f xs m) (f.scale * m) _ c.fraction.result i c.loop-i.invariant.count c.loop-i.invariant.fractions is);
+          (are_over_push (refined f xs m) (f.scale * m) _ c.reduced.result i c.loop-i.invariant.count c.loop-i.invariant.fractions is);
     }

@@ -38,5 +38,5 @@ returns c =
     let denominator : to_z w128 (of_z w128 (to_z w128 (of_z w128 c.common_denominator.result) *ℤ to_z w128 (of_z w128
     c.from.result))) ≡ pos (f.scale * d) =
     ap₂ (λ x y. to_z w128 (of_z w128 (x *ℤ y))) scale steps ∙ to_z-of_z w128 _ fits in
-    value_from_place f c.args.n d place c.fraction.result c.order.ensures.limits c.requires.some congruent
-    (subst₂ (λ x y. IsRatio c.fraction.result x y) numerator denominator c.fraction.ensures)
+    value_from_place f c.args.n d place c.reduced.result c.order.ensures.limits c.requires.some congruent
+    (subst₂ (λ x y. IsRatio c.reduced.result x y) numerator denominator c.reduced.ensures)
