@@ -60,17 +60,41 @@ pub fn print_frac(_alloc: Global, out: &mut Vec<u8>, x: Frac) -> Result<(), Allo
 /// feed behind them.
 ///
 /// An error says that memory ran out; `out` is then as it was.
-#[inline(always)]
 pub fn print_pair(out: &mut Vec<u8>, x: Frac, y: Frac) -> Result<(), AllocError>
     ensures ok { OnOk result (out.new.items ≡
         out.old.items ++ 32 ∷ fraction_text x ++ 32 ∷ fraction_text y ++ 10 ∷ []) }
     ensures err { OnErr result (out.new.items ≡ out.old.items) }
 {
-    let mut text = [0; PAIR_SPACE];
-    text[PAIR_SPACE - 1] = b'\n';
-    let second = write_spaced(&mut text, PAIR_SPACE - 1, y);
-    let first = write_spaced(&mut text, second, x);
-    out.extend_from_slice(&text[first..])
+    PairSpace::new().print(out, x, y)
+}
+
+/// Room in which the end of a line of two fractions is written before it is appended. Whoever prints
+/// many such lines makes it once.
+#[derive(Drop)]
+pub struct PairSpace {
+    text: [u8; PAIR_SPACE],
+}
+
+impl PairSpace {
+    /// The room.
+    pub fn new() -> PairSpace {
+        PairSpace {
+            text: [0; PAIR_SPACE],
+        }
+    }
+
+    /// Appends what `print_pair` does.
+    ///
+    /// An error says that memory ran out; `out` is then as it was.
+    #[inline(always)]
+    pub fn print(&mut self, out: &mut Vec<u8>, x: Frac, y: Frac) -> Result<(), AllocError>
+        ensures ok { OnOk result (out.new.items ≡
+            out.old.items ++ 32 ∷ fraction_text x ++ 32 ∷ fraction_text y ++ 10 ∷ []) }
+        ensures err { OnErr result (out.new.items ≡ out.old.items) }
+    {
+        let start = write_pair(&mut self.text, x, y);
+        out.extend_from_slice(&self.text[start..])
+    }
 }
 
 /// Appends two counts in canonical form, a space before each, and a byte behind them.
@@ -100,6 +124,20 @@ fn write_spaced_count(text: &mut [u8], end: usize, n: u32) -> usize
     let start = write_digits(text, end, u128::from(n));
     text[start - 1] = b' ';
     start - 1
+}
+
+/// Writes two fractions, with a space before each, and a line feed at the end of the text, and says
+/// where they begin.
+#[inline(always)]
+fn write_pair(text: &mut [u8], x: Frac, y: Frac) -> usize
+    requires { length text.old ≡ 163 }
+    ensures written { drop result text.new
+        ≡ 32 ∷ fraction_text x ++ 32 ∷ fraction_text y ++ 10 ∷ [] }
+    ensures begins { result ≤ length text.new }
+{
+    text[PAIR_SPACE - 1] = b'\n';
+    let second = write_spaced(text, PAIR_SPACE - 1, y);
+    write_spaced(text, second, x)
 }
 
 /// Writes a space and a fraction into the text so that they end before `end`, and says where they

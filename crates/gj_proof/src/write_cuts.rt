@@ -7,7 +7,7 @@ ghost use Rattle.gj_proof.specs.ProofText.{terms_of, row_text};
 use crate::cut::{CutLine, CutRule, CutTerm};
 use gj_frac::Frac;
 use gj_function_lines::push_function_lines;
-use gj_lex::{Name, print_frac, print_pair};
+use gj_lex::{Name, PairSpace, print_frac};
 use std::alloc::{AllocError, Global};
 
 /// Appends the lines of a rule: `rule gmic`, or those of its function. An error says that memory
@@ -61,19 +61,24 @@ pub fn push_row(alloc: Global, out: &mut Vec<u8>, row: &CutLine) -> Result<(), A
 fn push_terms(out: &mut Vec<u8>, terms: &[CutTerm]) -> Result<(), AllocError>
     ensures { OnOk result (out.new.items ≡ out.old.items ++ flat_map term_line terms.now) }
 {
+    let mut space = PairSpace::new();
     for term in terms {
-        push_term(out, term)?;
+        push_term(out, &mut space, term)?;
     }
     Ok(())
 }
 
 /// Appends the line of a term.
-fn push_term(out: &mut Vec<u8>, term: &CutTerm) -> Result<(), AllocError>
+fn push_term(
+    out: &mut Vec<u8>,
+    space: &mut PairSpace,
+    term: &CutTerm,
+) -> Result<(), AllocError>
     ensures { OnOk result (out.new.items ≡ out.old.items ++ term_line term.now) }
 {
     out.extend_from_slice(b"term ")?;
     out.extend_from_slice(term.name.bytes())?;
-    print_pair(out, term.entry, term.cut)
+    space.print(out, term.entry, term.cut)
 }
 
 /// Appends a word, a name, a space and a fraction. An error says that memory ran out; `out` may
