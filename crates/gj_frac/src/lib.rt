@@ -50,6 +50,9 @@ pub struct Frac {
     ghost lowest: { IsLowest num den },
 }
 
+/// Whole numbers from 0 up to but not including this one fit 64 bits.
+const SMALL: i128 = 1 << 64;
+
 impl Frac {
     ghost use Rattle.gj_frac.specs.Fraction.{IsRatio, numerator, denominator};
 
@@ -120,8 +123,8 @@ impl Frac {
         requires den_fits { unsigned_abs den < 2 ^ 127 }
         ensures { IsRatio result num den }
     {
-        if let (Ok(num), Ok(den)) = (u64::try_from(num), u64::try_from(den)) {
-            return Frac::of_small(num, den);
+        if num >= 0 && num < SMALL && den >= 0 && den < SMALL {
+            return Frac::of_small(num as u64, den as u64);
         }
         Frac::reduced_in_128_bits(num, den)
     }
