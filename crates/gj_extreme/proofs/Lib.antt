@@ -12,7 +12,10 @@ pub mod OneDecision
 pub mod NotTooWide
 pub mod TwoSlopeDecisions
 pub mod RowOrder
+pub mod KnownPairs
 pub mod FoundPairs
+pub mod LeftPairs
+pub mod IntervalSets
 pub mod TakenRows
 pub mod SeenRows
 pub mod GroupLists

@@ -1,8 +1,9 @@
 -- The names of the rows in their order, one after another.
-use Rattle.std.proofs.Common.{◌≡◌, ℕ, zero, suc, ◌+◌, ◌-◌, ◌*◌, ◌<◌, ◌≤◌, ◌^◌, cond, ◌+ℤ◌, true, false, List, [], ◌∷◌, ◌++◌, length, map, ap, ◌∙◌, arith}
-use Rattle.std.specs.List.{range_with_len, filter, flat_map}
+use Rattle.std.proofs.Common.{◌≡◌, ℕ, zero, suc, ◌+◌, ◌-◌, ◌*◌, ◌<◌, ◌≤◌, ◌^◌, ◌⊎◌, inl, inr, cond, ◌+ℤ◌, true, false, List, [], ◌∷◌, ◌++◌, length, map, ap, ◌∙◌, arith}
+use Rattle.std.specs.List.{range_with_len, filter, flat_map, Contains}
 use Rattle.std.proofs.Math.Nat.{mul-le-mul}
 use Rattle.std.proofs.lemmas.List.{length-append, length-map}
+use Rattle.std.proofs.lemmas.List.Elements.{Contains-append_cases, Contains-push_cases}
 use Rattle.std.proofs.lemmas.List.FromFn.{length-range_with_len}
 use Rattle.std.proofs.lemmas.List.Sums.{length-filter, count_by-le-length}
 use Rattle.std.proofs.lemmas.Bool.Decides.{Decides-int_eq}
@@ -14,6 +15,17 @@ use Rattle.gj_shape.specs.SlopeRows.{is_tight, row_names}
 use Rattle.gj_shape.specs.declared.extremality.RowName.{RowName}
 use Rattle.gj_shape.specs.declared.extremality.RowName.TheVariants.{Pair}
 use Rattle.gj_extreme.specs.RowsToCome.{pairs_from, row_names_from}
+
+-- ---- lists
+
+pub cons_cases : {X : Type 0} (y : X) (ys : List X) (x : X) → Contains (y ∷ ys) x → (y ≡ x) ⊎ Contains ys x
+cons_cases y ys x has = elim (Contains-append_cases (y ∷ []) ys x has) [
+  | inl first ↦ elim (Contains-push_cases [] y x first) [
+    | inl none ↦ let below = none.1 in absurd (omega arith)
+    | inr same ↦ inl same
+  ]
+  | inr later ↦ inr later
+]
 
 -- ---- pairs
 

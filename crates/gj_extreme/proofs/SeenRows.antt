@@ -15,7 +15,7 @@ use Rattle.gj_shape.specs.FunctionData.{FunctionData}
 use Rattle.gj_shape.specs.SlopeRows.{row_entry, row_names, row_of, rises}
 use Rattle.gj_shape.specs.declared.extremality.RowName.{RowName}
 use Rattle.gj_shape.specs.declared.extremality.RowName.TheVariants.{Pair}
-use Rattle.gj_extreme.specs.RowsToCome.{AreToCome, IsSeen, IsTaken, name_of}
+use Rattle.gj_extreme.specs.RowsToCome.{AreToCome, IsTaken, name_of}
 use Rattle.gj_extreme.specs.SeenPairs.{IsPairBelow, AreSeenBelow, IsSeenRow}
 use Rattle.gj_extreme.specs.declared.inserted_rows.Rows.{Rows}
 use Rattle.gj_extreme.specs.declared.seen.SeenPair.{SeenPair}
@@ -37,36 +37,35 @@ zero_pair f component n before p some is =
 pub pair_is_set : (f : FunctionData) (component : ℕ → ℕ) (n : ℕ) (rows : Rows) (seen : SeenPairs) (place : ℕ) (p : SeenPair)
     (rest : List RowName) → IsPairBelow f.order p → seen.codes ≡ rows.seen.codes → seen.pairs.items ≡ set rows.seen.pairs.items place p →
     IsTaken f component n (Pair p.a p.b) rows rest →
-    IsSeen f component n p.a p.b (record { basis = rows.basis; names = rows.names; row = rows.row; seen = seen }) rest
+    AreToCome f component n (record { basis = rows.basis; names = rows.names; row = rows.row; seen = seen }) rest
 pair_is_set f component n rows seen place p rest below codes pairs (h, has) =
-    let g = h.handed_over in (
-      record {
-        columns = h.columns;
-        width = h.width;
-        seen_below = record {
-          some = subst (λ (m : ℕ). 0 < m) (sym (ap length pairs ∙ length-set rows.seen.pairs.items place p)) h.seen_below.some;
-          few = subst (λ (m : ℕ). m ≤ 4096) (sym (ap length pairs ∙ length-set rows.seen.pairs.items place p)) h.seen_below.few;
-          points = subst (All (IsPairBelow f.order)) (sym pairs)
-              (All-set (IsPairBelow f.order) rows.seen.pairs.items place p below h.seen_below.points);
-          codes = ap (λ c. length c.items) codes ∙ h.seen_below.codes;
-        };
-        handed_over = record {
-          handed = g.handed;
-          before = g.before;
-          number = g.number;
-          few = g.few;
-          next = g.next;
-          onward = g.onward;
-          inserted = g.inserted;
-          kept = g.kept;
-          marked = g.marked;
-          names = g.names;
-          seen = subst (All (IsSeenRow f component n g.before)) (sym pairs)
-              (All-set (IsSeenRow f component n g.before) rows.seen.pairs.items place p (inr has) g.seen);
-        };
-      },
-      inr has,
-    )
+    let g = h.handed_over in
+    record {
+      columns = h.columns;
+      width = h.width;
+      seen_below = record {
+        some = subst (λ (m : ℕ). 0 < m) (sym (ap length pairs ∙ length-set rows.seen.pairs.items place p)) h.seen_below.some;
+        few = subst (λ (m : ℕ). m ≤ 4096) (sym (ap length pairs ∙ length-set rows.seen.pairs.items place p)) h.seen_below.few;
+        points = subst (All (IsPairBelow f.order)) (sym pairs)
+            (All-set (IsPairBelow f.order) rows.seen.pairs.items place p below h.seen_below.points);
+        codes = ap (λ c. length c.items) codes ∙ h.seen_below.codes;
+      };
+      handed_over = record {
+        handed = g.handed;
+        before = g.before;
+        number = g.number;
+        few = g.few;
+        next = g.next;
+        onward = g.onward;
+        inserted = g.inserted;
+        kept = g.kept;
+        marked = g.marked;
+        names = g.names;
+        seen = subst (All (IsSeenRow f component n g.before)) (sym pairs)
+            (All-set (IsSeenRow f component n g.before) rows.seen.pairs.items place p (inr has) g.seen);
+        known = g.known;
+      };
+    }
 
 -- ---- the pair before
 
@@ -116,6 +115,30 @@ same_row_as_before component n q k a b s positive a_below b_below other before s
         (rises_more component (b - 1) c ∙ ap (λ i. rises component (b - 1) c + cond (eqb i c) 1 0) same) (rises_more component s c)
         ∙ ap₂ (λ i j. pos (rises component a c) +ℤ pos (rises component i c) -ℤ pos (rises component j c)) again sum
 
+-- if the intervals before a and behind b are in one component, the pair has the row of the one with
+-- these moved
+pub same_row_as_beside : (component : ℕ → ℕ) (n q k a b : ℕ) → 0 < a → component (a - 1) ≡ component b →
+    row_of component n q k (Pair (a - 1) (b + 1)) ≡ row_of component n q k (Pair a b)
+same_row_as_beside component n q k a b some same =
+    ap (λ g. map g (range_with_len 0 n)) (fun_ext (λ c. here c))
+  where
+    again : a - 1 + 1 ≡ a
+    again = omega arith
+
+    sum : a - 1 + (b + 1) ≡ a + b
+    sum = omega arith
+
+    one_interval_over : (x y z u v c : ℕ) → y ≡ u + c → z ≡ v + c → pos u +ℤ pos z -ℤ pos x ≡ pos y +ℤ pos v -ℤ pos x
+    one_interval_over x y z u v c first second = omega (arith, ints)
+
+    here : (c : ℕ) → row_entry component q k (Pair (a - 1) (b + 1)) c ≡ row_entry component q k (Pair a b) c
+    here c =
+        ap (λ i. pos (rises component (a - 1) c) +ℤ pos (rises component (b + 1) c) -ℤ pos (rises component (i % q) c)) sum
+        ∙ one_interval_over (rises component ((a + b) % q) c) (rises component (a - 1 + 1) c) (rises component (b + 1) c)
+        (rises component (a - 1) c) (rises component b c) (cond (eqb (component b) c) 1 0)
+        (rises_more component (a - 1) c ∙ ap (λ i. rises component (a - 1) c + cond (eqb i c) 1 0) same) (rises_more component b c)
+        ∙ ap (λ i. pos (rises component i c) +ℤ pos (rises component b c) -ℤ pos (rises component ((a + b) % q) c)) again
+
 -- no rows, of which all are to come
 pub none_yet : (f : FunctionData) (component : ℕ → ℕ) (n : ℕ) (rows : Rows) → rows.basis.columns ≡ n → rows.basis.inserted ≡ 0 →
     rows.basis.kept ≡ [] → rows.names.items ≡ [] → length rows.row.items ≡ n → 0 < f.order → AreSeenBelow f.order rows.seen →
@@ -140,5 +163,6 @@ none_yet f component n rows columns inserted kept names width some below zeros =
         names = λ more.
             names ∙ ap (map (λ k. name_of f (renumbered more k))) (sym kept);
         seen = λ i d low. zero_pair f component n [] (get_or rows.seen.pairs.items i d) some (zeros i d low);
+        known = λ name given. inr given;
       };
     }

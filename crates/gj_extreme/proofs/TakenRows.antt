@@ -22,11 +22,11 @@ use Rattle.gj_theory.proofs.Passing.{none_passes, front_passes, back_passes, eit
 use Rattle.gj_theory.proofs.RepeatedRows.{once_keeps, once_passes, all_handed_over}
 use Rattle.gj_proof.specs.PresentRows.{named_row}
 use Rattle.gj_extreme.specs.Decision.{slope_elimination}
-use Rattle.gj_extreme.specs.RowsToCome.{name_of, rows_named, AreNextNames, AreHandedOver, AreToCome, IsSeen, IsTaken, AreInserted, IsReady}
-use Rattle.gj_extreme.specs.SeenPairs.{IsSeenRow, AreSeenBelow}
+use Rattle.gj_extreme.specs.RowsToCome.{name_of, rows_named, AreNextNames, AreHandedOver, AreToCome, IsTaken, AreInserted, IsReady}
+use Rattle.gj_extreme.specs.SeenPairs.{IsSeenName, IsSeenRow, AreSeenBelow}
 use Rattle.gj_extreme.specs.declared.inserted_rows.Rows.{Rows}
 use Rattle.gj_extreme.specs.declared.seen.SeenPair.{SeenPair}
-use Rattle.gj_extreme.proofs.RowOrder.{rows_short}
+use Rattle.gj_extreme.proofs.RowOrder.{rows_short, cons_cases}
 
 -- ---- the elimination, one row further
 
@@ -104,11 +104,22 @@ handed_numbers_push handed number row more =
     ap (λ numbers. numbers ++ more) (map-append (λ (h : ℕ × List ℤ). h.0) handed ((number, row) ∷ []))
     ∙ append_assoc (handed_numbers handed) (number ∷ []) more
 
-seen_further : (f : FunctionData) (component : ℕ → ℕ) (n : ℕ) (before : List (List ℤ)) (row : List ℤ) (p : SeenPair) →
-    IsSeenRow f component n before p → IsSeenRow f component n (row ∷ before) p
-seen_further f component n before row p (inl are) = inl are
-seen_further f component n before row p (inr has) =
-    inr (Contains-append_right (row ∷ []) before (named_row f component n (Pair p.a p.b)) has)
+seen_further : (f : FunctionData) (component : ℕ → ℕ) (n : ℕ) (before : List (List ℤ)) (row : List ℤ) (name : RowName) →
+    IsSeenName f component n before name → IsSeenName f component n (row ∷ before) name
+seen_further f component n before row name (inl are) = inl are
+seen_further f component n before row name (inr has) =
+    inr (Contains-append_right (row ∷ []) before (named_row f component n name) has)
+
+-- one name of those to come less
+known_further : (f : FunctionData) (component : ℕ → ℕ) (n : ℕ) (before after : List (List ℤ)) (name : RowName) (rest : List RowName) →
+    ((other : RowName) → IsSeenName f component n before other → IsSeenName f component n after other) → IsSeenName f component n after name →
+    (other : RowName) → IsSeenName f component n before other ⊎ Contains (name ∷ rest) other →
+    IsSeenName f component n after other ⊎ Contains rest other
+known_further f component n before after name rest more here other (inl seen) = inl (more other seen)
+known_further f component n before after name rest more here other (inr to_come) = elim (cons_cases name rest other to_come) [
+  | inl same ↦ inl (subst (IsSeenName f component n after) same here)
+  | inr later ↦ inr later
+]
 
 -- what the basis is behind the insertion of the row, or if it is full
 record HasRow (f : FunctionData) (n : ℕ) (row : List ℤ) (handed : List (ℕ × List ℤ)) (number : ℕ) (old new : Rows) : Type 0 where
@@ -155,7 +166,10 @@ is_handed f component n old new name rest h has =
         names = λ more.
             has.names more ∙ ap (λ numbers. map (named_by f numbers) new.basis.kept) (sym (handed_numbers_push h.handed h.number row more));
         seen = subst (λ (s : List SeenPair). All (IsSeenRow f component n (row ∷ h.before)) s) (sym (ap (λ s. s.pairs.items) has.seen))
-            (λ i d low. seen_further f component n h.before row (get_or old.seen.pairs.items i d) (h.seen i d low));
+            (λ i d low. let p = get_or old.seen.pairs.items i d in seen_further f component n h.before row (Pair p.a p.b) (h.seen i d low));
+        known = λ other given.
+            known_further f component n h.before (row ∷ h.before) name rest (λ some s. seen_further f component n h.before row some s)
+            (inr (Contains-append_left (row ∷ []) h.before row (Contains-push [] row))) other (h.known other given);
       },
       Contains-append_left (row ∷ []) h.before row (Contains-push [] row),
     )
@@ -348,33 +362,33 @@ full_takes_all f component n rows (name ∷ rest) full h =
 
 -- ---- a row that was seen
 
--- the row of the name is that of a pair that was handed over, or one of zeros
+-- the row of the name is one that was handed over, or one of zeros
 pub row_is_seen : (f : FunctionData) (component : ℕ → ℕ) (n : ℕ) (rows : Rows) (a b : ℕ) (rest : List RowName) (p : SeenPair) →
     (h : AreToCome f component n rows (Pair a b ∷ rest)) → IsSeenRow f component n h.handed_over.before p →
-    named_row f component n (Pair p.a p.b) ≡ named_row f component n (Pair a b) → IsSeen f component n a b rows rest
+    named_row f component n (Pair p.a p.b) ≡ named_row f component n (Pair a b) → AreToCome f component n rows rest
 row_is_seen f component n rows a b rest p h seen same =
     let g = h.handed_over in
-    let here = seen_again seen in (
-      record {
-        columns = h.columns;
-        width = h.width;
-        seen_below = h.seen_below;
-        handed_over = record {
-          handed = g.handed;
-          before = g.before;
-          number = g.number + 1;
-          few = let low = g.few in omega arith;
-          next = one_name_further f g.number (Pair a b) rest g.next;
-          onward = λ more given. g.onward more (left_out more given here);
-          inserted = g.inserted;
-          kept = g.kept;
-          marked = g.marked;
-          names = g.names;
-          seen = g.seen;
-        };
-      },
-      here,
-    )
+    let here = seen_again seen in
+    record {
+      columns = h.columns;
+      width = h.width;
+      seen_below = h.seen_below;
+      handed_over = record {
+        handed = g.handed;
+        before = g.before;
+        number = g.number + 1;
+        few = let low = g.few in omega arith;
+        next = one_name_further f g.number (Pair a b) rest g.next;
+        onward = λ more given. g.onward more (left_out more given here);
+        inserted = g.inserted;
+        kept = g.kept;
+        marked = g.marked;
+        names = g.names;
+        seen = g.seen;
+        known = λ other given.
+            known_further f component n g.before g.before (Pair a b) rest (λ some s. s) here other (g.known other given);
+      };
+    }
   where
     seen_again : IsSeenRow f component n h.handed_over.before p → IsSeenRow f component n h.handed_over.before (record { a = a; b = b })
     seen_again (inl are) = inl (subst (All (λ x. x ≡ pos 0)) same are)

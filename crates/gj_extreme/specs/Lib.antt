@@ -2,3 +2,4 @@ pub mod Faults
 pub mod Decision
 pub mod SeenPairs
 pub mod RowsToCome
+pub mod PairsLeft

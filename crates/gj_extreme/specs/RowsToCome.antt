@@ -1,5 +1,5 @@
 -- Rows of the system that are inserted, and those that are still to come (own).
-use Rattle.std.specs.Prelude.{ℕ, ℤ, ◌≡◌, ◌↔◌, ◌-◌, ◌<◌, ◌≤◌, ◌^◌, List, [], ◌++◌, Contains, All, length, map, filter, flat_map, get_or}
+use Rattle.std.specs.Prelude.{ℕ, ℤ, ◌≡◌, ◌⊎◌, ◌↔◌, ◌-◌, ◌<◌, ◌≤◌, ◌^◌, List, [], ◌++◌, Contains, All, length, map, filter, flat_map, get_or}
 use Rattle.std.specs.List.{range_with_len}
 use Rattle.gj_shape.specs.Elimination.{KeptRow, elimination, elimination_from, Passes}
 use Rattle.gj_shape.specs.FunctionData.{FunctionData}
@@ -10,7 +10,7 @@ use Rattle.gj_theory.specs.HandedOver.{IsHandedOver, handed_numbers, handed_rows
 use Rattle.gj_elim.specs.declared.log.LogRow.{LogRow}
 use Rattle.gj_proof.specs.PresentRows.{named_row}
 use Rattle.gj_extreme.specs.Decision.{slope_elimination}
-use Rattle.gj_extreme.specs.SeenPairs.{IsSeenRow, AreSeenBelow}
+use Rattle.gj_extreme.specs.SeenPairs.{IsSeenName, IsSeenRow, AreSeenBelow}
 use Rattle.gj_extreme.specs.declared.inserted_rows.Rows.{Rows}
 
 -- ---- the order of rows
@@ -50,7 +50,7 @@ AreLoggedRows kept log = map line_parts log ≡ map row_parts kept
 
 -- rows are handed over, each with its number, and the basis has them; behind this number the rows
 -- of these names are to come, and with each list of those that are handed over of them these are
--- handed over of all rows
+-- handed over of all rows; each row was one before, has only zeros, or is to come
 pub record AreHandedOver (f : FunctionData) (component : ℕ → ℕ) (n : ℕ) (rows : Rows) (rest : List RowName) : Type 0 where
   pub handed : List (ℕ × List ℤ)
   pub before : List (List ℤ)
@@ -68,6 +68,7 @@ pub record AreHandedOver (f : FunctionData) (component : ℕ → ℕ) (n : ℕ) 
   pub names : (more : List ℕ) →
       rows.names.items ≡ map (λ k. name_of f (renumbered (handed_numbers handed ++ more) k)) rows.basis.kept
   pub seen : All (IsSeenRow f component n before) rows.seen.pairs.items
+  pub known : (name : RowName) → Contains (row_names f) name → IsSeenName f component n before name ⊎ Contains rest name
 
 -- the rows of these names are still to come
 pub record AreToCome (f : FunctionData) (component : ℕ → ℕ) (n : ℕ) (rows : Rows) (rest : List RowName) : Type 0 where
@@ -80,11 +81,6 @@ pub record AreToCome (f : FunctionData) (component : ℕ → ℕ) (n : ℕ) (row
 abbrev pub IsTaken : FunctionData → (ℕ → ℕ) → ℕ → RowName → Rows → List RowName → Type 0
 IsTaken f component n name rows rest =
     (h : AreToCome f component n rows rest) × Contains h.handed_over.before (named_row f component n name)
-
--- so they are, and the row of this pair was one before, or has only zeros
-abbrev pub IsSeen : FunctionData → (ℕ → ℕ) → ℕ → ℕ → ℕ → Rows → List RowName → Type 0
-IsSeen f component n a b rows rest =
-    (h : AreToCome f component n rows rest) × IsSeenRow f component n h.handed_over.before (record { a = a; b = b })
 
 -- all rows are inserted, or as many are kept as there are components; the basis numbers those that
 -- were handed over

@@ -10,12 +10,14 @@ ghost use Rattle.gj_shape.specs.declared.extremality.RowName.{RowName};
 ghost use Rattle.gj_shape.specs.declared.extremality.RowName.TheVariants.{Pair};
 ghost use Rattle.gj_system.specs.Components.{IsNameBelow};
 ghost use Rattle.gj_extreme.specs.Decision.{slope_elimination};
-ghost use Rattle.gj_extreme.specs.RowsToCome.{AreToCome, AreInserted, IsReady, IsSeen, IsTaken};
+ghost use Rattle.gj_extreme.specs.RowsToCome.{AreToCome, AreInserted, IsReady, IsTaken};
 ghost use Rattle.gj_extreme.specs.RowsToCome.{row_names_from};
+ghost use Rattle.gj_extreme.specs.PairsLeft.{AreIntervalsOf, ArePairsLeft};
 
 use crate::seen::{SeenPair, SeenPairs};
 use gj_elim::{Basis, ElimFault, Inserted};
 use gj_faces::TightPairs;
+use gj_sets::IndexSet;
 use gj_shape::{RowName, Shape, wrapped};
 use gj_system::SlopeRows;
 use std::alloc::{AllocError, Global};
@@ -52,13 +54,55 @@ pub(crate) fn rows_of(
     let mut rows = Rows::new(alloc, system)?;
     rows.insert(shape, system, RowName::Period)?;
     rows.insert(shape, system, RowName::F)?;
+    if rows.is_full() {
+        return Ok(rows);
+    }
+    let intervals = intervals_of(alloc, system)?;
     for a in 1..order {
+        insert_pairs(shape, pairs, system, intervals.as_slice(), a, &mut rows)?;
         if rows.is_full() {
             return Ok(rows);
         }
-        insert_pairs(shape, pairs, system, a, &mut rows)?;
     }
     Ok(rows)
+}
+
+/// For each component the set of its intervals.
+fn intervals_of(alloc: Global, system: &SlopeRows) -> Result<Vec<IndexSet>, AllocError>
+    requires few { length system.now.component ≤ 1024 }
+    ensures { IfOk result (λ sets. AreIntervalsOf (component_in system.now.component)
+        (length system.now.component) sets.items) }
+{
+    let component = system.component();
+    let mut intervals = vec![in alloc; IndexSet::empty(); system.columns() as usize]?;
+    for i in 0..component.len() {
+        let number = component[i] as usize;
+        if number < intervals.len() {
+            intervals[number].insert(i);
+        }
+    }
+    Ok(intervals)
+}
+
+/// The b of the tight pairs (a, b), without those of which it is seen that (a - 1, b + 1) is a
+/// tight pair with the same row: the intervals that end at a/q and begin at b/q are in one
+/// component.
+fn pairs_left(pairs: &TightPairs, system: &SlopeRows, intervals: &[IndexSet], a: u32) -> IndexSet
+    requires below { a < pairs.now.order }
+    requires order { length system.now.component ≡ pairs.now.order }
+    requires intervals { AreIntervalsOf (component_in system.now.component) pairs.now.order
+        intervals.now }
+    ensures { ArePairsLeft pairs.now (component_in system.now.component) a result }
+{
+    let row = pairs.row(a);
+    if a < 2 {
+        return *row;
+    }
+    let number = system.component()[(a - 1) as usize] as usize;
+    if number >= intervals.len() {
+        return *row;
+    }
+    row.and_not(&pairs.row(a - 1).down(1).and(&intervals[number]))
 }
 
 /// Inserts the rows of the tight pairs (a, b) with b from a on.
@@ -66,13 +110,17 @@ fn insert_pairs(
     shape: &Shape,
     pairs: &TightPairs,
     system: &SlopeRows,
+    intervals: &[IndexSet],
     a: u32,
     rows: &mut Rows,
 ) -> Result<(), ElimFault>
     requires limits { IsWithinBounds shape.now }
     requires pairs { AreTightPairsOf shape.now pairs.now }
     requires order { length system.now.component ≡ shape.now.order }
+    requires some { 0 < a }
     requires below { a < shape.now.order }
+    requires intervals { AreIntervalsOf (component_in system.now.component) shape.now.order
+        intervals.now }
     requires to_come { AreToCome shape.now (component_in system.now.component) system.now.columns
         rows.old (row_names_from shape.now a) }
     ensures to_come { OnOk result
@@ -84,11 +132,11 @@ fn insert_pairs(
 {
     let row = pairs.row(a);
     let component = system.component();
+    let left = pairs_left(pairs, system, intervals, a);
     let first = a as usize;
     let mut from = first;
-    'pairs: while let Some(b) = row.first_from(from) {
-        // If b is `from`, and not the first, the pair (a, b - 1) is the one before.
-        if b == from && b > first && has_row_of_pair_before(component, first, b) {
+    'pairs: while let Some(b) = left.first_from(from) {
+        if b > first && row.contains(b - 1) && has_row_of_pair_before(component, first, b) {
             from = b + 1;
             continue 'pairs;
         }
@@ -155,8 +203,8 @@ impl Rows {
         ensures to_come { OnOk result ((rest : List RowName) →
             AreToCome shape.now (component_in system.now.component) system.now.columns self.old
             (Pair a b ∷ rest) →
-            IsSeen shape.now (component_in system.now.component) system.now.columns
-            a b self.new rest) }
+            AreToCome shape.now (component_in system.now.component) system.now.columns
+            self.new rest) }
         ensures wide { IsErrOf result ElimFault.Wide → (rest : List RowName) →
             AreToCome shape.now (component_in system.now.component) system.now.columns self.old
             (Pair a b ∷ rest) →
