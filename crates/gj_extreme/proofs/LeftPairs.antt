@@ -7,7 +7,7 @@ use Rattle.gj_sets.specs.IndexSets.{has, IsFirst}
 use Rattle.gj_sets.specs.declared.index_set.IndexSet.{IndexSet}
 use Rattle.gj_shape.specs.Additive.{IsTight}
 use Rattle.gj_shape.specs.FunctionData.{FunctionData, at}
-use Rattle.gj_shape.specs.SlopeRows.{is_tight}
+use Rattle.gj_shape.specs.SlopeRows.{is_tight, row_of}
 use Rattle.gj_shape.specs.declared.extremality.RowName.TheVariants.{Pair}
 use Rattle.gj_faces.specs.TightPairs.{IsTightIn, AreTightPairsOf}
 use Rattle.gj_faces.specs.declared.tight_pairs.TightPairs.{TightPairs}
@@ -18,7 +18,6 @@ use Rattle.gj_extreme.specs.SeenPairs.{IsSeenName}
 use Rattle.gj_extreme.specs.declared.inserted_rows.Rows.{Rows}
 use Rattle.gj_extreme.proofs.KnownPairs.{is_name, pair_to_come}
 use Rattle.gj_extreme.proofs.RowOrder.{no_pairs, next_pair, loose_pair}
-use Rattle.gj_extreme.proofs.SeenRows.{same_row_as_beside}
 use Rattle.gj_extreme.proofs.TakenRows.{row_is_seen}
 
 -- the rows of these pairs are to come, those of a from b on first
@@ -59,18 +58,17 @@ pair_is_known f component n a b c d rows below tight some low high other before 
         let whole = sym (next_pair f a b (row_names_from f (a + 1)) below tight) in
         absurd (by_order (pair_to_come f a b c d (subst (λ l. Contains l (Pair c d)) whole to_come)) before)
 
--- so does the one whose first interval less is one more of its second
 beside_is_known : (f : FunctionData) (component : ℕ → ℕ) (n : ℕ) (pairs : TightPairs) (a b : ℕ) (rows : Rows) →
     AreTightPairsOf f pairs → a ≤ b → b < f.order → IsTight f a b → HasPairBefore pairs component a b →
     IsPairToCome f component n a b rows → ArePairsToCome f component n a (b + 1) rows
-beside_is_known f component n pairs a b rows p low below tight before h =
-    let more : b + 1 < f.order = subst (λ q. b + 1 < q) p.order before.within in
-    let some = before.some in
-    pair_is_known f component n a b (a - 1) (b + 1) rows below tight (omega arith) (omega arith) more
-    ((p.tell (a - 1) (b + 1)).0 before.tight) (inl (omega arith))
-    (same_row_as_beside component n f.order f.place a b (omega arith) before.same) h
+beside_is_known f component n pairs a b rows p low below tight h to_come =
+    let less = h.before in
+    let behind = h.behind in
+    pair_is_known f component n a b h.first h.second rows below tight h.some (omega arith) (subst (λ q. h.second < q) p.order h.within)
+    ((p.tell h.first h.second).0 h.tight) (inl less)
+    (subst (λ q. row_of component n q f.place (Pair h.first h.second) ≡ row_of component n q f.place (Pair a b)) p.order (h.same n f.place))
+    to_come
 
--- so does the one with one interval of its second less
 pub next_is_known : (f : FunctionData) (component : ℕ → ℕ) (n : ℕ) (pairs : TightPairs) (a b : ℕ) (rows : Rows) →
     AreTightPairsOf f pairs → 0 < a → a < b → b < f.order → IsTight f a b → IsTightIn pairs a (b - 1) →
     named_row f component n (Pair a (b - 1)) ≡ named_row f component n (Pair a b) →

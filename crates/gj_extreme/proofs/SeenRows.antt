@@ -115,6 +115,13 @@ same_row_as_before component n q k a b s positive a_below b_below other before s
         (rises_more component (b - 1) c ∙ ap (λ i. rises component (b - 1) c + cond (eqb i c) 1 0) same) (rises_more component s c)
         ∙ ap₂ (λ i j. pos (rises component a c) +ℤ pos (rises component i c) -ℤ pos (rises component j c)) again sum
 
+-- ---- pairs beside
+
+-- the row of a pair with some intervals less in the first, and as many more in the second
+intervals_over : (low high first second over sum : ℕ) → high ≡ low + over → second ≡ first + over →
+    pos low +ℤ pos second -ℤ pos sum ≡ pos high +ℤ pos first -ℤ pos sum
+intervals_over low high first second over sum more moved = omega (arith, ints)
+
 -- if the intervals before a and behind b are in one component, the pair has the row of the one with
 -- these moved
 pub same_row_as_beside : (component : ℕ → ℕ) (n q k a b : ℕ) → 0 < a → component (a - 1) ≡ component b →
@@ -128,16 +135,46 @@ same_row_as_beside component n q k a b some same =
     sum : a - 1 + (b + 1) ≡ a + b
     sum = omega arith
 
-    one_interval_over : (x y z u v c : ℕ) → y ≡ u + c → z ≡ v + c → pos u +ℤ pos z -ℤ pos x ≡ pos y +ℤ pos v -ℤ pos x
-    one_interval_over x y z u v c first second = omega (arith, ints)
-
     here : (c : ℕ) → row_entry component q k (Pair (a - 1) (b + 1)) c ≡ row_entry component q k (Pair a b) c
     here c =
         ap (λ i. pos (rises component (a - 1) c) +ℤ pos (rises component (b + 1) c) -ℤ pos (rises component (i % q) c)) sum
-        ∙ one_interval_over (rises component ((a + b) % q) c) (rises component (a - 1 + 1) c) (rises component (b + 1) c)
-        (rises component (a - 1) c) (rises component b c) (cond (eqb (component b) c) 1 0)
-        (rises_more component (a - 1) c ∙ ap (λ i. rises component (a - 1) c + cond (eqb i c) 1 0) same) (rises_more component b c)
-        ∙ ap (λ i. pos (rises component i c) +ℤ pos (rises component b c) -ℤ pos (rises component ((a + b) % q) c)) again
+        ∙ intervals_over (rises component (a - 1) c) (rises component a c) (rises component b c) (rises component (b + 1) c)
+        (cond (eqb (component b) c) 1 0) (rises component ((a + b) % q) c)
+        (ap (λ i. rises component i c) (sym again) ∙ rises_more component (a - 1) c
+        ∙ ap (λ i. rises component (a - 1) c + cond (eqb i c) 1 0) same)
+        (rises_more component b c)
+
+-- so it is with two intervals before a, and two behind b
+pub same_row_as_two_beside : (component : ℕ → ℕ) (n q k a b : ℕ) → 1 < a → component (a - 2) ≡ component b →
+    component (a - 1) ≡ component (b + 1) →
+    row_of component n q k (Pair (a - 2) (b + 1 + 1)) ≡ row_of component n q k (Pair a b)
+same_row_as_two_beside component n q k a b some other last =
+    ap (λ g. map g (range_with_len 0 n)) (fun_ext (λ c. here c))
+  where
+    again : a - 1 + 1 ≡ a
+    again = omega arith
+
+    before : a - 2 + 1 ≡ a - 1
+    before = omega arith
+
+    sum : a - 2 + (b + 1 + 1) ≡ a + b
+    sum = omega arith
+
+    here : (c : ℕ) → row_entry component q k (Pair (a - 2) (b + 1 + 1)) c ≡ row_entry component q k (Pair a b) c
+    here c =
+        let one = cond (eqb (component b) c) 1 0 in
+        let two = cond (eqb (component (b + 1)) c) 1 0 in
+        let low : rises component (a - 1) c ≡ rises component (a - 2) c + one =
+        ap (λ i. rises component i c) (sym before) ∙ rises_more component (a - 2) c
+        ∙ ap (λ i. rises component (a - 2) c + cond (eqb i c) 1 0) other in
+        let high : rises component a c ≡ rises component (a - 1) c + two =
+        ap (λ i. rises component i c) (sym again) ∙ rises_more component (a - 1) c
+        ∙ ap (λ i. rises component (a - 1) c + cond (eqb i c) 1 0) last in
+        let first : rises component (b + 1) c ≡ rises component b c + one = rises_more component b c in
+        let second : rises component (b + 1 + 1) c ≡ rises component (b + 1) c + two = rises_more component (b + 1) c in
+        ap (λ i. pos (rises component (a - 2) c) +ℤ pos (rises component (b + 1 + 1) c) -ℤ pos (rises component (i % q) c)) sum
+        ∙ intervals_over (rises component (a - 2) c) (rises component a c) (rises component b c) (rises component (b + 1 + 1) c)
+        (one + two) (rises component ((a + b) % q) c) (omega arith) (omega arith)
 
 -- no rows, of which all are to come
 pub none_yet : (f : FunctionData) (component : ℕ → ℕ) (n : ℕ) (rows : Rows) → rows.basis.columns ≡ n → rows.basis.inserted ≡ 0 →

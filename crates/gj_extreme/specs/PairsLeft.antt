@@ -1,7 +1,9 @@
 -- Tight pairs of one row whose rows need not be looked at (own).
-use Rattle.std.specs.Prelude.{ℕ, ◌≡◌, ◌+◌, ◌-◌, ◌<◌, ◌≤◌, List, false, IsTrue, length, get_or}
+use Rattle.std.specs.Prelude.{ℕ, ◌≡◌, ◌<◌, ◌≤◌, List, false, IsTrue, length, get_or}
 use Rattle.gj_sets.specs.IndexSets.{has, no_set}
 use Rattle.gj_sets.specs.declared.index_set.IndexSet.{IndexSet}
+use Rattle.gj_shape.specs.SlopeRows.{row_of}
+use Rattle.gj_shape.specs.declared.extremality.RowName.TheVariants.{Pair}
 use Rattle.gj_faces.specs.TightPairs.{IsTightIn}
 use Rattle.gj_faces.specs.declared.tight_pairs.TightPairs.{TightPairs}
 
@@ -10,13 +12,18 @@ abbrev pub AreIntervalsOf : (ℕ → ℕ) → ℕ → List IndexSet → Type 0
 AreIntervalsOf component q sets =
     (c i : ℕ) → c < length sets → i < q → IsTrue (has (get_or sets c no_set) i) → component i ≡ c
 
--- the pair (a - 1, b + 1) is tight, and a - 1 is not 0; the intervals by which it differs from
--- (a, b) are in one component
+-- a tight pair has the row of (a, b), a lesser first index, which is not 0, and a second that is not
+-- less
 pub record HasPairBefore (pairs : TightPairs) (component : ℕ → ℕ) (a b : ℕ) : Type 0 where
-  pub some : 1 < a
-  pub within : b + 1 < pairs.order
-  pub tight : IsTightIn pairs (a - 1) (b + 1)
-  pub same : component (a - 1) ≡ component b
+  pub first : ℕ
+  pub second : ℕ
+  pub some : 0 < first
+  pub before : first < a
+  pub behind : b ≤ second
+  pub within : second < pairs.order
+  pub tight : IsTightIn pairs first second
+  pub same : (n place : ℕ) →
+      row_of component n pairs.order place (Pair first second) ≡ row_of component n pairs.order place (Pair a b)
 
 -- the set has the b of tight pairs (a, b), and each of them but for those with such a pair before
 pub record ArePairsLeft (pairs : TightPairs) (component : ℕ → ℕ) (a : ℕ) (left : IndexSet) : Type 0 where

@@ -84,9 +84,9 @@ fn intervals_of(alloc: Global, system: &SlopeRows) -> Result<Vec<IndexSet>, Allo
     Ok(intervals)
 }
 
-/// The b of the tight pairs (a, b), without those of which it is seen that (a - 1, b + 1) is a
-/// tight pair with the same row: the intervals that end at a/q and begin at b/q are in one
-/// component.
+/// The b of the tight pairs (a, b), without those of which it is seen that (a - 1, b + 1) or
+/// (a - 2, b + 2) is a tight pair with the same row: from a down and from b up, the one or two
+/// intervals passed are in the same components.
 fn pairs_left(pairs: &TightPairs, system: &SlopeRows, intervals: &[IndexSet], a: u32) -> IndexSet
     requires below { a < pairs.now.order }
     requires order { length system.now.component ≡ pairs.now.order }
@@ -95,14 +95,21 @@ fn pairs_left(pairs: &TightPairs, system: &SlopeRows, intervals: &[IndexSet], a:
     ensures { ArePairsLeft pairs.now (component_in system.now.component) a result }
 {
     let row = pairs.row(a);
-    if a < 2 {
+    if a < 3 {
         return *row;
     }
-    let number = system.component()[(a - 1) as usize] as usize;
-    if number >= intervals.len() {
+    let component = system.component();
+    let last = component[(a - 1) as usize] as usize;
+    let other = component[(a - 2) as usize] as usize;
+    if last >= intervals.len() || other >= intervals.len() {
         return *row;
     }
-    row.and_not(&pairs.row(a - 1).down(1).and(&intervals[number]))
+    let left = row.and_not(&pairs.row(a - 1).down(1).and(&intervals[last]));
+    if last == other {
+        return left;
+    }
+    let moved = pairs.row(a - 2).down(1).and(&intervals[last]).down(1);
+    left.and_not(&moved.and(&intervals[other]))
 }
 
 /// Inserts the rows of the tight pairs (a, b) with b from a on.
