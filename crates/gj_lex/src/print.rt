@@ -162,7 +162,7 @@ fn write_fraction(text: &mut [u8], end: usize, x: Frac) -> usize
     ensures begins { result ≤ end }
     ensures room { end ≤ result + 80 }
 {
-    let middle = write_denominator(text, end, x.den().unsigned_abs());
+    let middle = write_denominator(text, end, x.den() as u128);
     write_signed(text, middle, x.num())
 }
 
@@ -190,10 +190,10 @@ fn write_signed(text: &mut [u8], end: usize, n: i128) -> usize
     ensures begins { result ≤ end }
     ensures room { end ≤ result + 40 }
 {
-    let start = write_digits(text, end, n.unsigned_abs());
     if n >= 0 {
-        return start;
+        return write_digits(text, end, n as u128);
     }
+    let start = write_digits(text, end, n.unsigned_abs());
     text[start - 1] = b'-';
     start - 1
 }
