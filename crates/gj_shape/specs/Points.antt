@@ -28,6 +28,10 @@ fractions_of p = p.left ∷ p.value ∷ p.right ∷ []
 abbrev pub all_fractions : List Point → List Frac
 all_fractions points = flat_map fractions_of points
 
+-- the point without a jump that has this value
+abbrev pub even_point : Frac → Point
+even_point x = record { left = x; value = x; right = x }
+
 -- the points are those of the function, each fraction over its scale
 pub record ArePointsOf (f : FunctionData) (points : List Point) : Type 0 where
   pub left_are : AllZip (λ x n. IsRatio x n (pos f.scale)) (lefts points) f.left

@@ -71,7 +71,7 @@ pub(crate) fn with_point(scale: u32, point: Point) -> Result<u32, FractionFault>
 
 /// Whether the numerator is at most 2^20 in absolute value and the denominator divides `scale`, as
 /// those of most fractions of a function.
-fn goes_with(scale: u32, x: Frac) -> bool
+pub(crate) fn goes_with(scale: u32, x: Frac) -> bool
     requires { 0 < scale }
     ensures { IsTrue result → Extends greatest_value scale x scale }
 {

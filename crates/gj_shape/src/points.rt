@@ -8,9 +8,9 @@ ghost use Rattle.gj_shape.specs.declared.faults.FractionFault.TheVariants as ref
 ghost use Rattle.gj_shape.specs.declared.points.PointFault.TheVariants.{Large, Fine, Memory};
 ghost use Rattle.gj_shape.specs.Given.{IsOrder, IsPlace, IsSmall, HasCommonDenominator, IsGivenBy};
 ghost use Rattle.gj_shape.specs.Points.{lefts, values, rights, all_fractions, IsPointFault};
-ghost use Rattle.gj_shape.specs.Points.{point_fault};
+ghost use Rattle.gj_shape.specs.Points.{even_point, point_fault};
 
-use crate::denominators::with_point;
+use crate::denominators::{goes_with, with_point};
 use crate::faults::FractionFault;
 use crate::shape::Shape;
 use gj_frac::Frac;
@@ -117,6 +117,33 @@ impl Points {
         self.value.push_reserved(point.value);
         self.right.push_reserved(point.right);
         self.scale = scale;
+        Ok(())
+    }
+
+    /// Adds a point without a jump, as `push` does: both limits are the value.
+    ///
+    /// Most points of a function are such, with a denominator that divides those before. Then one
+    /// test does for the three.
+    pub fn push_value(&mut self, value: Frac) -> Result<(), PointFault>
+        ensures ok { OnOk result (self.new ≡ self.old ++ even_point value ∷ []) }
+        ensures small { OnOk result (All IsSmall (all_fractions self.new)) }
+        ensures common { OnOk result (HasCommonDenominator (all_fractions self.new)) }
+        ensures err { OnErr result (self.new ≡ self.old) }
+        ensures fault { IfErr result (IsPointFault self.old (even_point value)) }
+    {
+        if !goes_with(self.scale, value) {
+            return self.push(Point {
+                left: value,
+                value,
+                right: value,
+            });
+        }
+        self.left.reserve(1)?;
+        self.value.reserve(1)?;
+        self.right.reserve(1)?;
+        self.left.push_reserved(value);
+        self.value.push_reserved(value);
+        self.right.push_reserved(value);
         Ok(())
     }
 
