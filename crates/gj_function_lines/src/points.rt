@@ -1,16 +1,18 @@
 //! The points of a function, read.
 ghost use Rattle.std.specs.Prelude.{◌≡◌, ◌↔◌, ◌++◌, [], ◌∷◌, ℕ, List, length, codes, IsTrue};
-ghost use Rattle.std.specs.Prelude.{IfSome, IfNone, IfOk, IfErr};
+ghost use Rattle.std.specs.Prelude.{IfSome, IfNone, IfOk, IfErr, OnOk, All};
 ghost use Rattle.gj_lex.specs.Words.{word_texts};
 ghost use Rattle.gj_lex.specs.Parts.{line_part, IsFaultOf};
+ghost use Rattle.gj_shape.specs.Given.{IsSmall, HasCommonDenominator};
+ghost use Rattle.gj_shape.specs.Points.{all_fractions, IsPointFault};
 ghost use Rattle.gj_shape.specs.declared.points.Point.{Point};
 ghost use Rattle.gj_function_lines.specs.FunctionGrammar.{AreThreeSame, spelled_point_rule};
 ghost use Rattle.gj_function_lines.specs.FunctionGrammar.{point_rule, points_part};
 ghost use Rattle.gj_function_lines.specs.Reading.{words_of_point, IsOneOrThree, numbers_rule};
-ghost use Rattle.gj_function_lines.specs.Reading.{IsPointLine, refusal_of};
+ghost use Rattle.gj_function_lines.specs.Reading.{IsPointLine, point_of_printed, refusal_of};
 ghost use Rattle.gj_function_lines.specs.declared.points.PointWords.{PointWords};
 
-use crate::printed::printed_point;
+use crate::printed::{PrintedPoint, printed_point};
 use gj_lex::{
     PartFault, Reason, Spelling, behind_name, fraction_of, has_no_word, line_at, split_word,
 };
@@ -55,8 +57,42 @@ pub(crate) fn points_at(
     Ok((points, rest))
 }
 
-/// Reads the point of the next line to the points, and gives what follows the line.
+/// Reads the point of the next line to the points, and gives what follows the line. A line in the
+/// form in which it is printed is read in one pass, without the search for words.
 fn point_at<'a>(
+    spelling: Spelling,
+    text: &'a [u8],
+    points: &mut Points,
+) -> Result<&'a [u8], PartFault>
+    ensures found { IfOk result (λ rest. (p : Point) × (points.new ≡ points.old ++ p ∷ [])
+        × (line_part spelling (point_rule spelling points.old)).Reads text.now p rest.now) }
+    ensures fault { IfErr result (IsFaultOf (line_part spelling
+        (point_rule spelling points.old)) text.now) }
+{
+    let Some((printed, rest)) = printed_point(text) else {
+        return spelled_point_at(spelling, text, points);
+    };
+    match push_printed(points, printed) {
+        Ok(()) => Ok(rest),
+        Err(fault) => Err(refusal_of(fault, text)),
+    }
+}
+
+/// Adds the point behind the others, with the tests of `push`.
+fn push_printed(points: &mut Points, printed: PrintedPoint) -> Result<(), PointFault>
+    ensures ok { OnOk result (points.new ≡ points.old ++ point_of_printed printed ∷ []) }
+    ensures small { OnOk result (All IsSmall (all_fractions points.new)) }
+    ensures common { OnOk result (HasCommonDenominator (all_fractions points.new)) }
+    ensures fault { IfErr result (IsPointFault points.old (point_of_printed printed)) }
+{
+    match printed {
+        PrintedPoint::Value(value) => points.push_value(value),
+        PrintedPoint::Jump(point) => points.push(point),
+    }
+}
+
+/// The same for a line in any form.
+fn spelled_point_at<'a>(
     spelling: Spelling,
     text: &'a [u8],
     points: &mut Points,
@@ -73,21 +109,13 @@ fn point_at<'a>(
     }
 }
 
-/// The point of the next line. A line in the form in which it is printed is read in one pass,
-/// without the search for words.
+/// The point of the next line.
 fn point_line_at(spelling: Spelling, text: &[u8]) -> Result<PointLine<'_>, PartFault>
     ensures found { IfOk result
         (λ l. IsPointLine spelling text.now l.start.now l.rest.now l.point) }
     ensures fault { IfErr result (λ e. (points : List Point) →
         IsFaultOf (line_part spelling (point_rule spelling points)) text.now e) }
 {
-    if let Some((point, rest)) = printed_point(text) {
-        return Ok(PointLine {
-            start: text,
-            point,
-            rest,
-        });
-    }
     let line = line_at(spelling, text)?;
     match point_in(spelling, line.bytes) {
         Ok(point) => Ok(PointLine {

@@ -6,6 +6,7 @@ ghost use Rattle.std.specs.Fmt.{signed_decimal};
 ghost use Rattle.gj_frac.specs.Fraction.{numerator, denominator};
 ghost use Rattle.gj_lex.specs.NumberText.{fraction_text, denominator_text};
 ghost use Rattle.gj_function_lines.specs.FunctionLines.{point_line};
+ghost use Rattle.gj_function_lines.specs.Reading.{point_of_printed};
 
 use crate::print::has_no_jump;
 use gj_frac::Frac;
@@ -15,31 +16,33 @@ use gj_shape::Point;
 /// The least number of 18 digits: from it on no further digit is read.
 const LEAST_OF_18_DIGITS: u64 = 100_000_000_000_000_000;
 
+/// A point whose printed line was read.
+#[derive(Clone, Copy)]
+pub(crate) enum PrintedPoint {
+    /// One without a jump, which has this value.
+    Value(Frac),
+    /// One with a jump.
+    Jump(Point),
+}
+
 /// The point with whose printed line the text begins, and what follows the line.
 ///
 /// None if the text begins with no such line, or if a number in it has more than 18 digits.
-pub(crate) fn printed_point(text: &[u8]) -> Option<(Point, &[u8])>
-    ensures { IfSome result (λ r. text.now ≡ point_line r.0 ++ r.1.now) }
+pub(crate) fn printed_point(text: &[u8]) -> Option<(PrintedPoint, &[u8])>
+    ensures { IfSome result (λ r. text.now ≡ point_line (point_of_printed r.0) ++ r.1.now) }
 {
     let (first, rest) = printed_fraction(behind_text(text, b"point ")?)?;
     match behind_byte(rest, b'\n') {
-        Some(rest) => Some((
-            Point {
-                left: first,
-                value: first,
-                right: first,
-            },
-            rest,
-        )),
+        Some(rest) => Some((PrintedPoint::Value(first), rest)),
         None => printed_jump(first, rest),
     }
 }
 
 /// The point with this limit from the left whose value and limit from the right follow in the text,
 /// if the three are not the same, and what follows its line.
-fn printed_jump(left: Frac, text: &[u8]) -> Option<(Point, &[u8])>
-    ensures { IfSome result (λ r. codes "point " ++
-        (fraction_text left ++ text.now) ≡ point_line r.0 ++ r.1.now) }
+fn printed_jump(left: Frac, text: &[u8]) -> Option<(PrintedPoint, &[u8])>
+    ensures { IfSome result (λ r. codes "point " ++ (fraction_text left ++ text.now)
+        ≡ point_line (point_of_printed r.0) ++ r.1.now) }
 {
     let (value, rest) = printed_fraction(behind_byte(text, b' ')?)?;
     let (right, rest) = printed_fraction(behind_byte(rest, b' ')?)?;
@@ -48,7 +51,7 @@ fn printed_jump(left: Frac, text: &[u8]) -> Option<(Point, &[u8])>
     if has_no_jump(point) {
         return None;
     }
-    Some((point, rest))
+    Some((PrintedPoint::Jump(point), rest))
 }
 
 /// What follows the byte, if the text begins with it.

@@ -1,13 +1,9 @@
 use Rattle.std.proofs.Common.{inl}
 use Rattle.gj_lex.proofs.PartLaws.{line_refused}
 use Rattle.gj_function_lines.specs.FunctionGrammar.{point_rule}
-use Rattle.gj_function_lines.proofs.CanonicalFunctions.{line_is_read}
 use Rattle.gj_function_lines.proofs.points.point_line_at.Goals as goal
 
 pub returns-in-Err-clause-fault : goal.returns-in-Err-clause-fault
 returns-in-Err-clause-fault c = λ points.
     line_refused c.args.spelling (point_rule c.args.spelling points) _ _ _ _ _ _ c.in_ok-line.ensures.found
     (inl c.in-Err.ensures.broken) c.at.ensures
-
-pub returns-in-Some-clause-found : goal.returns-in-Some-clause-found
-returns-in-Some-clause-found c = line_is_read c.args.spelling c.in-Some.point _ _ c.in-Some.ensures
