@@ -10,7 +10,7 @@ use Rattle.gj_shape.specs.declared.faces.Face.{Face}
 use Rattle.gj_shape.specs.declared.faces.FaceKind.{FaceKind}
 use Rattle.gj_shape.specs.declared.faces.FaceKind.TheVariants.{Vertex, Horizontal, Vertical, Diagonal, Lower, Upper}
 use Rattle.gj_cover.specs.FirstFound.{FindsFirst, IsThis, AddsFirst}
-use Rattle.gj_cover.specs.Links.{LeadsBy, IsPairInRow, IsAcross}
+use Rattle.gj_cover.specs.Links.{LeadsBy, Leads, IsPairInRow, IsAcross}
 use Rattle.gj_cover.proofs.Adding.{EitherOf, ranked_behind}
 use Rattle.gj_cover.proofs.Edges.{one_step, joins_by, joins_led}
 use Rattle.gj_cover.proofs.Joining.{joins_within, covers_within}
@@ -63,8 +63,8 @@ is_short q i step short j b s b_below e =
 -- five of them
 abbrev pub Five : ℕ → ℕ → ℕ → ℕ → FaceKind → ℕ → ℕ → Type 0
 Five i step short j =
-    EitherOf (EitherOf (EitherOf (EitherOf (IsThis Diagonal i j) (IsThis Horizontal i step)) (IsThis Upper i short)) (IsThis Vertical step i))
-    (IsThis Upper short i)
+    EitherOf (EitherOf (EitherOf (EitherOf (IsThis Upper i short) (IsThis Horizontal i step)) (IsThis Diagonal i j)) (IsThis Upper short i))
+    (IsThis Vertical step i)
 
 -- what holds of one face, of the same face in other words
 here : (P : FaceKind → ℕ → ℕ → Type 0) (kind other : FaceKind) (a b c d : ℕ) → P kind a b → IsThis kind a b other c d → P other c d
@@ -73,16 +73,16 @@ here P kind other a b c d h (e, x, y) =
 
 pub five_on : (q i step short j : ℕ) → AreSteps q i step short j → (kind : FaceKind) (a b : ℕ) → Five i step short j kind a b →
     LeadsBy q i j kind a b
-five_on q i step short j s kind a b (inl (inl (inl (inl h)))) = here (LeadsBy q i j) Diagonal kind i j a b (refl, refl) h
+five_on q i step short j s kind a b (inl (inl (inl (inl h)))) =
+    here (LeadsBy q i j) Upper kind i short a b (s.start, s.short_below, inl refl, next_leads q i step short j s) h
 five_on q i step short j s kind a b (inl (inl (inl (inr h)))) =
     here (LeadsBy q i j) Horizontal kind i step a b (refl, s.step_below, s.step_leads) h
-five_on q i step short j s kind a b (inl (inl (inr h))) =
-    here (LeadsBy q i j) Upper kind i short a b (s.start, s.short_below, inl refl, next_leads q i step short j s) h
+five_on q i step short j s kind a b (inl (inl (inr h))) = here (LeadsBy q i j) Diagonal kind i j a b (refl, refl) h
 five_on q i step short j s kind a b (inl (inr h)) =
-    here (LeadsBy q i j) Vertical kind step i a b (s.step_below, refl, turned q i step j s.step_leads) h
-five_on q i step short j s kind a b (inr h) =
     here (LeadsBy q i j) Upper kind short i a b
     (s.short_below, s.start, inr refl, turned_next q i short j (next_leads q i step short j s)) h
+five_on q i step short j s kind a b (inr h) =
+    here (LeadsBy q i j) Vertical kind step i a b (s.step_below, refl, turned q i step j s.step_leads) h
 
 pub five_back : (q i step short j : ℕ) → AreSteps q i step short j → (kind : FaceKind) (a b : ℕ) → LeadsBy q i j kind a b →
     Five i step short j kind a b
@@ -90,19 +90,15 @@ five_back q i step short j s Vertex a b h = absurd h
 five_back q i step short j s Horizontal a b (x, below, e) =
     inl (inl (inl (inr (refl, x, is_step q i step short j b s below (ap (λ n. (n + b) % q) (sym x) ∙ e)))))
 five_back q i step short j s Vertical a b (below, x, e) =
-    inl (inr (refl, is_step q i step short j a s below (ap (λ n. (n + a) % q) (sym x) ∙ turned q a b j e), x))
-five_back q i step short j s Diagonal a b (x, y) = inl (inl (inl (inl (refl, x, y))))
+    inr (refl, is_step q i step short j a s below (ap (λ n. (n + a) % q) (sym x) ∙ turned q a b j e), x)
+five_back q i step short j s Diagonal a b (x, y) = inl (inl (inr (refl, x, y)))
 five_back q i step short j s Lower a b h = absurd h
 five_back q i step short j s Upper a b (a_below, b_below, inl x, e) =
-    inl (inl (inr (refl, x, is_short q i step short j b s b_below (ap (λ n. (n + b + 1) % q) (sym x) ∙ e))))
+    inl (inl (inl (inl (refl, x, is_short q i step short j b s b_below (ap (λ n. (n + b + 1) % q) (sym x) ∙ e)))))
 five_back q i step short j s Upper a b (a_below, b_below, inr x, e) =
-    inr (refl, is_short q i step short j a s a_below (ap (λ n. (n + a + 1) % q) (sym x) ∙ turned_next q a b j e), x)
+    inl (inr (refl, is_short q i step short j a s a_below (ap (λ n. (n + a + 1) % q) (sym x) ∙ turned_next q a b j e), x))
 
 -- ---- first of all faces
-
--- either way
-abbrev pub Leads : ℕ → ℕ → ℕ → FaceKind → ℕ → ℕ → Type 0
-Leads q i j = EitherOf (LeadsBy q i j) (LeadsBy q j i)
 
 leads_within : (q i j : ℕ) → i < q → j < q → (kind : FaceKind) (a b : ℕ) → LeadsBy q i j kind a b → (a < q) × (b < q)
 leads_within q i j i_below j_below Vertex a b h = absurd h
@@ -112,6 +108,10 @@ leads_within q i j i_below j_below Diagonal a b (x, y) =
     (subst (λ n. n < q) (sym x) i_below, subst (λ n. n < q) (sym y) j_below)
 leads_within q i j i_below j_below Lower a b h = absurd h
 leads_within q i j i_below j_below Upper a b (x, y, z, w) = (x, y)
+
+pub leads_turned : (q i j : ℕ) (kind : FaceKind) (a b : ℕ) → Leads q i j kind a b → Leads q j i kind a b
+leads_turned q i j kind a b (inl x) = inr x
+leads_turned q i j kind a b (inr x) = inl x
 
 pub joining_found : (q : ℕ) (T : ℕ → ℕ → Type 0) (i j : ℕ) → i < q → j < q → i ≢ j → (result : Option Face) →
     AddsFirst (Leads q i j) (IsAdditive T) None result → IfSome result (IsFirstFace q (λ kind a b. Joins q T kind a b i j))

@@ -1,13 +1,15 @@
 -- The intervals that edges link, as sets.
-use Rattle.std.proofs.Common.{◌≡◌, ℕ, ◌+◌, ◌%◌, ◌<◌, ◌⊎◌, ◌↔◌, ◌||◌, ◌&&◌, Bool, true, false, refl, sym, ap, ap₂, ◌∙◌, inl, inr, arith}
-use Rattle.std.proofs.Math.Nat.{mod-mod}
+use Rattle.std.proofs.Common.{◌≡◌, ℕ, ◌+◌, ◌%◌, ◌<◌, ◌⊎◌, ◌↔◌, ◌||◌, ◌&&◌, Bool, true, false, ltb, refl, sym, ap, ap₂, ◌∙◌, inl, inr, arith}
+use Rattle.std.proofs.Math.Nat.{mod-mod, mod-lt, mod-eq_of_lt}
 use Rattle.std.proofs.lemmas.Bool.{and_parts, and_from, or_cases, or_left, or_right}
 use Rattle.gj_shape.specs.declared.faces.FaceKind.TheVariants.{Horizontal, Vertical, Diagonal}
 use Rattle.gj_cover.specs.Links.{Links, diagonal, horizontal, vertical}
 use Rattle.gj_cover.specs.Table.{is_tight_in, IsTightInTable}
 use Rattle.gj_cover.specs.declared.table.Table.{Table}
 use Rattle.gj_cover.proofs.Edges.{one_step}
-use Rattle.gj_cover.proofs.Parts.{corners, additive}
+use Rattle.gj_cover.proofs.Parts.{corners, additive, add_same}
+use Rattle.gj_cover.proofs.Turns.{place_of, turned_place, back_in}
+use Rattle.gj_faces.proofs.Periods.{same_sum}
 use Rattle.gj_cover.proofs.TablePairs.{same_tight, tight, told}
 
 -- the intervals j that stand behind i: k leads from i to j
@@ -148,3 +150,27 @@ linked_to_symmetric t i j k h i_below j_below k_below leads about h_is =
         | inr y ↦ inl y
       ],
     )
+
+-- ---- horizontal edges from the sets of two sums
+
+-- the sum of the next index and the same one
+pub sum_next : (q i j k : ℕ) → (j + k) % q ≡ i % q → ((j + 1) % q + k) % q ≡ (i + 1) % q
+sum_next q i j k sum =
+    let later : j + 1 + k ≡ j + k + 1 = omega arith in
+    same_sum q ((j + 1) % q) k (j + 1) k (mod-mod (j + 1) q) refl ∙ ap (λ m. m % q) later ∙ add_same q 1 (j + k) i sum
+
+-- the horizontal edges from the first indices of two sums
+pub horizontal_at : (t : Table) (i j : ℕ) (these next : ℕ → Bool) (moved h : Bool) → i < t.order → j < t.order →
+    h ≡ (these j && moved) → moved ≡ (ltb j t.order && next ((j + 1) % t.order)) →
+    ((a b : ℕ) → a < t.order → b < t.order → (a + b) % t.order ≡ i % t.order → these a ≡ is_tight_in t a b) →
+    ((a b : ℕ) → a < t.order → b < t.order → (a + b) % t.order ≡ (i + 1) % t.order → next a ≡ is_tight_in t a b) →
+    h ≡ (is_tight_in t j (place_of t.order j i) && is_tight_in t ((j + 1) % t.order) (place_of t.order j i))
+horizontal_at t i j these next moved h i_below below is moved_is these_are next_are =
+    let q = t.order in
+    let k = place_of q j i in
+    let place = turned_place q j i below i_below in
+    let up = (j + 1) % q in
+    let sum : (j + k) % q ≡ i % q = place.1 ∙ sym (mod-eq_of_lt i_below) in
+    is ∙ ap₂ (λ (x y : Bool). x && y) (these_are j k below place.0 sum)
+    (back_in q q j next moved refl below moved_is
+    ∙ next_are up k (mod-lt (j + 1) {m = q} (omega arith)) place.0 (sum_next q i j k sum))

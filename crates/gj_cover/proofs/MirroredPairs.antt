@@ -12,7 +12,7 @@ use Rattle.gj_faces.proofs.Periods.{tight_is_periodic}
 use Rattle.gj_shape.proofs.AtLemmas.{at_same_remainder, at_wrapped}
 use Rattle.gj_lemmas.proofs.Choices.{same_tests}
 use Rattle.gj_cover.specs.Mirrored.{AreMirrored}
-use Rattle.gj_cover.specs.SetRows.{in_row, AreColumns}
+use Rattle.gj_cover.specs.SetRows.{in_row, AreRound, AreColumns}
 use Rattle.gj_cover.specs.Sides.{AreOwnSides}
 use Rattle.gj_cover.specs.Table.{is_tight_in, IsTightInTable, TellsTight}
 use Rattle.gj_cover.specs.declared.table.Table.{Table}
@@ -95,11 +95,12 @@ columns_of f rows r a b a_below b_below =
     (λ h. (r b a b_below a_below).1 (tight_turned f a b ((r a b a_below b_below).0 h)))
 
 -- the rows themselves have the pairs turned around and those with each sum
-pub own_sides : (f : FunctionData) (rows : List IndexSet) → IsWithinBounds f → AreMirrored f → HavePairs f rows →
+pub own_sides : (f : FunctionData) (rows : List IndexSet) → IsWithinBounds f → AreMirrored f → HavePairs f rows → AreRound f.order rows →
     AreOwnSides f.order rows f.place
-own_sides f rows w m r = record {
+own_sides f rows w m r round = record {
   place_below = w.place_high;
   columns_are = columns_of f rows r;
+  round = round;
   sums_are = λ a b a_below b_below.
       let q = f.order in
       let far = f.place + (q - (a + b) % q) in

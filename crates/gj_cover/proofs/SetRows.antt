@@ -1,8 +1,8 @@
 -- Pairs in rows of sets.
-use Rattle.std.proofs.Common.{◌≡◌, ◌≢◌, ℕ, ◌<◌, ◌≤◌, List, [], ◌∷◌, ◌++◌, length, get_or, false, sym, ap, ◌∙◌, inl, inr, arith}
+use Rattle.std.proofs.Common.{◌≡◌, ◌≢◌, ℕ, ◌+◌, ◌<◌, ◌≤◌, List, [], ◌∷◌, ◌++◌, length, get_or, false, sym, ap, ◌∙◌, inl, inr, arith}
 use Rattle.std.specs.Prelude.{map}
 use Rattle.std.proofs.Math.ListN.{set, length-set}
-use Rattle.std.proofs.lemmas.Bool.{cases_order}
+use Rattle.std.proofs.lemmas.Bool.{cases_order, cases_lt}
 use Rattle.std.proofs.lemmas.List.{get_or-map, get_or-set_other, get_or-set_same, get_or_append_left, get_or_push, get_or_past, length-append, length-map}
 use Rattle.gj_sets.specs.IndexSets.{has}
 use Rattle.gj_sets.specs.declared.index_set.IndexSet.{IndexSet}
@@ -66,4 +66,26 @@ no_more rows row none empty a b = elim (cases_order a (length rows)) [
         let len = length-append rows (row ∷ []) in
         row_past (rows ++ row ∷ []) a b (let le : length (rows ++ row ∷ []) ≤ a = omega arith in le)
   ]
+]
+
+-- a set more, in which q stands for 0
+pub round_more : (q n : ℕ) (rows : List IndexSet) (row : IndexSet) → length rows ≡ n → has row q ≡ has row 0 →
+    ((a : ℕ) → a < n → in_row rows a q ≡ in_row rows a 0) →
+    (a : ℕ) → a < n + 1 → in_row (rows ++ row ∷ []) a q ≡ in_row (rows ++ row ∷ []) a 0
+round_more q n rows row len round before a below = elim (cases_lt a n) [
+  | inl low ↦
+      let in' : a < length rows = omega arith in
+      row_before rows a q row in' ∙ before a low ∙ sym (row_before rows a 0 row in')
+  | inr high ↦
+      let it : length rows ≡ a = omega arith in
+      row_pushed rows a q row it ∙ round ∙ sym (row_pushed rows a 0 row it)
+]
+
+-- a set more, with nothing behind q
+pub within_more : (q n : ℕ) (rows : List IndexSet) (row : IndexSet) → length rows ≡ n → ((b : ℕ) → q < b → has row b ≡ false) →
+    ((a b : ℕ) → a < n → q < b → in_row rows a b ≡ false) →
+    (a b : ℕ) → a < n + 1 → q < b → in_row (rows ++ row ∷ []) a b ≡ false
+within_more q n rows row len last before a b below past = elim (cases_lt a n) [
+  | inl low ↦ row_before rows a b row (let in' : a < length rows = omega arith in in') ∙ before a b low past
+  | inr high ↦ row_pushed rows a b row (let it : length rows ≡ a = omega arith in it) ∙ last b past
 ]

@@ -1,8 +1,9 @@
 -- Places in sets whose indices were turned.
-use Rattle.std.proofs.Common.{◌≡◌, inl, inr, ℕ, ◌+◌, ◌-◌, ◌%◌, ◌<◌, ◌&&◌, Bool, true, cond, leb, ltb, refl, ap, sym, ◌∙◌, arith}
+use Rattle.std.proofs.Common.{◌≡◌, inl, inr, ℕ, ◌+◌, ◌-◌, ◌%◌, ◌<◌, ◌≤◌, ◌&&◌, ◌||◌, Bool, true, false, cond, leb, ltb, refl, ap, sym, ◌∙◌, arith}
 use Rattle.std.specs.Prelude.{◌==◌, if◌then◌else◌}
 use Rattle.std.proofs.Math.Nat.{mod-eq_of_lt, mod-eq-sub-mod, mod_self}
-use Rattle.std.proofs.lemmas.Bool.{cases_lt, cases_eq, eq-eqb, ne_eqb, le-ltb, and_left, cond_both, leb-true, leb-false, ltb-true, lt-ltb, and_parts}
+use Rattle.std.proofs.lemmas.Bool.{cases_lt, cases_eq, eq-eqb, ne_eqb, le-ltb, le-leb, lt-leb, and_left, cond_both, leb-true, leb-false, ltb-true, lt-ltb, and_parts}
+use Rattle.gj_sets.proofs.Bits.{or_nothing}
 
 -- where an index is that was turned to j by s
 abbrev pub place_of : ℕ → ℕ → ℕ → ℕ
@@ -24,6 +25,34 @@ turned_place q s j s_below j_below =
     let lt = leb-false s j e in
     let sum : s + (j + (q - s)) ≡ j + q = omega arith in
     (omega arith, ap (λ n. n % q) sum ∙ once_more q j j_below))
+
+doubled : (b : Bool) → (b || b) ≡ b
+doubled true = refl
+doubled false = refl
+
+-- moved up and down, if q stands for 0 and nothing is behind it
+pub round_turn : (q i j : ℕ) (p : ℕ → Bool) (h : Bool) → q ≤ 1024 → i < q → j < q → p q ≡ p 0 → ((k : ℕ) → q < k → p k ≡ false) →
+    h ≡ ((ltb j 1024 && (leb i j && p (j - i))) || p (j + (q - i))) → h ≡ p (place_of q i j)
+round_turn q i j p h few i_below j_below round past is =
+    let down = p (j + (q - i)) in
+    let up = leb i j && p (j - i) in
+    let both : h ≡ (up || down) = is ∙ ap (λ b. (b && up) || down) (lt-ltb j 1024 (omega arith)) in
+    elim (cases_lt j i) [
+      | inl before ↦
+          let le : leb i j ≡ false = lt-leb i j before in
+          both ∙ ap (λ b. b || down) (and_left (leb i j) (p (j - i)) le) ∙ ap (λ b. p (if b then j - i else j + (q - i))) (sym le)
+      | inr behind ↦
+          let le : leb i j ≡ true = le-leb i j behind in
+          both ∙ ap (λ b. (b && p (j - i)) || down) le
+          ∙ elim (cases_eq j i) [
+            | inl same ↦
+                let first : j - i ≡ 0 = omega arith in
+                let last : j + (q - i) ≡ q = omega arith in
+                ap (λ b. p (j - i) || b) (ap p last ∙ round ∙ ap p (sym first)) ∙ doubled (p (j - i))
+            | inr differ ↦ sym (or_nothing (p (j - i)) down (past (j + (q - i)) (omega arith)))
+          ]
+          ∙ ap (λ b. p (if b then j - i else j + (q - i))) (sym le)
+    ]
 
 -- one back, below q
 pub back_place : (q j : ℕ) (f : ℕ → Bool) (r : Bool) → r ≡ f (if j + 1 == q then 0 else j + 1) →

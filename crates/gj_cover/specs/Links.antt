@@ -14,6 +14,10 @@ LeadsBy q i j Diagonal a b = (a ≡ i) × (b ≡ j)
 LeadsBy q i j Lower a b = ⊥
 LeadsBy q i j Upper a b = (a < q) × (b < q) × ((a ≡ i) ⊎ (b ≡ i)) × ((a + b + 1) % q ≡ j)
 
+-- either way
+abbrev pub Leads : ℕ → ℕ → ℕ → FaceKind → ℕ → ℕ → Type 0
+Leads q i j kind a b = LeadsBy q i j kind a b ⊎ LeadsBy q j i kind a b
+
 -- an additive edge links the interval i and j behind it
 pub data Links (q : ℕ) (Tight : ℕ → ℕ → Type 0) (i j : ℕ) : Type 0 where
   diagonal : IsAdditive Tight Diagonal i j → Links q Tight i j

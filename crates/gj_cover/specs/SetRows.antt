@@ -7,6 +7,11 @@ use Rattle.gj_sets.specs.declared.index_set.IndexSet.{IndexSet}
 unfoldable pub in_row : List IndexSet → ℕ → ℕ → Bool
 in_row rows a b = slice_index_or (map (λ row. has row b) rows) a false
 
+-- among the indices from q on the rows have q alone, and that exactly if they have 0
+pub record AreRound (q : ℕ) (rows : List IndexSet) : Type 0 where
+  pub round : (a : ℕ) → a < q → in_row rows a q ≡ in_row rows a 0
+  pub within : (a b : ℕ) → a < q → q < b → in_row rows a b ≡ false
+
 -- the rows with the indices turned around: a is in the set of b
 abbrev pub AreColumns : ℕ → List IndexSet → List IndexSet → Type 0
 AreColumns q rows columns = (a b : ℕ) → a < q → b < q → in_row columns b a ≡ in_row rows a b

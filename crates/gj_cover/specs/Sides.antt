@@ -2,7 +2,7 @@
 use Rattle.std.specs.Prelude.{ℕ, ◌≡◌, ◌+◌, ◌-◌, ◌%◌, ◌<◌, List, length}
 use denote.Struct.Props.{props}
 use Rattle.gj_sets.specs.declared.index_set.IndexSet.{IndexSet}
-use Rattle.gj_cover.specs.SetRows.{in_row, AreColumns, AreFirsts, AreSeconds}
+use Rattle.gj_cover.specs.SetRows.{in_row, AreRound, AreColumns, AreFirsts, AreSeconds}
 use Rattle.gj_cover.specs.declared.table.Sides.{Sides}
 use Rattle.gj_cover.specs.declared.table.Sides.TheVariants.{Apart, Rows}
 
@@ -15,11 +15,12 @@ pub record AreApart (q : ℕ) (rows columns firsts seconds : List IndexSet) : Ty
   pub firsts_are : AreFirsts q rows firsts
   pub seconds_are : AreSeconds q rows seconds
 
--- the rows themselves: the pairs turned around are in them, and those with a sum are the row of the
--- place less the sum
+-- the rows themselves: the pairs turned around are in them, those with a sum are the row of the
+-- place less the sum, and in each row q stands for 0
 pub record AreOwnSides (q : ℕ) (rows : List IndexSet) (place : ℕ) : Type 0 where
   pub place_below : place < q
   pub columns_are : AreColumns q rows rows
+  pub round : AreRound q rows
   pub sums_are : (a b : ℕ) → a < q → b < q → in_row rows ((place + (q - (a + b) % q)) % q) a ≡ in_row rows a b
 
 -- the sides of the rows

@@ -1,12 +1,12 @@
 //! The first face in walk order that joins two intervals or covers one.
 ghost use Rattle.std.specs.Prelude.{◌≡◌, ◌≢◌, ◌⊎◌, ◌↔◌, ◌+◌, ◌%◌, ◌<◌, ◌^◌, IsTrue, IfSome, IfNone};
-ghost use Rattle.std.specs.Prelude.{MatchOption};
+ghost use Rattle.std.specs.Prelude.{MatchOption, None};
 ghost use Rattle.gj_shape.specs.Additive.{IsAdditive};
 ghost use Rattle.gj_shape.specs.Cover.{IsFirstFace, IsDirectlyCovered};
 ghost use Rattle.gj_cover.specs.Table.{IsTightInTable, JoinsBy, AreJoinedBy, CoversBy};
 ghost use Rattle.gj_cover.specs.FirstFound.{FindsFirst, IsThis, IsFaceReached, AddsFirst};
 ghost use Rattle.gj_cover.specs.FirstFound.{IsEarlier};
-ghost use Rattle.gj_cover.specs.Links.{LeadsBy, IsPairInRow, IsAcross};
+ghost use Rattle.gj_cover.specs.Links.{LeadsBy, Leads, IsPairInRow, IsAcross};
 
 use crate::squares::covering_in_square;
 use crate::table::Table;
@@ -24,43 +24,61 @@ pub(crate) fn first_joining(table: &Table, i: u32, j: u32) -> Option<Face>
     ensures found { IfSome result (IsFirstFace table.now.order (JoinsBy table.now i j)) }
     ensures none { IfNone result (AreJoinedBy table.now i j → ⊥) }
 {
-    let found = joining_from(table, None, i, j);
-    joining_from(table, found, j, i)
+    if i < j {
+        joining_either(table, i, j)
+    } else {
+        joining_either(table, j, i)
+    }
 }
 
-/// The first of a face that was found and the additive ones that lead from one interval to the
-/// other: the edges that link both with `to` behind `from`, and the upper triangles that project on
-/// both with `to` as the sum.
-fn joining_from(table: &Table, found: Option<Face>, from: u32, to: u32) -> Option<Face>
+/// The first of the faces that lead from one of the intervals to the other. It looks first at those
+/// that lead to the second.
+fn joining_either(table: &Table, first: u32, second: u32) -> Option<Face>
+    requires start { first < table.now.order }
+    requires end { second < table.now.order }
+    ensures { AddsFirst (Leads table.now.order first second) (IsAdditive
+        (IsTightInTable table.now)) None result }
+{
+    let mut found = None;
+    add_joining(table, &mut found, first, second);
+    add_joining(table, &mut found, second, first);
+    found
+}
+
+/// Makes a face that was found the first of it and the additive ones that lead from one interval to
+/// the other: the edges that link both with `to` behind `from`, and the upper triangles that
+/// project on both with `to` as the sum.
+#[inline(always)]
+fn add_joining(table: &Table, found: &mut Option<Face>, from: u32, to: u32)
     requires start { from < table.now.order }
     requires end { to < table.now.order }
     ensures { AddsFirst (LeadsBy table.now.order from to) (IsAdditive
-        (IsTightInTable table.now)) found result }
+        (IsTightInTable table.now)) found.old found.new }
 {
     let q = table.order();
     let step = difference(to, from, q);
     let short = difference(step, 1, q);
-    let found = with_face(table, found, FaceKind::Diagonal, from, to);
-    let found = with_face(table, found, FaceKind::Horizontal, from, step);
-    let found = with_face(table, found, FaceKind::Upper, from, short);
-    let found = with_face(table, found, FaceKind::Vertical, step, from);
-    with_face(table, found, FaceKind::Upper, short, from)
+    add_face(table, found, FaceKind::Upper, from, short);
+    add_face(table, found, FaceKind::Horizontal, from, step);
+    add_face(table, found, FaceKind::Diagonal, from, to);
+    add_face(table, found, FaceKind::Upper, short, from);
+    add_face(table, found, FaceKind::Vertical, step, from);
 }
 
-/// The first of a face that was found and the face of this kind of the square (a, b), if that is
-/// additive.
-fn with_face(table: &Table, found: Option<Face>, kind: FaceKind, a: u32, b: u32) -> Option<Face>
+/// Makes a face that was found the first of it and the face of this kind of the square (a, b), if
+/// that is additive.
+#[inline(always)]
+fn add_face(table: &Table, found: &mut Option<Face>, kind: FaceKind, a: u32, b: u32)
     requires first { a < table.now.order }
     requires second { b < table.now.order }
-    ensures { AddsFirst (IsThis kind a b) (IsAdditive (IsTightInTable table.now)) found result }
+    ensures { AddsFirst (IsThis kind a b) (IsAdditive (IsTightInTable table.now)) found.old found.new }
 {
-    if is_reached(found, kind, a, b) {
-        return found;
+    if is_reached(*found, kind, a, b) {
+        return;
     }
     if table.is_additive(kind, a, b) {
-        return Some(Face { kind, a, b });
+        *found = Some(Face { kind, a, b });
     }
-    found
 }
 
 /// Whether a face was found that is not behind the face of this kind of the square (a, b) in walk

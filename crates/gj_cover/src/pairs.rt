@@ -1,10 +1,12 @@
 //! The table of the tight pairs of a function.
-ghost use Rattle.std.specs.Prelude.{ℕ, ℤ, pos, ◌≡◌, ◌↔◌, ◌+◌, ◌-◌, ◌<◌, ◌+ℤ◌, length, IfOk, IsTrue};
+ghost use Rattle.std.specs.Prelude.{ℕ, ℤ, pos, ◌≡◌, ◌↔◌, ◌+◌, ◌-◌, ◌<◌, ◌≤◌, ◌+ℤ◌, false, length, IfOk, IsTrue};
+ghost use Rattle.gj_sets.specs.IndexSets.{has};
 ghost use Rattle.gj_shape.specs.Additive.{IsTight};
 ghost use Rattle.gj_shape.specs.FunctionData.{at};
+ghost use Rattle.gj_shape.specs.Given.{IsOrder};
 ghost use Rattle.gj_faces.specs.TightPairs.{AreTightPairsOf};
 ghost use Rattle.gj_cover.specs.Mirrored.{AreMirrored};
-ghost use Rattle.gj_cover.specs.SetRows.{in_row};
+ghost use Rattle.gj_cover.specs.SetRows.{in_row, AreRound};
 ghost use Rattle.gj_cover.specs.Table.{TellsTight};
 
 use crate::table::Table;
@@ -34,7 +36,7 @@ pub(crate) fn table_of_pairs(
     Ok(table)
 }
 
-/// The rows of the pairs.
+/// The rows of the pairs. In each the order stands for 0.
 fn copied_rows(
     alloc: Global,
     shape: &Shape,
@@ -44,13 +46,27 @@ fn copied_rows(
     ensures length { IfOk result (λ v. length v.items ≡ shape.now.order) }
     ensures rows { IfOk result (λ v. (a b : ℕ) → a < shape.now.order → b < shape.now.order →
         IsTrue (in_row v.items a b) ↔ IsTight shape.now a b) }
+    ensures round { IfOk result (λ v. AreRound shape.now.order v.items) }
 {
     let order = shape.order();
     let mut rows = Vec::with_capacity(alloc, order as usize)?;
     for a in 0..order {
-        rows.push(*pairs.row(a))?;
+        rows.push(round(pairs.row(a), order))?;
     }
     Ok(rows)
+}
+
+/// The set with the order too, if it has 0.
+fn round(row: &IndexSet, order: u32) -> IndexSet
+    requires order { IsOrder order }
+    requires within { (b : ℕ) → order ≤ b → has row.now b ≡ false }
+    ensures same { (b : ℕ) → b < order → has result b ≡ has row.now b }
+    ensures round { has result order ≡ has result 0 }
+    ensures within { (b : ℕ) → order < b → has result b ≡ false }
+{
+    let mut round = *row;
+    round.put(order as usize, row.contains(0));
+    round
 }
 
 /// Whether the values at each i/q and at f less i/q add up to 1.

@@ -1,5 +1,6 @@
 //! The tight pairs as sets.
-ghost use Rattle.std.specs.Prelude.{ℕ, ◌≡◌, ◌↔◌, ◌+◌, ◌*◌, ◌<◌, ◌≤◌, nat_lt, length, IfOk, IsTrue};
+ghost use Rattle.std.specs.Prelude.{ℕ, ◌≡◌, ◌↔◌, ◌+◌, ◌*◌, ◌<◌, ◌≤◌, false, nat_lt, length, IfOk, IfSome};
+ghost use Rattle.std.specs.Prelude.{IsTrue};
 ghost use Rattle.gj_sets.specs.IndexSets.{has};
 ghost use Rattle.gj_shape.specs.Additive.{IsAdditive};
 ghost use Rattle.gj_shape.specs.Given.{IsOrder};
@@ -38,8 +39,8 @@ enum Sides {
         /// For each s the indices b of the tight pairs (a, b) with the sum s.
         seconds: Vec<IndexSet>,
     },
-    /// The rows again: (b, a) is tight with each tight (a, b), and the indices of the pairs with
-    /// the sum s are those in the row of the place less s.
+    /// The rows again: (b, a) is tight with each tight (a, b), the indices of the pairs with the
+    /// sum s are those in the row of the place less s, and the order stands for 0 in each row.
     Rows {
         place: u32,
     },
@@ -73,8 +74,9 @@ impl Table {
         })
     }
 
-    /// The table of the pairs in these rows, if (b, a) is tight with each tight (a, b), and the
-    /// pairs with a sum are those in the row of the place less the sum. It takes no memory.
+    /// The table of the pairs in these rows, if (b, a) is tight with each tight (a, b), the pairs
+    /// with a sum are those in the row of the place less the sum, and the order stands for 0 in
+    /// each row. It takes no memory.
     pub(crate) fn with_own_sides(rows: Vec<IndexSet>, order: u32, place: u32) -> Table
         requires few { IsOrder order }
         requires length { length rows.items ≡ order }
@@ -98,11 +100,21 @@ impl Table {
         self.order
     }
 
-    /// Whether (b, a) is known to be tight with each tight (a, b).
-    pub(crate) fn is_symmetric(&self) -> bool
-        ensures { IsTrue result → (i j : ℕ) → is_tight_in self.now i j ≡ is_tight_in self.now j i }
+    /// The place, if the rows are all sets of the table.
+    pub(crate) fn own_place(&self) -> Option<u32>
+        ensures { IfSome result (AreOwnSides self.now.order self.now.rows.items) }
     {
-        matches!(self.sides, Sides::Rows { .. })
+        match self.sides {
+            Sides::Rows { place } => Some(place),
+            Sides::Apart { .. } => None,
+        }
+    }
+
+    /// The indices of the set that are below the order.
+    pub(crate) fn bounded(&self, set: &IndexSet) -> IndexSet
+        ensures { (j : ℕ) → has result j ≡ (nat_lt j self.now.order && has set.now j) }
+    {
+        self.within.and(set)
     }
 
     /// Each index of the set less 1, where 0 becomes the last index below the order; none that is
@@ -159,6 +171,29 @@ impl Table {
         }
     }
 
+    /// The indices b up to the order with a tight pair (a, b). The order stands for 0.
+    pub(crate) fn whole_row(&self, place: u32, a: u32) -> &IndexSet
+        requires sides { AreOwnSides self.now.order self.now.rows.items place }
+        requires first { a ≤ self.now.order }
+        ensures tells { (b : ℕ) → b ≤ self.now.order → has result.now b ≡ is_tight_in self.now a b }
+        ensures within { (b : ℕ) → self.now.order < b → has result.now b ≡ false }
+    {
+        &self.rows[wrapped(a, self.order) as usize]
+    }
+
+    /// The first indices up to the order of the tight pairs with this sum, modulo the order. The
+    /// order stands for 0.
+    pub(crate) fn whole_row_of_sum(&self, place: u32, sum: u32) -> &IndexSet
+        requires sides { AreOwnSides self.now.order self.now.rows.items place }
+        requires sum { sum ≤ self.now.order }
+        ensures { (a b : ℕ) → a ≤ self.now.order → b < self.now.order →
+            (a + b) % self.now.order ≡ sum % self.now.order →
+            has result.now a ≡ is_tight_in self.now a b }
+    {
+        let sum = wrapped(sum, self.order);
+        self.whole_row(place, wrapped(place + (self.order - sum), self.order))
+    }
+
     /// The row of the place less the sum, which has the first indices of the tight pairs with this
     /// sum.
     fn row_of_sum(&self, place: u32, sum: u32) -> &IndexSet
@@ -170,6 +205,15 @@ impl Table {
     {
         let sum = wrapped(sum, self.order);
         self.row(wrapped(place + (self.order - sum), self.order))
+    }
+
+    /// Whether the pair is tight, if both indices are below the order.
+    fn has_pair(&self, i: u32, j: u32) -> bool
+        requires first { i < self.now.order }
+        requires second { j < self.now.order }
+        ensures { IsTrue result ↔ IsTightInTable self.now i j }
+    {
+        self.rows[i as usize].contains(j as usize)
     }
 
     /// Whether the pair is tight, if no index is above the order.
@@ -188,11 +232,11 @@ impl Table {
         ensures { IsTrue result ↔ IsAdditive (IsTightInTable self.now) kind a b }
     {
         match kind {
-            FaceKind::Vertex => self.is_tight(a, b),
-            FaceKind::Horizontal => self.is_tight(a, b) && self.is_tight(a + 1, b),
-            FaceKind::Vertical => self.is_tight(a, b) && self.is_tight(a, b + 1),
+            FaceKind::Vertex => self.has_pair(a, b),
+            FaceKind::Horizontal => self.has_pair(a, b) && self.is_tight(a + 1, b),
+            FaceKind::Vertical => self.has_pair(a, b) && self.is_tight(a, b + 1),
             FaceKind::Diagonal => self.has_diagonal(a, b),
-            FaceKind::Lower => self.has_diagonal(a, b) && self.is_tight(a, b),
+            FaceKind::Lower => self.has_diagonal(a, b) && self.has_pair(a, b),
             FaceKind::Upper => self.has_diagonal(a, b) && self.is_tight(a + 1, b + 1),
         }
     }

@@ -8,7 +8,7 @@ with_own_sides-requires-clause-sides c =
     let rows = c.in_ok-rows.rows.items in
     subst (λ k. AreOwnSides c.order.result rows k) (sym c.place.ensures.value)
     (subst (λ q. AreOwnSides q rows c.args.shape.now.place) (sym c.order.ensures.value)
-    (own_sides c.args.shape.now rows c.order.ensures.limits (c.is_mirrored.ensures c.if-is_mirrored.true) c.in_ok-rows.ensures.rows))
+    (own_sides c.args.shape.now rows c.order.ensures.limits (c.is_mirrored.ensures c.if-is_mirrored.true) c.in_ok-rows.ensures.rows c.in_ok-rows.ensures.round))
 
 pub returns-then-is_mirrored-clause-tells : goal.returns-then-is_mirrored-clause-tells
 returns-then-is_mirrored-clause-tells c =

@@ -4,4 +4,4 @@ use Rattle.gj_sets.proofs.moved.window.Goals as goal
 
 pub returns : goal.returns
 unfolding has
-returns c i below = bit_of-window c.args.wide.now c.args.s i c.requires.length c.type_inv.wide c.requires.within below
+returns c i below = bit_of-window c.args.wide.now c.args.s i c.requires c.type_inv.wide below

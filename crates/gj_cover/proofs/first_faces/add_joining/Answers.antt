@@ -6,7 +6,7 @@ use Rattle.gj_cover.specs.Links.{LeadsBy}
 use Rattle.gj_cover.specs.Table.{IsTightInTable}
 use Rattle.gj_cover.proofs.Adding.{EitherOf, both_added, added_restated}
 use Rattle.gj_cover.proofs.FirstFaces.{AreSteps, Five, five_on, five_back}
-use Rattle.gj_cover.proofs.first_faces.joining_from.Goals as goal
+use Rattle.gj_cover.proofs.first_faces.add_joining.Goals as goal
 
 pub returns : goal.returns
 returns c =
@@ -26,17 +26,18 @@ returns c =
       short_leads = subst (λ n. (1 + short) % n ≡ step) is c.difference-short.ensures.value;
     } in
     let P = IsAdditive (IsTightInTable t) in
-    let one = IsThis Diagonal i j in
+    let found = c.args.found.now in
+    let one = IsThis Upper i short in
     let two = EitherOf one (IsThis Horizontal i step) in
-    let three = EitherOf two (IsThis Upper i short) in
-    let four = EitherOf three (IsThis Vertical step i) in
-    let first = both_added one (IsThis Horizontal i step) P c.args.found c.with_face-found.result c.with_face-found-2.result
-    c.with_face-found.ensures c.with_face-found-2.ensures in
-    let second = both_added two (IsThis Upper i short) P c.args.found c.with_face-found-2.result c.with_face-found-3.result
-    first c.with_face-found-3.ensures in
-    let third = both_added three (IsThis Vertical step i) P c.args.found c.with_face-found-3.result c.with_face-found-4.result
-    second c.with_face-found-4.ensures in
-    let fourth = both_added four (IsThis Upper short i) P c.args.found c.with_face-found-4.result c.with_face.result
-    third c.with_face.ensures in
-    added_restated (Five i step short j) (LeadsBy q i j) P c.args.found c.with_face.result
+    let three = EitherOf two (IsThis Diagonal i j) in
+    let four = EitherOf three (IsThis Upper short i) in
+    let first = both_added one (IsThis Horizontal i step) P found c.add_face.new.found c.add_face-2.new.found
+    c.add_face.ensures c.add_face-2.ensures in
+    let second = both_added two (IsThis Diagonal i j) P found c.add_face-2.new.found c.add_face-3.new.found
+    first c.add_face-3.ensures in
+    let third = both_added three (IsThis Upper short i) P found c.add_face-3.new.found c.add_face-4.new.found
+    second c.add_face-4.ensures in
+    let fourth = both_added four (IsThis Vertical step i) P found c.add_face-4.new.found c.add_face-5.new.found
+    third c.add_face-5.ensures in
+    added_restated (Five i step short j) (LeadsBy q i j) P found c.add_face-5.new.found
     (five_on q i step short j steps) (five_back q i step short j steps) fourth
