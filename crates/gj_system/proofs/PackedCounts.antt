@@ -1,6 +1,7 @@
 -- Counts packed into one number: digits are added and compared by it.
-use Rattle.std.proofs.Common.{◌≡◌, ℕ, ◌+◌, ◌*◌, ◌<◌, ◌≤◌, ◌^◌, suc, List, [], ◌∷◌, length, map, refl, ap₂, arith}
+use Rattle.std.proofs.Common.{◌≡◌, ℕ, ◌+◌, ◌*◌, ◌<◌, ◌≤◌, ◌^◌, zero, suc, List, [], ◌∷◌, length, map, refl, ap₂, cond, eqb, arith}
 use Rattle.std.specs.Prelude.{All}
+use Rattle.std.specs.List.{range_with_len}
 use Rattle.gj_system.specs.Codes.{packed}
 
 -- three digits leave room for a fourth
@@ -42,3 +43,22 @@ same_digits f g [] small bounded same = refl
 same_digits f g (c ∷ cs) small bounded same =
     let parts = digit_same (f c) (g c) (packed (map f cs)) (packed (map g cs)) (small c) (bounded c) same in
     ap₂ (λ x xs. x ∷ xs) parts.0 (same_digits f g cs small bounded parts.1)
+
+-- a one in one column of a few
+pub packed_one : (n x : ℕ) → n ≤ 4 → x < n → packed (map (λ c. cond (eqb x c) 1 0) (range_with_len 0 n)) ≡ 2 ^ (16 * x)
+packed_one zero x few below = absurd (omega arith)
+packed_one (suc zero) zero few below = refl
+packed_one (suc (suc zero)) zero few below = refl
+packed_one (suc (suc zero)) (suc zero) few below = refl
+packed_one (suc (suc (suc zero))) zero few below = refl
+packed_one (suc (suc (suc zero))) (suc zero) few below = refl
+packed_one (suc (suc (suc zero))) (suc (suc zero)) few below = refl
+packed_one (suc (suc (suc (suc zero)))) zero few below = refl
+packed_one (suc (suc (suc (suc zero)))) (suc zero) few below = refl
+packed_one (suc (suc (suc (suc zero)))) (suc (suc zero)) few below = refl
+packed_one (suc (suc (suc (suc zero)))) (suc (suc (suc zero))) few below = refl
+packed_one (suc zero) (suc x) few below = absurd (omega arith)
+packed_one (suc (suc zero)) (suc (suc x)) few below = absurd (omega arith)
+packed_one (suc (suc (suc zero))) (suc (suc (suc x))) few below = absurd (omega arith)
+packed_one (suc (suc (suc (suc zero)))) (suc (suc (suc (suc x)))) few below = absurd (omega arith)
+packed_one (suc (suc (suc (suc (suc n))))) x few below = absurd (omega arith)

@@ -1,48 +1,78 @@
 -- Pairs that have the same row, by the codes of the counts before their grid points.
-use Rattle.std.proofs.Common.{◌≡◌, ℕ, ◌+◌, ◌*◌, ◌-◌, ◌%◌, ◌<◌, ◌≤◌, ◌^◌, ◌⊎◌, ◌↔◌, inl, inr, pos, ◌+ℤ◌, ◌-ℤ◌, List, [], ◌++◌, length, map, get_or, sym, ap, ap₂, ◌∙◌, zero-add, arith}
+use Rattle.std.proofs.Common.{◌≡◌, ℕ, ◌+◌, ◌*◌, ◌-◌, ◌%◌, ◌<◌, ◌≤◌, ◌^◌, ◌⊎◌, ◌↔◌, inl, inr, pos, ◌+ℤ◌, ◌-ℤ◌, List, [], ◌++◌, length, map, get_or, refl, sym, ap, ap₂, ◌∙◌, ◌∷◌, cond, eqb, zero-add, arith}
 use Rattle.std.specs.List.{range_with_len}
 use Rattle.std.proofs.Math.Nat.{add-mod_right, mod-eq_of_lt, mod-lt}
+use Rattle.std.proofs.Math.Path.{fun_ext}
 use Rattle.std.proofs.lemmas.Bool.{cases_lt}
 use Rattle.std.proofs.lemmas.Int.{ints}
-use Rattle.std.proofs.lemmas.List.{get_or-map, get_or_append_left, get_or-append-add, length-append, length-map}
-use Rattle.std.proofs.lemmas.List.FromFn.{length-map-range_with_len, get_or-map-range_with_len, take-map-range_with_len, fill_by_all}
+use Rattle.std.proofs.lemmas.List.{append_assoc, get_or_append_left, get_or-append-add, length-append}
+use Rattle.std.proofs.lemmas.List.FromFn.{length-map-range_with_len, get_or-map-range_with_len, map-range_with_len_more, fill_by_all}
 use Rattle.gj_shape.specs.SlopeRows.{rises, row_entry, row_of}
 use Rattle.gj_shape.specs.declared.extremality.RowName.TheVariants.{Pair}
-use Rattle.gj_system.specs.Codes.{packed, codes_twice, ArePackable}
+use Rattle.gj_system.specs.Codes.{packed, codes_before, codes_twice, ArePackable}
 use Rattle.gj_system.specs.Components.{rises_at}
-use Rattle.gj_system.proofs.PackedCounts.{packed_four, packed_sum, same_digits}
+use Rattle.gj_system.proofs.PackedCounts.{packed_four, packed_sum, packed_one, same_digits}
 use Rattle.gj_lemmas.proofs.Lists.{All-made}
-use Rattle.gj_theory.proofs.RiseCounts.{rises_at_most}
+use Rattle.gj_theory.proofs.RiseCounts.{rises_at_most, rises_more}
+
+-- ---- codes of points
+
+-- before 0 there is no interval
+pub no_code : (f : ℕ → ℕ) (n : ℕ) → packed (rises_at f n 0) ≡ 0
+no_code f n = none (range_with_len 0 n)
+  where
+    none : (cs : List ℕ) → packed (map (rises f 0) cs) ≡ 0
+    none [] = refl
+    none (c ∷ cs) = let first : rises f 0 c ≡ 0 = refl in let rest = none cs in omega arith
+
+-- one more interval
+pub one_code_more : (f : ℕ → ℕ) (n i : ℕ) → n ≤ 4 → f i < n →
+    packed (rises_at f n i) + 2 ^ (16 * f i) ≡ packed (rises_at f n (i + 1))
+one_code_more f n i few inside =
+    let cs = range_with_len 0 n in
+    ap (λ x. packed (rises_at f n i) + x) (sym (packed_one n (f i) few inside))
+    ∙ packed_sum (rises f i) (λ c. cond (eqb (f i) c) 1 0) cs
+    ∙ ap (λ g. packed (map g cs)) (fun_ext (λ c. sym (rises_more f i c)))
+
+pub code_small : (f : ℕ → ℕ) (n q i : ℕ) → ArePackable n q → i ≤ q → packed (rises_at f n i) < 2 ^ 64
+code_small f n q i h within =
+    let len = length-map-range_with_len (rises f i) 0 n in
+    let few = h.columns in
+    let order = h.order in
+    packed_four (rises_at f n i) (omega arith)
+    (All-made (λ x. x < 2 ^ 16) (rises f i) 0 n (λ c below. let most = rises_at_most f i c in omega arith))
+
+-- the code of one more point behind those before
+pub one_pushed : (f : ℕ → ℕ) (n i code : ℕ) (first codes more : List ℕ) → codes ≡ first ++ codes_before f n i →
+    code ≡ packed (rises_at f n i) → more ≡ codes ++ code ∷ [] → more ≡ first ++ codes_before f n (i + 1)
+one_pushed f n i code first codes more are is e =
+    e ∙ ap₂ (λ xs x. xs ++ x ∷ []) are is ∙ append_assoc first (codes_before f n i) (packed (rises_at f n i) ∷ [])
+    ∙ ap (λ xs. first ++ xs) (sym (map-range_with_len_more (λ j. packed (rises_at f n j)) 0 i i (zero-add i)))
+
+-- ---- all codes
 
 -- the codes of the counts of n columns before each of the first q grid points, twice over
 pub record AreCodes (f : ℕ → ℕ) (n q : ℕ) (codes : List ℕ) : Type 0 where
   pub packable : ArePackable n q
-  pub codes_are : codes ≡ codes_twice q (map (rises_at f n) (range_with_len 0 (q + 1)))
+  pub codes_are : codes ≡ codes_twice f n q
 
-twice : (f : ℕ → ℕ) (n q : ℕ) (codes : List ℕ) → AreCodes f n q codes →
-    codes ≡ map packed (map (rises_at f n) (range_with_len 0 q)) ++ map packed (map (rises_at f n) (range_with_len 0 q))
-twice f n q codes h =
-    h.codes_are ∙ ap (λ l. map packed l ++ map packed l) (take-map-range_with_len (rises_at f n) 0 (q + 1) q (omega arith))
-
-length-once : (f : ℕ → ℕ) (n q : ℕ) → length (map packed (map (rises_at f n) (range_with_len 0 q))) ≡ q
-length-once f n q = length-map (map (rises_at f n) (range_with_len 0 q)) packed ∙ length-map-range_with_len (rises_at f n) 0 q
+pub length-once : (f : ℕ → ℕ) (n q : ℕ) → length (codes_before f n q) ≡ q
+length-once f n q = length-map-range_with_len (λ i. packed (rises_at f n i)) 0 q
 
 pub length-codes : (f : ℕ → ℕ) (n q : ℕ) (codes : List ℕ) → AreCodes f n q codes → length codes ≡ q + q
 length-codes f n q codes h =
-    let half = map packed (map (rises_at f n) (range_with_len 0 q)) in
-    ap length (twice f n q codes h) ∙ length-append half half ∙ ap₂ (λ x y. x + y) (length-once f n q) (length-once f n q)
+    let half = codes_before f n q in
+    ap length h.codes_are ∙ length-append half half ∙ ap₂ (λ x y. x + y) (length-once f n q) (length-once f n q)
 
 once_at : (f : ℕ → ℕ) (n q i : ℕ) → i < q →
-    get_or (map packed (map (rises_at f n) (range_with_len 0 q))) i 0 ≡ packed (rises_at f n i)
-once_at f n q i below =
-    get_or-map packed (map (rises_at f n) (range_with_len 0 q)) i [] 0 (omega (arith, length-map-range_with_len (rises_at f n) 0 q))
-    ∙ ap packed (get_or-map-range_with_len (rises_at f n) 0 q i i [] below (zero-add i))
+    get_or (codes_before f n q) i 0 ≡ packed (rises_at f n i)
+once_at f n q i below = get_or-map-range_with_len (λ j. packed (rises_at f n j)) 0 q i i 0 below (zero-add i)
 
 -- that of a point
 code_at : (f : ℕ → ℕ) (n q i : ℕ) (codes : List ℕ) → AreCodes f n q codes → i < q → get_or codes i 0 ≡ packed (rises_at f n i)
 code_at f n q i codes h below =
-    let half = map packed (map (rises_at f n) (range_with_len 0 q)) in
-    ap (λ l. get_or l i 0) (twice f n q codes h)
+    let half = codes_before f n q in
+    ap (λ l. get_or l i 0) h.codes_are
     ∙ get_or_append_left half half 0 i (omega (arith, length-once f n q)) ∙ once_at f n q i below
 
 -- that of a sum of two points
@@ -54,13 +84,13 @@ code_of_sum f n q i j codes h first second = by_cases (cases_lt (i + j) q)
     by_cases (inl below) =
         code_at f n q (i + j) codes h below ∙ ap (λ m. packed (rises_at f n m)) (sym (mod-eq_of_lt below))
     by_cases (inr above) =
-        let half = map packed (map (rises_at f n) (range_with_len 0 q)) in
+        let half = codes_before f n q in
         let rest = i + j - q in
         let inside : i + j - q < q = omega arith in
-        let whole : i + j ≡ length (map packed (map (rises_at f n) (range_with_len 0 q))) + (i + j - q) = omega (arith, length-once f n q) in
+        let whole : i + j ≡ length (codes_before f n q) + (i + j - q) = omega (arith, length-once f n q) in
         let split : i + j ≡ i + j - q + q = omega arith in
         let residue : (i + j) % q ≡ i + j - q = ap (λ m. m % q) split ∙ add-mod_right (i + j - q) q ∙ mod-eq_of_lt inside in
-        ap (λ l. get_or l (i + j) 0) (twice f n q codes h) ∙ ap (λ m. get_or (half ++ half) m 0) whole
+        ap (λ l. get_or l (i + j) 0) h.codes_are ∙ ap (λ m. get_or (half ++ half) m 0) whole
         ∙ get_or-append-add half half rest 0 ∙ once_at f n q (i + j - q) inside ∙ ap (λ m. packed (rises_at f n m)) (sym residue)
 
 -- three codes add to that of the sums

@@ -1,17 +1,19 @@
 -- The counts of the intervals before each grid point, and the rows that are made from them.
-use Rattle.std.proofs.Common.{◌≡◌, ℕ, ◌+◌, ◌%◌, ◌<◌, ◌≤◌, ◌^◌, ◌⊎◌, ◌↔◌, inl, inr, ℤ, pos, ◌+ℤ◌, ◌-ℤ◌, List, [], ◌∷◌, ◌++◌, length, map, get_or, set, replicate, unsigned_abs, refl, sym, ap, ap₂, subst, ◌∙◌, zero-add, arith}
+use Rattle.std.proofs.Common.{◌≡◌, ℕ, suc, ◌+◌, ◌-◌, ◌*◌, ◌%◌, ◌<◌, ◌≤◌, ◌^◌, ◌⊎◌, ◌↔◌, inl, inr, ℤ, pos, ◌+ℤ◌, ◌-ℤ◌, List, [], ◌∷◌, ◌++◌, length, map, take, drop, get_or, set, replicate, unsigned_abs, refl, sym, ap, ap₂, subst, ◌∙◌, zero-add, arith}
 use Rattle.std.specs.Prelude.{All}
-use Rattle.std.specs.List.{range_with_len}
+use Rattle.std.specs.List.{flat_map, range_with_len}
 use Rattle.std.proofs.Math.ListN.{length-set, length-replicate}
+use Rattle.std.proofs.Math.Seq.{drop-append_seam, take-append_seam}
 use Rattle.std.proofs.lemmas.Bool.{cases_eq}
 use Rattle.std.proofs.lemmas.Int.{ints}
-use Rattle.std.proofs.lemmas.List.{get_or-set_same, get_or-set_other, get_or-replicate}
-use Rattle.std.proofs.lemmas.List.FromFn.{length-map-range_with_len, get_or-map-range_with_len, map-range_with_len_more, fill_by_all}
+use Rattle.std.proofs.lemmas.List.{get_or-set_same, get_or-set_other, get_or-replicate, append-nil, length-append}
+use Rattle.std.proofs.lemmas.List.Concat.{flat_map-append}
+use Rattle.std.proofs.lemmas.List.FromFn.{length-range_with_len, length-map-range_with_len, get_or-map-range_with_len, fill_by_all}
 use Rattle.gj_shape.specs.SlopeRows.{rises, row_entry, row_of}
 use Rattle.gj_shape.specs.declared.extremality.RowName.{RowName}
 use Rattle.gj_shape.specs.declared.extremality.RowName.TheVariants.{Period, F, Pair}
 use Rattle.gj_system.specs.Components.{rises_at, IsNameBelow}
-use Rattle.gj_lemmas.proofs.Lists.{All-made}
+use Rattle.gj_lemmas.proofs.Lists.{All-made, joined_at, range_split}
 use Rattle.gj_theory.proofs.RiseCounts.{rises_here, rises_elsewhere, rises_at_most}
 
 -- ---- counts
@@ -56,22 +58,53 @@ count_at_most f n i c counts are below =
     let most = rises_at_most f i c in
     omega arith
 
--- the counts of one more grid point behind those of the first
-pub one_point_more : (f : ℕ → ℕ) (n i : ℕ) (counts pushed : List (List ℕ)) (last : List ℕ) →
-    counts ≡ map (rises_at f n) (range_with_len 0 (i + 1)) → last ≡ rises_at f n (i + 1) → pushed ≡ counts ++ last ∷ [] →
-    pushed ≡ map (rises_at f n) (range_with_len 0 (i + 1 + 1))
-one_point_more f n i counts pushed last are is e =
-    e ∙ ap₂ (λ xs x. xs ++ x ∷ []) are is ∙ sym (map-range_with_len_more (rises_at f n) 0 (i + 1) (i + 1) (zero-add (i + 1)))
+-- the counts of the first grid point, and those of one more behind those before
+pub first_point : (f : ℕ → ℕ) (n : ℕ) (counts : List ℕ) → counts ≡ rises_at f n 0 →
+    counts ≡ flat_map (rises_at f n) (range_with_len 0 1)
+first_point f n counts are = are ∙ sym (append-nil (rises_at f n 0))
 
--- each grid point has a count for each column, at most the number of intervals
-pub all_columns : (f : ℕ → ℕ) (n m : ℕ) → All (λ row. length row ≡ n) (map (rises_at f n) (range_with_len 0 m))
-all_columns f n m = All-made (λ row. length row ≡ n) (rises_at f n) 0 m (λ i below. length-rises_at f n i)
+pub one_point_more : (f : ℕ → ℕ) (n i : ℕ) (counts more last : List ℕ) →
+    counts ≡ flat_map (rises_at f n) (range_with_len 0 (i + 1)) → last ≡ rises_at f n (i + 1) → more ≡ counts ++ last →
+    more ≡ flat_map (rises_at f n) (range_with_len 0 (i + 1 + 1))
+one_point_more f n i counts more last are is e =
+    let before = range_with_len 0 (i + 1) in
+    e ∙ ap₂ (λ xs ys. xs ++ ys) are (is ∙ sym (append-nil (rises_at f n (i + 1))))
+    ∙ sym (flat_map-append (rises_at f n) before ((i + 1) ∷ []))
+    ∙ ap (flat_map (rises_at f n)) (sym (range_split 0 (i + 1) 1 ∙ ap (λ k. before ++ k ∷ []) (zero-add (i + 1))))
 
-pub all_at_most : (f : ℕ → ℕ) (n m q : ℕ) → m ≤ q + 1 → All (All (λ x. x ≤ q)) (map (rises_at f n) (range_with_len 0 m))
-all_at_most f n m q few =
-    All-made (All (λ x. x ≤ q)) (rises_at f n) 0 m
-    (λ i below.
-    All-made (λ x. x ≤ q) (rises f i) 0 n (λ c inside. let most = rises_at_most f i c in omega (arith, few, below)))
+length-points : (f : ℕ → ℕ) (n : ℕ) (points : List ℕ) → length (flat_map (rises_at f n) points) ≡ length points * n
+length-points f n [] = omega arith
+length-points f n (i ∷ points) =
+    let len = length-append (rises_at f n i) (flat_map (rises_at f n) points) in
+    let first = length-rises_at f n i in
+    let rest = length-points f n points in
+    omega (arith, len)
+
+length-before : (f : ℕ → ℕ) (n i : ℕ) → length (flat_map (rises_at f n) (range_with_len 0 i)) ≡ i * n
+length-before f n i = length-points f n (range_with_len 0 i) ∙ ap (λ k. k * n) (length-range_with_len 0 i)
+
+-- those of a grid point in the whole list
+pub point_within : (f : ℕ → ℕ) (n q i : ℕ) (counts : List ℕ) → counts ≡ flat_map (rises_at f n) (range_with_len 0 (q + 1)) → i ≤ q →
+    i * n + n ≤ length counts
+point_within f n q i counts are within =
+    let before = flat_map (rises_at f n) (range_with_len 0 i) in
+    let rest = flat_map (rises_at f n) (range_with_len (i + 1) (q + 1 - suc i)) in
+    let split = ap length (are ∙ joined_at (rises_at f n) i (q + 1) (omega arith)) in
+    let whole = length-append before (rises_at f n i ++ rest) in
+    let behind = length-append (rises_at f n i) rest in
+    let front = length-before f n i in
+    let here = length-rises_at f n i in
+    omega (arith, split, whole, behind)
+
+pub point_in_list : (f : ℕ → ℕ) (n q i m : ℕ) (counts : List ℕ) → counts ≡ flat_map (rises_at f n) (range_with_len 0 (q + 1)) →
+    i ≤ q → m ≡ n → take m (drop (i * n) counts) ≡ rises_at f n i
+point_in_list f n q i m counts are within whole =
+    let before = flat_map (rises_at f n) (range_with_len 0 i) in
+    let rest = flat_map (rises_at f n) (range_with_len (i + 1) (q + 1 - suc i)) in
+    ap₂ (λ k xs. take m (drop k xs)) (sym (length-before f n i)) (are ∙ joined_at (rises_at f n) i (q + 1) (omega arith))
+    ∙ ap (take m) (drop-append_seam before (rises_at f n i ++ rest))
+    ∙ ap (λ k. take k (rises_at f n i ++ rest)) (whole ∙ sym (length-rises_at f n i))
+    ∙ take-append_seam (rises_at f n i) rest
 
 -- ---- rows
 

@@ -1,13 +1,13 @@
 //! Rows that are made from counts of intervals, which are made once for all rows.
 ghost use Rattle.std.specs.Prelude.{ℕ, ℤ, pos, ◌≡◌, ◌+◌, ◌%◌, ◌<◌, ◌≤◌, ◌^◌, ◌↔◌, ◌+ℤ◌, ◌-ℤ◌};
-ghost use Rattle.std.specs.Prelude.{get_or, length, map, All, IfOk, IsTrue, unsigned_abs};
+ghost use Rattle.std.specs.Prelude.{get_or, length, flat_map, All, IfOk, IsTrue, unsigned_abs};
 ghost use Rattle.std.specs.List.{range_with_len};
 ghost use Rattle.gj_shape.specs.SlopeRows.{row_of as row_entries, component_in};
 ghost use Rattle.gj_shape.specs.declared.extremality.RowName.TheVariants.{Pair};
 ghost use Rattle.gj_system.specs.Components.{rises_at, IsNameBelow};
 
 use crate::codes::{codes_of, sum_of_codes};
-use gj_shape::{List, RowName};
+use gj_shape::RowName;
 use std::alloc::{AllocError, Global};
 use std::marker::Model;
 
@@ -17,8 +17,9 @@ use std::marker::Model;
 pub struct SlopeRows {
     component: Vec<u32>,
     columns: u32,
-    /// For each i up to q, how many of the intervals before i/q are in each component.
-    counts: Vec<List<u32>>,
+    /// For each i up to q, how many of the intervals before i/q are in each component, all in one
+    /// list.
+    counts: Vec<u32>,
     /// The codes of those before 1, twice over, or none if they are not packed.
     codes: Vec<u64>,
 }
@@ -44,7 +45,7 @@ impl SlopeRows {
         ensures columns { IfOk result (λ s. s.columns ≡ columns) }
     {
         let counts = counts_of(alloc, component, columns)?;
-        let codes = codes_of(alloc, counts.as_slice(), columns, component.len())?;
+        let codes = codes_of(alloc, component, columns)?;
         Ok(SlopeRows {
             component: Vec::from_slice(alloc, component)?,
             columns,
@@ -142,24 +143,27 @@ impl SlopeRows {
         requires { i ≤ length self.now.component }
         ensures { result.now ≡ rises_at (component_in self.now.component) self.now.columns i }
     {
-        self.counts[i].as_slice()
+        let columns = self.columns as usize;
+        let start = i * columns;
+        &self.counts[start..start + columns]
     }
 }
 
-/// For each i up to the number of intervals, how many of those before i/q are in each component.
-fn counts_of(alloc: Global, component: &[u32], columns: u32) -> Result<Vec<List<u32>>, AllocError>
+/// For each i up to the number of intervals, how many of those before i/q are in each component,
+/// all in one list.
+fn counts_of(alloc: Global, component: &[u32], columns: u32) -> Result<Vec<u32>, AllocError>
     requires components { All (λ c. c < columns) component.now }
     requires count { length component.now < 2 ^ 31 }
     ensures { IfOk result (λ counts. counts.items
-        ≡ map (rises_at (component_in component.now) columns)
+        ≡ flat_map (rises_at (component_in component.now) columns)
         (range_with_len 0 (length component.now + 1))) }
 {
     let mut count = vec![in alloc; 0; columns as usize]?;
-    let mut counts = Vec::with_capacity(alloc, component.len() + 1)?;
-    counts.push(List::of(Vec::from_slice(alloc, count.as_slice())?))?;
+    let mut counts = Vec::with_capacity(alloc, (component.len() + 1) * columns as usize)?;
+    counts.extend_from_slice(count.as_slice())?;
     for c in component {
         count[*c as usize] += 1;
-        counts.push(List::of(Vec::from_slice(alloc, count.as_slice())?))?;
+        counts.extend_from_slice(count.as_slice())?;
     }
     Ok(counts)
 }

@@ -1,19 +1,19 @@
-use Rattle.std.proofs.Common.{◌≡◌, ◌<◌, ◌+◌, ◌++◌, ◌∷◌, [], get_or, length, map, ap, ap₂, subst, ◌∙◌, arith}
+use Rattle.std.proofs.Common.{◌≡◌, ◌<◌, ◌+◌, ◌++◌, get_or, length, ap, ap₂, subst, ◌∙◌, arith}
 use Rattle.std.proofs.lemmas.List.{get_or_default}
 use Rattle.std.proofs.lemmas.List.Elements.{All-get_or}
-use Rattle.std.specs.List.{range_with_len}
+use Rattle.std.specs.List.{flat_map, range_with_len}
 use Rattle.gj_shape.specs.SlopeRows.{component_in}
 use Rattle.gj_system.specs.Components.{rises_at}
-use Rattle.gj_system.proofs.RowCounts.{no_counts, length-rises_at, one_count_more, one_point_more, count_at_most}
+use Rattle.gj_system.proofs.RowCounts.{no_counts, length-rises_at, one_count_more, first_point, one_point_more, count_at_most}
 use Rattle.gj_system.proofs.counted.counts_of.Goals as goal
 
 pub loop-c-init : goal.loop-c-init
 loop-c-init c =
     let none = c.in_ok-count.ensures.items_if_clones_equal (λ y e. e) ∙ no_counts (component_in c.args.component.now) c.args.columns in (
       none,
-      c.in_ok-push.ensures.items
-          ∙ ap₂ (λ xs x. xs ++ x ∷ []) c.in_ok-counts.ensures.items
-          (c.of.ensures ∙ c.in_ok-from_slice.ensures.items ∙ c.as_slice.ensures.value ∙ none),
+      first_point (component_in c.args.component.now) c.args.columns c.extend_from_slice.new.self.items
+          (c.in_ok-extend_from_slice.ensures.items
+          ∙ ap₂ (λ xs ys. xs ++ ys) c.in_ok-counts.ensures.items (c.as_slice.ensures.value ∙ none)),
     )
 
 pub index_mut-requires : goal.index_mut-requires
@@ -52,13 +52,12 @@ loop-c-preserved c =
     c.index_mut.ensures.value ∙ get_or_default old i c.index_mut.result.now 0 within in
     let more = one_count_more f n at (c.index_mut.result.now + 1) old c.loop-c.invariant.0 inside (ap (λ x. x + 1) read) in (
       more,
-      one_point_more f n at c.loop-c.counts.items c.push-in-loop-c.new.self.items c.of-in-loop-c.result c.loop-c.invariant.1
-          (c.of-in-loop-c.ensures ∙ c.in_ok-from_slice-2.ensures.items ∙ c.as_slice-in-loop-c.ensures.value ∙ more)
-          c.in_ok-push-2.ensures.items,
+      one_point_more f n at c.loop-c.counts.items c.extend_from_slice-in-loop-c.new.self.items c.as_slice-in-loop-c.result.now
+          c.loop-c.invariant.1 (c.as_slice-in-loop-c.ensures.value ∙ more) c.in_ok-extend_from_slice-2.ensures.items,
     )
 
 pub returns : goal.returns
 returns c =
     let all : c.loop-c.c-index ≡ length c.args.component.now = omega (arith, c.loop-c.auto.c-index-end, c.loop-c-test.false) in
-    subst (λ k. c.loop-c.counts.items ≡ map (rises_at (component_in c.args.component.now) c.args.columns) (range_with_len 0 (k + 1))) all
+    subst (λ k. c.loop-c.counts.items ≡ flat_map (rises_at (component_in c.args.component.now) c.args.columns) (range_with_len 0 (k + 1))) all
     c.loop-c.invariant.1

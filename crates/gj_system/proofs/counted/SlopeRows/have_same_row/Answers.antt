@@ -1,8 +1,7 @@
-use Rattle.std.proofs.Common.{◌≡◌, false, ℕ, ◌+◌, ◌<◌, List, length, sym, ap, ◌∙◌, subst, arith}
+use Rattle.std.proofs.Common.{◌≡◌, false, ℕ, ◌+◌, ◌<◌, List, length, sym, ◌∙◌, subst, arith}
 use Rattle.std.specs.Bool.{◌==◌}
 use Rattle.std.proofs.lemmas.Bool.{eqb-true, eq-eqb}
 use Rattle.gj_shape.specs.SlopeRows.{component_in}
-use Rattle.gj_system.specs.Codes.{codes_twice}
 use Rattle.gj_system.specs.Components.{ComponentData}
 use Rattle.gj_system.specs.Counted.{data_of, IsCounted}
 use Rattle.gj_system.specs.declared.counted.SlopeRows.TheInside.{Inside}
@@ -20,7 +19,7 @@ codes_here s v codes counted view_is codes_is none =
     subst (λ u. AreCodes (component_in u.component) u.columns (length u.component) codes) view_is
     (record {
       packable = counted.packable some_inside;
-      codes_are = codes_is ∙ counted.codes some_inside ∙ ap (codes_twice (length s.component.items)) counted.counts;
+      codes_are = codes_is ∙ counted.codes some_inside;
     })
 
 pub sum_of_codes-one-requires : goal.sum_of_codes-one-requires
