@@ -54,17 +54,7 @@ fn scaled_opposite(shape: &Shape, x: Frac) -> Frac
     ensures { IsScaledOpposite shape.now x result }
 {
     let num = times(x.den(), shape.place()) - times(x.num(), shape.order());
-    ratio(num, x.den())
-}
-
-/// The fraction `num/den`, which fits.
-fn ratio(num: i128, den: i128) -> Frac
-    requires zero { unsigned_abs den ≢ 0 }
-    requires num_fits { unsigned_abs num < 2 ^ 127 }
-    requires den_fits { unsigned_abs den < 2 ^ 127 }
-    ensures { IsRatio result num den }
-{
-    Frac::new(num, den).unwrap()
+    Frac::reduced(num, x.den())
 }
 
 /// The product of a whole number of at most 2^62 in absolute value and a natural number.

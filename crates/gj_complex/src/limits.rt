@@ -30,5 +30,5 @@ pub fn slack(shape: &Shape, face: Face, corner: u32) -> Frac
     ensures { IsRatio result (get_or (limits_of shape.now face.kind face.a face.b) corner (pos 0))
         (pos shape.now.scale) }
 {
-    Frac::new(slack_num(shape, face, corner), shape.common_denominator()).unwrap()
+    Frac::reduced(slack_num(shape, face, corner), shape.common_denominator())
 }

@@ -186,5 +186,5 @@ pub(crate) fn over_width(numerator: i128, n: u32, width: i64) -> Frac
     requires narrow { unsigned_abs width ≤ 2 ^ 53 }
     ensures { IsRatio result numerator (pos n *ℤ width) }
 {
-    Frac::new(numerator, product(i64::from(n), width)).unwrap()
+    Frac::reduced(numerator, product(i64::from(n), width))
 }

@@ -13,7 +13,7 @@ pub(crate) fn grid_point(index: u64, order: u32, h: u64) -> Frac
     requires fine { order * h ≤ 2 ^ 62 }
     ensures { IsRatio result (pos index) (pos (order * h)) }
 {
-    Frac::new(i128::from(index), i128::from(u64::from(order) * h)).unwrap()
+    Frac::reduced(i128::from(index), i128::from(u64::from(order) * h))
 }
 
 /// On the grid of order h times the function's, the point with the weight 1/h at each other of n

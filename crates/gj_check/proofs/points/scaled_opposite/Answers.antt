@@ -22,7 +22,7 @@ returns c =
     let bottom : to_z w128 (of_z w128 c.den-2.result) ≡ denominator c.args.x = search rules in
     let first = c.times.ensures.value ∙ ap₂ (λ a b. a *ℤ pos b) den c.place.ensures.value in
     let second = c.times-2.ensures.value ∙ ap₂ (λ a b. a *ℤ pos b) num c.order.ensures.value in
-    subst₂ (λ a b. IsRatio c.ratio.result a b)
+    subst₂ (λ a b. IsRatio c.reduced.result a b)
     (difference_read c.times.result c.times-2.result c.times.ensures.fits c.times-2.ensures.fits
     ∙ ap₂ (λ a b. a -ℤ b) first second)
-    bottom c.ratio.ensures
+    bottom c.reduced.ensures
