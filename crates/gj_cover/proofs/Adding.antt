@@ -60,6 +60,15 @@ passed P kind a b found h = record {
       (h (subst (λ n. P kind a n) y (subst (λ n. P kind n d) x (subst (λ n. P n c d) e p))))));
 }
 
+-- nothing is added by faces that are all reached
+pub passed_all : (These P : FaceKind → ℕ → ℕ → Type 0) (found : Option Face) →
+    ((kind : FaceKind) (a b : ℕ) → These kind a b → IsFaceReached found kind a b) → AddsFirst These P found found
+passed_all These P found reached = record {
+  from = found_before These P found;
+  behind = λ k c d r. r;
+  first = λ k c d at p. reached k c d at;
+}
+
 before : (kind : FaceKind) (a b : ℕ) (found : Option Face) → (IsFaceReached found kind a b → ⊥) → (other : FaceKind) (c d : ℕ) →
     IsFaceReached found other c d → IsFaceReached (Some (record { kind = kind; a = a; b = b })) other c d
 before kind a b None not other c d r = absurd r

@@ -9,7 +9,7 @@ use Rattle.gj_shape.specs.Cover.{Joins, AreJoined, Covers, IsDirectlyCovered, Is
 use Rattle.gj_shape.specs.declared.faces.Face.{Face}
 use Rattle.gj_shape.specs.declared.faces.FaceKind.{FaceKind}
 use Rattle.gj_shape.specs.declared.faces.FaceKind.TheVariants.{Vertex, Horizontal, Vertical, Diagonal, Lower, Upper}
-use Rattle.gj_cover.specs.FirstFound.{FindsFirst, IsThis, AddsFirst}
+use Rattle.gj_cover.specs.FirstFound.{FindsFirst, IsThis, IsFaceReached, IsInRowBefore, AddsFirst}
 use Rattle.gj_cover.specs.Links.{LeadsBy, Leads, IsPairInRow, IsAcross}
 use Rattle.gj_cover.proofs.Adding.{EitherOf, ranked_behind}
 use Rattle.gj_cover.proofs.Edges.{one_step, joins_by, joins_led}
@@ -33,6 +33,17 @@ pub record AreSteps (q i step short j : ℕ) : Type 0 where
   pub short_below : short < q
   pub step_leads : (i + step) % q ≡ j
   pub short_leads : (1 + short) % q ≡ step
+
+pub steps_at : (q n i step short j : ℕ) → n ≡ q → i < q → j < q → step < n → short < n → (i + step) % n ≡ j → (1 + short) % n ≡ step →
+    AreSteps q i step short j
+steps_at q n i step short j is start end step_below short_below step_leads short_leads = record {
+  start = start;
+  end = end;
+  step_below = subst (λ m. step < m) is step_below;
+  short_below = subst (λ m. short < m) is short_below;
+  step_leads = subst (λ m. (i + step) % m ≡ j) is step_leads;
+  short_leads = subst (λ m. (1 + short) % m ≡ step) is short_leads;
+}
 
 pub next_leads : (q i step short j : ℕ) → AreSteps q i step short j → (i + short + 1) % q ≡ j
 next_leads q i step short j s =
@@ -97,6 +108,16 @@ five_back q i step short j s Upper a b (a_below, b_below, inl x, e) =
     inl (inl (inl (inl (refl, x, is_short q i step short j b s b_below (ap (λ n. (n + b + 1) % q) (sym x) ∙ e)))))
 five_back q i step short j s Upper a b (a_below, b_below, inr x, e) =
     inl (inr (refl, is_short q i step short j a s a_below (ap (λ n. (n + a + 1) % q) (sym x) ∙ turned_next q a b j e), x))
+
+-- all of them are behind a face in a row before
+pub all_behind : (found : Option Face) (i step short j : ℕ) → IsInRowBefore found i step short → (kind : FaceKind) (a b : ℕ) →
+    Five i step short j kind a b → IsFaceReached found kind a b
+all_behind None i step short j h kind a b five = absurd h
+all_behind (Some f) i step short j (x, y, z) kind a b (inl (inl (inl (inl (_, s, _))))) = inl (let lt : f.a < a = omega (arith, x, s) in lt)
+all_behind (Some f) i step short j (x, y, z) kind a b (inl (inl (inl (inr (_, s, _))))) = inl (let lt : f.a < a = omega (arith, x, s) in lt)
+all_behind (Some f) i step short j (x, y, z) kind a b (inl (inl (inr (_, s, _)))) = inl (let lt : f.a < a = omega (arith, x, s) in lt)
+all_behind (Some f) i step short j (x, y, z) kind a b (inl (inr (_, s, _))) = inl (let lt : f.a < a = omega (arith, z, s) in lt)
+all_behind (Some f) i step short j (x, y, z) kind a b (inr (_, s, _)) = inl (let lt : f.a < a = omega (arith, y, s) in lt)
 
 -- ---- first of all faces
 

@@ -36,6 +36,10 @@ IsThis kind a b other c d = (other ≡ kind) × (c ≡ a) × (d ≡ b)
 abbrev pub IsFaceReached : Option Face → FaceKind → ℕ → ℕ → Type 0
 IsFaceReached found kind a b = MatchOption found ⊥ (λ f. IsNotBefore f kind a b)
 
+-- a face was found whose first index is less than each of these
+abbrev pub IsInRowBefore : Option Face → ℕ → ℕ → ℕ → Type 0
+IsInRowBefore found i j k = MatchOption found ⊥ (λ f. (f.a < i) × (f.a < j) × (f.a < k))
+
 -- the first of a face that may have been found before and of those of these faces that have the
 -- property
 pub record AddsFirst (These P : FaceKind → ℕ → ℕ → Type 0) (found result : Option Face) : Type 0 where

@@ -5,7 +5,7 @@ ghost use Rattle.gj_shape.specs.Additive.{IsAdditive};
 ghost use Rattle.gj_shape.specs.Cover.{IsFirstFace, IsDirectlyCovered};
 ghost use Rattle.gj_cover.specs.Table.{IsTightInTable, JoinsBy, AreJoinedBy, CoversBy};
 ghost use Rattle.gj_cover.specs.FirstFound.{FindsFirst, IsThis, IsFaceReached, AddsFirst};
-ghost use Rattle.gj_cover.specs.FirstFound.{IsEarlier};
+ghost use Rattle.gj_cover.specs.FirstFound.{IsEarlier, IsInRowBefore};
 ghost use Rattle.gj_cover.specs.Links.{LeadsBy, Leads, IsPairInRow, IsAcross};
 
 use crate::squares::covering_in_square;
@@ -58,11 +58,25 @@ fn add_joining(table: &Table, found: &mut Option<Face>, from: u32, to: u32)
     let q = table.order();
     let step = difference(to, from, q);
     let short = difference(step, 1, q);
+    if is_in_row_before(*found, from, step, short) {
+        return;
+    }
     add_face(table, found, FaceKind::Upper, from, short);
     add_face(table, found, FaceKind::Horizontal, from, step);
     add_face(table, found, FaceKind::Diagonal, from, to);
     add_face(table, found, FaceKind::Upper, short, from);
     add_face(table, found, FaceKind::Vertical, step, from);
+}
+
+/// Whether a face was found whose first index is less than each of these.
+#[inline(always)]
+fn is_in_row_before(found: Option<Face>, first: u32, second: u32, third: u32) -> bool
+    ensures { IsTrue result → IsInRowBefore found first second third }
+{
+    let Some(face) = found else {
+        return false;
+    };
+    face.a < first && face.a < second && face.a < third
 }
 
 /// Makes a face that was found the first of it and the face of this kind of the square (a, b), if

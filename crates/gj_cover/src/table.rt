@@ -216,6 +216,24 @@ impl Table {
         self.rows[i as usize].contains(j as usize)
     }
 
+    /// Whether the pair (i, j) is tight, if only the first index may be the order.
+    fn has_pair_right(&self, i: u32, j: u32) -> bool
+        requires first { i ≤ self.now.order }
+        requires second { j < self.now.order }
+        ensures { IsTrue result ↔ IsTightInTable self.now i j }
+    {
+        self.row(i).contains(j as usize)
+    }
+
+    /// Whether the pair (i, j) is tight, if only the second index may be the order.
+    fn has_pair_above(&self, i: u32, j: u32) -> bool
+        requires first { i < self.now.order }
+        requires second { j ≤ self.now.order }
+        ensures { IsTrue result ↔ IsTightInTable self.now i j }
+    {
+        self.rows[i as usize].contains(wrapped(j, self.order) as usize)
+    }
+
     /// Whether the pair is tight, if no index is above the order.
     pub(crate) fn is_tight(&self, i: u32, j: u32) -> bool
         requires first { i ≤ self.now.order }
@@ -233,8 +251,8 @@ impl Table {
     {
         match kind {
             FaceKind::Vertex => self.has_pair(a, b),
-            FaceKind::Horizontal => self.has_pair(a, b) && self.is_tight(a + 1, b),
-            FaceKind::Vertical => self.has_pair(a, b) && self.is_tight(a, b + 1),
+            FaceKind::Horizontal => self.has_pair(a, b) && self.has_pair_right(a + 1, b),
+            FaceKind::Vertical => self.has_pair(a, b) && self.has_pair_above(a, b + 1),
             FaceKind::Diagonal => self.has_diagonal(a, b),
             FaceKind::Lower => self.has_diagonal(a, b) && self.has_pair(a, b),
             FaceKind::Upper => self.has_diagonal(a, b) && self.is_tight(a + 1, b + 1),
@@ -248,6 +266,6 @@ impl Table {
         ensures { IsTrue result ↔ (IsTightInTable self.now (a + 1) b ×
             IsTightInTable self.now a (b + 1)) }
     {
-        self.is_tight(a + 1, b) && self.is_tight(a, b + 1)
+        self.has_pair_right(a + 1, b) && self.has_pair_above(a, b + 1)
     }
 }

@@ -1,12 +1,26 @@
-use Rattle.std.proofs.Common.{◌≡◌, ◌<◌, ◌+◌, ◌%◌, subst}
 use Rattle.gj_shape.specs.Additive.{IsAdditive}
 use Rattle.gj_shape.specs.declared.faces.FaceKind.TheVariants.{Horizontal, Vertical, Diagonal, Upper}
 use Rattle.gj_cover.specs.FirstFound.{IsThis}
 use Rattle.gj_cover.specs.Links.{LeadsBy}
 use Rattle.gj_cover.specs.Table.{IsTightInTable}
-use Rattle.gj_cover.proofs.Adding.{EitherOf, both_added, added_restated}
-use Rattle.gj_cover.proofs.FirstFaces.{AreSteps, Five, five_on, five_back}
+use Rattle.gj_cover.proofs.Adding.{EitherOf, passed_all, both_added, added_restated}
+use Rattle.gj_cover.proofs.FirstFaces.{steps_at, Five, five_on, five_back, all_behind}
 use Rattle.gj_cover.proofs.first_faces.add_joining.Goals as goal
+
+pub returns-then-is_in_row_before : goal.returns-then-is_in_row_before
+returns-then-is_in_row_before c =
+    let t = c.args.table.now in
+    let q = t.order in
+    let i = c.args.from in
+    let j = c.args.to in
+    let step = c.difference-step.result in
+    let short = c.difference-short.result in
+    let found = c.args.found.now in
+    let steps = steps_at q c.order-q.result i step short j c.order-q.ensures.value c.requires.start c.requires.end
+    c.difference-step.ensures.below c.difference-short.ensures.below c.difference-step.ensures.value c.difference-short.ensures.value in
+    passed_all (LeadsBy q i j) (IsAdditive (IsTightInTable t)) found
+    (λ kind a b leads. all_behind found i step short j (c.is_in_row_before.ensures c.if-is_in_row_before.true) kind a b
+    (five_back q i step short j steps kind a b leads))
 
 pub returns : goal.returns
 returns c =
@@ -16,15 +30,8 @@ returns c =
     let j = c.args.to in
     let step = c.difference-step.result in
     let short = c.difference-short.result in
-    let is = c.order-q.ensures.value in
-    let steps : AreSteps q i step short j = record {
-      start = c.requires.start;
-      end = c.requires.end;
-      step_below = subst (λ n. step < n) is c.difference-step.ensures.below;
-      short_below = subst (λ n. short < n) is c.difference-short.ensures.below;
-      step_leads = subst (λ n. (i + step) % n ≡ j) is c.difference-step.ensures.value;
-      short_leads = subst (λ n. (1 + short) % n ≡ step) is c.difference-short.ensures.value;
-    } in
+    let steps = steps_at q c.order-q.result i step short j c.order-q.ensures.value c.requires.start c.requires.end
+    c.difference-step.ensures.below c.difference-short.ensures.below c.difference-step.ensures.value c.difference-short.ensures.value in
     let P = IsAdditive (IsTightInTable t) in
     let found = c.args.found.now in
     let one = IsThis Upper i short in
