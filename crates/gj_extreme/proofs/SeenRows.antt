@@ -7,7 +7,7 @@ use Rattle.std.proofs.Math.Nat.{mod-eq_of_lt, mod-eq-sub-mod}
 use Rattle.std.proofs.lemmas.Bool.{cases_lt}
 use Rattle.std.proofs.lemmas.Int.{ints}
 use Rattle.std.proofs.Math.Path.{fun_ext}
-use Rattle.std.proofs.lemmas.List.Elements.{All-set}
+use Rattle.std.proofs.lemmas.List.Elements.{All-nil, All-set}
 use Rattle.gj_lemmas.proofs.Lists.{All-made}
 use Rattle.gj_theory.proofs.RiseCounts.{rises_more}
 use Rattle.gj_shape.specs.Elimination.{elimination_from, Passes}
@@ -33,23 +33,51 @@ zero_pair f component n before p some is =
     (inl (All-made (λ x. x ≡ pos 0) (row_entry component f.order f.place (Pair 0 0)) 0 n
     (λ c below. ap (λ i. pos 0 +ℤ pos 0 -ℤ pos (rises component i c)) (zeros_at f.order some))))
 
--- a pair whose row was handed over is remembered
-pub pair_is_set : (f : FunctionData) (component : ℕ → ℕ) (n : ℕ) (rows : Rows) (seen : SeenPairs) (place : ℕ) (p : SeenPair)
-    (rest : List RowName) → IsPairBelow f.order p → seen.codes ≡ rows.seen.codes → seen.pairs.items ≡ set rows.seen.pairs.items place p →
-    IsTaken f component n (Pair p.a p.b) rows rest →
+-- so are those of places that are new
+pub places_are_made : (f : FunctionData) (component : ℕ → ℕ) (n : ℕ) (rows : Rows) (seen : SeenPairs) (rest : List RowName) →
+    0 < f.order → All (λ p. p ≡ record { a = 0; b = 0 }) seen.pairs.items → AreToCome f component n rows rest →
     AreToCome f component n (record { basis = rows.basis; names = rows.names; row = rows.row; seen = seen }) rest
-pair_is_set f component n rows seen place p rest below codes pairs (h, has) =
+places_are_made f component n rows seen rest some zeros h =
     let g = h.handed_over in
     record {
       columns = h.columns;
       width = h.width;
-      seen_below = record {
-        some = subst (λ (m : ℕ). 0 < m) (sym (ap length pairs ∙ length-set rows.seen.pairs.items place p)) h.seen_below.some;
-        few = subst (λ (m : ℕ). m ≤ 4096) (sym (ap length pairs ∙ length-set rows.seen.pairs.items place p)) h.seen_below.few;
-        points = subst (All (IsPairBelow f.order)) (sym pairs)
-            (All-set (IsPairBelow f.order) rows.seen.pairs.items place p below h.seen_below.points);
-        codes = ap (λ c. length c.items) codes ∙ h.seen_below.codes;
+      handed_over = record {
+        handed = g.handed;
+        before = g.before;
+        number = g.number;
+        few = g.few;
+        next = g.next;
+        onward = g.onward;
+        inserted = g.inserted;
+        kept = g.kept;
+        marked = g.marked;
+        names = g.names;
+        seen = λ i d low. zero_pair f component n g.before (get_or seen.pairs.items i d) some (zeros i d low);
+        known = g.known;
       };
+    }
+
+-- a pair below the order is remembered
+pub pair_is_below : (q : ℕ) (old seen : SeenPairs) (place : ℕ) (p : SeenPair) → IsPairBelow q p → seen.codes ≡ old.codes →
+    seen.pairs.items ≡ set old.pairs.items place p → AreSeenBelow q old → AreSeenBelow q seen
+pair_is_below q old seen place p below codes pairs h = record {
+  some = subst (λ (m : ℕ). 0 < m) (sym (ap length pairs ∙ length-set old.pairs.items place p)) h.some;
+  few = subst (λ (m : ℕ). m ≤ 1024) (sym (ap length pairs ∙ length-set old.pairs.items place p)) h.few;
+  points = subst (All (IsPairBelow q)) (sym pairs) (All-set (IsPairBelow q) old.pairs.items place p below h.points);
+  codes = ap (λ c. length c.items) codes ∙ h.codes;
+}
+
+-- a pair whose row was handed over is remembered
+pub pair_is_set : (f : FunctionData) (component : ℕ → ℕ) (n : ℕ) (rows : Rows) (seen : SeenPairs) (place : ℕ) (p : SeenPair)
+    (rest : List RowName) → seen.pairs.items ≡ set rows.seen.pairs.items place p →
+    IsTaken f component n (Pair p.a p.b) rows rest →
+    AreToCome f component n (record { basis = rows.basis; names = rows.names; row = rows.row; seen = seen }) rest
+pair_is_set f component n rows seen place p rest pairs (h, has) =
+    let g = h.handed_over in
+    record {
+      columns = h.columns;
+      width = h.width;
       handed_over = record {
         handed = g.handed;
         before = g.before;
@@ -178,14 +206,13 @@ same_row_as_two_beside component n q k a b some other last =
 
 -- no rows, of which all are to come
 pub none_yet : (f : FunctionData) (component : ℕ → ℕ) (n : ℕ) (rows : Rows) → rows.basis.columns ≡ n → rows.basis.inserted ≡ 0 →
-    rows.basis.kept ≡ [] → rows.names.items ≡ [] → length rows.row.items ≡ n → 0 < f.order → AreSeenBelow f.order rows.seen →
-    All (λ p. p ≡ record { a = 0; b = 0 }) rows.seen.pairs.items → AreToCome f component n rows (row_names f)
-none_yet f component n rows columns inserted kept names width some below zeros =
+    rows.basis.kept ≡ [] → rows.names.items ≡ [] → length rows.row.items ≡ n → rows.seen.pairs.items ≡ [] →
+    AreToCome f component n rows (row_names f)
+none_yet f component n rows columns inserted kept names width seen =
     let start = λ (more : List (List ℤ)). ap₂ (λ ks i. elimination_from n ks i more) (sym kept) (sym inserted) in
     record {
       columns = columns;
       width = width;
-      seen_below = below;
       handed_over = record {
         handed = [];
         before = [];
@@ -199,7 +226,7 @@ none_yet f component n rows columns inserted kept names width some below zeros =
             (subst (λ e. Passes e.marked) (start more), subst (λ e. Passes e.marked) (sym (start more)));
         names = λ more.
             names ∙ ap (map (λ k. name_of f (renumbered more k))) (sym kept);
-        seen = λ i d low. zero_pair f component n [] (get_or rows.seen.pairs.items i d) some (zeros i d low);
+        seen = subst (All (IsSeenRow f component n [])) (sym seen) (All-nil (IsSeenRow f component n []));
         known = λ name given. inr given;
       };
     }

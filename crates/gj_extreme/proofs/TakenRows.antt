@@ -23,7 +23,7 @@ use Rattle.gj_theory.proofs.RepeatedRows.{once_keeps, once_passes, all_handed_ov
 use Rattle.gj_proof.specs.PresentRows.{named_row}
 use Rattle.gj_extreme.specs.Decision.{slope_elimination}
 use Rattle.gj_extreme.specs.RowsToCome.{name_of, rows_named, AreNextNames, AreHandedOver, AreToCome, IsTaken, AreInserted, IsReady}
-use Rattle.gj_extreme.specs.SeenPairs.{IsSeenName, IsSeenRow, AreSeenBelow}
+use Rattle.gj_extreme.specs.SeenPairs.{IsSeenName, IsSeenRow}
 use Rattle.gj_extreme.specs.declared.inserted_rows.Rows.{Rows}
 use Rattle.gj_extreme.specs.declared.seen.SeenPair.{SeenPair}
 use Rattle.gj_extreme.proofs.RowOrder.{rows_short, cons_cases}
@@ -239,7 +239,6 @@ row_taken f component n old new name rest h short taken names =
       record {
         columns = ap (λ x. x.columns) basis_is ∙ h.columns;
         width = taken.width;
-        seen_below = subst (AreSeenBelow f.order) (sym taken.seen) h.seen_below;
         handed_over = next;
       },
       one,
@@ -351,7 +350,7 @@ full_is_taken f component n rows name rest full h =
       seen = refl;
     } in
     let (next, one) = is_handed f component n rows rows name rest g has in
-    (record { columns = h.columns; width = h.width; seen_below = h.seen_below; handed_over = next }, one)
+    (record { columns = h.columns; width = h.width; handed_over = next }, one)
 
 -- and so can all
 pub full_takes_all : (f : FunctionData) (component : ℕ → ℕ) (n : ℕ) (rows : Rows) (rest : List RowName) →
@@ -372,7 +371,6 @@ row_is_seen f component n rows a b rest p h seen same =
     record {
       columns = h.columns;
       width = h.width;
-      seen_below = h.seen_below;
       handed_over = record {
         handed = g.handed;
         before = g.before;
@@ -442,11 +440,10 @@ all_inserted f component n rows l h =
 
 -- one more can be inserted
 pub rows_are_ready : (f : FunctionData) (component : ℕ → ℕ) (n : ℕ) (rows : Rows) (rest : List RowName) → IsWithinBounds f →
-    AreToCome f component n rows rest → IsReady rows f.order n
+    AreToCome f component n rows rest → IsReady rows n
 rows_are_ready f component n rows rest l h = record {
   columns = h.columns;
   width = h.width;
-  seen_below = h.seen_below;
   count = λ short.
       let number = next_number f h.handed_over.number rest l h.handed_over.next in
       let low = h.handed_over.few in

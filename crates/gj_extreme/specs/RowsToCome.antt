@@ -10,7 +10,7 @@ use Rattle.gj_theory.specs.HandedOver.{IsHandedOver, handed_numbers, handed_rows
 use Rattle.gj_elim.specs.declared.log.LogRow.{LogRow}
 use Rattle.gj_proof.specs.PresentRows.{named_row}
 use Rattle.gj_extreme.specs.Decision.{slope_elimination}
-use Rattle.gj_extreme.specs.SeenPairs.{IsSeenName, IsSeenRow, AreSeenBelow}
+use Rattle.gj_extreme.specs.SeenPairs.{IsSeenName, IsSeenRow}
 use Rattle.gj_extreme.specs.declared.inserted_rows.Rows.{Rows}
 
 -- ---- the order of rows
@@ -74,7 +74,6 @@ pub record AreHandedOver (f : FunctionData) (component : ℕ → ℕ) (n : ℕ) 
 pub record AreToCome (f : FunctionData) (component : ℕ → ℕ) (n : ℕ) (rows : Rows) (rest : List RowName) : Type 0 where
   pub columns : rows.basis.columns ≡ n
   pub width : length rows.row.items ≡ n
-  pub seen_below : AreSeenBelow f.order rows.seen
   pub handed_over : AreHandedOver f component n rows rest
 
 -- so they are, and the row of this name was one before
@@ -94,8 +93,7 @@ pub record AreInserted (f : FunctionData) (component : ℕ → ℕ) (n : ℕ) (r
 
 -- if fewer rows are kept than there are components, fewer than 2^32 are inserted, so that one more
 -- can be
-pub record IsReady (rows : Rows) (q n : ℕ) : Type 0 where
+pub record IsReady (rows : Rows) (n : ℕ) : Type 0 where
   pub columns : rows.basis.columns ≡ n
   pub width : length rows.row.items ≡ n
-  pub seen_below : AreSeenBelow q rows.seen
   pub count : length rows.basis.kept < n → rows.basis.inserted < 2 ^ 32

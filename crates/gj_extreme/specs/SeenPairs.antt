@@ -11,11 +11,11 @@ use Rattle.gj_extreme.specs.declared.seen.SeenPairs.{SeenPairs}
 abbrev pub IsPairBelow : ℕ → SeenPair → Type 0
 IsPairBelow q p = (p.a < q) × (p.b < q)
 
--- there is a pair for each of at most 4,096 places, with points below the order, and a code for
+-- there is a pair for each of at most 1,024 places, with points below the order, and a code for
 -- each point below twice the order
 pub record AreSeenBelow (q : ℕ) (seen : SeenPairs) : Type 0 where
   pub some : 0 < length seen.pairs.items
-  pub few : length seen.pairs.items ≤ 4096
+  pub few : length seen.pairs.items ≤ 1024
   pub points : All (IsPairBelow q) seen.pairs.items
   pub codes : length seen.codes.items ≡ 2 * q
 

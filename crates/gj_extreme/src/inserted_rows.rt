@@ -12,6 +12,7 @@ ghost use Rattle.gj_system.specs.Components.{IsNameBelow};
 ghost use Rattle.gj_extreme.specs.Decision.{slope_elimination};
 ghost use Rattle.gj_extreme.specs.RowsToCome.{AreToCome, AreInserted, IsReady, IsTaken};
 ghost use Rattle.gj_extreme.specs.RowsToCome.{row_names_from};
+ghost use Rattle.gj_extreme.specs.SeenPairs.{AreSeenBelow};
 ghost use Rattle.gj_extreme.specs.PairsLeft.{AreIntervalsOf, ArePairsLeft};
 
 use crate::seen::{SeenPair, SeenPairs};
@@ -30,6 +31,7 @@ pub(crate) struct Rows {
     pub(crate) names: Vec<RowName>,
     /// The row that is being inserted.
     pub(crate) row: Vec<i128>,
+    /// The pairs whose rows were inserted. It has places once rows of pairs are to be inserted.
     pub(crate) seen: SeenPairs,
 }
 
@@ -57,6 +59,7 @@ pub(crate) fn rows_of(
     if rows.is_full() {
         return Ok(rows);
     }
+    rows.seen = SeenPairs::new(alloc, system.component())?;
     let intervals = intervals_of(alloc, system)?;
     for a in 1..order {
         insert_pairs(shape, pairs, system, intervals.as_slice(), a, &mut rows)?;
@@ -130,9 +133,11 @@ fn insert_pairs(
         intervals.now }
     requires to_come { AreToCome shape.now (component_in system.now.component) system.now.columns
         rows.old (row_names_from shape.now a) }
+    requires seen { AreSeenBelow shape.now.order rows.old.seen }
     ensures to_come { OnOk result
         (AreToCome shape.now (component_in system.now.component) system.now.columns
         rows.new (row_names_from shape.now (a + 1))) }
+    ensures seen { OnOk result (AreSeenBelow shape.now.order rows.new.seen) }
     ensures wide { IsErrOf result ElimFault.Wide →
         Passes (slope_elimination shape.now (component_in system.now.component)
         system.now.columns).marked }
@@ -174,8 +179,6 @@ fn has_row_of_pair_before(component: &[u32], a: usize, b: usize) -> bool
 impl Rows {
     /// No rows, of which all are still to come.
     fn new(alloc: Global, system: &SlopeRows) -> Result<Rows, AllocError>
-        requires some { 0 < length system.now.component }
-        requires few { length system.now.component < 2 ^ 31 }
         ensures { IfOk result (λ rows. (f : FunctionData) → f.order ≡ length system.now.component →
             AreToCome f (component_in system.now.component) system.now.columns rows (row_names f)) }
     {
@@ -184,7 +187,7 @@ impl Rows {
             basis: Basis::new(alloc, columns)?,
             names: Vec::new(alloc),
             row: vec![in alloc; 0; columns as usize]?,
-            seen: SeenPairs::new(alloc, system.component())?,
+            seen: SeenPairs::without_places(alloc),
         })
     }
 
@@ -206,12 +209,14 @@ impl Rows {
         requires order { length system.now.component ≡ shape.now.order }
         requires limits { IsWithinBounds shape.now }
         requires name { IsNameBelow (Pair a b) shape.now.order }
-        requires ready { IsReady self.old shape.now.order system.now.columns }
+        requires ready { IsReady self.old system.now.columns }
+        requires seen { AreSeenBelow shape.now.order self.old.seen }
         ensures to_come { OnOk result ((rest : List RowName) →
             AreToCome shape.now (component_in system.now.component) system.now.columns self.old
             (Pair a b ∷ rest) →
             AreToCome shape.now (component_in system.now.component) system.now.columns
             self.new rest) }
+        ensures seen { OnOk result (AreSeenBelow shape.now.order self.new.seen) }
         ensures wide { IsErrOf result ElimFault.Wide → (rest : List RowName) →
             AreToCome shape.now (component_in system.now.component) system.now.columns self.old
             (Pair a b ∷ rest) →
@@ -233,7 +238,7 @@ impl Rows {
         requires order { length system.now.component ≡ shape.now.order }
         requires limits { IsWithinBounds shape.now }
         requires name { IsNameBelow name shape.now.order }
-        requires ready { IsReady self.old shape.now.order system.now.columns }
+        requires ready { IsReady self.old system.now.columns }
         ensures to_come { OnOk result ((rest : List RowName) →
             AreToCome shape.now (component_in system.now.component) system.now.columns
             self.old (name ∷ rest) →

@@ -1,11 +1,11 @@
 //! Pairs whose rows were handed over, found again by codes that are made from the counts of rows.
-ghost use Rattle.std.specs.Prelude.{◌≡◌, ◌+◌, ◌*◌, ◌<◌, ◌≤◌, ◌^◌, length, All, IfOk, OnOk};
+ghost use Rattle.std.specs.Prelude.{◌≡◌, ◌+◌, ◌*◌, ◌<◌, ◌≤◌, ◌^◌, [], length, All, IfOk, OnOk};
 ghost use Rattle.gj_extreme.specs.SeenPairs.{AreSeenBelow};
 
 use std::alloc::{AllocError, Global};
 
 /// How many pairs are remembered at most.
-const MOST_PLACES: usize = 4_096;
+const MOST_PLACES: usize = 1_024;
 
 /// How many places there are for each interval, as long as they are not more than that.
 const PLACES_OF_INTERVAL: usize = 8;
@@ -33,6 +33,16 @@ pub(crate) struct SeenPairs {
 }
 
 impl SeenPairs {
+    /// No pairs, and no places for any.
+    pub(crate) fn without_places(alloc: Global) -> SeenPairs
+        ensures { result.pairs.items ≡ [] }
+    {
+        SeenPairs {
+            pairs: Vec::new(alloc),
+            codes: Vec::new(alloc),
+        }
+    }
+
     /// No pairs, for intervals in these components.
     pub(crate) fn new(alloc: Global, component: &[u32]) -> Result<SeenPairs, AllocError>
         requires some { 0 < length component.now }
@@ -52,7 +62,7 @@ impl SeenPairs {
     pub(crate) fn place(&self, a: u32, b: u32) -> usize
         requires below { a + b < length self.now.codes.items }
         requires some { 0 < length self.now.pairs.items }
-        requires few { length self.now.pairs.items ≤ 4096 }
+        requires few { length self.now.pairs.items ≤ 1024 }
         ensures { result < length self.now.pairs.items }
     {
         let (a, b) = (a as usize, b as usize);
@@ -71,7 +81,7 @@ fn codes_of(alloc: Global, component: &[u32]) -> Result<Vec<u64>, AllocError>
 {
     let mut codes = Vec::with_capacity(alloc, 2 * component.len())?;
     push_codes(&mut codes, component)?;
-    push_codes(&mut codes, component)?;
+    codes.extend_from_within(0..component.len())?;
     Ok(codes)
 }
 

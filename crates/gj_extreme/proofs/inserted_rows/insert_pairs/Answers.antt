@@ -22,6 +22,7 @@ pairs-init c = (
   omega (arith, c.requires.below),
   subst (AreToCome c.args.shape.now (component_in c.args.system.now.component) c.args.system.now.columns c.args.rows.now)
       (next_rows c.args.shape.now c.args.a c.requires.below) c.requires.to_come,
+  c.requires.seen,
 )
 
 pub contains-requires : goal.contains-requires
@@ -76,6 +77,7 @@ pairs-preserved c =
       c.in_ok-insert_pair.ensures.to_come (pairs_from f a (c.in-Some.b + 1) ++ row_names_from f (c.args.a + 1))
           (found_next f comp c.args.system.now.columns c.args.pairs.now a c.pairs.from b left c.pairs.rows c.requires.pairs
           c.pairs_left-left.ensures low c.in-Some.ensures c.pairs.invariant.2),
+      c.in_ok-insert_pair.ensures.seen,
     )
 
 pub pairs-preserved-then-has_row_of_pair_before : goal.pairs-preserved-then-has_row_of_pair_before
@@ -103,6 +105,7 @@ pairs-preserved-then-has_row_of_pair_before c =
       next_is_known f comp n c.args.pairs.now a b c.pairs.rows p c.requires.some less below
           (found_tight f comp c.args.pairs.now a c.pairs.from b left p l first) before same
           (found_next f comp n c.args.pairs.now a c.pairs.from b left c.pairs.rows p l low first c.pairs.invariant.2),
+      c.pairs.invariant.3,
     )
 
 pub returns-clause-to_come : goal.returns-clause-to_come

@@ -1,10 +1,12 @@
-use Rattle.std.proofs.Common.{◌∷◌, sym, subst, arith}
+use Rattle.std.proofs.Common.{◌∷◌, length, sym, ap, subst, ◌∙◌, arith}
 use Rattle.gj_shape.specs.SlopeRows.{component_in}
 use Rattle.gj_shape.specs.declared.extremality.RowName.TheVariants.{F}
 use Rattle.gj_elim.proofs.Keeping.{same_error}
 use Rattle.gj_extreme.specs.PairsLeft.{AreIntervalsOf}
 use Rattle.gj_extreme.specs.RowsToCome.{AreToCome, row_names_from}
+use Rattle.gj_extreme.specs.SeenPairs.{AreSeenBelow}
 use Rattle.gj_extreme.proofs.RowOrder.{no_rows}
+use Rattle.gj_extreme.proofs.SeenRows.{places_are_made}
 use Rattle.gj_extreme.proofs.TakenRows.{rows_are_ready, full_takes_all, all_inserted}
 use Rattle.gj_extreme.proofs.inserted_rows.rows_of.Goals as goal
 
@@ -36,8 +38,13 @@ returns-in_err-insert-2-clause-wide c = λ e.
 
 pub loop-a-init : goal.loop-a-init
 loop-a-init c =
-    (c.in_ok-insert-2.ensures.to_come (row_names_from c.args.shape.now 1)
-    (c.in_ok-insert.ensures.to_come (F ∷ row_names_from c.args.shape.now 1) (c.in_ok-rows.ensures c.args.shape.now (sym c.requires.components))).0).0
+    let same = ap length c.component.ensures ∙ c.requires.components in (
+      places_are_made c.args.shape.now (component_in c.args.system.now.component) c.args.system.now.columns c.insert-2.new.self
+          _ (row_names_from c.args.shape.now 1) (omega (arith, c.order-order.ensures.limits.order_low)) c.in_ok-rows-2.ensures.zeros
+          (c.in_ok-insert-2.ensures.to_come (row_names_from c.args.shape.now 1)
+          (c.in_ok-insert.ensures.to_come (F ∷ row_names_from c.args.shape.now 1) (c.in_ok-rows.ensures c.args.shape.now (sym c.requires.components))).0).0,
+      subst (λ q. AreSeenBelow q c.in_ok-rows-2.field-0) same c.in_ok-rows-2.ensures.below,
+    )
 
 pub returns-then-is_full-clause-rows : goal.returns-then-is_full-clause-rows
 returns-then-is_full-clause-rows c =
@@ -75,4 +82,4 @@ returns-clause-rows c =
     let comp = component_in c.args.system.now.component in
     let n = c.args.system.now.columns in
     all_inserted f comp n c.loop-a.rows c.order-order.ensures.limits
-    (subst (AreToCome f comp n c.loop-a.rows) (no_rows f c.loop-a.a (omega (arith, c.order-order.ensures.value))) c.loop-a.invariant)
+    (subst (AreToCome f comp n c.loop-a.rows) (no_rows f c.loop-a.a (omega (arith, c.order-order.ensures.value))) c.loop-a.invariant.0)

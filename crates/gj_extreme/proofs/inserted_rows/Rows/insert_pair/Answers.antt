@@ -1,11 +1,11 @@
-use Rattle.std.proofs.Common.{◌<◌, length, refl, sym, ap, subst, ◌∙◌}
+use Rattle.std.proofs.Common.{◌<◌, length, set, refl, sym, ap, subst, ◌∙◌}
 use Rattle.std.proofs.lemmas.List.Elements.{All-get_or}
 use Rattle.gj_shape.specs.SlopeRows.{row_of, component_in}
 use Rattle.gj_shape.specs.declared.extremality.RowName.TheVariants.{Pair}
 use Rattle.gj_elim.proofs.Keeping.{same_error}
 use Rattle.gj_extreme.specs.SeenPairs.{IsSeenRow}
 use Rattle.gj_extreme.proofs.TakenRows.{row_is_seen}
-use Rattle.gj_extreme.proofs.SeenRows.{pair_is_set}
+use Rattle.gj_extreme.proofs.SeenRows.{pair_is_set, pair_is_below}
 use Rattle.gj_extreme.proofs.inserted_rows.Rows.insert_pair.Goals as goal
 
 pub returns-then-have_same_row-clause-to_come : goal.returns-then-have_same_row-clause-to_come
@@ -30,5 +30,11 @@ returns-in_err-insert-clause-wide c = λ e rest h.
 pub returns-clause-to_come : goal.returns-clause-to_come
 returns-clause-to_come c = λ rest h.
     pair_is_set c.args.shape.now (component_in c.args.system.now.component) c.args.system.now.columns c.insert.new.self _
-    c.place-place.result (record { a = c.args.a; b = c.args.b }) rest c.requires.name refl
-    refl (c.in_ok-insert.ensures.to_come rest h)
+    c.place-place.result (record { a = c.args.a; b = c.args.b }) rest refl
+    (c.in_ok-insert.ensures.to_come rest h)
+
+pub returns-clause-seen : goal.returns-clause-seen
+returns-clause-seen c =
+    pair_is_below c.args.shape.now.order c.args.self.now.seen _ c.place-place.result (record { a = c.args.a; b = c.args.b }) c.requires.name
+    (ap (λ s. s.codes) c.insert.ensures.seen) (ap (λ s. set s.pairs.items c.place-place.result (record { a = c.args.a; b = c.args.b })) c.insert.ensures.seen)
+    c.requires.seen

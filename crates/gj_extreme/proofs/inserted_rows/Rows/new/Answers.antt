@@ -1,13 +1,11 @@
-use Rattle.std.proofs.Common.{length, sym, ap, subst, ◌∙◌, arith}
+use Rattle.std.proofs.Common.{sym, ◌∙◌}
 use Rattle.gj_shape.specs.SlopeRows.{component_in}
-use Rattle.gj_extreme.specs.SeenPairs.{AreSeenBelow}
 use Rattle.gj_extreme.proofs.SeenRows.{none_yet}
 use Rattle.gj_extreme.proofs.inserted_rows.Rows.new.Goals as goal
 
 pub returns : goal.returns
 returns c = λ f order.
-    let same = ap length c.component.ensures in
     none_yet f (component_in c.args.system.now.component) c.args.system.now.columns _
     (c.in_ok-new.ensures.columns ∙ c.columns-columns.ensures) c.in_ok-new.ensures.inserted c.in_ok-new.ensures.kept c.new-2.ensures.items
-    (sym c.in_ok-vec.field-0.ok.0 ∙ c.in_ok-vec.ensures.len ∙ c.columns-columns.ensures) (omega (arith, c.requires.some))
-    (subst (λ q. AreSeenBelow q c.in_ok-new-2.field-0) (same ∙ sym order) c.in_ok-new-2.ensures.below) c.in_ok-new-2.ensures.zeros
+    (sym c.in_ok-vec.field-0.ok.0 ∙ c.in_ok-vec.ensures.len ∙ c.columns-columns.ensures)
+    c.without_places.ensures
