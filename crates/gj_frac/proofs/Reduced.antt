@@ -5,10 +5,11 @@ use Rattle.gj_frac.specs.declared.Frac.{Frac}
 use Rattle.gj_frac.specs.Fraction.{IsRatio}
 use Rattle.gj_frac.specs.Lowest.{IsLowest}
 use Rattle.std.proofs.lemmas.Int.{quot-rem, unsigned_abs-mul, fits_signed_from_abs, to_z-of_z, ints}
+use Rattle.std.proofs.lemmas.Nat.{mul-le}
 use Rattle.std.proofs.lemmas.Nat.Gcd.{mod-eq-zero_of_dvd, le_of_dvd}
 use Rattle.std.proofs.Math.Nat.{eq-zero_of_zero-dvd}
 use mir.Syntax.{w128}
-use Rattle.gj_lemmas.proofs.Integers.{mul_assoc_z, mul_comm_z}
+use Rattle.gj_lemmas.proofs.Integers.{mul_assoc_z, mul_comm_z, positive_some_z, abs_positive_z}
 use Rattle.gj_lemmas.proofs.Divisors.{gcd_quotients}
 
 -- the rest of a division by a divisor is 0
@@ -32,6 +33,13 @@ coprime_signed_quotients a b g p q h some p_is q_is =
     let second = sym (ap unsigned_abs q_is) ∙ unsigned_abs-mul q g in
     gcd_quotients (unsigned_abs p) (unsigned_abs q) (unsigned_abs g)
     (subst₂ (λ m n. IsGcd m n (unsigned_abs g)) first second h) some
+
+-- a quotient fits if the number does
+pub quotient_fits : (q d n : ℤ) → pos 0 <ℤ d → q *ℤ d ≡ n → unsigned_abs n < 2 ^ 127 → unsigned_abs q < 2 ^ 127
+quotient_fits q d n some e h =
+    let sizes = sym (unsigned_abs-mul q d) ∙ ap unsigned_abs e in
+    let below = mul-le (unsigned_abs q) 1 (unsigned_abs q) (unsigned_abs d) (omega arith) (abs_positive_z d some) in
+    omega (arith, sizes, below, h)
 
 -- a divisor of a number that is not 0 is at most that number, and is not 0
 pub divisor_of_positive : (g n : ℕ) → n ≢ 0 → g ∣ n → (0 < g) × (g ≤ n)
@@ -75,6 +83,11 @@ lowest_negated num den h f g d =
 -- a part of a fraction is read as it is
 pub read_part : (z : ℤ) → unsigned_abs z < 2 ^ 127 → to_z w128 (of_z w128 z) ≡ z
 read_part z h = to_z-of_z w128 z (fits_signed_from_abs w128 z h)
+
+-- so a denominator is read as a number that is not 0
+pub read_some : (x : Frac) → unsigned_abs (to_z w128 (of_z w128 x.den)) ≢ 0
+read_some x =
+    subst (λ (n : ℤ). unsigned_abs n ≢ 0) (sym (read_part x.den x.lowest.den_fits)) (positive_some_z x.den x.lowest.positive)
 
 -- so is a ratio of parts
 pub num_over_den : (x y z : Frac) → IsRatio z (to_z w128 (of_z w128 x.num)) (to_z w128 (of_z w128 y.den)) →

@@ -2,7 +2,7 @@ use Rattle.std.proofs.Common.{pos, ◌≢◌, of_z, ap, arith}
 use Rattle.std.proofs.lemmas.Nat.Gcd.{IsGcd-swap}
 use Rattle.gj_frac.proofs.Crosswise.{crosswise_coprime, product_is_along, product_fits}
 use Rattle.gj_lemmas.proofs.Integers.{abs_positive_z, abs_zero_z}
-use Rattle.gj_frac.proofs.Reduced.{num_over_num, den_over_den}
+use Rattle.gj_frac.proofs.Reduced.{num_over_num, den_over_den, read_some}
 use Rattle.gj_frac.proofs.Frac.checked_div.Goals as goal
 use mir.Syntax.{w128}
 
@@ -49,3 +49,6 @@ returns-clause-value c =
     let first = num_over_num c.args.self c.args.other c.reduced.result c.reduced.ensures in
     let second = den_over_den c.args.other c.args.self c.reduced-2.result c.reduced-2.ensures in
     product_is_along c.reduced.result c.reduced-2.result c.in_ok-quotient.quotient _ _ _ _ first second c.in_ok-quotient.ensures.value
+
+pub reduced-requires-2-clause-zero : goal.reduced-requires-2-clause-zero
+reduced-requires-2-clause-zero c = read_some c.args.self

@@ -1,7 +1,8 @@
 use Rattle.std.proofs.Common.{unsigned_abs, rules}
 use Rattle.std.specs.Int.{IsGcd}
 use Rattle.std.proofs.lemmas.Int.{to_z-of_z}
-use Rattle.gj_frac.proofs.Reduced.{coprime_signed_quotients, same_from_multiples, divisor_of_positive}
+use Rattle.gj_frac.proofs.Reduced.{coprime_signed_quotients, same_from_multiples, divisor_of_positive, quotient_fits}
+use Rattle.gj_frac.proofs.Sums.{factor_some}
 use Rattle.gj_frac.proofs.Frac.reduced_in_128_bits.Goals as goal
 use mir.Syntax.{w128}
 
@@ -40,3 +41,24 @@ returns c =
     let den' = to_z-of_z w128 c.quotient-2.result (search rules) in
     same_from_multiples _ _ c.quotient.result c.quotient-2.result c.common_divisor-divisor.result c.args.num c.args.den
     (simp (num, divisor) at c.quotient.ensures) (simp (den, divisor) at c.quotient-2.ensures) (simp (num', den') at c.coprime.ensures)
+
+pub coprime-requires-clause-zero : goal.coprime-requires-clause-zero
+coprime-requires-clause-zero c =
+    let den = to_z-of_z w128 c.args.den c.ranges.den in
+    let divisor = to_z-of_z w128 c.common_divisor-divisor.result (search rules) in
+    simp (to_z-of_z w128 c.quotient-2.result (search rules))
+    (factor_some c.quotient-2.result c.common_divisor-divisor.result c.args.den (simp (den, divisor) at c.quotient-2.ensures) c.requires.zero)
+
+pub coprime-requires-clause-num_fits : goal.coprime-requires-clause-num_fits
+coprime-requires-clause-num_fits c =
+    let num = to_z-of_z w128 c.args.num c.ranges.num in
+    let divisor = to_z-of_z w128 c.common_divisor-divisor.result (search rules) in
+    simp (to_z-of_z w128 c.quotient.result (search rules))
+    (quotient_fits c.quotient.result _ c.args.num c.common_divisor-divisor.ensures.positive (simp (num, divisor) at c.quotient.ensures) c.requires.num_fits)
+
+pub coprime-requires-clause-den_fits : goal.coprime-requires-clause-den_fits
+coprime-requires-clause-den_fits c =
+    let den = to_z-of_z w128 c.args.den c.ranges.den in
+    let divisor = to_z-of_z w128 c.common_divisor-divisor.result (search rules) in
+    simp (to_z-of_z w128 c.quotient-2.result (search rules))
+    (quotient_fits c.quotient-2.result _ c.args.den c.common_divisor-divisor.ensures.positive (simp (den, divisor) at c.quotient-2.ensures) c.requires.den_fits)

@@ -2,6 +2,7 @@ use Rattle.std.proofs.Common.{rules, unsigned_abs, ◌∙◌}
 use Rattle.std.proofs.lemmas.Int.{to_z-of_z}
 use Rattle.gj_lemmas.proofs.Divisors.{gcd_exists}
 use Rattle.gj_frac.proofs.Sums.{common_some, sum_is}
+use Rattle.gj_frac.proofs.Refusals.{sum_together}
 use Rattle.gj_frac.proofs.operators.FracAdd.add.Goals as goal
 use mir.Syntax.{w128}
 
@@ -40,3 +41,6 @@ returns c =
     let bottom = to_z-of_z w128 c.over_common_denominator-first.result.bottom (search rules) ∙ c.over_common_denominator-first.ensures.bottom g h in
     let total = to_z-of_z w128 c.total.result (search rules) ∙ simp (first, second) at c.total.ensures in
     sum_is c.args.self c.args.other g c.reduced.result.num c.reduced.result.den h (simp (total, bottom) at c.reduced.ensures)
+
+pub over_common_denominator-first-requires : goal.over_common_denominator-first-requires
+over_common_denominator-first-requires c = sum_together c.args.self c.args.other c.requires

@@ -3,7 +3,7 @@ use Rattle.std.proofs.lemmas.Nat.Gcd.{IsGcd-swap}
 use Rattle.gj_frac.specs.Fraction.{IsRatio}
 use Rattle.gj_frac.proofs.Crosswise.{crosswise_coprime, product_is_along, product_fits}
 use Rattle.gj_lemmas.proofs.Integers.{abs_positive_z, abs_zero_z}
-use Rattle.gj_frac.proofs.Reduced.{num_over_num, den_over_den, read_part}
+use Rattle.gj_frac.proofs.Reduced.{num_over_num, den_over_den, read_part, read_some}
 use Rattle.gj_frac.proofs.products.FracDiv.div.Goals as goal
 
 pub reduced-requires-clause-zero : goal.reduced-requires-clause-zero
@@ -37,3 +37,6 @@ returns c =
     let first = num_over_num c.args.self c.args.other c.reduced.result c.reduced.ensures in
     let second = den_over_den c.args.other c.args.self c.reduced-2.result c.reduced-2.ensures in
     product_is_along c.reduced.result c.reduced-2.result c.crosswise_coprime_product.result _ _ _ _ first second c.crosswise_coprime_product.ensures
+
+pub reduced-requires-2-clause-zero : goal.reduced-requires-2-clause-zero
+reduced-requires-2-clause-zero c = read_some c.args.self

@@ -2,7 +2,7 @@ use Rattle.std.proofs.Common.{arith}
 use Rattle.gj_frac.specs.Fraction.{IsRatio}
 use Rattle.gj_frac.proofs.Crosswise.{crosswise_coprime, product_is_along, product_fits}
 use Rattle.gj_lemmas.proofs.Integers.{abs_positive_z}
-use Rattle.gj_frac.proofs.Reduced.{num_over_den}
+use Rattle.gj_frac.proofs.Reduced.{num_over_den, read_some}
 use Rattle.gj_frac.proofs.products.FracMul.mul.Goals as goal
 
 -- the first factor is the one numerator over the other denominator
@@ -32,3 +32,9 @@ returns c =
     let first = num_over_den c.args.self c.args.other c.reduced.result c.reduced.ensures in
     let second = num_over_den c.args.other c.args.self c.reduced-2.result c.reduced-2.ensures in
     product_is_along c.reduced.result c.reduced-2.result c.crosswise_coprime_product.result _ _ _ _ first second c.crosswise_coprime_product.ensures
+
+pub reduced-requires-clause-zero : goal.reduced-requires-clause-zero
+reduced-requires-clause-zero c = read_some c.args.other
+
+pub reduced-requires-2-clause-zero : goal.reduced-requires-2-clause-zero
+reduced-requires-2-clause-zero c = read_some c.args.self
