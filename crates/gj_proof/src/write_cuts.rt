@@ -69,11 +69,7 @@ fn push_terms(out: &mut Vec<u8>, terms: &[CutTerm]) -> Result<(), AllocError>
 }
 
 /// Appends the line of a term.
-fn push_term(
-    out: &mut Vec<u8>,
-    space: &mut PairSpace,
-    term: &CutTerm,
-) -> Result<(), AllocError>
+fn push_term(out: &mut Vec<u8>, space: &mut PairSpace, term: &CutTerm) -> Result<(), AllocError>
     ensures { OnOk result (out.new.items ≡ out.old.items ++ term_line term.now) }
 {
     out.extend_from_slice(b"term ")?;
