@@ -76,10 +76,6 @@ back_place q j f r is =
 pub in_below : (q n j : ℕ) (x r : Bool) → n ≡ q → r ≡ (ltb j n && x) → r ≡ true → j < q
 in_below q n j x r same is e = let below = ltb-true j n ((and_parts (ltb j n) x (sym is ∙ e)).0) in omega arith
 
--- what is in a set and in one that was moved back
-pub moved_below : (q j : ℕ) (x y r h : Bool) → h ≡ (y && r) → r ≡ (ltb j q && x) → h ≡ true → j < q
-moved_below q j x y r h both is e = in_below q q j x r refl is ((and_parts y r (sym both ∙ e)).1)
-
 pub turned_in : (q n s j : ℕ) (f : ℕ → Bool) (r : Bool) → n ≡ q → j < q → r ≡ (ltb j n && f (place_of n s j)) →
     r ≡ f (place_of q s j)
 turned_in q n s j f r same below is =
