@@ -85,7 +85,8 @@ fn is_in_row_before(found: Option<Face>, first: u32, second: u32, third: u32) ->
 fn add_face(table: &Table, found: &mut Option<Face>, kind: FaceKind, a: u32, b: u32)
     requires first { a < table.now.order }
     requires second { b < table.now.order }
-    ensures { AddsFirst (IsThis kind a b) (IsAdditive (IsTightInTable table.now)) found.old found.new }
+    ensures { AddsFirst (IsThis kind a b) (IsAdditive (IsTightInTable table.now))
+        found.old found.new }
 {
     if is_reached(*found, kind, a, b) {
         return;

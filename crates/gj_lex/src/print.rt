@@ -68,8 +68,8 @@ pub fn print_pair(out: &mut Vec<u8>, x: Frac, y: Frac) -> Result<(), AllocError>
     PairSpace::new().print(out, x, y)
 }
 
-/// Room in which the end of a line of two fractions is written before it is appended. Whoever prints
-/// many such lines makes it once.
+/// Room in which the end of a line of two fractions is written before it is appended. Whoever
+/// prints many such lines makes it once.
 #[derive(Drop)]
 pub struct PairSpace {
     text: [u8; PAIR_SPACE],

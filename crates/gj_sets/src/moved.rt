@@ -45,7 +45,8 @@ impl IndexSet {
     pub fn both_up_and_down(&self, other: &IndexSet, up: usize, down: usize) -> IndexSet
         requires up { up ≤ LIMIT }
         requires down { down ≤ LIMIT }
-        ensures { (i : ℕ) → has result i ≡ ((nat_lt i LIMIT && (nat_le up i && (has self.now (i - up) && has other.now (i - up))))
+        ensures { (i : ℕ) → has result i ≡ ((nat_lt i LIMIT && (nat_le up i
+            && (has self.now (i - up) && has other.now (i - up))))
             || (has self.now (i + down) && has other.now (i + down))) }
     {
         let mut wide = [0u64; 49];
