@@ -5,6 +5,7 @@ pub mod BreakValues
 pub mod BreakLists
 pub mod BreakChains
 pub mod OverScale
+pub mod GridDenominators
 pub mod GivenLists
 pub mod GivenPoints
 pub mod GivenFractions

@@ -6,6 +6,7 @@ use Rattle.gj_shape.specs.Refinement.{entry_or_value}
 use Rattle.gj_shape.specs.Table.{table, entry}
 use Rattle.gj_shape.specs.Values.{IsCongruent}
 use Rattle.gj_shape.proofs.ValueLemmas.{entry_of_values, value_from_place}
+use Rattle.gj_shape.proofs.GridDenominators.{scale_low, scaled_fits, scaled_read, scaled_some, scaled_below, read_below}
 use Rattle.gj_shape.proofs.shape.Shape.value_on_grid.Goals as goal
 use mir.Syntax.{w128}
 
@@ -27,16 +28,30 @@ returns c =
     let congruent : IsCongruent c.args.n (pos place) (f.order * d) =
     subst₂ (λ n q. IsCongruent n (pos place) (q * d)) (to_z-of_z w128 c.args.n c.ranges.n) c.order.ensures.value
     c.place_within-index.ensures.congruent in
-    let scale : to_z w128 (of_z w128 c.common_denominator.result) ≡ pos f.scale =
-    to_z-of_z w128 c.common_denominator.result (search rules) ∙ c.common_denominator.ensures.value in
-    let steps : to_z w128 (of_z w128 c.from.result) ≡ pos d =
-    to_z-of_z w128 c.from.result (search rules) ∙ c.from.ensures in
-    let scale_high = c.order.ensures.limits.scale_high in
-    let low : f.scale ≤ 2 ^ 31 = omega arith in
-    let fits : FitsSigned w128 (pos f.scale *ℤ pos d) = fits_signed_mul w128 (pos f.scale) (pos d) (2 ^ 31) (2 ^ 62) low
-    c.requires.few (omega arith) in
-    let denominator : to_z w128 (of_z w128 (to_z w128 (of_z w128 c.common_denominator.result) *ℤ to_z w128 (of_z w128
-    c.from.result))) ≡ pos (f.scale * d) =
-    ap₂ (λ x y. to_z w128 (of_z w128 (x *ℤ y))) scale steps ∙ to_z-of_z w128 _ fits in
-    value_from_place f c.args.n d place c.reduced.result c.order.ensures.limits c.requires.some congruent
+    let limits = c.order.ensures.limits in
+    let denominator = scaled_read c.common_denominator.result c.from.result f.scale d c.common_denominator.ensures.value c.from.ensures
+    (scale_low f limits) c.requires.few in
+    value_from_place f c.args.n d place c.reduced.result limits c.requires.some congruent
     (subst₂ (λ x y. IsRatio c.reduced.result x y) numerator denominator c.reduced.ensures)
+
+pub overflow_mul-common_denominator : goal.overflow_mul-common_denominator
+overflow_mul-common_denominator c =
+    let f = c.args.self.now in
+    scaled_fits c.common_denominator.result c.from.result f.scale c.args.steps c.common_denominator.ensures.value c.from.ensures
+    (scale_low f c.order.ensures.limits) c.requires.few
+
+pub reduced-requires-clause-zero : goal.reduced-requires-clause-zero
+reduced-requires-clause-zero c =
+    let f = c.args.self.now in
+    let limits = c.order.ensures.limits in
+    scaled_some c.common_denominator.result c.from.result f.scale c.args.steps c.common_denominator.ensures.value c.from.ensures
+    (scale_low f limits) c.requires.few limits.scale_low c.requires.some
+
+pub reduced-requires-clause-num_fits : goal.reduced-requires-clause-num_fits
+reduced-requires-clause-num_fits c = read_below c.entry_or_value-numerator.result c.entry_or_value-numerator.ensures.fits
+
+pub reduced-requires-clause-den_fits : goal.reduced-requires-clause-den_fits
+reduced-requires-clause-den_fits c =
+    let f = c.args.self.now in
+    scaled_below c.common_denominator.result c.from.result f.scale c.args.steps c.common_denominator.ensures.value c.from.ensures
+    (scale_low f c.order.ensures.limits) c.requires.few
