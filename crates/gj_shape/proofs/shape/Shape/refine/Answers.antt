@@ -1,8 +1,12 @@
-use Rattle.std.proofs.Common.{◌≤◌, ◌<◌, ◌*◌, ◌/◌, inl, inr, refl, ap, subst, arith}
+use Rattle.std.proofs.Common.{◌≡◌, ◌≢◌, ℕ, ◌≤◌, ◌<◌, ◌*◌, ◌/◌, ◌⊎◌, ⊎_elim, inl, inr, refl, sym, ap, subst, arith}
+use Rattle.std.specs.Prelude.{Result, IfErr}
 use Rattle.std.proofs.lemmas.Result.{IfOk-weaker, IfErr-weaker}
-use Rattle.gj_shape.specs.Given.{AreOver}
+use Rattle.gj_shape.specs.declared.faults.ShapeFault.{ShapeFault}
+use Rattle.gj_shape.specs.FunctionData.{FunctionData, IsWithinBounds}
+use Rattle.gj_shape.specs.Given.{AreOver, IsOrder, IsPlace, HasFault}
 use Rattle.gj_shape.specs.Refinement.{AreRefined, refined}
 use Rattle.gj_shape.proofs.GivenFractions.{given_as, fault_as, too_fine_of}
+use Rattle.gj_shape.proofs.GridDenominators.{count_fits}
 use Rattle.gj_shape.proofs.Refinements.{order_too_high, order_fits, refined_all_small, refinement_from_given}
 use Rattle.gj_shape.proofs.shape.Shape.refine.Goals as goal
 use Rattle.gj_shape.proofs.shape.Shape.refine.Goals.{then-times-eq0-via-then-times-eq0, then-times-eq0-via-else-times-eq0+then-times-order}
@@ -21,6 +25,63 @@ returns-then-times-eq0-clause-order c =
         λ h. refl,
       )
     ]
+
+not_both : {a b : ℕ} → b ≤ a → a < b → ⊥
+not_both below above = omega arith
+
+-- ---- what the calls need
+
+-- the new order and place
+fits_at : (f : FunctionData) (order m : ℕ) → IsWithinBounds f → order ≡ f.order → m ≢ 0 → m ≤ 1000 / order →
+    IsOrder (f.order * m) × IsPlace (f.order * m) (f.place * m)
+fits_at f order m limits is apart below =
+    let some : 0 < m = omega arith in
+    order_fits f.order f.place m (limits.order_low, limits.order_high) (limits.place_low, limits.place_high) some
+    (subst (λ n. m ≤ 1000 / n) is below)
+
+below_order : (f : FunctionData) (m : ℕ) → IsOrder (f.order * m) × IsPlace (f.order * m) (f.place * m) → f.place * m ≤ 1000
+below_order f m fits =
+    let high = fits.0.1 in
+    let below = fits.1.1 in
+    omega arith
+
+pub refined_list-requires-clause-few : goal.refined_list-requires-clause-few
+refined_list-requires-clause-few c =
+    (fits_at c.args.self.now _ _ c.order.ensures.limits c.order.ensures.value c.if-times-eq0.false c.if-times-order.false).0.1
+
+pub refined_list-requires-2-clause-few : goal.refined_list-requires-2-clause-few
+refined_list-requires-2-clause-few c =
+    (fits_at c.args.self.now _ _ c.order.ensures.limits c.order.ensures.value c.if-times-eq0.false c.if-times-order.false).0.1
+
+pub refined_list-requires-3-clause-few : goal.refined_list-requires-3-clause-few
+refined_list-requires-3-clause-few c =
+    (fits_at c.args.self.now _ _ c.order.ensures.limits c.order.ensures.value c.if-times-eq0.false c.if-times-order.false).0.1
+
+pub overflow_mul-order : goal.overflow_mul-order
+overflow_mul-order c =
+    let fits = fits_at c.args.self.now _ _ c.order.ensures.limits c.order.ensures.value c.if-times-eq0.false c.if-times-order.false in
+    count_fits _ c.args.self.now.order _ c.order-2.ensures.value fits.0.1
+
+pub overflow_mul-place : goal.overflow_mul-place
+overflow_mul-place c =
+    let f = c.args.self.now in
+    let fits = fits_at f _ _ c.order.ensures.limits c.order.ensures.value c.if-times-eq0.false c.if-times-order.false in
+    count_fits _ f.place _ c.place.ensures.value (below_order f _ fits)
+
+-- ---- what it answers
+
+pub returns-clause-order : goal.returns-clause-order
+returns-clause-order c =
+    let f = c.args.self.now in
+    let m = c.args.times in
+    let fits = fits_at f _ m c.order.ensures.limits c.order.ensures.value c.if-times-eq0.false c.if-times-order.false in (
+      λ e.
+          absurd (subst (λ (r : Result FunctionData ShapeFault). IfErr r
+          (HasFault (c.order-2.result * m) (c.place.result * m) c.as_slice.result.now c.as_slice-2.result.now c.as_slice-3.result.now)) e c.new.ensures.fault
+          (subst (λ n. IsOrder (n * m)) (sym c.order-2.ensures.value) fits.0)),
+      λ (h : (m ≡ 0) ⊎ (1000 < f.order * m)).
+          absurd (⊎_elim c.if-times-eq0.false (λ (high : 1000 < f.order * m). not_both fits.0.1 high) h),
+    )
 
 pub returns-clause-refined : goal.returns-clause-refined
 returns-clause-refined c =
