@@ -1,14 +1,15 @@
 -- The places of the kept rows, and their extents.
-use Rattle.std.proofs.Common.{◌≡◌, ◌≢◌, ℕ, ◌+◌, ◌<◌, ◌≤◌, ◌⊎◌, inl, inr, Bool, true, false, not, cond, Option, None, Some, ℤ, List, [], ◌∷◌, ◌++◌, length, get_or, set, refl, sym, ap, ap₂, subst, ◌∙◌, arith}
+use Rattle.std.proofs.Common.{◌≡◌, ◌≢◌, ℕ, ◌+◌, ◌<◌, ◌≤◌, ◌⊎◌, inl, inr, Bool, true, false, not, cond, Option, None, Some, ℤ, List, [], ◌∷◌, ◌++◌, length, get_or, set, below_more, refl, sym, ap, ap₂, subst, subst₂, ◌∙◌, arith}
 use Rattle.std.specs.Prelude.{nat_lt}
 use Rattle.std.specs.List.{position, position_or_len}
 use Rattle.std.proofs.lemmas.Bool.{cases_lt, lt-ltb, ltb-true, eq-eqb, ne_eqb}
-use Rattle.std.proofs.lemmas.List.{length_push, length-set, get_or_default, get_or-set_same, get_or-set_other}
+use Rattle.std.proofs.lemmas.List.{length_push, length-set, get_or_default, get_or-set_same, get_or-set_other, get_or_append_left, get_or_push}
 use Rattle.std.proofs.lemmas.List.Folds.{position_or_len_push}
 use Rattle.gj_lemmas.proofs.Choices.{never_true}
 use Rattle.gj_elim.specs.declared.log.LogRow.{LogRow}
 use Rattle.gj_elim.specs.Progress.{IsFreeColumn}
-use Rattle.gj_elim.specs.Tables.{ArePlaces, AreExtents}
+use Rattle.gj_elim.specs.Lazy.{IsExtent}
+use Rattle.gj_elim.specs.Tables.{ArePlaces, AreExtents, no_extent}
 use Rattle.gj_elim.specs.declared.extent.Extent.{Extent}
 use Rattle.gj_elim.proofs.Places.{has}
 
@@ -129,3 +130,42 @@ no_extents rows extents none none' = record {
   rows_are = ap length none' ∙ sym (ap length none);
   extent = λ i below. let empty : length rows ≡ 0 = ap length none in absurd (omega arith);
 }
+
+-- one more row with its extent
+pub extents_more : (rows rows' : List (List ℤ)) (extents extents' : List Extent) (row : List ℤ) (e : Extent) → AreExtents rows extents →
+    rows' ≡ rows ++ row ∷ [] → extents' ≡ extents ++ e ∷ [] → IsExtent e.bound e.end row → AreExtents rows' extents'
+extents_more rows rows' extents extents' row e h rows_is extents_is new = subst₂ AreExtents (sym rows_is) (sym extents_is) record {
+  rows_are = length_push extents e ∙ ap (λ n. n + 1) h.rows_are ∙ sym (length_push rows row);
+  extent = λ i below.
+      below_more (λ k. IsExtent (get_or (extents ++ e ∷ []) k no_extent).bound (get_or (extents ++ e ∷ []) k no_extent).end
+      (get_or (rows ++ row ∷ []) k [])) (length rows) earlier last i (subst (λ n. i < n) (length_push rows row) below);
+}
+  where
+    at : (k : ℕ) (x : Extent) (xs : List ℤ) → get_or (extents ++ e ∷ []) k no_extent ≡ x → get_or (rows ++ row ∷ []) k [] ≡ xs →
+        IsExtent x.bound x.end xs → IsExtent (get_or (extents ++ e ∷ []) k no_extent).bound
+        (get_or (extents ++ e ∷ []) k no_extent).end (get_or (rows ++ row ∷ []) k [])
+    at k x xs x_is xs_is is =
+        subst₂ (λ (y : Extent) (ys : List ℤ). IsExtent y.bound y.end ys) (sym x_is) (sym xs_is) is
+
+    earlier : (k : ℕ) → k < length rows → IsExtent (get_or (extents ++ e ∷ []) k no_extent).bound
+        (get_or (extents ++ e ∷ []) k no_extent).end (get_or (rows ++ row ∷ []) k [])
+    earlier k below =
+        at k (get_or extents k no_extent) (get_or rows k [])
+        (get_or_append_left extents (e ∷ []) no_extent k (subst (λ n. k < n) (sym h.rows_are) below))
+        (get_or_append_left rows (row ∷ []) [] k below) (h.extent k below)
+
+    last : IsExtent (get_or (extents ++ e ∷ []) (length rows) no_extent).bound
+        (get_or (extents ++ e ∷ []) (length rows) no_extent).end (get_or (rows ++ row ∷ []) (length rows) [])
+    last = at (length rows) e row (get_or_push extents e no_extent (length rows) h.rows_are) (get_or_push rows row [] (length rows) refl) new
+
+-- one more line, with the columns as they were given
+pub line_pushed : (old old' new : List LogRow) (number pivot : ℕ) (columns columns' : List ℕ) →
+    new ≡ old' ++ record { number = number; reduce = columns; pivot = pivot } ∷ [] → old' ≡ old → columns ≡ columns' →
+    new ≡ old ++ record { number = number; reduce = columns'; pivot = pivot } ∷ []
+line_pushed old old' new number pivot columns columns' e f g =
+    e ∙ ap₂ (λ (xs : List LogRow) (cs : List ℕ). xs ++ record { number = number; reduce = cs; pivot = pivot } ∷ []) f g
+
+-- one more row, as it is given
+pub row_pushed : (old old' new : List (List ℤ)) (row row' : List ℤ) → new ≡ old' ++ row ∷ [] → old' ≡ old → row ≡ row' →
+    new ≡ old ++ row' ∷ []
+row_pushed old old' new row row' e f g = e ∙ ap₂ (λ (xs : List (List ℤ)) (r : List ℤ). xs ++ r ∷ []) f g
