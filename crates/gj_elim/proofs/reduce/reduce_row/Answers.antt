@@ -1,9 +1,96 @@
-use Rattle.std.proofs.Common.{length}
+use Rattle.std.proofs.Common.{◌≡◌, ℕ, ℤ, ◌<◌, ◌^◌, List, length, sym, ap, subst, ◌∙◌}
+use Rattle.std.specs.Prelude.{All}
+use Rattle.gj_frac.specs.Fraction.{Fits}
+use Rattle.gj_theory.specs.TriangularRows.{AreTriangular}
+use Rattle.gj_elim.specs.Lazy.{IsExtent}
+use Rattle.gj_elim.specs.Progress.{IsReachedWithin}
+use Rattle.gj_elim.specs.Tables.{ArePlaces}
+use Rattle.gj_elim.specs.declared.lazy.Reached.{Reached}
 use Rattle.gj_shape.specs.Elimination.{inserted}
 use Rattle.gj_elim.specs.KeptRows.{kept_rows}
 use Rattle.std.proofs.lemmas.Result.{err_from_is_err_and}
 use Rattle.gj_elim.proofs.LazyProgress.{start_at, reached_column, if_ok_more, on_ok_more}
 use Rattle.gj_elim.proofs.reduce.reduce_row.Goals as goal
+
+-- ---- what the calls need: each row has the columns of the one that is given
+
+pub copy_from_slice-requires : goal.copy_from_slice-requires
+copy_from_slice-requires c = c.requires.row_columns
+
+pub load-requires-clause-columns : goal.load-requires-clause-columns
+load-requires-clause-columns c = sym c.requires.small_columns
+
+pub reduce_exactly-requires-clause-triangular : goal.reduce_exactly-requires-clause-triangular
+reduce_exactly-requires-clause-triangular c =
+    subst (λ (n : ℕ). AreTriangular n (kept_rows c.args.log.now c.args.rows.now)) (sym (ap length c.copy_from_slice.ensures.after))
+    c.requires.triangular
+
+pub reduce_exactly-requires-clause-places : goal.reduce_exactly-requires-clause-places
+reduce_exactly-requires-clause-places c =
+    subst (λ (n : ℕ). ArePlaces n c.args.log.now c.args.places.now) (sym (ap length c.copy_from_slice.ensures.after)) c.requires.places
+
+pub reduce_exactly-requires-clause-count : goal.reduce_exactly-requires-clause-count
+reduce_exactly-requires-clause-count c =
+    subst (λ n. n < 2 ^ 32) (sym (ap length c.copy_from_slice.ensures.after)) c.requires.count
+
+pub reduce_exactly-requires-clause-fits : goal.reduce_exactly-requires-clause-fits
+reduce_exactly-requires-clause-fits c = subst (λ (xs : List ℤ). All Fits xs) (sym c.copy_from_slice.ensures.after) c.requires.fits
+
+pub reduce_lazily-requires-clause-triangular : goal.reduce_lazily-requires-clause-triangular
+reduce_lazily-requires-clause-triangular c =
+    subst (λ (n : ℕ). AreTriangular n (kept_rows c.args.log.now c.args.rows.now)) (sym (ap length c.load.ensures)) c.requires.triangular
+
+pub reduce_lazily-requires-clause-places : goal.reduce_lazily-requires-clause-places
+reduce_lazily-requires-clause-places c =
+    subst (λ (n : ℕ). ArePlaces n c.args.log.now c.args.places.now) (sym (ap length c.load.ensures)) c.requires.places
+
+pub reduce_lazily-requires-clause-count : goal.reduce_lazily-requires-clause-count
+reduce_lazily-requires-clause-count c = subst (λ n. n < 2 ^ 32) (sym (ap length c.load.ensures)) c.requires.count
+
+pub reduce_lazily-requires-clause-exact : goal.reduce_lazily-requires-clause-exact
+reduce_lazily-requires-clause-exact c = c.requires.row_columns ∙ sym (ap length c.load.ensures)
+
+pub reduce_lazily-requires-clause-extent : goal.reduce_lazily-requires-clause-extent
+reduce_lazily-requires-clause-extent c =
+    subst (λ (xs : List ℤ). IsExtent c.extent_of-extent.result.bound c.extent_of-extent.result.end xs) (sym c.load.ensures)
+    c.extent_of-extent.ensures
+
+pub reduce_exactly-requires-in-Column-clause-triangular : goal.reduce_exactly-requires-in-Column-clause-triangular
+reduce_exactly-requires-in-Column-clause-triangular c =
+    subst (λ (n : ℕ). AreTriangular n (kept_rows c.args.log.now c.args.rows.now))
+    (sym (c.reduce_lazily.auto.exact ∙ c.requires.row_columns)) c.requires.triangular
+
+pub reduce_exactly-requires-in-Column-clause-places : goal.reduce_exactly-requires-in-Column-clause-places
+reduce_exactly-requires-in-Column-clause-places c =
+    subst (λ (n : ℕ). ArePlaces n c.args.log.now c.args.places.now) (sym (c.reduce_lazily.auto.exact ∙ c.requires.row_columns))
+    c.requires.places
+
+pub reduce_exactly-requires-in-Column-clause-count : goal.reduce_exactly-requires-in-Column-clause-count
+reduce_exactly-requires-in-Column-clause-count c =
+    subst (λ n. n < 2 ^ 32) (sym (c.reduce_lazily.auto.exact ∙ c.requires.row_columns)) c.requires.count
+
+pub reduce_exactly-requires-in-Column-clause-fits : goal.reduce_exactly-requires-in-Column-clause-fits
+reduce_exactly-requires-in-Column-clause-fits c =
+    subst (λ (r : Reached). IsReachedWithin (length c.load.new.row) c.args.log.now r c.reduce_lazily.new.row c.reduce_lazily.new.exact)
+    c.in-Column.is c.in_ok-reduce_lazily.ensures.within
+
+-- ---- what it answers
+
+pub returns-then-extent-ge-GREATEST_BOUND-clause-wide :
+    goal.returns-then-extent-ge-GREATEST_BOUND-clause-wide
+returns-then-extent-ge-GREATEST_BOUND-clause-wide c =
+    λ e.
+    c.reduce_exactly.ensures.wide e (inserted (length c.args.given.now) (kept_rows c.args.log.now c.args.rows.now) c.args.given.now)
+    (start_at (kept_rows c.args.log.now c.args.rows.now) c.args.given.now c.copy_from_slice.new.self c.args.reduce.now.items
+    c.copy_from_slice.ensures.after c.requires.empty)
+
+pub returns-in-Column-clause-wide : goal.returns-in-Column-clause-wide
+returns-in-Column-clause-wide c =
+    λ e.
+    c.reduce_exactly-in-Column.ensures.wide e (inserted (length c.args.given.now) (kept_rows c.args.log.now c.args.rows.now) c.args.given.now)
+    (reached_column (kept_rows c.args.log.now c.args.rows.now) c.args.given.now c.load.new.row c.reduce_lazily.new.row c.reduce_lazily.new.exact
+    c.in_ok-reduce_lazily.field-0 c.in-Column.column c.reduce_lazily.new.reduce.items c.load.ensures c.in-Column.is
+    c.in_ok-reduce_lazily.ensures.reached)
 
 pub returns-then-extent-ge-GREATEST_BOUND-clause-left :
     goal.returns-then-extent-ge-GREATEST_BOUND-clause-left
