@@ -1,4 +1,4 @@
-use Rattle.std.proofs.Common.{◌≡◌, ℕ, ◌*◌, ◌/◌, ◌<◌, ◌^◌, ℤ, pos, negsuc, Fits, unsigned_abs, to_z, of_z, w64, ap₂, ap, sym, subst, subst₂, refl, ◌∙◌, arith}
+use Rattle.std.proofs.Common.{◌≡◌, ℕ, ◌*◌, ◌<◌, ◌^◌, ℤ, pos, negsuc, Fits, unsigned_abs, to_z, of_z, w64, ap₂, ap, sym, subst, subst₂, refl, ◌∙◌, arith}
 use Rattle.std.proofs.Math.Nat.{mul-pos, mod-lt}
 use Rattle.std.proofs.lemmas.Int.{ints, to_z-of_z}
 use Rattle.std.proofs.lemmas.Nat.{mul-le, div_below}

@@ -1,5 +1,5 @@
-use Rattle.std.proofs.Common.{◌≡◌, ◌≤◌, ◌+◌, ◌*◌, ◌/◌, ◌^◌, pos, ◌*ℤ◌, length, FitsSigned, to_z, of_z, sym, ap, ap₂, subst, subst₂, ◌∙◌, rules, arith}
-use Rattle.std.proofs.lemmas.Int.{to_z-of_z, fits_signed_mul}
+use Rattle.std.proofs.Common.{◌≡◌, ◌+◌, ◌*◌, ◌/◌, pos, length, to_z, of_z, sym, ap, ap₂, subst, subst₂, ◌∙◌, rules}
+use Rattle.std.proofs.lemmas.Int.{to_z-of_z}
 use Rattle.std.proofs.lemmas.List.{length_push}
 use Rattle.gj_frac.specs.Fraction.{IsRatio}
 use Rattle.gj_shape.specs.Given.{AreOver}

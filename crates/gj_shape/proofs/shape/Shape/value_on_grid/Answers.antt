@@ -1,5 +1,5 @@
-use Rattle.std.proofs.Common.{◌≡◌, ◌≤◌, ◌+◌, ◌*◌, ◌^◌, pos, ◌*ℤ◌, FitsSigned, to_z, of_z, sym, ap, ap₂, subst₂, refl, ◌∙◌, rules, arith}
-use Rattle.std.proofs.lemmas.Int.{to_z-of_z, fits_signed_mul}
+use Rattle.std.proofs.Common.{◌≡◌, ◌+◌, ◌*◌, pos, to_z, of_z, sym, ap, ap₂, subst₂, refl, ◌∙◌, rules}
+use Rattle.std.proofs.lemmas.Int.{to_z-of_z}
 use Rattle.gj_frac.specs.Fraction.{IsRatio}
 use Rattle.gj_lemmas.proofs.Quotients.{parts_of_place}
 use Rattle.gj_shape.specs.Refinement.{entry_or_value}
