@@ -1,6 +1,6 @@
 use Rattle.std.proofs.Common.{◌≡◌, ◌-◌, ◌<◌, ◌≤◌, ◌^◌, length, take}
 use Rattle.std.specs.Str.Parse.{AllDigits, digits_value}
-use Rattle.gj_function_lines.proofs.printed.printed_number.Given as goal
+use Rattle.gj_lex.proofs.printed.printed_number.Given as goal
 
 abbrev pub invariant-loop-number : goal.invariant-loop-number
 invariant-loop-number l = record {

@@ -1,8 +1,8 @@
 use Rattle.std.proofs.Common.{get_or, refl, arith}
 use Rattle.std.proofs.lemmas.Int.Digits.{digits_more, digits_value_more}
 use Rattle.std.proofs.lemmas.Str.{digit_value_digit}
-use Rattle.gj_function_lines.proofs.PrintedPoints.{number_printed}
-use Rattle.gj_function_lines.proofs.printed.printed_number.Goals as goal
+use Rattle.gj_lex.proofs.PrintedNumbers.{number_printed}
+use Rattle.gj_lex.proofs.printed.printed_number.Goals as goal
 
 pub loop-number-preserved : goal.loop-number-preserved
 loop-number-preserved c =
