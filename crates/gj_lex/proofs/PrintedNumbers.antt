@@ -1,9 +1,14 @@
 -- Texts that begin with a printed number.
 use Rattle.std.proofs.Common.{◌≡◌, ℕ, ◌<◌, ◌≤◌, ◌^◌, List, ◌∷◌, ◌++◌, length, get_or, take, drop, decimal, sym, ap, subst, ◌∙◌, take-append-drop, arith}
 use Rattle.std.specs.Str.Parse.{AllDigits, digits_value}
+use Rattle.std.proofs.lemmas.Str.Parse.{digits_value_short, numerals_by_value, tells_digits}
 use Rattle.gj_lex.specs.NumberText.{denominator_text}
 use Rattle.gj_lex.proofs.CanonicalTexts.{denominator_more}
 use Rattle.gj_lex.proofs.Decimals.{decimal_of_value}
+
+-- the number that few digits spell is small
+pub few_digits_small : (ds : List ℕ) → AllDigits 10 ds → length ds ≤ 18 → digits_value 10 ds < 10 ^ 18
+few_digits_small ds digits few = digits_value_short (numerals_by_value (AllDigits 10) tells_digits) ds 18 digits few
 
 -- digits that begin with no zero, or with one alone, are printed for their number
 pub number_printed : (text front rest : List ℕ) (len number : ℕ) → front ≡ take len text → rest ≡ drop len text → AllDigits 10 (take len text) →

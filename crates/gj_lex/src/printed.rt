@@ -1,18 +1,18 @@
 //! Numbers in the form in which they are printed, read in one pass from the front of a text.
 //!
-//! Each reader gives the number and what follows its text. What it gives is right, but it may give
-//! nothing for a number of more than 18 digits: then its line is read word by word.
+//! Each reader gives a number and what follows its text. It reads no more than 18 digits of a
+//! number: what goes on with a digit is no end of a word, and then the line is read word by word.
 ghost use Rattle.std.specs.Prelude.{◌≡◌, ◌<◌, ◌^◌, ◌++◌, ◌∷◌, length, slice_index, decimal};
 ghost use Rattle.std.specs.Prelude.{IfSome, IsTrue};
-ghost use Rattle.std.specs.Char.{IsAsciiDigit};
 ghost use Rattle.std.specs.Fmt.{signed_decimal};
 ghost use Rattle.gj_lex.specs.NumberText.{fraction_text, denominator_text};
 
 use crate::canonical::in_lowest_terms;
+use crate::digits::leading_value;
 use gj_frac::Frac;
 
-/// The least number of 18 digits: from it on no further digit is read.
-const LEAST_OF_18_DIGITS: u64 = 100_000_000_000_000_000;
+/// No more digits of a number are read: a number of so many fits 64 bits with a sign.
+const MOST_DIGITS: usize = 18;
 
 /// What follows the byte, if the text begins with it. It takes no memory.
 pub fn behind_byte(text: &[u8], byte: u8) -> Option<&[u8]>
@@ -66,20 +66,14 @@ fn printed_denominator(text: &[u8]) -> Option<(u64, &[u8])>
     Some((den, rest))
 }
 
-/// The number with whose digits, without a leading zero, the text begins, and what follows them.
-fn printed_number(text: &[u8]) -> Option<(u64, &[u8])>
+/// The number with whose digits, without a leading zero, the text begins, and what follows them. It
+/// takes no memory.
+pub fn printed_number(text: &[u8]) -> Option<(u64, &[u8])>
     ensures small { IfSome result (λ r. r.0 < 10 ^ 18) }
     ensures printed { IfSome result (λ r. text.now ≡ decimal r.0 ++ r.1.now) }
 {
-    let mut number = 0u64;
-    let mut len = 0usize;
-    while has_digit_at(text, len) {
-        if number >= LEAST_OF_18_DIGITS {
-            return None;
-        }
-        number = number * 10 + u64::from(text[len] - b'0');
-        len += 1;
-    }
+    let (front, _) = text.split_at(text.len().min(MOST_DIGITS));
+    let (number, len) = leading_value(front);
     let (digits, rest) = text.split_at(len);
     if !is_canonical(digits) {
         return None;
@@ -93,12 +87,4 @@ fn is_canonical(digits: &[u8]) -> bool
         length digits.now ≡ 1) }
 {
     digits.len() == 1 || (!digits.is_empty() && digits[0] != b'0')
-}
-
-/// Whether a digit stands at this place of the text.
-fn has_digit_at(text: &[u8], place: usize) -> bool
-    ensures { IsTrue result → (place < length text.now) × IsAsciiDigit
-        (slice_index text.now place) }
-{
-    place < text.len() && text[place].is_ascii_digit()
 }
