@@ -1,31 +1,11 @@
--- Texts that begin with what is printed.
-use Rattle.std.proofs.Common.{◌≡◌, ℕ, ◌<◌, ◌≤◌, ◌^◌, false, List, [], ◌∷◌, ◌++◌, length, get_or, take, drop, codes, decimal, refl, sym, ap, subst, ◌∙◌, append_assoc, take-append-drop, arith}
-use Rattle.std.specs.Str.Parse.{AllDigits, digits_value}
+-- Texts that begin with the printed line of a point.
+use Rattle.std.proofs.Common.{◌≡◌, ℕ, false, List, [], ◌∷◌, ◌++◌, codes, refl, sym, ap, ◌∙◌, append_assoc}
 use Rattle.gj_frac.specs.declared.Frac.{Frac}
-use Rattle.gj_lex.specs.NumberText.{denominator_text, fraction_text}
-use Rattle.gj_lex.proofs.CanonicalTexts.{denominator_more}
-use Rattle.gj_lex.proofs.Decimals.{decimal_of_value}
+use Rattle.gj_lex.specs.NumberText.{fraction_text}
 use Rattle.gj_shape.specs.declared.points.Point.{Point}
 use Rattle.gj_forms.specs.LineForms.{line_of}
 use Rattle.gj_function_lines.specs.FunctionLines.{point_form, has_no_jump, point_line}
 use Rattle.gj_function_lines.proofs.ClearLines.{no_jump_where_same, number_of_even, numbers_of_jump}
-
--- digits that begin with no zero, or with one alone, are printed for their number
-pub number_printed : (text front rest : List ℕ) (len number : ℕ) → front ≡ take len text → rest ≡ drop len text → AllDigits 10 (take len text) →
-    number ≡ digits_value 10 (take len text) → number < 10 ^ 18 → 0 < length front → (get_or front 0 0 ≡ 48 → length front ≡ 1) →
-    text ≡ decimal number ++ rest
-number_printed text front rest len number front_is rest_is digits value small some lead =
-    let digits_of : AllDigits 10 front = subst (AllDigits 10) (sym front_is) digits in
-    let value_of : digits_value 10 front ≡ number = ap (digits_value 10) front_is ∙ sym value in
-    let printed : decimal number ≡ front =
-    ap decimal (sym value_of) ∙ decimal_of_value front digits_of some lead (omega (arith, value_of, small)) in
-    sym (take-append-drop len text) ∙ ap (λ t. t ++ drop len text) (sym front_is ∙ sym printed) ∙ ap (λ t. decimal number ++ t) (sym rest_is)
-
--- a `/` and a number from 2 on are printed for that denominator
-pub denominator_printed : (text digits rest : List ℕ) (d : ℕ) → text ≡ 47 ∷ digits → digits ≡ decimal d ++ rest → 2 ≤ d →
-    text ≡ denominator_text d ++ rest
-denominator_printed text digits rest d text_is digits_is two =
-    text_is ∙ ap (λ t. 47 ∷ t) digits_is ∙ ap (λ t. t ++ rest) (sym (denominator_more d two))
 
 -- one fraction is printed for a point without a jump
 pub even_printed : (text behind more rest : List ℕ) (x : Frac) → text ≡ codes "point " ++ behind → behind ≡ fraction_text x ++ more →

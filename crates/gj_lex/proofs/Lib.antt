@@ -6,6 +6,7 @@ pub mod LineWords
 pub mod Places
 pub mod SignedNumbers
 pub mod CanonicalTexts
+pub mod PrintedNumbers
 pub mod WordBytes
 pub mod WordRuns
 pub mod WordTexts

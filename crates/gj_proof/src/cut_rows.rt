@@ -21,8 +21,8 @@ use crate::fields::{number_of, split_at_byte, three_fields_of};
 use gj_frac::Frac;
 use gj_function_lines::function_at;
 use gj_lex::{
-    LineFault, Name, PartFault, Reason, Spelling, TextLine, begins_with_line, behind_text, line_at,
-    line_with_word, name_of, two_fields_of, words_at,
+    LineFault, Name, PartFault, Reason, Spelling, TextLine, begins_with_line, behind_byte,
+    behind_text, line_at, line_with_word, name_of, printed_fraction, two_fields_of, words_at,
 };
 use gj_shape::List;
 use std::alloc::Global;
@@ -212,11 +212,10 @@ fn printed_term(alloc: Global, text: &[u8]) -> Option<(CutTerm, &[u8])>
 {
     let words = behind_text(text, b"term ")?;
     let (name, words) = split_at_byte(words, b' ')?;
-    let (entry, words) = split_at_byte(words, b' ')?;
-    let (cut, rest) = split_at_byte(words, b'\n')?;
+    let (entry, words) = printed_fraction(words)?;
+    let (cut, words) = printed_fraction(behind_byte(words, b' ')?)?;
+    let rest = behind_byte(words, b'\n')?;
     let name = name_of(alloc, name).ok()?;
-    let entry = number_of(entry).ok()?;
-    let cut = number_of(cut).ok()?;
     Some((CutTerm { name, entry, cut }, rest))
 }
 

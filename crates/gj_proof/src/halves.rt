@@ -11,8 +11,11 @@ ghost use Rattle.gj_proof.specs.ProofGrammar.{pairs_part, halves_part};
 ghost use Rattle.gj_proof.specs.declared.halves.HalvesHead.{HalvesHead};
 
 use crate::bounds::is_head_in_bounds;
-use crate::fields::{split_at_byte, whole_of};
-use gj_lex::{PartFault, Reason, Spelling, behind_text, count_of, line_at, two_fields_of};
+use crate::fields::whole_of;
+use gj_lex::{
+    PartFault, Reason, Spelling, behind_byte, behind_text, count_of, line_at, printed_whole,
+    two_fields_of,
+};
 use gj_shape::{Halves, List};
 use std::alloc::Global;
 
@@ -126,10 +129,10 @@ fn printed_pair(text: &[u8]) -> Option<((i128, i128), &[u8])>
     ensures { IfSome result (λ r. (text.now ≡ pair_line r.0 ++ r.1.now) × Fits r.0.0 × Fits r.0.1) }
 {
     let words = behind_text(text, b"pair ")?;
-    let (first, words) = split_at_byte(words, b' ')?;
-    let (second, rest) = split_at_byte(words, b'\n')?;
-    let pair = wholes_of(first, second)?;
-    Some((pair, rest))
+    let (first, words) = printed_whole(words)?;
+    let (second, words) = printed_whole(behind_byte(words, b' ')?)?;
+    let rest = behind_byte(words, b'\n')?;
+    Some(((i128::from(first), i128::from(second)), rest))
 }
 
 /// The pair of values of the line.

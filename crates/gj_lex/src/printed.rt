@@ -1,0 +1,90 @@
+//! Numbers in the form in which they are printed, read in one pass from the front of a text.
+//!
+//! Each reader gives a number and what follows its text. It reads no more than 18 digits of a
+//! number: what goes on with a digit is no end of a word, and then the line is read word by word.
+ghost use Rattle.std.specs.Prelude.{◌≡◌, ◌<◌, ◌^◌, ◌++◌, ◌∷◌, length, slice_index, decimal};
+ghost use Rattle.std.specs.Prelude.{IfSome, IsTrue};
+ghost use Rattle.std.specs.Fmt.{signed_decimal};
+ghost use Rattle.gj_lex.specs.NumberText.{fraction_text, denominator_text};
+
+use crate::canonical::in_lowest_terms;
+use crate::digits::leading_value;
+use gj_frac::Frac;
+
+/// No more digits of a number are read: a number of so many fits 64 bits with a sign.
+const MOST_DIGITS: usize = 18;
+
+/// What follows the byte, if the text begins with it. It takes no memory.
+pub fn behind_byte(text: &[u8], byte: u8) -> Option<&[u8]>
+    ensures { IfSome result (λ rest. text.now ≡ byte ∷ rest.now) }
+{
+    let (first, rest) = text.split_first()?;
+    if *first != byte {
+        return None;
+    }
+    Some(rest)
+}
+
+/// The fraction with whose printed text the text begins, and what follows that. It takes no memory.
+pub fn printed_fraction(text: &[u8]) -> Option<(Frac, &[u8])>
+    ensures { IfSome result (λ r. text.now ≡ fraction_text r.0 ++ r.1.now) }
+{
+    let (num, rest) = printed_whole(text)?;
+    let (den, rest) = printed_denominator(rest)?;
+    Some((in_lowest_terms(i128::from(num), i128::from(den))?, rest))
+}
+
+/// The whole number with whose printed text the text begins, and what follows that. It takes no
+/// memory.
+pub fn printed_whole(text: &[u8]) -> Option<(i64, &[u8])>
+    ensures { IfSome result (λ r. text.now ≡ signed_decimal r.0 ++ r.1.now) }
+{
+    let Some(digits) = behind_byte(text, b'-') else {
+        let (size, rest) = printed_number(text)?;
+        return Some((size as i64, rest));
+    };
+    let (size, rest) = printed_number(digits)?;
+    if size == 0 {
+        return None;
+    }
+    Some((-(size as i64), rest))
+}
+
+/// The denominator with whose printed text the text begins, and what follows that: 1 if no `/`
+/// stands there.
+fn printed_denominator(text: &[u8]) -> Option<(u64, &[u8])>
+    ensures some { IfSome result (λ r. 0 < r.0) }
+    ensures printed { IfSome result (λ r. text.now ≡ denominator_text r.0 ++ r.1.now) }
+{
+    let Some(digits) = behind_byte(text, b'/') else {
+        return Some((1, text));
+    };
+    let (den, rest) = printed_number(digits)?;
+    if den < 2 {
+        return None;
+    }
+    Some((den, rest))
+}
+
+/// The number with whose digits, without a leading zero, the text begins, and what follows them. It
+/// takes no memory.
+pub fn printed_number(text: &[u8]) -> Option<(u64, &[u8])>
+    ensures small { IfSome result (λ r. r.0 < 10 ^ 18) }
+    ensures printed { IfSome result (λ r. text.now ≡ decimal r.0 ++ r.1.now) }
+{
+    let (front, _) = text.split_at(text.len().min(MOST_DIGITS));
+    let (number, len) = leading_value(front);
+    let (digits, rest) = text.split_at(len);
+    if !is_canonical(digits) {
+        return None;
+    }
+    Some((number, rest))
+}
+
+/// Whether there is a digit, and no zero before others.
+fn is_canonical(digits: &[u8]) -> bool
+    ensures { IsTrue result → (0 < length digits.now) × (slice_index digits.now 0 ≡ 48 →
+        length digits.now ≡ 1) }
+{
+    digits.len() == 1 || (!digits.is_empty() && digits[0] != b'0')
+}
