@@ -104,7 +104,20 @@ pub(crate) fn leading_value(word: &[u8]) -> (u64, usize)
     ensures all { result.1 < length word.now → 10 ≤ digit_value (slice_index word.now result.1) }
     ensures room { (result.0 + 1) * 10 ^ (length word.now - result.1) ≤ 10 ^ 19 }
 {
-    let mut value = 0;
+    leading_value_after(0, word)
+}
+
+/// The same behind the digits of `front`, if there are at most 19 digits and bytes in all.
+#[inline(always)]
+pub(crate) fn leading_value_after(front: u64, word: &[u8]) -> (u64, usize)
+    requires { (front + 1) * 10 ^ length word.now ≤ 10 ^ 19 }
+    ensures digits { AllDigits 10 (take result.1 word.now) }
+    ensures value { result.0 ≡ digits_value_after 10 front (take result.1 word.now) }
+    ensures within { result.1 ≤ length word.now }
+    ensures all { result.1 < length word.now → 10 ≤ digit_value (slice_index word.now result.1) }
+    ensures room { (result.0 + 1) * 10 ^ (length word.now - result.1) ≤ 10 ^ 19 }
+{
+    let mut value = front;
     for (place, byte) in word.iter().enumerate() {
         let Some(digit) = digit_of(*byte) else {
             return (value, place);
