@@ -127,14 +127,15 @@ pub(crate) fn leading_value_after(front: u64, word: &[u8]) -> (u64, usize)
     (value, word.len())
 }
 
-/// What the byte is worth, if it is a digit.
+/// What the byte is worth, if it is a digit. A byte before `0` is far above 9 once `0` is taken away.
 fn digit_of(byte: u8) -> Option<u64>
     ensures { SomeIff result (digit_value byte < 10) (digit_value byte) }
 {
-    if !byte.is_ascii_digit() {
+    let digit = u64::from(byte).wrapping_sub(u64::from(b'0'));
+    if digit > 9 {
         return None;
     }
-    Some(u64::from(byte - b'0'))
+    Some(digit)
 }
 
 /// The number with one more digit at its end, if the byte is a digit and the number is at most
