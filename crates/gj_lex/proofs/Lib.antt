@@ -20,3 +20,4 @@ pub mod LoopLaws
 pub mod CanonicalLines
 pub mod WhereLaws
 pub mod LoopRead
+pub mod LeadingNumbers

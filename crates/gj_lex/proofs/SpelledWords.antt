@@ -83,7 +83,7 @@ one_written w n d m e (point a r is first second top bottom) (point b s is' firs
 -- ---- canonical numbers are lenient ones
 
 -- digits begin with no sign
-no_sign : (ds rest : List ℕ) → 0 < length ds → All IsAsciiDigit ds →
+pub no_sign : (ds rest : List ℕ) → 0 < length ds → All IsAsciiDigit ds →
     (starts_with_minus (ds ++ rest) ≡ false) × (without_leading_sign (ds ++ rest) ≡ ds ++ rest)
 no_sign [] rest some h = absurd (omega arith)
 no_sign (c ∷ cs) rest some h =

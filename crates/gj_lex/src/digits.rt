@@ -104,7 +104,20 @@ pub(crate) fn leading_value(word: &[u8]) -> (u64, usize)
     ensures all { result.1 < length word.now → 10 ≤ digit_value (slice_index word.now result.1) }
     ensures room { (result.0 + 1) * 10 ^ (length word.now - result.1) ≤ 10 ^ 19 }
 {
-    let mut value = 0;
+    leading_value_after(0, word)
+}
+
+/// The same behind the digits of `front`, if there are at most 19 digits and bytes in all.
+#[inline(always)]
+pub(crate) fn leading_value_after(front: u64, word: &[u8]) -> (u64, usize)
+    requires { (front + 1) * 10 ^ length word.now ≤ 10 ^ 19 }
+    ensures digits { AllDigits 10 (take result.1 word.now) }
+    ensures value { result.0 ≡ digits_value_after 10 front (take result.1 word.now) }
+    ensures within { result.1 ≤ length word.now }
+    ensures all { result.1 < length word.now → 10 ≤ digit_value (slice_index word.now result.1) }
+    ensures room { (result.0 + 1) * 10 ^ (length word.now - result.1) ≤ 10 ^ 19 }
+{
+    let mut value = front;
     for (place, byte) in word.iter().enumerate() {
         let Some(digit) = digit_of(*byte) else {
             return (value, place);
@@ -114,14 +127,15 @@ pub(crate) fn leading_value(word: &[u8]) -> (u64, usize)
     (value, word.len())
 }
 
-/// What the byte is worth, if it is a digit.
+/// What the byte is worth, if it is a digit. A byte before `0` is far above 9 once `0` is taken away.
 fn digit_of(byte: u8) -> Option<u64>
     ensures { SomeIff result (digit_value byte < 10) (digit_value byte) }
 {
-    if !byte.is_ascii_digit() {
+    let digit = u64::from(byte).wrapping_sub(u64::from(b'0'));
+    if digit > 9 {
         return None;
     }
-    Some(u64::from(byte - b'0'))
+    Some(digit)
 }
 
 /// The number with one more digit at its end, if the byte is a digit and the number is at most

@@ -44,7 +44,7 @@ fn without_sign(word: &[u8]) -> &[u8]
 }
 
 /// Whether the word begins with the byte.
-fn begins_with(word: &[u8], byte: u8) -> bool
+pub(crate) fn begins_with(word: &[u8], byte: u8) -> bool
     requires { 0 < byte }
     ensures { result ≡ (slice_index word.now 0 == byte) }
 {

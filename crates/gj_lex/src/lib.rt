@@ -5,7 +5,7 @@
 //! its like the words of a line; `fraction_of`, `is_count` and `count_of` read numbers,
 //! `print_frac`, `print_pair`, `print_count` and `print_counts` print them, and `push_count_line` a
 //! line of a word and a count.
-//! None of the readers takes memory.
+//! None of the readers takes memory. `leading_decimal` reads a decimal whose end is not known yet.
 //!
 //! A form of text is a part made of lines, `specs/Parts.antt`: it says what a text spells and which
 //! line is the first at fault. `proofs/PartLaws.antt` has the laws that crates above cite: parts
@@ -18,6 +18,7 @@ mod cursor;
 mod digits;
 mod fault;
 mod laws;
+mod leading;
 mod lenient;
 mod line_fault;
 mod name;
@@ -37,6 +38,7 @@ pub use laws::{
     canonical_text_is_a_word, canonical_texts_are_short, count_is_one_word, fraction_is_one_word,
     one_fraction_for_a_text, strict_line_is_lenient,
 };
+pub use leading::leading_decimal;
 pub use lenient::read_number;
 pub use line_fault::LineFault;
 pub use name::{Name, NameFault, name_of};

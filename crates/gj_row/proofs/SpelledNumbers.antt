@@ -1,5 +1,5 @@
 -- What words spell as numbers, and what stops a row.
-use Rattle.std.proofs.Common.{pos, ◌<◌, ◌≡◌, ℕ, ◌==◌, true, false, List, [], ◌∷◌, refl, length, Option, Some, None, Result, Ok, Err, IfSome, IfNone, IfErr, ap, subst, inl, inr, arith}
+use Rattle.std.proofs.Common.{pos, ◌<◌, ◌≡◌, ℕ, ◌==◌, true, false, List, [], ◌∷◌, refl, length, Option, Some, None, Result, Ok, Err, IfSome, IfNone, IfErr, ap, sym, ◌∙◌, subst, inl, inr, arith}
 use Rattle.gj_frac.specs.declared.Frac.{Frac}
 use Rattle.std.proofs.Math.Nat.{one-dvd}
 use Rattle.std.proofs.lemmas.Int.{ints}
@@ -11,7 +11,7 @@ use Rattle.gj_shape.specs.Limits.{denominator_bound, greatest_number}
 use Rattle.gj_lex.specs.SpelledNumbers.{IsFractionWord}
 use Rattle.gj_lex.specs.declared.spelling.Spelling.TheVariants.{Lenient}
 use Rattle.gj_row.specs.TableauText.{SpellsEntry, is_zero, entry_at}
-use Rattle.gj_row.specs.Reading.{StopsAt, StopsNumber}
+use Rattle.gj_row.specs.Reading.{StopsAt, StopsEntry, StopsNumber}
 use Rattle.gj_row.specs.declared.faults.RowReason.{RowReason}
 use Rattle.gj_row.specs.declared.faults.RowReason.TheVariants.{Header, Fields, Columns, Rows, Name, Twice, Number, Large, Fine, Entries}
 
@@ -25,7 +25,7 @@ no_entry word None some none = none_spelled
     none_spelled x (inl h) = let e : length word ≡ 0 = ap length h.0 in absurd (grind arith)
     none_spelled x (inr h) = none x h
 
-found_here : (P : Frac → Type 0) (o : Option Frac) (x : Frac) → o ≡ Some x → IfSome o P → P x
+pub found_here : (P : Frac → Type 0) (o : Option Frac) (x : Frac) → o ≡ Some x → IfSome o P → P x
 found_here P None x e found = cc e
 found_here P (Some y) x e found = subst P (same_some y x e) found
 
@@ -51,6 +51,37 @@ pub stops_number : (P : Frac → Type 0) (scale : ℕ) (o : Option Frac) (r : Re
     IfNone o ((x : Frac) → P x → ⊥) → IfErr r (StopsAt scale o) → IfErr r (StopsNumber P scale)
 stops_number P scale o (Ok x) found none h = tt
 stops_number P scale o (Err e) found none h = stops_by P scale o e found none h
+
+-- what stops a row at what was read, as an entry
+pub stops_at : (scale count : ℕ) (o : Option Frac) (e : RowReason) → StopsAt scale o e → StopsEntry (λ x. o ≡ Some x) scale count e
+stops_at scale count o Number h = λ x is. cc (sym h ∙ is)
+stops_at scale count o Large h = h
+stops_at scale count o Fine h = h
+stops_at scale count o Header h = h
+stops_at scale count o Fields h = h
+stops_at scale count o Columns h = h
+stops_at scale count o Rows h = h
+stops_at scale count o Name h = h
+stops_at scale count o Twice h = h
+stops_at scale count o Entries h = absurd h
+
+-- and at the word that spells it
+pub stops_at_word : (P : Frac → Type 0) (scale count : ℕ) (o : Option Frac) (e : RowReason) → IfSome o P → IfNone o ((x : Frac) → P x → ⊥) →
+    StopsEntry (λ x. o ≡ Some x) scale count e → StopsEntry P scale count e
+stops_at_word P scale count o Number found none h = missing o none h
+  where
+    missing : (o : Option Frac) → IfNone o ((x : Frac) → P x → ⊥) → ((x : Frac) → o ≡ Some x → ⊥) → (x : Frac) → P x → ⊥
+    missing None none h = none
+    missing (Some x) none h = absurd (h x refl)
+stops_at_word P scale count o Large found none h = (h.0, found_here P o h.0 h.1 found, h.2)
+stops_at_word P scale count o Fine found none h = (h.0, found_here P o h.0 h.1 found, h.2, h.3)
+stops_at_word P scale count o Entries found none h = (h.0, h.1, found_here P o h.0 h.2 found, h.3, h.4, h.5)
+stops_at_word P scale count o Header found none h = h
+stops_at_word P scale count o Fields found none h = h
+stops_at_word P scale count o Columns found none h = h
+stops_at_word P scale count o Rows found none h = h
+stops_at_word P scale count o Name found none h = h
+stops_at_word P scale count o Twice found none h = h
 
 -- ---- entries that are not 0
 

@@ -1,5 +1,5 @@
 -- What the steps of the reader answer (own).
-use Rattle.std.specs.Prelude.{ℕ, ◌≡◌, ◌≢◌, ◌+◌, ◌<◌, ◌≤◌, ◌==◌, ◌||◌, Bool, true, false, List, [], ◌∷◌, ◌++◌, Option, Some, None, All, length, map, Vec}
+use Rattle.std.specs.Prelude.{ℕ, ◌≡◌, ◌≢◌, ◌+◌, ◌<◌, ◌≤◌, ◌==◌, ◌||◌, Bool, true, false, List, [], ◌∷◌, ◌++◌, Option, Some, None, All, IfSome, IfNone, length, map, replicate, Vec}
 use Rattle.std.specs.List.{slice_split}
 use Rattle.std.specs.Borrow.{Bor}
 use Rattle.csv.specs.Machine.{next_record}
@@ -14,7 +14,7 @@ use Rattle.gj_shape.specs.Limits.{greatest_number, denominator_bound, IsSmallNum
 use Rattle.gj_shape.specs.Given.{IsLeastCommonDenominator}
 use Rattle.gj_shape.specs.Denominators.{Extends, HasNoCommonWith}
 use Rattle.gj_row.specs.TableauLimits.{most_columns, most_entries, AreNames, IsRowWithinLimits}
-use Rattle.gj_row.specs.TableauText.{word_of, is_zero, header_of, SpellsRow, entries_from}
+use Rattle.gj_row.specs.TableauText.{word_of, is_zero, header_of, SpellsEntry, SpellsRow, entries_from}
 use Rattle.gj_row.specs.FirstFault.{BeginRow}
 use Rattle.gj_row.specs.declared.fields.Fields.{Fields as RecordFields}
 use Rattle.gj_row.specs.declared.records.Records.{Records}
@@ -82,6 +82,14 @@ abbrev pub words_of_fields : RecordFields → List (List ℕ)
 words_of_fields fields = map word_of (fields_in fields)
 
 -- ---- numbers
+
+-- the line begins with so many empty fields; the next field spells the number, or none, and these
+-- fields follow it
+pub record HasNumberBehind (line : List ℕ) (empty : ℕ) (number : Option Frac) (behind : List (List ℕ)) : Type 0 where
+  pub field : List ℕ
+  pub fields_are : fields_of_line line ≡ replicate empty [] ++ field ∷ behind
+  pub found : IfSome number (SpellsEntry (word_of field))
+  pub none : IfNone number ((x : Frac) → SpellsEntry (word_of field) x → ⊥)
 
 -- why what was read cannot follow numbers with the least common denominator `scale`
 abbrev pub StopsAt : ℕ → Option Frac → RowReason → Type 0

@@ -1,5 +1,5 @@
 //! The words in the fields of a record.
-ghost use Rattle.std.specs.Prelude.{◌≡◌, ◌<◌, ◌≤◌, ◌+◌, ◌^◌, ◌++◌, ◌∷◌, [], Some, IfOk, IsTrue};
+ghost use Rattle.std.specs.Prelude.{◌≡◌, ◌<◌, ◌≤◌, ◌+◌, ◌^◌, ◌∷◌, [], Some, IfOk, IsTrue};
 ghost use Rattle.std.specs.Prelude.{length, replicate, reverse, slice_get, take, not};
 ghost use Rattle.std.specs.List.{count_by, position, position_or_len};
 ghost use Rattle.csv.specs.Records.{fields_of};
@@ -94,19 +94,8 @@ pub(crate) fn first_field(line: &[u8]) -> (&[u8], Option<&[u8]>)
     }
 }
 
-/// How many empty fields the line begins with, the field that follows them, and what follows the
-/// comma behind it.
-pub(crate) fn field_behind_empty(line: &[u8]) -> (usize, &[u8], Option<&[u8]>)
-    ensures { fields_of_line line.now ≡
-        replicate result.0 [] ++ result.1.now ∷ fields_behind result.2 }
-{
-    let empty = leading_commas(line);
-    let (field, behind) = first_field(&line[empty..]);
-    (empty, field, behind)
-}
-
 /// How many commas the line begins with.
-fn leading_commas(line: &[u8]) -> usize
+pub(crate) fn leading_commas(line: &[u8]) -> usize
     ensures count { result ≡ position_or_len (λ b. not (is_comma b)) line.now }
     ensures within { result ≤ length line.now }
 {

@@ -13,6 +13,8 @@ use gj_shape::{GREATEST_DENOMINATOR, GREATEST_NUMBER, small_denominator};
 ///
 /// The reason is `Number` if none was read, `Large` if it is above 2^31 in absolute value, and
 /// `Fine` if the common denominator passes 2^31 - 1.
+// Each number of a row passes it.
+#[inline(always)]
 pub(crate) fn within(scale: u32, number: Option<Frac>) -> Result<(Frac, u32), RowReason>
     requires { 0 < scale }
     ensures read { IfOk result (λ r. number ≡ Some r.0) }

@@ -11,16 +11,17 @@ ghost use Rattle.gj_shape.specs.Denominators.{Extends};
 ghost use Rattle.gj_row.specs.TableauLimits.{most_columns, most_entries};
 ghost use Rattle.gj_row.specs.TableauText.{SpellsEntry, entry_at, is_zero, word_of};
 ghost use Rattle.gj_row.specs.FirstFault.{HasNumberFault};
-ghost use Rattle.gj_row.specs.Reading.{StopsNumber, StopsEntry, HasRead, NamesReason, fields_in};
+ghost use Rattle.gj_row.specs.Reading.{StopsNumber, StopsEntry, HasNumberBehind, HasRead, NamesReason};
+ghost use Rattle.gj_row.specs.Reading.{fields_behind, fields_in};
 ghost use Rattle.gj_row.specs.Reading.{fields_of_line, words_in, words_of_fields};
 
 use crate::faults::{RecordFault, RowReason};
-use crate::fields::{Fields, field_behind_empty, first_field, word_at, word_of};
+use crate::fields::{Fields, first_field, leading_commas, word_at, word_of};
 use crate::limits::within;
 use crate::tableau::Entry;
 use csv::ByteRecord;
 use gj_frac::Frac;
-use gj_lex::{Spelling, fraction_of};
+use gj_lex::{Spelling, fraction_of, leading_decimal};
 use std::alloc::Global;
 
 /// The greatest number of entries of a tableau that are not 0.
@@ -65,6 +66,8 @@ pub(crate) fn numbers_of(
 }
 
 /// The numbers that stand in the line, if the rows before it have `used` entries that are not 0.
+// Its loop needs all registers: it stays a function of its own.
+#[inline(never)]
 fn numbers_in_line(alloc: Global, line: &[u8], used: usize) -> Result<Numbers, RecordFault>
     requires narrow { length (fields_of_line line.now) ≤ most_columns + 1 }
     requires few { used ≤ most_entries }
@@ -79,9 +82,9 @@ fn numbers_in_line(alloc: Global, line: &[u8], used: usize) -> Result<Numbers, R
     let mut column = 0;
     let mut left = behind;
     while let Some(rest) = left {
-        let (empty, field, next) = field_behind_empty(rest);
+        let (empty, number, next) = number_behind_empty(rest);
         column += empty as u32;
-        scale = with_entry(&mut entries, scale, used, column, word_of(field))?;
+        scale = with_number(&mut entries, scale, used, column, number)?;
         column += 1;
         left = next;
     }
@@ -107,7 +110,8 @@ fn numbers_in(alloc: Global, fields: &ByteRecord, used: usize) -> Result<Numbers
     let mut entries = Vec::with_capacity(alloc, likely_entries(fields))?;
     for place in 2..fields.len() {
         let word = word_at(fields, place);
-        scale = with_entry(&mut entries, scale, used, (place - 2) as u32, word)?;
+        let number = entry_number(word);
+        scale = with_number(&mut entries, scale, used, (place - 2) as u32, number)?;
     }
     Ok(Numbers {
         rhs,
@@ -130,31 +134,66 @@ fn likely_entries_in(line: &[u8]) -> usize {
     (line.len() / 8).min(MOST_LIKELY)
 }
 
-/// Adds the entry that the word spells for the column, unless it is 0, and gives the least common
-/// denominator with it.
-// Most words are empty where a row has few entries: no call for them.
+/// How many empty fields the line begins with, the number that the field behind them spells, if it
+/// spells one, and what follows the comma behind that field.
 #[inline(always)]
-fn with_entry(
+fn number_behind_empty(line: &[u8]) -> (usize, Option<Frac>, Option<&[u8]>)
+    ensures { HasNumberBehind line.now result.0 result.1 (fields_behind result.2) }
+{
+    let empty = leading_commas(line);
+    let (number, behind) = first_number(&line[empty..]);
+    (empty, number, behind)
+}
+
+/// The number that the first field of the line spells, if it spells one, and what follows the comma
+/// behind it.
+#[inline(always)]
+fn first_number(line: &[u8]) -> (Option<Frac>, Option<&[u8]>)
+    ensures { HasNumberBehind line.now 0 result.0 (fields_behind result.1) }
+{
+    if let Some((x, behind)) = first_decimal(line) {
+        return (Some(x), behind);
+    }
+    let (field, behind) = first_field(line);
+    (entry_number(word_of(field)), behind)
+}
+
+/// The same if the field is a short decimal without a blank, as most are: it is read where it
+/// stands, before its end is known.
+#[inline(always)]
+fn first_decimal(line: &[u8]) -> Option<(Frac, Option<&[u8]>)>
+    ensures { IfSome result (λ r. HasNumberBehind line.now 0 (Some r.0) (fields_behind r.1)) }
+{
+    let (x, rest) = leading_decimal(line)?;
+    match rest.split_first() {
+        None => Some((x, None)),
+        Some((b',', behind)) => Some((x, Some(behind))),
+        Some((_, _)) => None,
+    }
+}
+
+/// Adds the number as the entry for the column, unless it is 0, and gives the least common
+/// denominator with it. The reason is `Number` if there is none.
+// Two loops call it for each field.
+#[inline(always)]
+fn with_number(
     entries: &mut Vec<Entry>,
     scale: u32,
     used: usize,
     column: u32,
-    word: &[u8],
+    number: Option<Frac>,
 ) -> Result<u32, RecordFault>
     requires low { 0 < scale }
     requires high { scale < denominator_bound }
     requires few { used + length entries.old.items ≤ most_entries }
-    ensures found { IfOk result (λ m. (x : Frac) × SpellsEntry word.now x ×
+    ensures found { IfOk result (λ m. (x : Frac) × (number ≡ Some x) ×
         Extends greatest_number scale x m
         × (entries.new.items ≡ entries.old.items ++ entry_at column x) ×
         (used + length entries.new.items ≤ most_entries)) }
-    ensures refused { IfErr result (NamesReason (StopsEntry (SpellsEntry word.now) scale
+    ensures refused { IfErr result (NamesReason (StopsEntry (λ x. number ≡ Some x) scale
         (used + length entries.old.items))) }
 {
-    if word.is_empty() {
-        return Ok(scale);
-    }
-    let (x, multiple) = entry(scale, word)?;
+    let (x, multiple) = within(scale, number)?;
     if is_zero(x) {
         return Ok(multiple);
     }
@@ -179,19 +218,6 @@ fn right_side(word: &[u8]) -> Result<(Frac, u32), RowReason>
     ensures refused { IfErr result (StopsNumber (IsFractionWord Spelling.Lenient word.now) 1) }
 {
     within(1, fraction_of(Spelling::Lenient, word))
-}
-
-/// The entry that the word spells behind numbers with the least common denominator `scale`, and the
-/// least common denominator with it.
-// Two loops call it for each word.
-#[inline(always)]
-fn entry(scale: u32, word: &[u8]) -> Result<(Frac, u32), RowReason>
-    requires { 0 < scale }
-    ensures found { IfOk result (λ r. SpellsEntry word.now r.0 ×
-        Extends greatest_number scale r.0 r.1) }
-    ensures refused { IfErr result (StopsNumber (SpellsEntry word.now) scale) }
-{
-    within(scale, entry_number(word))
 }
 
 /// The number that the word spells as an entry: 0 if it is empty.

@@ -1,4 +1,4 @@
-use Rattle.std.proofs.Common.{◌≡◌, ◌<◌, ◌≤◌, ◌+◌, ◌-◌, ◌∷◌, [], take, drop, length, ap, subst, arith}
+use Rattle.std.proofs.Common.{◌≡◌, ◌<◌, ◌≤◌, ◌+◌, ◌-◌, ◌∷◌, [], Some, take, drop, length, ap, subst, arith}
 use Rattle.std.proofs.lemmas.List.{length-map}
 use Rattle.csv.specs.Records.{fields_of}
 use Rattle.gj_row.specs.TableauText.{word_of, SpellsEntry}
@@ -8,6 +8,7 @@ use Rattle.gj_row.proofs.Lists.{get_behind, taken_with, parted_behind, taken_beh
 use Rattle.gj_row.specs.declared.faults.RecordFault.TheVariants.{Refused}
 use Rattle.gj_row.proofs.Reasons.{names_weaker, handed_on}
 use Rattle.gj_row.proofs.RowNumbers.{right_read, entry_read, right_stopped, entry_stopped}
+use Rattle.gj_row.proofs.SpelledNumbers.{found_here, stops_at_word}
 use Rattle.gj_row.proofs.numbers.numbers_in.Goals as goal
 
 pub returns-in_err-rhs-clause-refused : goal.returns-in_err-rhs-clause-refused
@@ -25,8 +26,8 @@ loop-place-init c =
     rw (first, c.in_ok-entries.ensures.items)
     (right_read c.args.used w c.in_ok-rhs.rhs c.in_ok-rhs.scale c.requires.few c.in_ok-rhs.ensures.found.0 c.in_ok-rhs.ensures.found.1)
 
-pub with_entry-requires : goal.with_entry-requires
-with_entry-requires c = record {
+pub with_number-requires : goal.with_number-requires
+with_number-requires c = record {
   low = c.loop-place.invariant.low;
   high = c.loop-place.invariant.high;
   few = let e = ap length c.loop-place.invariant.entries_are in omega (arith, c.loop-place.invariant.begins.few);
@@ -39,10 +40,12 @@ returns-in_err-scale-clause-refused c =
     let w = c.word_at-word.result.now in
     let fault = c.in_err-scale.field-0.0 in
     handed_on c.from_residual-in_err-scale.result fault (HasNumberFault c.args.used (drop 1 words)) c.from_residual-in_err-scale.ensures.1
-    (names_weaker (StopsEntry (SpellsEntry w) c.loop-place.scale (c.args.used + length c.loop-place.entries.items))
+    (names_weaker (StopsEntry (λ x. c.entry_number-number.result ≡ Some x) c.loop-place.scale (c.args.used + length c.loop-place.entries.items))
     (HasNumberFault c.args.used (drop 1 words)) fault
     (λ e stops. entry_stopped c.args.used (take (place - 1) (drop 1 words)) c.in_ok-rhs.rhs c.loop-place.scale c.loop-place.entries.items w _
-    (drop 1 words) e c.loop-place.invariant (parted_behind 1 words place w c.word_at-word.ensures (omega (arith, c.loop-place.auto.place))) stops)
+    (drop 1 words) e c.loop-place.invariant (parted_behind 1 words place w c.word_at-word.ensures (omega (arith, c.loop-place.auto.place)))
+    (stops_at_word (SpellsEntry w) c.loop-place.scale (c.args.used + length c.loop-place.entries.items) c.entry_number-number.result e
+    c.entry_number-number.ensures.found c.entry_number-number.ensures.none stops))
     c.in_err-scale.ensures.refused)
 
 pub loop-place-preserved : goal.loop-place-preserved
@@ -58,7 +61,8 @@ loop-place-preserved c =
     let found = c.in_ok-scale.ensures.found in
     rw (taken_behind 1 words place w c.word_at-word.ensures (omega arith))
     (entry_read c.args.used (take (place - 1) (drop 1 words)) c.in_ok-rhs.rhs c.loop-place.scale c.loop-place.entries.items (place - 2) w
-    found.0 c.in_ok-scale.scale c.with_entry.new.entries.items c.loop-place.invariant column found.1 found.2 found.3 found.4)
+    found.0 c.in_ok-scale.scale c.with_number.new.entries.items c.loop-place.invariant column
+    (found_here (SpellsEntry w) c.entry_number-number.result found.0 found.1 c.entry_number-number.ensures.found) found.2 found.3 found.4)
 
 pub returns-clause-found : goal.returns-clause-found
 returns-clause-found c =

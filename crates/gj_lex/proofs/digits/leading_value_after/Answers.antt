@@ -2,7 +2,7 @@ use Rattle.std.proofs.Common.{◌+◌, ◌-◌, ◌*◌, ◌^◌, length, get_or
 use Rattle.std.specs.Char.{digit_value}
 use Rattle.std.proofs.lemmas.Int.Digits.{digits_more}
 use Rattle.gj_lex.proofs.Decimals.{room_behind_digit, room_is_below, value_after_more}
-use Rattle.gj_lex.proofs.digits.leading_value.Goals as goal
+use Rattle.gj_lex.proofs.digits.leading_value_after.Goals as goal
 
 pub overflow_mul-value : goal.overflow_mul-value
 overflow_mul-value c =
@@ -23,7 +23,7 @@ overflow_add-value c =
 pub loop-place-preserved : goal.loop-place-preserved
 loop-place-preserved c =
     let e = c.in-Some.ensures in
-    let step = value_after_more 0 c.args.word.now c.loop-place.place c.loop-place-test.true in
+    let step = value_after_more c.args.front c.args.word.now c.loop-place.place c.loop-place-test.true in
     record {
       digits = digits_more 10 _ _ c.loop-place-test.true c.loop-place.invariant.digits e.0;
       value = (λ i. c.loop-place.value * 10 + e.1 i)

@@ -1,0 +1,139 @@
+-- Numbers at the front of a text, and the bytes of numbers in lenient form.
+use Rattle.std.proofs.Common.{◌≡◌, ◌≢◌, ℕ, ◌+◌, ◌^◌, ◌<◌, ◌≤◌, List, [], ◌∷◌, ◌++◌, length, take, drop, pos, true, false, eqb, refl, sym, ◌∙◌, ap, subst, inl, inr, arith, append-nil, append_assoc, length-append, take-append-drop}
+use Rattle.std.specs.Char.{IsAsciiDigit}
+use Rattle.std.specs.List.{All}
+use Rattle.std.specs.Str.Parse.{AllDigits, IsNumeral, digits_value, digits_value_after, starts_with_minus, without_leading_sign}
+use Rattle.std.proofs.lemmas.Bool.{cases_Bool}
+use Rattle.std.proofs.lemmas.Bool.Decides.{nat_tests}
+use Rattle.std.proofs.lemmas.List.{length-take-le}
+use Rattle.std.proofs.lemmas.List.Elements.{All-append, All-cons, All-nil, All-weaker}
+use Rattle.std.proofs.Math.Seq.{drop-append_seam}
+use Rattle.gj_frac.specs.declared.Frac.{Frac}
+use Rattle.gj_frac.specs.Fraction.{IsRatio}
+use Rattle.gj_lex.specs.NumberText.{IsWritten}
+use Rattle.gj_lex.specs.NumberText.IsWritten.{whole, ratio, point}
+use Rattle.gj_lex.specs.SpelledNumbers.{IsFractionWord}
+use Rattle.gj_lex.specs.declared.spelling.Spelling.TheVariants.{Lenient}
+use Rattle.gj_lex.proofs.SignedNumbers.{with_sign, number_found}
+use Rattle.gj_lex.proofs.SpelledWords.{no_sign}
+use Rattle.gj_lex.proofs.WordBytes.{all_from_digits}
+use Rattle.gj_lex.proofs.WrittenNumbers.{point_value}
+
+-- ---- without a sign
+
+-- the text begins with a word that writes the number, and `rest` follows it
+abbrev pub BeginsWithWritten : List ℕ → ℕ → ℕ → List ℕ → Type 0
+BeginsWithWritten text n d rest = (word : List ℕ) × (text ≡ word ++ rest) × IsWritten word n d
+
+-- what follows a word of so many bytes
+behind_word : (text word back : List ℕ) (k : ℕ) → text ≡ word ++ back → length word ≡ k → text ≡ word ++ drop k text
+behind_word text word back k is long =
+    let same : drop k text ≡ back = ap (λ i. drop i text) (sym long) ∙ ap (drop (length word)) is ∙ drop-append_seam word back in
+    is ∙ ap (λ b. word ++ b) (sym same)
+
+module _ (text near far : List ℕ) (parts : text ≡ near ++ far) (k : ℕ) (digits : AllDigits 10 (take k near)) (within : k ≤ length near)
+    (some : 0 < k) (top : ℕ) (is : top ≡ digits_value 10 (take k near)) where
+  numeral : IsNumeral 10 (take k near)
+  numeral = (omega (arith, length-take-le k near within), digits)
+
+  -- digits
+  pub whole_begins : BeginsWithWritten text top (10 ^ 0) (drop k text)
+  whole_begins = (
+    take k near,
+    behind_word text (take k near) (drop k near ++ far) k
+        (parts ∙ ap (λ b. b ++ far) (sym (take-append-drop k near)) ∙ append_assoc (take k near) (drop k near) far)
+        (length-take-le k near within),
+    whole numeral is refl,
+  )
+
+  -- digits, a point and digits
+  pub point_begins : (ds : List ℕ) → drop k near ≡ 46 ∷ ds → (j value : ℕ) → AllDigits 10 (take j ds) → j ≤ length ds → 0 < j →
+      value ≡ digits_value_after 10 top (take j ds) → BeginsWithWritten text value (10 ^ j) (drop (k + 1 + j) text)
+  point_begins ds at j value more short few value_is =
+      let front = take k near in
+      let back = take j ds in
+      let long : length back ≡ j = length-take-le j ds short in
+      let word = front ++ 46 ∷ back in
+      let all : length word ≡ k + 1 + j = omega (arith, length-append front (46 ∷ back), length-take-le k near within, long) in
+      let near_is : near ≡ word ++ drop j ds =
+      sym (take-append-drop k near) ∙ ap (λ b. front ++ b) (at ∙ ap (λ b. 46 ∷ b) (sym (take-append-drop j ds)))
+      ∙ sym (append_assoc front (46 ∷ back) (drop j ds)) in (
+        word,
+        behind_word text word (drop j ds ++ far) (k + 1 + j)
+            (parts ∙ ap (λ b. b ++ far) near_is ∙ append_assoc word (drop j ds) far) all,
+        point front back refl numeral (omega arith, more) (point_value front back top value is value_is) (ap (λ n. 10 ^ n) (sym long)),
+      )
+
+-- ---- with a sign
+
+-- the text begins with a word that spells the fraction, and `rest` follows it
+abbrev pub BeginsWithFraction : List ℕ → Frac → List ℕ → Type 0
+BeginsWithFraction text x rest = (word : List ℕ) × (text ≡ word ++ rest) × IsFractionWord Lenient word x
+
+-- what is written without a sign begins with none
+written_has_no_sign : (word : List ℕ) (n d : ℕ) → IsWritten word n d → (starts_with_minus word ≡ false) × (without_leading_sign word ≡ word)
+written_has_no_sign word n d (whole digits top bottom) =
+    subst (λ w. (starts_with_minus w ≡ false) × (without_leading_sign w ≡ w)) (append-nil word)
+    (no_sign word [] digits.0 (all_from_digits word digits.1))
+written_has_no_sign word n d (ratio front back is first second top bottom) =
+    subst (λ w. (starts_with_minus w ≡ false) × (without_leading_sign w ≡ w)) (sym is)
+    (no_sign front (47 ∷ back) first.0 (all_from_digits front first.1))
+written_has_no_sign word n d (point front back is first second top bottom) =
+    subst (λ w. (starts_with_minus w ≡ false) × (without_leading_sign w ≡ w)) (sym is)
+    (no_sign front (46 ∷ back) first.0 (all_from_digits front first.1))
+
+pub plain_begins : (text behind rest : List ℕ) (n d : ℕ) (x : Frac) → behind ≡ text → BeginsWithWritten behind n d rest → n < 2 ^ 127 → d < 2 ^ 127 →
+    0 < d → IsRatio x (pos n) (pos d) → BeginsWithFraction text x rest
+plain_begins text behind rest n d x is (word, parts, written) small low some value =
+    let signs = written_has_no_sign word n d written in
+    (word, sym is ∙ parts, number_found word word false n d x (sym signs.1) (sym signs.0) written small low some value)
+
+pub minus_begins : (text behind rest : List ℕ) (n d : ℕ) (x : Frac) → text ≡ 45 ∷ behind → BeginsWithWritten behind n d rest → n < 2 ^ 127 →
+    d < 2 ^ 127 → 0 < d → IsRatio x (with_sign true n) (pos d) → BeginsWithFraction text x rest
+minus_begins text behind rest n d x is (word, parts, written) small low some value =
+    (45 ∷ word, is ∙ ap (λ b. 45 ∷ b) parts, number_found (45 ∷ word) word true n d x refl refl written small low some value)
+
+-- a text that begins with a `-`
+pub behind_minus : (text : List ℕ) → true ≡ starts_with_minus text → text ≡ 45 ∷ drop 1 text
+behind_minus [] is = cc is
+behind_minus (c ∷ cs) is = let minus : c ≡ 45 = grind (arith, nat_tests) in ap (λ b. b ∷ cs) minus
+
+-- ---- the bytes of numbers
+
+-- a sign, a mark or a digit: none is a comma, a space or a tab
+pub record IsLenientByte (b : ℕ) : Type 0 where
+  pub high : 43 ≤ b
+  pub no_comma : b ≢ 44
+
+byte_of_digits : (ds : List ℕ) → AllDigits 10 ds → All IsLenientByte ds
+byte_of_digits ds h =
+    All-weaker IsAsciiDigit IsLenientByte (λ b d. record { high = omega (arith, d); no_comma = λ e. omega (arith, d) }) ds (all_from_digits ds h)
+
+mark_between : (front back : List ℕ) (m : ℕ) → AllDigits 10 front → AllDigits 10 back → IsLenientByte m → All IsLenientByte (front ++ m ∷ back)
+mark_between front back m first second mark =
+    All-append IsLenientByte front (m ∷ back) (byte_of_digits front first) (All-cons IsLenientByte m back mark (byte_of_digits back second))
+
+written_bytes : (word : List ℕ) (n d : ℕ) → IsWritten word n d → All IsLenientByte word
+written_bytes word n d (whole digits top bottom) = byte_of_digits word digits.1
+written_bytes word n d (ratio front back is first second top bottom) =
+    subst (All IsLenientByte) (sym is) (mark_between front back 47 first.1 second.1 (record { high = omega arith; no_comma = λ e. omega arith }))
+written_bytes word n d (point front back is first second top bottom) =
+    subst (All IsLenientByte) (sym is) (mark_between front back 46 first.1 second.1 (record { high = omega arith; no_comma = λ e. omega arith }))
+
+signed_bytes : (word : List ℕ) → All IsLenientByte (without_leading_sign word) → All IsLenientByte word
+signed_bytes [] h = All-nil IsLenientByte
+signed_bytes (c ∷ cs) h = elim (cases_Bool (eqb c 45)) [
+  | inl minus ↦
+      let is : c ≡ 45 = grind (arith, nat_tests) in
+      All-cons IsLenientByte c cs (record { high = omega arith; no_comma = λ e. omega arith }) (rw minus at h)
+  | inr other ↦ elim (cases_Bool (eqb c 43)) [
+    | inl plus ↦
+        let is : c ≡ 43 = grind (arith, nat_tests) in
+        All-cons IsLenientByte c cs (record { high = omega arith; no_comma = λ e. omega arith }) (rw (other, plus) at h)
+    | inr none ↦ rw (other, none) at h
+  ]
+]
+
+-- no byte of a number in lenient form is a comma, a space or a tab
+pub lenient_bytes : (word : List ℕ) (x : Frac) → IsFractionWord Lenient word x → All IsLenientByte word
+lenient_bytes word x (n, d, text, is) = signed_bytes word (written_bytes (without_leading_sign word) text.top d text.written)

@@ -1,0 +1,31 @@
+use Rattle.std.proofs.Common.{◌≡◌, ◌<◌, ◌+◌, ◌-◌, ◌∷◌, ◌++◌, drop, length, sym, ◌∙◌, ap, take-append-drop, arith}
+use Rattle.std.proofs.lemmas.Bool.Decides.{nat_tests}
+use Rattle.std.proofs.lemmas.List.{take_rest}
+use Rattle.gj_lex.proofs.LeadingDigits.{top_small}
+use Rattle.gj_lex.proofs.LeadingNumbers.{point_begins}
+use Rattle.gj_lex.proofs.leading.leading_digits.Goals as goal
+
+pub returns-else-places-eq0 : goal.returns-else-places-eq0
+returns-else-places-eq0 c =
+    let text = c.args.text.now in
+    let near = c.split_at.result.0.now in
+    let far = c.split_at.result.1.now in
+    let lead = c.leading_value-whole.ensures in
+    let more = c.leading_value_after-top.ensures in
+    let k = c.leading_value-whole.result.1 in
+    let j = c.leading_value_after-top.result.1 in
+    let point = c.in-Some-eq46-default in
+    let parts : text ≡ near ++ far =
+    sym (take-append-drop c.min.result text) ∙ (λ i. sym c.split_at.ensures.front i ++ sym c.split_at.ensures.back i) in
+    let at : drop k near ≡ 46 ∷ point.digits.now =
+    sym c.split_at-2.ensures.back ∙ point.ensures.cases.0 ∙ ap (λ b. b ∷ point.digits.now) point.field-0-0-test in
+    let some : 0 < k = grind (arith, nat_tests) in
+    let few : 0 < j = grind (arith, nat_tests) in
+    let begins = point_begins text near far parts k lead.digits lead.within some c.leading_value-whole.result.0 lead.value point.digits.now at
+    j c.leading_value_after-top.result.0 more.digits more.within few more.value in (
+      begins.0,
+      begins.1 ∙ ap (λ b. begins.0 ++ b) (sym (take_rest text (k + 1 + j))),
+      begins.2,
+      top_small c.leading_value_after-top.result.0 (length point.digits.now - j) more.room,
+      omega (arith, more.within, point.ensures.cases.1, c.split_at-2.ensures.back_len, c.split_at.ensures.front_len, c.min.ensures),
+    )

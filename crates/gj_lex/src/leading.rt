@@ -1,0 +1,64 @@
+//! Decimals at the front of a text.
+
+ghost use Rattle.std.specs.Prelude.{◌≡◌, ◌^◌, ◌<◌, ◌≤◌, ◌++◌, ℕ, pos, List, IfSome};
+ghost use Rattle.gj_frac.specs.Fraction.{IsRatio};
+ghost use Rattle.gj_lex.specs.NumberText.{IsWritten};
+ghost use Rattle.gj_lex.specs.SpelledNumbers.{IsFractionWord};
+ghost use Rattle.gj_lex.specs.declared.spelling.Spelling.{Spelling};
+
+use crate::digits::{SHORT, leading_value, leading_value_after};
+use crate::lenient::begins_with;
+use gj_frac::Frac;
+
+/// The decimal that the text begins with, as `-20.609`, and what follows it.
+///
+/// A `-` may stand first, and then digits, or digits, `.` and digits. Of these at most 19 bytes are
+/// read: what follows may go on with digits. None if no digit stands first, or none behind the `.`.
+// Loops over numbers call it for each: what it gives stays in registers.
+#[inline(always)]
+pub fn leading_decimal(text: &[u8]) -> Option<(Frac, &[u8])>
+    ensures { IfSome result (λ r. (word : List ℕ) × (text.now ≡ word ++ r.1.now) ×
+        IsFractionWord Spelling.Lenient word r.0) }
+{
+    let minus = begins_with(text, b'-');
+    let (top, places, rest) = leading_digits(&text[usize::from(minus)..])?;
+    let size = decimal_of(top, places);
+    if minus {
+        return Some((-size, rest));
+    }
+    Some((size, rest))
+}
+
+/// The number that the text begins with, without a sign: that of all its digits, how many of them
+/// stand behind the point, and what follows them.
+#[inline(always)]
+fn leading_digits(text: &[u8]) -> Option<(u64, usize, &[u8])>
+    ensures { IfSome result (λ r. (word : List ℕ) × (text.now ≡ word ++ r.2.now) ×
+        IsWritten word r.0 (10 ^ r.1) × (r.0 < 2 ^ 64) × (r.1 ≤ 19)) }
+{
+    let (near, _) = text.split_at(text.len().min(SHORT));
+    let (whole, count) = leading_value(near);
+    if count == 0 {
+        return None;
+    }
+    let (_, behind) = near.split_at(count);
+    match behind.split_first() {
+        Some((b'.', digits)) => {
+            let (top, places) = leading_value_after(whole, digits);
+            if places == 0 {
+                return None;
+            }
+            Some((top, places, &text[count + 1 + places..]))
+        }
+        _ => Some((whole, 0, &text[count..])),
+    }
+}
+
+/// The number over 10 to the number of places.
+#[inline(always)]
+fn decimal_of(top: u64, places: usize) -> Frac
+    requires { places ≤ 38 }
+    ensures { IsRatio result (pos top) (pos (10 ^ places)) }
+{
+    Frac::decimal(i128::from(top), places)
+}
