@@ -126,8 +126,8 @@ fn write_spaced_count(text: &mut [u8], end: usize, n: u32) -> usize
     start - 1
 }
 
-/// Writes the end of a line of two fractions in canonical form into the text, so that it ends before
-/// `end`, and says where it begins: a space before each, and a line feed behind them.
+/// Writes the end of a line of two fractions in canonical form into the text, so that it ends
+/// before `end`, and says where it begins: a space before each, and a line feed behind them.
 ///
 /// So a line can be written from its end to its front, before it is appended at once.
 #[inline(always)]
