@@ -42,7 +42,10 @@ pub use leading::leading_decimal;
 pub use lenient::read_number;
 pub use line_fault::LineFault;
 pub use name::{Name, NameFault, name_of};
-pub use print::{PairSpace, print_count, print_counts, print_frac, print_pair, push_count_line};
+pub use print::{
+    PairSpace, print_count, print_counts, print_frac, print_pair, push_count_line, write_pair,
+    write_word,
+};
 pub use printed::{behind_byte, printed_fraction, printed_number, printed_whole};
 pub use reason::Reason;
 pub use spelled::{count_of, fraction_of, is_count};

@@ -1,5 +1,6 @@
 //! The lines of cuts, printed.
-ghost use Rattle.std.specs.Prelude.{◌≡◌, ◌++◌, ℕ, List, codes, flat_map, OnOk};
+ghost use Rattle.std.specs.Prelude.{◌≡◌, ◌≤◌, ◌+◌, ◌++◌, ℕ, List, codes, drop, flat_map, length};
+ghost use Rattle.std.specs.Prelude.{OnOk};
 ghost use Rattle.gj_lex.specs.NumberText.{fraction_text};
 ghost use Rattle.gj_proof.specs.ProofText.{AreSubjectLines, subject_of_rule, row_line, term_line};
 ghost use Rattle.gj_proof.specs.ProofText.{terms_of, row_text};
@@ -7,8 +8,19 @@ ghost use Rattle.gj_proof.specs.ProofText.{terms_of, row_text};
 use crate::cut::{CutLine, CutRule, CutTerm};
 use gj_frac::Frac;
 use gj_function_lines::push_function_lines;
-use gj_lex::{Name, PairSpace, print_frac};
+use gj_lex::{Name, print_frac, write_pair, write_word};
 use std::alloc::{AllocError, Global};
+
+/// The length of the longest line of a term: `term `, a name, and two fractions, each with a space
+/// before it, and a line feed.
+const LINE_SPACE: usize = 5 + 255 + 163;
+
+/// So many lines are appended at a time at most. Room for so many is less than 2 KB, and that is
+/// cleared fast.
+const FEW: usize = 4;
+
+/// Room for so many lines.
+const FEW_SPACE: usize = FEW * LINE_SPACE;
 
 /// Appends the lines of a rule: `rule gmic`, or those of its function. An error says that memory
 /// ran out; `out` may then have a part of them.
@@ -57,24 +69,51 @@ pub fn push_row(alloc: Global, out: &mut Vec<u8>, row: &CutLine) -> Result<(), A
     }
 }
 
-/// Appends the lines of terms.
+/// Appends the lines of terms, a few at a time, so that room is asked for once for all of them.
 fn push_terms(out: &mut Vec<u8>, terms: &[CutTerm]) -> Result<(), AllocError>
     ensures { OnOk result (out.new.items ≡ out.old.items ++ flat_map term_line terms.now) }
 {
-    let mut space = PairSpace::new();
-    for term in terms {
-        push_term(out, &mut space, term)?;
+    let mut text = [0; FEW_SPACE];
+    let mut left = terms;
+    while !left.is_empty() {
+        let (few, rest) = left.split_at(left.len().min(FEW));
+        let start = write_terms(&mut text, few);
+        out.extend_from_slice(&text[start..])?;
+        left = rest;
     }
     Ok(())
 }
 
-/// Appends the line of a term.
-fn push_term(out: &mut Vec<u8>, space: &mut PairSpace, term: &CutTerm) -> Result<(), AllocError>
-    ensures { OnOk result (out.new.items ≡ out.old.items ++ term_line term.now) }
+/// Writes the lines of a few terms at the end of the text, the last line first, and says where they
+/// begin.
+fn write_terms(text: &mut [u8], terms: &[CutTerm]) -> usize
+    requires few { length terms.now ≤ FEW }
+    requires space { length text.old ≡ FEW_SPACE }
+    ensures written { drop result text.new ≡ flat_map term_line terms.now }
+    ensures begins { result ≤ length text.new }
+    ensures space { length text.new ≡ length text.old }
 {
-    out.extend_from_slice(b"term ")?;
-    out.extend_from_slice(term.name.bytes())?;
-    space.print(out, term.entry, term.cut)
+    let mut start = FEW_SPACE;
+    let mut left = terms.len();
+    while left > 0 {
+        left -= 1;
+        start = write_term(text, start, &terms[left]);
+    }
+    start
+}
+
+/// Writes the line of a term into the text so that it ends before `end`, and says where it begins.
+fn write_term(text: &mut [u8], end: usize, term: &CutTerm) -> usize
+    requires room { LINE_SPACE ≤ end }
+    requires within { end ≤ length text.old }
+    ensures written { drop result text.new ≡ term_line term.now ++ drop end text.old }
+    ensures begins { result ≤ end }
+    ensures room { end ≤ result + LINE_SPACE }
+    ensures space { length text.new ≡ length text.old }
+{
+    let numbers = write_pair(text, end, term.entry, term.cut);
+    let name = write_word(text, numbers, term.name.bytes());
+    write_word(text, name, b"term ")
 }
 
 /// Appends a word, a name, a space and a fraction. An error says that memory ran out; `out` may
