@@ -33,6 +33,10 @@ symmetric_values f l h =
     subst (λ (n : ℕ). (i : ℕ) → i < n → at f.value i +ℤ at f.value (f.place + (n - i)) ≡ pos f.scale) (sym l.value_length)
     h.mirrors.symmetric
 
+-- the totals decide
+pub grid_totals : (f : FunctionData) → IsWithinBounds f → PassesSymmetry f → HasSubadditiveTotals f.value f.place ↔ IsSubadditiveList f.value
+grid_totals f l h = totals_decide f.value f.place (pos f.scale) (values_in_range f l h) (symmetric_values f l h)
+
 -- a pair passes if the slack is not negative
 slack_of_pair : (x y s : ℤ) → s ≤ℤ (x +ℤ y) ↔ (pos 0 ≤ℤ slack_from x y s)
 slack_of_pair x y s = (λ h. omega (arith, ints), λ h. omega (arith, ints))
@@ -40,19 +44,12 @@ slack_of_pair x y s = (λ h. omega (arith, ints), λ h. omega (arith, ints))
 pair_is_vertex : (f : FunctionData) (a b : ℕ) → IsSubadditivePair f.value a b ↔ PassesVertex f a b
 pair_is_vertex f a b = slack_of_pair (at f.value a) (at f.value b) (at f.value (a + b))
 
-pairs_are_vertices : (f : FunctionData) → IsWithinBounds f → IsSubadditiveList f.value ↔ IsSubadditiveOnGrid f
+pub pairs_are_vertices : (f : FunctionData) → IsWithinBounds f → IsSubadditiveList f.value ↔ IsSubadditiveOnGrid f
 pairs_are_vertices f l =
     let len = l.value_length in (
       λ all a b a_below b_below. (pair_is_vertex f a b).0 (all a b (omega arith) (omega arith)),
       λ all a b a_below b_below. (pair_is_vertex f a b).1 (all a b (omega arith) (omega arith)),
     )
-
--- so the totals decide
-pub grid_decides : (f : FunctionData) → IsWithinBounds f → PassesSymmetry f → HasSubadditiveTotals f.value f.place ↔ IsSubadditiveOnGrid f
-grid_decides f l h =
-    let totals = totals_decide f.value f.place (pos f.scale) (values_in_range f l h) (symmetric_values f l h) in
-    let pairs = pairs_are_vertices f l in
-    (λ all. pairs.0 (totals.0 all), λ all. totals.1 (pairs.1 all))
 
 -- ---- what the code reads
 

@@ -22,6 +22,9 @@ pub mod CutMeaning
 pub mod RowOutcomes
 pub mod ValuesOfCuts
 pub mod TableTests
+pub mod MiddleEntries
+pub mod BendRows
+pub mod BendTests
 pub mod GridTests
 pub mod NumberedLines
 pub mod HalvesTests

@@ -183,7 +183,7 @@ totals_decide values place scale t symmetric = (
 )
 
 -- the pairs of indices below the length give all pairs
-subadditive_everywhere : (values : List ℤ) → 0 < length values → IsSubadditiveList values → (i j : ℕ) → IsSubadditivePair values i j
+pub subadditive_everywhere : (values : List ℤ) → 0 < length values → IsSubadditiveList values → (i j : ℕ) → IsSubadditivePair values i j
 subadditive_everywhere values some h i j =
     let n = length values in
     let first : at values (i % n) ≡ at values i = at_wrapped values i (i % n) n refl refl in

@@ -7,6 +7,7 @@ pub mod Coordinates
 pub mod RowLimits
 pub mod CutRows
 pub mod Tables
+pub mod Bends
 pub mod CoverLines
 pub mod HalvesRules
 pub mod GroupRules

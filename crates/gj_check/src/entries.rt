@@ -1,6 +1,6 @@
 //! Numbers of four widths, in which the values of a table are kept: the fewer bits, the faster the
 //! tests.
-ghost use Rattle.std.specs.Prelude.{ℕ, ℤ, pos, ◌≡◌, ◌↔◌, ◌^◌, ◌-ℤ◌, ◌<ℤ◌, ◌≤ℤ◌, IsTrue};
+ghost use Rattle.std.specs.Prelude.{ℕ, ℤ, pos, ◌≡◌, ◌↔◌, ◌^◌, ◌+ℤ◌, ◌-ℤ◌, ◌<ℤ◌, ◌≤ℤ◌, IsTrue};
 ghost use Rattle.std.specs.Int.{int_max};
 
 /// A number of some width, as an entry of a table.
@@ -26,6 +26,14 @@ pub(crate) trait Entry: Copy {
     /// Whether this is no greater than the other.
     fn is_at_most(self, other: Self) -> bool
         ensures { IsTrue result ↔ (number self ≤ℤ number other) };
+
+    /// Whether this is halfway from the one before to the next.
+    fn is_middle_of(self, before: Self, next: Self) -> bool
+        requires before { pos 0 ≤ℤ number before }
+        requires here { pos 0 ≤ℤ number self }
+        requires next { pos 0 ≤ℤ number next }
+        ensures { IsTrue result
+            ↔ (number before +ℤ number next ≡ number self +ℤ number self) };
 }
 
 impl Entry for i16 {
@@ -43,6 +51,10 @@ impl Entry for i16 {
 
     fn is_at_most(self, other: i16) -> bool {
         self <= other
+    }
+
+    fn is_middle_of(self, before: i16, next: i16) -> bool {
+        self - before == next - self
     }
 }
 
@@ -62,6 +74,10 @@ impl Entry for i32 {
     fn is_at_most(self, other: i32) -> bool {
         self <= other
     }
+
+    fn is_middle_of(self, before: i32, next: i32) -> bool {
+        self - before == next - self
+    }
 }
 
 impl Entry for i64 {
@@ -80,6 +96,10 @@ impl Entry for i64 {
     fn is_at_most(self, other: i64) -> bool {
         self <= other
     }
+
+    fn is_middle_of(self, before: i64, next: i64) -> bool {
+        self - before == next - self
+    }
 }
 
 impl Entry for i128 {
@@ -97,5 +117,9 @@ impl Entry for i128 {
 
     fn is_at_most(self, other: i128) -> bool {
         self <= other
+    }
+
+    fn is_middle_of(self, before: i128, next: i128) -> bool {
+        self - before == next - self
     }
 }

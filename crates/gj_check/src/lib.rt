@@ -8,6 +8,7 @@
 //! those of `gj_check_groups`.
 #![tactic(auto)]
 
+mod bends;
 mod checker;
 mod cover_lines;
 mod cut_rows;

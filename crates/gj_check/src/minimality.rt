@@ -15,7 +15,7 @@ ghost use Rattle.gj_check.specs.Tables.{AreTwoPeriods};
 use crate::entries::Entry;
 use crate::pieces::{adds_up, wrapped};
 use crate::squares::Lanes;
-use crate::tables::has_subadditive_totals;
+use crate::tables::is_subadditive_by;
 use gj_lanes::{UnsignedLane, write_periods};
 use gj_shape::{GREATEST_ORDER, Shape};
 
@@ -192,7 +192,7 @@ fn is_subadditive_in<E: Entry>(shape: &Shape, entries: &mut [E]) -> bool
     ensures { IsTrue result ↔ IsSubadditiveOnGrid shape.now }
 {
     write_two_periods(shape, entries);
-    has_subadditive_totals(entries, shape.order() as usize, shape.place() as usize)
+    is_subadditive_by(entries, shape.order() as usize, shape.place() as usize)
 }
 
 /// Writes the values of two periods.

@@ -8,6 +8,7 @@ ghost use Rattle.gj_check.specs.Tables.{IsTableInRange, IsSymmetricList, IsSubad
 ghost use Rattle.gj_check.specs.Tables.{IsSubadditiveList, HasSubadditiveTotal};
 ghost use Rattle.gj_check.specs.Tables.{HasSubadditiveTotals, HaveTwoPeriods, AreTwoPeriods};
 
+use crate::bends::{few_bends, pass_at_bends};
 use crate::entries::Entry;
 use crate::pieces::wrapped;
 use std::alloc::{AllocError, Global};
@@ -83,7 +84,7 @@ fn is_subadditive_over<E: Entry>(
     ensures { IfOk result (λ all. IsTrue all ↔ IsSubadditiveList values.now) }
 {
     let periods = two_periods::<E>(alloc, values)?;
-    Ok(has_subadditive_totals(periods.as_slice(), values.len(), place))
+    Ok(is_subadditive_by(periods.as_slice(), values.len(), place))
 }
 
 /// The values of two periods as entries.
@@ -100,10 +101,26 @@ fn two_periods<E: Entry>(alloc: Global, values: &[i128]) -> Result<Vec<E>, Alloc
     Ok(entries)
 }
 
+/// Whether no two values add up to less than the value at the sum of their indices, by the entries
+/// of two periods of so many values. Of a table with few bends only the pairs at these are tried.
+pub(crate) fn is_subadditive_by<E: Entry>(entries: &[E], count: usize, place: usize) -> bool
+    requires periods { HaveTwoPeriods E.number entries.now count }
+    requires few { count ≤ greatest_halves_order }
+    requires place { place < count }
+    ensures { (values : List ℤ) → length values ≡ count → AreTwoPeriods E.number entries.now values
+        → (HasSubadditiveTotals values place ↔ IsSubadditiveList values)
+        → IsTrue result ↔ IsSubadditiveList values }
+{
+    let Some(bends) = few_bends(entries, count) else {
+        return has_subadditive_totals(entries, count, place);
+    };
+    pass_at_bends(entries, count, &bends)
+}
+
 /// Whether the pairs pass that are tried, by the entries of two periods of so many values. Of three
 /// indices that add up to the place modulo their number the pairs of any two pass or fail together,
 /// if the values are symmetric: only that of the two least is tried.
-pub(crate) fn has_subadditive_totals<E: Entry>(entries: &[E], count: usize, place: usize) -> bool
+fn has_subadditive_totals<E: Entry>(entries: &[E], count: usize, place: usize) -> bool
     requires periods { HaveTwoPeriods E.number entries.now count }
     requires few { count ≤ greatest_halves_order }
     requires place { place < count }

@@ -1,14 +1,13 @@
 use Rattle.std.proofs.Common.{refl, sym, subst}
 use Rattle.gj_check.specs.Tables.{AreTwoPeriods}
-use Rattle.gj_check.proofs.TestsInTurn.{in_other_words}
 use Rattle.gj_check.proofs.TableTests.{have_periods, totals_decide}
 use Rattle.gj_check.proofs.tables.is_subadditive_over.Goals as goal
 
 pub two_periods-requires : goal.two_periods-requires
 two_periods-requires g c = (c.args.place, c.args.scale, c.requires.table, c.requires.fits)
 
-pub has_subadditive_totals-requires-clause-periods : goal.has_subadditive_totals-requires-clause-periods
-has_subadditive_totals-requires-clause-periods g c =
+pub is_subadditive_by-requires-clause-periods : goal.is_subadditive_by-requires-clause-periods
+is_subadditive_by-requires-clause-periods g c =
     have_periods g.E.Entry.number _ c.args.values.now
     (subst (λ xs. AreTwoPeriods g.E.Entry.number xs c.args.values.now) (sym c.as_slice.ensures.value) c.in_ok-periods.ensures)
 
@@ -16,5 +15,5 @@ pub returns : goal.returns
 returns g c =
     let values = c.args.values.now in
     let periods = subst (λ xs. AreTwoPeriods g.E.Entry.number xs values) (sym c.as_slice.ensures.value) c.in_ok-periods.ensures in
-    in_other_words _ _ _ (c.has_subadditive_totals.ensures values refl periods)
+    c.is_subadditive_by.ensures values refl periods
     (totals_decide values c.args.place c.args.scale c.requires.table c.requires.symmetric)
