@@ -1,6 +1,7 @@
 -- The line of a row of whole columns, from its cut and the names of its columns.
-use Rattle.std.proofs.Common.{◌≡◌, ℕ, List, [], ◌∷◌, get_or, sym, ap, ◌∙◌, subst, subst₂}
+use Rattle.std.proofs.Common.{◌≡◌, ℕ, ◌+◌, ◌<◌, List, [], ◌∷◌, ◌++◌, get_or, length, take, refl, sym, ap, ◌∙◌, subst, subst₂}
 use Rattle.std.specs.List.{AllZip}
+use Rattle.std.proofs.lemmas.List.{flat_map_more}
 use Rattle.gj_frac.specs.declared.Frac.{Frac}
 use Rattle.gj_frac.specs.Fraction.{IsWhole}
 use Rattle.gj_shape.specs.FunctionData.{FunctionData}
@@ -11,12 +12,14 @@ use Rattle.gj_rule.specs.declared.kind.RuleKind.TheVariants as kind
 use Rattle.gj_row.specs.TableauLimits.{IsRowWithinLimits}
 use Rattle.gj_row.specs.declared.tableau.Entry.{Entry}
 use Rattle.gj_row.specs.declared.tableau.Row.{Row}
+use Rattle.gj_cut.proofs.RowTerms.{zip_next}
 use Rattle.gj_cut.specs.RowCuts.{HasPart, IsCutOfKind, IsGmicCutOf, IsTermOfKind}
 use Rattle.gj_cut.specs.declared.cut.Term.{Term}
 use Rattle.gj_cut.specs.declared.cut.RowCut.{RowCut}
 use Rattle.gj_cut.specs.declared.cut.RowCut.TheVariants as row_cut
 use Rattle.gj_listings.specs.MixedLines.{IsNamedTerm}
 use Rattle.gj_listings.proofs.MixedRowLines.{terms_in_columns}
+use Rattle.gj_proof.specs.ProofText.{row_text}
 use Rattle.gj_proof.specs.Rules.{MeetsValue}
 use Rattle.gj_proof.specs.declared.cut.CutLine.{CutLine}
 use Rattle.gj_proof.specs.declared.cut.CutLine.TheVariants.{Cut, Skip}
@@ -25,7 +28,7 @@ use Rattle.gj_proof.specs.declared.cut.CutRule.TheVariants.{Gmic, Table}
 use Rattle.gj_proof.specs.declared.cut.CutTerm.{CutTerm}
 use Rattle.gj_proof.specs.declared.cut.SkipReason.TheVariants.{Integral, Other}
 use Rattle.gj_check.proofs.FractionalParts.{one_part}
-use Rattle.gj_claims.specs.CutLines.{HasColumns, IsLineFor, IsTermFor, NamesCut}
+use Rattle.gj_claims.specs.CutLines.{AppendsCuts, HasColumns, IsLineFor, IsTermFor, NamesCut}
 
 -- ---- the columns of the terms
 
@@ -110,3 +113,19 @@ function_line f columns row row_cut.OtherFraction (Skip name right Other) h name
 )
 function_line f columns row row_cut.OtherFraction (Skip name right Integral) h names = absurd names
 function_line f columns row row_cut.OtherFraction (Cut name right named) h names = absurd names
+
+-- ---- all rows
+
+-- the lines of one row more
+pub one_row_more : (r : CutRule) (columns : List (List ℕ)) (rows : List Row) (i : ℕ) (row : Row)
+    (old now new : List ℕ) (line : CutLine) →
+    i < length rows → row ≡ get_or rows i row → AppendsCuts r columns (take i rows) old now →
+    IsLineFor r columns row line → new ≡ now ++ row_text line →
+    AppendsCuts r columns (take (i + 1) rows) old new
+one_row_more r columns rows i row old now new line below here h is_line pushed = record {
+  lines = h.lines ++ line ∷ [];
+  lines_are = zip_next (IsLineFor r columns) rows i row h.lines (h.lines ++ line ∷ []) line below
+      here refl h.lines_are is_line;
+  appended = pushed ∙ ap (λ text. text ++ row_text line) h.appended
+      ∙ flat_map_more row_text old h.lines line;
+}

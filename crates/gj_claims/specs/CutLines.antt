@@ -1,11 +1,12 @@
 -- The lines of rows whose columns are all whole (Gomory and Johnson 1972; the form is own).
-use Rattle.std.specs.Prelude.{ℕ, ◌≡◌, ◌<◌, List, [], All, get_or}
+use Rattle.std.specs.Prelude.{ℕ, ◌≡◌, ◌<◌, ◌++◌, List, [], All, flat_map, get_or}
 use Rattle.std.specs.List.{AllZip}
 use Rattle.gj_row.specs.declared.tableau.Entry.{Entry}
 use Rattle.gj_row.specs.declared.tableau.Row.{Row}
 use Rattle.gj_cut.specs.declared.cut.RowCut.{RowCut}
 use Rattle.gj_cut.specs.declared.cut.RowCut.TheVariants as row_cut
 use Rattle.gj_listings.specs.MixedLines.{IsNamedTerm}
+use Rattle.gj_proof.specs.ProofText.{row_text}
 use Rattle.gj_proof.specs.Rules.{MeetsFraction, MeetsValue}
 use Rattle.gj_proof.specs.declared.cut.CutLine.{CutLine}
 use Rattle.gj_proof.specs.declared.cut.CutLine.TheVariants.{Cut, Skip}
@@ -46,3 +47,9 @@ NamesCut columns row row_cut.Integral (Skip name right Integral) =
 NamesCut columns row row_cut.OtherFraction (Skip name right Other) =
     (name ≡ row.basic) × (right ≡ row.rhs)
 NamesCut columns row cut line = ⊥
+
+-- the new text is the old one, with the lines of the rows behind it
+pub record AppendsCuts (r : CutRule) (columns : List (List ℕ)) (rows : List Row) (old new : List ℕ) : Type 0 where
+  pub lines : List CutLine
+  pub lines_are : AllZip (IsLineFor r columns) rows lines
+  pub appended : new ≡ old ++ flat_map row_text lines

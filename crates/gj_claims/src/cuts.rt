@@ -1,34 +1,35 @@
-//! The claim about the cuts of the rows of a tableau.
+//! The text of the claim about the cuts of the rows of a tableau.
 ghost use Rattle.std.specs.Prelude.{IfOk};
 ghost use Rattle.gj_row.specs.TableauLimits.{IsTableau};
-ghost use Rattle.gj_proof.specs.ProofText.{IsBounded};
-ghost use Rattle.gj_claims.specs.CutClaim.{IsCutClaim};
+ghost use Rattle.gj_claims.specs.CutClaim.{IsTextOfCuts};
 ghost use Rattle.gj_claims.specs.CutRules.{PassesTests};
 
-use crate::lines::cut_lines;
-use gj_proof::{Claim, CutRule, Proof};
+use crate::lines::push_cut_lines;
+use gj_proof::{CutRule, push_rule_lines};
 use gj_row::Tableau;
-use gj_shape::List;
 use std::alloc::{AllocError, Global};
 
-/// The proof of the claim about the cuts of the rows of the tableau by the rule: a line for each
-/// row, with its cut or why it has none.
+/// The proof text of the claim about the cuts of the rows of the tableau by the rule: the lines of
+/// each row, with its cut or why it has none.
 ///
 /// [`violation_of_rule`](crate::violation_of_rule) has found no violation of the rule. Every column
-/// is taken for whole. The only error is want of memory.
+/// is taken for whole. The lines of a row are printed before the cut of the next is made, so that
+/// no more than one cut is kept. The only error is want of memory.
 ///
 /// ```text
 /// let tableau = Tableau::read(alloc, b"basic,rhs,x1,x2\nx0,8/5,7/5,-1/5\n")?;
-/// let proof = cuts_proof(alloc, CutRule::Gmic, &tableau)?;
-/// // its claim is Cut, with the line of x0 for the right side 8/5:
-/// // the terms x1 7/5 2/3 and x2 -1/5 1/2
+/// let text = cuts_text(alloc, &CutRule::Gmic, &tableau)?;
+/// // behind its first three lines it has `cut x0 8/5`, `term x1 7/5 2/3`, `term x2 -1/5 1/2`
+/// // and `end`
 /// ```
-pub fn cuts_proof(alloc: Global, rule: CutRule, tableau: &Tableau) -> Result<Proof, AllocError>
-    requires tests { PassesTests rule }
+pub fn cuts_text(alloc: Global, rule: &CutRule, tableau: &Tableau) -> Result<Vec<u8>, AllocError>
+    requires tests { PassesTests rule.now }
     requires tableau { IsTableau tableau.now }
-    ensures claim { IfOk result (IsCutClaim rule tableau.now) }
-    ensures bounded { IfOk result IsBounded }
+    ensures { IfOk result (λ text. IsTextOfCuts rule.now tableau.now text.items) }
 {
-    let lines = cut_lines(alloc, &rule, tableau)?;
-    Ok(Proof::of(Claim::Cut(rule, List::of(lines))))
+    let mut text = Vec::from_slice(alloc, b"gj-proof 1\nclaim cut\n")?;
+    push_rule_lines(alloc, &mut text, rule)?;
+    push_cut_lines(alloc, &mut text, rule, tableau)?;
+    text.extend_from_slice(b"end\n")?;
+    Ok(text)
 }

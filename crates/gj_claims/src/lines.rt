@@ -1,97 +1,122 @@
 //! The lines of the cuts of a tableau whose columns are all whole, with the names of its columns.
-ghost use Rattle.std.specs.Prelude.{All, IfOk, length};
-ghost use Rattle.std.specs.List.{AllZip};
+ghost use Rattle.std.specs.Prelude.{◌≡◌, ◌++◌, All, IfOk, OnOk, length};
 ghost use Rattle.gj_theory.specs.Cuts.{IsValueOf};
 ghost use Rattle.gj_row.specs.TableauLimits.{IsTableau, IsRowWithinLimits};
 ghost use Rattle.gj_rule.specs.Kept.{Evaluates};
 ghost use Rattle.gj_shape.specs.Limits.{IsRowNumber};
 ghost use Rattle.gj_rule.specs.declared.kind.RuleKind.TheVariants as kind;
+ghost use Rattle.gj_proof.specs.ProofText.{row_text};
+ghost use Rattle.gj_proof.specs.declared.cut.CutLine.{CutLine};
 ghost use Rattle.gj_proof.specs.declared.cut.CutRule.TheVariants.{Gmic, Table};
-ghost use Rattle.gj_claims.specs.CutLines.{HasColumns, IsLineFor, NamesCut};
+ghost use Rattle.gj_claims.specs.CutLines.{AppendsCuts, HasColumns, NamesCut};
 
 use gj_cut::{RowCut, cut_row, gmic_cut_row};
 use gj_frac::Frac;
 use gj_lex::Name;
 use gj_listings::named_terms;
-use gj_proof::{CutLine, CutRule, SkipReason};
+use gj_proof::{CutLine, CutRule, SkipReason, push_row};
 use gj_row::{Row, Tableau};
 use gj_rule::{Evaluator, Rule, RuleKind, table_value};
 use gj_shape::{List, Shape};
 use std::alloc::{AllocError, Global};
 
-/// The line of each row of the tableau, in their order: its cut by the rule, or why it has none.
+/// Appends the lines of each row of the tableau, in their order: its cut by the rule, or why it has
+/// none. The cut of a row is printed before that of the next is made.
 ///
 /// The only error is want of memory.
-pub(crate) fn cut_lines(
+pub(crate) fn push_cut_lines(
     alloc: Global,
+    out: &mut Vec<u8>,
     rule: &CutRule,
     tableau: &Tableau,
-) -> Result<Vec<CutLine>, AllocError>
+) -> Result<(), AllocError>
     requires { IsTableau tableau.now }
-    ensures { IfOk result (λ lines. AllZip (IsLineFor rule.now tableau.now.columns)
-        tableau.now.rows lines.items) }
+    ensures { OnOk result (AppendsCuts rule.now tableau.now.columns tableau.now.rows
+        out.old.items out.new.items) }
 {
     let columns = tableau.columns.as_slice();
     let rows = tableau.rows.as_slice();
     match rule {
-        CutRule::Gmic => gmic_lines(alloc, columns, rows),
-        CutRule::Table(shape) => function_lines(alloc, shape, columns, rows),
+        CutRule::Gmic => push_gmic_lines(alloc, out, columns, rows),
+        CutRule::Table(shape) => push_function_lines(alloc, out, shape, columns, rows),
     }
 }
 
-/// The line of each row by the mixed-integer cut.
-fn gmic_lines(alloc: Global, columns: &[Name], rows: &[Row]) -> Result<Vec<CutLine>, AllocError>
+/// Appends the lines of each row by the mixed-integer cut.
+fn push_gmic_lines(
+    alloc: Global,
+    out: &mut Vec<u8>,
+    columns: &[Name],
+    rows: &[Row],
+) -> Result<(), AllocError>
     requires { All (IsRowWithinLimits (length columns.now)) rows.now }
-    ensures { IfOk result (λ lines. AllZip (IsLineFor Gmic columns.now) rows.now lines.items) }
+    ensures { OnOk result (AppendsCuts Gmic columns.now rows.now out.old.items out.new.items) }
 {
-    let mut lines = Vec::with_capacity(alloc, rows.len())?;
     for row in rows {
         let cut = gmic_cut_row(alloc, row)?;
-        lines.push(line_of(alloc, columns, row, &cut)?)?;
+        push_cut(alloc, out, columns, row, &cut)?;
     }
-    Ok(lines)
+    Ok(())
 }
 
-/// The line of each row by the function.
-fn function_lines(
+/// Appends the lines of each row by the function.
+fn push_function_lines(
     alloc: Global,
+    out: &mut Vec<u8>,
     shape: &Shape,
     columns: &[Name],
     rows: &[Row],
-) -> Result<Vec<CutLine>, AllocError>
+) -> Result<(), AllocError>
     requires { All (IsRowWithinLimits (length columns.now)) rows.now }
-    ensures { IfOk result (λ lines. AllZip (IsLineFor (Table shape.now) columns.now)
-        rows.now lines.items) }
+    ensures { OnOk result (AppendsCuts (Table shape.now) columns.now rows.now
+        out.old.items out.new.items) }
 {
     let kept = shape.copy(alloc)?;
     let eval = |x: Frac|
         requires { IsRowNumber x }
         ensures { IsValueOf shape.entry.now x result }
     { table_value(shape, x) };
-    let lines = lines_by(alloc, kept, eval, columns, rows)?;
-    Ok(lines)
+    push_lines_by(alloc, out, kept, eval, columns, rows)?;
+    Ok(())
 }
 
-/// The line of each row by the function with this evaluator.
-fn lines_by<E: Evaluator>(
+/// Appends the lines of each row by the function with this evaluator.
+fn push_lines_by<E: Evaluator>(
     alloc: Global,
+    out: &mut Vec<u8>,
     shape: Shape,
     eval: E,
     columns: &[Name],
     rows: &[Row],
-) -> Result<Vec<CutLine>, AllocError>
+) -> Result<(), AllocError>
     requires evaluates { Evaluates E.can_answer E.answers (kind.Table shape) eval }
     requires rows { All (IsRowWithinLimits (length columns.now)) rows.now }
-    ensures { IfOk result (λ lines. AllZip (IsLineFor (Table shape) columns.now)
-        rows.now lines.items) }
+    ensures { OnOk result (AppendsCuts (Table shape) columns.now rows.now
+        out.old.items out.new.items) }
 {
     let rule = Rule::new(RuleKind::Table(shape), eval);
-    let mut lines = Vec::with_capacity(alloc, rows.len())?;
     for row in rows {
         let cut = cut_row(alloc, &rule, row)?;
-        lines.push(line_of(alloc, columns, row, &cut)?)?;
+        push_cut(alloc, out, columns, row, &cut)?;
     }
-    Ok(lines)
+    Ok(())
+}
+
+/// Appends the lines of a row with this cut, with the names of its columns.
+fn push_cut(
+    alloc: Global,
+    out: &mut Vec<u8>,
+    columns: &[Name],
+    row: &Row,
+    cut: &RowCut,
+) -> Result<(), AllocError>
+    requires { HasColumns (length columns.now) cut.now }
+    ensures { OnOk result ((line : CutLine) × NamesCut columns.now row.now cut.now line
+        × (out.new.items ≡ out.old.items ++ row_text line)) }
+{
+    let line = line_of(alloc, columns, row, cut)?;
+    push_row(alloc, out, &line)?;
+    Ok(())
 }
 
 /// The line of a row with this cut, with the names of its columns.

@@ -1,7 +1,7 @@
 -- Sets of the intervals of components, and what they take from a row of pairs.
 use Rattle.std.proofs.Common.{◌≡◌, ℕ, ◌+◌, ◌-◌, ◌<◌, ◌&&◌, ◌||◌, inl, inr, Bool, true, false, not, eqb, List, length, get_or, replicate, refl, sym, ap, ◌∙◌, arith}
 use Rattle.std.proofs.Math.ListN.{set, length-set}
-use Rattle.std.proofs.lemmas.Bool.{cases_lt, or_cases}
+use Rattle.std.proofs.lemmas.Bool.{and_parts, cases_lt, or_cases}
 use Rattle.std.proofs.lemmas.Bool.Decides.{eqb_tells}
 use Rattle.std.proofs.lemmas.List.{get_or_default, get_or-set_same, get_or-set_other, get_or-replicate, length-replicate}
 use Rattle.gj_lemmas.proofs.Choices.{not_false}
@@ -55,10 +55,6 @@ whole_row pairs component a row r = record {
   others = λ b below tight not. let has_it = (r.tells b below).1 tight in absurd (cc (not, has_it));
 }
 
-both_true : (x y : Bool) → (x && y) ≡ true → (x ≡ true) × (y ≡ true)
-both_true true y e = (refl, e)
-both_true false y e = absurd cc
-
 neither : (x y : Bool) → x ≡ true → (x && not y) ≡ false → y ≡ true
 neither true y e none = not_false y none
 neither false y e none = absurd cc
@@ -69,7 +65,7 @@ pub part_of_row : (pairs : TightPairs) (component : ℕ → ℕ) (a : ℕ) (row 
     ArePairsLeft pairs component a left
 part_of_row pairs component a row taken left r before is = record {
   within = λ b past. is b ∙ ap (λ x. x && not (has taken b)) (r.within b past);
-  tight = λ b below has_it. r.tight b below (both_true (has row b) (not (has taken b)) (sym (is b) ∙ has_it)).0;
+  tight = λ b below has_it. r.tight b below (and_parts (has row b) (not (has taken b)) (sym (is b) ∙ has_it)).0;
   others = λ b below tight none. by_row b below tight (sym (is b) ∙ none) (has row b) refl;
 }
   where
@@ -97,7 +93,7 @@ pub pair_beside : (pairs : TightPairs) (component : ℕ → ℕ) (a : ℕ) (sets
     IsRow pairs (a - 1) before → ((i : ℕ) → has down i ≡ has before (i + 1)) → ((i : ℕ) → has both i ≡ (has down i && has same i)) →
     (b : ℕ) → has both b ≡ true → HasPairBefore pairs component a b
 pair_beside pairs component a sets before down same both some within read given s is_down is_both b taken =
-    let parts = both_true (has down b) (has same b) (sym (is_both b) ∙ taken) in
+    let parts = and_parts (has down b) (has same b) (sym (is_both b) ∙ taken) in
     let there : has before (b + 1) ≡ true = sym (is_down b) ∙ parts.0 in
     let high = in_order pairs (a - 1) (b + 1) before s there in
     let equal = in_component component pairs.order sets same (component (a - 1)) b within read given (omega arith) parts.1 in
@@ -122,8 +118,8 @@ pub pair_two_beside : (pairs : TightPairs) (component : ℕ → ℕ) (a : ℕ) (
     (b : ℕ) → has both b ≡ true → HasPairBefore pairs component a b
 pair_two_beside pairs component a sets before down last one moved other both some last_in last_read other_in other_read given s is_down is_one
     is_moved is_both b taken =
-    let parts = both_true (has moved b) (has other b) (sym (is_both b) ∙ taken) in
-    let pair = both_true (has down (b + 1)) (has last (b + 1)) (sym (is_one (b + 1)) ∙ sym (is_moved b) ∙ parts.0) in
+    let parts = and_parts (has moved b) (has other b) (sym (is_both b) ∙ taken) in
+    let pair = and_parts (has down (b + 1)) (has last (b + 1)) (sym (is_one (b + 1)) ∙ sym (is_moved b) ∙ parts.0) in
     let there : has before (b + 1 + 1) ≡ true = sym (is_down (b + 1)) ∙ pair.0 in
     let high = in_order pairs (a - 2) (b + 1 + 1) before s there in
     let first = in_component component pairs.order sets other (component (a - 2)) b other_in other_read given (omega arith) parts.1 in

@@ -1,0 +1,19 @@
+use Rattle.std.proofs.Common.{subst}
+use Rattle.gj_proof.specs.declared.claim.Claim.{Claim}
+use Rattle.gj_proof.specs.ProofText.{IsProofText}
+use Rattle.gj_top.proofs.cut.cuts_or_violation.Goals as goal
+
+pub returns-in-None : goal.returns-in-None
+returns-in-None c =
+    let made = c.in-None.in_ok.ensures in (
+      c.in-None.ensures.makes_cuts,
+      record {
+        cuts = record {
+          lines = made.is_claim.lines;
+          lines_are = made.is_claim.lines_are;
+          hold = made.is_claim.hold;
+          spelled = subst (λ (p : Claim). IsProofText p _) made.is_claim.claim_is made.spelled;
+        };
+        rules = made.is_claim.rules;
+      },
+    )
