@@ -1,6 +1,6 @@
 //! The lines of covered intervals, read.
 ghost use Rattle.std.specs.Prelude.{◌≡◌, ◌≢◌, ◌≤◌, ◌++◌, [], ◌∷◌, ℕ, codes, IfOk, IfErr, IfSome};
-ghost use Rattle.std.specs.Prelude.{IfNone};
+ghost use Rattle.std.specs.Prelude.{◌<◌, IfNone, decimal};
 ghost use Rattle.gj_lex.specs.Words.{word_texts};
 ghost use Rattle.gj_lex.specs.Parts.{IsFaultOf};
 ghost use Rattle.gj_forms.specs.LineForms.{AreOfForm, AreLine, BreaksForm};
@@ -13,7 +13,7 @@ ghost use Rattle.gj_proof.specs.ProofGrammar.{cover_form, form_part, covered_par
 
 use crate::fields::{count_below, five_fields_of, split_at_byte};
 use gj_function_lines::face_word;
-use gj_lex::{PartFault, Reason, Spelling, behind_text, line_at};
+use gj_lex::{PartFault, Reason, Spelling, behind_byte, behind_text, line_at, printed_number};
 use gj_shape::{CoverLine, Face, FaceKind};
 use std::alloc::Global;
 
@@ -79,16 +79,12 @@ fn printed_cover_line(text: &[u8], order: u32) -> Option<(CoverLine, &[u8])>
         IsCoverLineBelow order r.0) }
 {
     let words = behind_text(text, b"cover ")?;
-    let (interval, words) = split_at_byte(words, b' ')?;
-    let (from, words) = split_at_byte(words, b' ')?;
+    let (interval, words) = printed_count_below(words, order, b' ')?;
+    let (from, words) = printed_count_below(words, order, b' ')?;
     let (kind, words) = split_at_byte(words, b' ')?;
-    let (a, words) = split_at_byte(words, b' ')?;
-    let (b, rest) = split_at_byte(words, b'\n')?;
-    let interval = count_below(interval, order).ok()?;
-    let from = count_below(from, order).ok()?;
+    let (a, words) = printed_count_below(words, order, b' ')?;
+    let (b, rest) = printed_count_below(words, order, b'\n')?;
     let kind = face_kind(kind)?;
-    let a = count_below(a, order).ok()?;
-    let b = count_below(b, order).ok()?;
     let face = Face { kind, a, b };
     Some((
         CoverLine {
@@ -98,6 +94,18 @@ fn printed_cover_line(text: &[u8], order: u32) -> Option<(CoverLine, &[u8])>
         },
         rest,
     ))
+}
+
+/// The count below the limit with whose digits and this byte the text begins, and what follows
+/// these.
+fn printed_count_below(text: &[u8], limit: u32, mark: u8) -> Option<(u32, &[u8])>
+    ensures { IfSome result (λ r. (text.now ≡ decimal r.0 ++ mark ∷ r.1.now) × (r.0 < limit)) }
+{
+    let (count, rest) = printed_number(text)?;
+    if count >= u64::from(limit) {
+        return None;
+    }
+    Some((count as u32, behind_byte(rest, mark)?))
 }
 
 /// What the line of a covered interval tells.
