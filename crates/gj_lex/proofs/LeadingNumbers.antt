@@ -1,15 +1,17 @@
 -- Numbers at the front of a text, and the bytes of numbers in lenient form.
-use Rattle.std.proofs.Common.{◌≡◌, ◌≢◌, ℕ, ◌+◌, ◌^◌, ◌<◌, ◌≤◌, List, [], ◌∷◌, ◌++◌, length, take, drop, pos, true, false, eqb, refl, sym, ◌∙◌, ap, subst, inl, inr, arith, append-nil, append_assoc, length-append, take-append-drop}
-use Rattle.std.specs.Char.{IsAsciiDigit}
+use Rattle.std.proofs.Common.{◌≡◌, ◌≢◌, ℕ, ◌+◌, ◌^◌, ◌<◌, ◌≤◌, List, [], ◌∷◌, ◌++◌, length, get_or, take, drop, pos, true, false, eqb, refl, sym, ◌∙◌, ap, subst, inl, inr, arith, append-nil, append_assoc, length-append, take-append-drop}
+use Rattle.std.specs.Char.{IsAsciiDigit, digit_value}
 use Rattle.std.specs.List.{All}
 use Rattle.std.specs.Str.Parse.{AllDigits, IsNumeral, digits_value, digits_value_after, starts_with_minus, without_leading_sign}
 use Rattle.std.proofs.lemmas.Bool.{cases_Bool}
 use Rattle.std.proofs.lemmas.Bool.Decides.{nat_tests}
 use Rattle.std.proofs.lemmas.List.{length-take-le}
+use Rattle.std.proofs.lemmas.Str.{digit_value_digit}
 use Rattle.std.proofs.lemmas.List.Elements.{All-append, All-cons, All-nil, All-weaker}
 use Rattle.std.proofs.Math.Seq.{drop-append_seam}
 use Rattle.gj_frac.specs.declared.Frac.{Frac}
 use Rattle.gj_frac.specs.Fraction.{IsRatio}
+use Rattle.gj_lex.specs.LeadingText.{BeginsWithNoDigit}
 use Rattle.gj_lex.specs.NumberText.{IsWritten}
 use Rattle.gj_lex.specs.NumberText.IsWritten.{whole, ratio, point}
 use Rattle.gj_lex.specs.SpelledNumbers.{IsFractionWord}
@@ -36,16 +38,6 @@ module _ (text near far : List ℕ) (parts : text ≡ near ++ far) (k : ℕ) (di
   numeral : IsNumeral 10 (take k near)
   numeral = (omega (arith, length-take-le k near within), digits)
 
-  -- digits
-  pub whole_begins : BeginsWithWritten text top (10 ^ 0) (drop k text)
-  whole_begins = (
-    take k near,
-    behind_word text (take k near) (drop k near ++ far) k
-        (parts ∙ ap (λ b. b ++ far) (sym (take-append-drop k near)) ∙ append_assoc (take k near) (drop k near) far)
-        (length-take-le k near within),
-    whole numeral is refl,
-  )
-
   -- digits, a point and digits
   pub point_begins : (ds : List ℕ) → drop k near ≡ 46 ∷ ds → (j value : ℕ) → AllDigits 10 (take j ds) → j ≤ length ds → 0 < j →
       value ≡ digits_value_after 10 top (take j ds) → BeginsWithWritten text value (10 ^ j) (drop (k + 1 + j) text)
@@ -63,6 +55,17 @@ module _ (text near far : List ℕ) (parts : text ≡ near ++ far) (k : ℕ) (di
             (parts ∙ ap (λ b. b ++ far) near_is ∙ append_assoc word (drop j ds) far) all,
         point front back refl numeral (omega arith, more) (point_value front back top value is value_is) (ap (λ n. 10 ^ n) (sym long)),
       )
+
+-- no digit stands first
+pub no_digit_first : (text near far : List ℕ) (k : ℕ) → text ≡ near ++ far → (length near ≡ 0 → length text ≡ 0) → k ≡ 0 →
+    (k < length near → 10 ≤ digit_value (get_or near k 0)) → BeginsWithNoDigit text
+no_digit_first [] near far k is some none other = tt
+no_digit_first (b ∷ text) [] far k is some none other = absurd (omega (arith, some refl))
+no_digit_first (b ∷ text) (c ∷ near) far k is some none other = λ digit.
+    let same : b ≡ c = cc is in
+    let here : 10 ≤ digit_value c = subst (λ i. 10 ≤ digit_value (get_or (c ∷ near) i 0)) none (other (omega arith)) in
+    let value = digit_value_digit b digit in
+    omega (arith, digit, ap digit_value same)
 
 -- ---- with a sign
 

@@ -7,3 +7,4 @@ pub mod TextLines
 pub mod Parts
 pub mod SpelledNumbers
 pub mod LineFaults
+pub mod LeadingText

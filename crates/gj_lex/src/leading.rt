@@ -1,7 +1,11 @@
 //! Decimals at the front of a text.
 
-ghost use Rattle.std.specs.Prelude.{◌≡◌, ◌^◌, ◌<◌, ◌≤◌, ◌++◌, ℕ, pos, List, IfSome};
+ghost use Rattle.std.specs.Prelude.{◌≡◌, ◌^◌, ◌<◌, ◌≤◌, ◌++◌, ℕ, pos, List, drop, IfSome};
+ghost use Rattle.std.specs.Prelude.{IfNone};
+ghost use Rattle.std.specs.Int.{from_bool};
+ghost use Rattle.std.specs.Str.Parse.{starts_with_minus};
 ghost use Rattle.gj_frac.specs.Fraction.{IsRatio};
+ghost use Rattle.gj_lex.specs.LeadingText.{BeginsWithNoDigit};
 ghost use Rattle.gj_lex.specs.NumberText.{IsWritten};
 ghost use Rattle.gj_lex.specs.SpelledNumbers.{IsFractionWord};
 ghost use Rattle.gj_lex.specs.declared.spelling.Spelling.{Spelling};
@@ -13,12 +17,14 @@ use gj_frac::Frac;
 /// The decimal that the text begins with, as `-20.609`, and what follows it.
 ///
 /// A `-` may stand first, and then digits, or digits, `.` and digits. Of these at most 19 bytes are
-/// read: what follows may go on with digits. None if no digit stands first, or none behind the `.`.
+/// read: what follows may go on with digits. None if no digit stands first, or behind the `-`.
 // Loops over numbers call it for each: what it gives stays in registers.
 #[inline(always)]
 pub fn leading_decimal(text: &[u8]) -> Option<(Frac, &[u8])>
-    ensures { IfSome result (λ r. (word : List ℕ) × (text.now ≡ word ++ r.1.now) ×
+    ensures found { IfSome result (λ r. (word : List ℕ) × (text.now ≡ word ++ r.1.now) ×
         IsFractionWord Spelling.Lenient word r.0) }
+    ensures none { IfNone result
+        (BeginsWithNoDigit (drop (from_bool (starts_with_minus text.now)) text.now)) }
 {
     let minus = begins_with(text, b'-');
     let (top, places, rest) = leading_digits(&text[usize::from(minus)..])?;
@@ -33,8 +39,9 @@ pub fn leading_decimal(text: &[u8]) -> Option<(Frac, &[u8])>
 /// stand behind the point, and what follows them.
 #[inline(always)]
 fn leading_digits(text: &[u8]) -> Option<(u64, usize, &[u8])>
-    ensures { IfSome result (λ r. (word : List ℕ) × (text.now ≡ word ++ r.2.now) ×
+    ensures found { IfSome result (λ r. (word : List ℕ) × (text.now ≡ word ++ r.2.now) ×
         IsWritten word r.0 (10 ^ r.1) × (r.0 < 2 ^ 64) × (r.1 ≤ 19)) }
+    ensures none { IfNone result (BeginsWithNoDigit text.now) }
 {
     let (near, _) = text.split_at(text.len().min(SHORT));
     let (whole, count) = leading_value(near);
@@ -46,7 +53,7 @@ fn leading_digits(text: &[u8]) -> Option<(u64, usize, &[u8])>
         Some((b'.', digits)) => {
             let (top, places) = leading_value_after(whole, digits);
             if places == 0 {
-                return None;
+                return Some((whole, 0, &text[count..]));
             }
             Some((top, places, &text[count + 1 + places..]))
         }

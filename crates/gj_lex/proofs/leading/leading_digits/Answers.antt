@@ -2,11 +2,11 @@ use Rattle.std.proofs.Common.{◌≡◌, ◌<◌, ◌+◌, ◌-◌, ◌∷◌, �
 use Rattle.std.proofs.lemmas.Bool.Decides.{nat_tests}
 use Rattle.std.proofs.lemmas.List.{take_rest}
 use Rattle.gj_lex.proofs.LeadingDigits.{top_small}
-use Rattle.gj_lex.proofs.LeadingNumbers.{point_begins}
+use Rattle.gj_lex.proofs.LeadingNumbers.{no_digit_first, point_begins}
 use Rattle.gj_lex.proofs.leading.leading_digits.Goals as goal
 
-pub returns-else-places-eq0 : goal.returns-else-places-eq0
-returns-else-places-eq0 c =
+pub returns-else-places-eq0-clause-found : goal.returns-else-places-eq0-clause-found
+returns-else-places-eq0-clause-found c =
     let text = c.args.text.now in
     let near = c.split_at.result.0.now in
     let far = c.split_at.result.1.now in
@@ -29,3 +29,13 @@ returns-else-places-eq0 c =
       top_small c.leading_value_after-top.result.0 (length point.digits.now - j) more.room,
       omega (arith, more.within, point.ensures.cases.1, c.split_at-2.ensures.back_len, c.split_at.ensures.front_len, c.min.ensures),
     )
+
+pub returns-then-count-eq0-clause-none : goal.returns-then-count-eq0-clause-none
+returns-then-count-eq0-clause-none c =
+    let text = c.args.text.now in
+    let near = c.split_at.result.0.now in
+    let far = c.split_at.result.1.now in
+    let parts : text ≡ near ++ far =
+    sym (take-append-drop c.min.result text) ∙ (λ i. sym c.split_at.ensures.front i ++ sym c.split_at.ensures.back i) in
+    no_digit_first text near far c.leading_value-whole.result.1 parts (λ none. omega (arith, none, c.split_at.ensures.front_len, c.min.ensures))
+    (grind (arith, nat_tests)) c.leading_value-whole.ensures.all
