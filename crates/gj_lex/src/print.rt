@@ -65,36 +65,9 @@ pub fn print_pair(out: &mut Vec<u8>, x: Frac, y: Frac) -> Result<(), AllocError>
         out.old.items ++ 32 ∷ fraction_text x ++ 32 ∷ fraction_text y ++ 10 ∷ []) }
     ensures err { OnErr result (out.new.items ≡ out.old.items) }
 {
-    PairSpace::new().print(out, x, y)
-}
-
-/// Room in which the end of a line of two fractions is written before it is appended. Whoever
-/// prints many such lines makes it once.
-#[derive(Drop)]
-pub struct PairSpace {
-    text: [u8; PAIR_SPACE],
-}
-
-impl PairSpace {
-    /// The room.
-    pub fn new() -> PairSpace {
-        PairSpace {
-            text: [0; PAIR_SPACE],
-        }
-    }
-
-    /// Appends what `print_pair` does.
-    ///
-    /// An error says that memory ran out; `out` is then as it was.
-    #[inline(always)]
-    pub fn print(&mut self, out: &mut Vec<u8>, x: Frac, y: Frac) -> Result<(), AllocError>
-        ensures ok { OnOk result (out.new.items ≡
-            out.old.items ++ 32 ∷ fraction_text x ++ 32 ∷ fraction_text y ++ 10 ∷ []) }
-        ensures err { OnErr result (out.new.items ≡ out.old.items) }
-    {
-        let start = fill_with_pair(&mut self.text, x, y);
-        out.extend_from_slice(&self.text[start..])
-    }
+    let mut text = [0; PAIR_SPACE];
+    let start = fill_with_pair(&mut text, x, y);
+    out.extend_from_slice(&text[start..])
 }
 
 /// Appends two counts in canonical form, a space before each, and a byte behind them.

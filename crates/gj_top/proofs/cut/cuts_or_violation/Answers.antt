@@ -3,10 +3,10 @@ use Rattle.gj_proof.specs.declared.claim.Claim.{Claim}
 use Rattle.gj_proof.specs.ProofText.{IsProofText}
 use Rattle.gj_top.proofs.cut.cuts_or_violation.Goals as goal
 
-pub returns-in-None : goal.returns-in-None
-returns-in-None c =
-    let made = c.in-None.in_ok.ensures in (
-      c.in-None.ensures.makes_cuts,
+pub returns-in_ok-cuts_text-in-None : goal.returns-in_ok-cuts_text-in-None
+returns-in_ok-cuts_text-in-None c =
+    let made = c.in_ok-cuts_text-in-None.ensures in (
+      c.in-None.ensures.none.makes_cuts,
       record {
         cuts = record {
           lines = made.is_claim.lines;
