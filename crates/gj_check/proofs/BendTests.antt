@@ -103,10 +103,6 @@ bends_decide values b some h = (
 abbrev pub AreBendsBefore : List ℤ → Bends → ℕ → Type 0
 AreBendsBefore values b i = IsBend b 0 × ((k : ℕ) → k < i → IsStraight values k ⊎ IsBend b (k + 1))
 
--- one index more, at which the values lie on a line
-pub straight_more : (values : List ℤ) (b : Bends) (i : ℕ) → IsStraight values i → AreBendsBefore values b i → AreBendsBefore values b (i + 1)
-straight_more values b i straight h = (h.0, below_more (λ k. IsStraight values k ⊎ IsBend b (k + 1)) i h.1 (inl straight))
-
 -- one bend more is written
 pub record IsPushed (b more : Bends) (i : ℕ) : Type 0 where
   pub room : b.count < length b.indices
