@@ -8,6 +8,9 @@ use crate::faults::RowReason;
 use gj_frac::{Frac, lcm};
 use gj_shape::{GREATEST_DENOMINATOR, GREATEST_NUMBER, small_denominator};
 
+/// The greatest whole number of a row.
+const GREATEST_WHOLE: i128 = GREATEST_NUMBER as i128;
+
 /// The number that was read, behind numbers with the least common denominator `scale`, and the
 /// least common denominator with it.
 ///
@@ -41,9 +44,8 @@ pub(crate) fn within(scale: u32, number: Option<Frac>) -> Result<(Frac, u32), Ro
 fn is_small(x: Frac) -> bool
     ensures { IsTrue result ↔ IsSmallNumber x }
 {
-    let size = x.num().unsigned_abs();
-    if size <= GREATEST_NUMBER {
+    if -GREATEST_WHOLE <= x.num() && x.num() <= GREATEST_WHOLE {
         return true;
     }
-    size <= x.den().unsigned_abs().saturating_mul(GREATEST_NUMBER)
+    x.num().unsigned_abs() <= x.den().unsigned_abs().saturating_mul(GREATEST_NUMBER)
 }

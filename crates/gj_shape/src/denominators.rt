@@ -27,9 +27,10 @@ pub fn small_denominator(x: Frac) -> Option<u32>
     ensures { SomeIff result (HasDenominatorBelow denominator_bound x)
         (unsigned_abs (denominator x)) }
 {
-    u32::try_from(x.den())
-        .ok()
-        .filter(|d| *d <= GREATEST_DENOMINATOR)
+    if x.den() > i128::from(GREATEST_DENOMINATOR) {
+        return None;
+    }
+    Some(x.den() as u32)
 }
 
 /// The least common denominator of the fractions so far, `scale`, with one more fraction.
