@@ -3,11 +3,12 @@
 //! Each reader gives a number and what follows its text. It reads no more than 18 digits of a
 //! number: what goes on with a digit is no end of a word, and then the line is read word by word.
 ghost use Rattle.std.specs.Prelude.{◌≡◌, ◌<◌, ◌^◌, ◌++◌, ◌∷◌, length, slice_index, decimal};
-ghost use Rattle.std.specs.Prelude.{IfSome, IsTrue};
+ghost use Rattle.std.specs.Prelude.{IfSome, IsSome, IsTrue, pos};
 ghost use Rattle.std.specs.Fmt.{signed_decimal};
+ghost use Rattle.gj_frac.specs.Fraction.{numerator, denominator};
+ghost use Rattle.gj_frac.specs.Lowest.{IsLowest};
 ghost use Rattle.gj_lex.specs.NumberText.{fraction_text, denominator_text};
 
-use crate::canonical::in_lowest_terms;
 use crate::digits::leading_value;
 use gj_frac::Frac;
 
@@ -31,7 +32,23 @@ pub fn printed_fraction(text: &[u8]) -> Option<(Frac, &[u8])>
 {
     let (num, rest) = printed_whole(text)?;
     let (den, rest) = printed_denominator(rest)?;
-    Some((in_lowest_terms(i128::from(num), i128::from(den))?, rest))
+    Some((small_in_lowest_terms(num, den)?, rest))
+}
+
+/// The fraction `num/den`, if that is in lowest terms. All is done in 64 bits.
+fn small_in_lowest_terms(num: i64, den: u64) -> Option<Frac>
+    requires { 0 < den }
+    ensures found { IfSome result (λ x. (numerator x ≡ num) × (denominator x ≡ pos den)) }
+    ensures only { IsLowest num (pos den) → IsSome result }
+{
+    let x = Frac::of_small(num.unsigned_abs(), den);
+    if x.den() != i128::from(den) {
+        return None;
+    }
+    if num < 0 {
+        return Some(-x);
+    }
+    Some(x)
 }
 
 /// The whole number with whose printed text the text begins, and what follows that. It takes no
