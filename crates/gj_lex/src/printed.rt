@@ -1,9 +1,8 @@
 //! Numbers in the form in which they are printed, read in one pass from the front of a text.
 //!
-//! Each reader gives a number and what follows its text. At most 18 digits of a number are read: of
-//! one with more the first 18 are read, and what follows begins with a digit. So the clauses `none`
-//! and `only` speak of numbers below 10^18 with no digit behind them. What goes on with a digit is no
-//! end of a word, and then the line is read word by word.
+//! Each reader gives a number and what follows its text. At most 18 digits of a number are read. So
+//! of one with more no more than a part is read, and a digit follows: that is no end of a word, and
+//! then the line is read word by word. A number below 10^18 with no digit behind it is always read.
 ghost use Rattle.std.specs.Prelude.{◌≡◌, ◌≢◌, ◌↔◌, ◌<◌, ◌^◌, ◌++◌, ◌∷◌, ℕ, ℤ, pos, unsigned_abs};
 ghost use Rattle.std.specs.Prelude.{List, length, slice_index, decimal};
 ghost use Rattle.std.specs.Prelude.{IfSome, IfNone, IsSome, IsTrue};
@@ -35,6 +34,8 @@ pub fn behind_byte(text: &[u8], byte: u8) -> Option<&[u8]>
 ///
 /// At most 18 digits of the numerator and of the denominator are read.
 pub fn printed_fraction(text: &[u8]) -> Option<(Frac, &[u8])>
+    ensures small { IfSome result (λ r. (unsigned_abs (numerator r.0) < 10 ^ 18) ×
+        (unsigned_abs (denominator r.0) < 10 ^ 18)) }
     ensures found { IfSome result (λ r. text.now ≡ fraction_text r.0 ++ r.1.now) }
     ensures none { IfNone result ((x : Frac) (rest : List ℕ) → unsigned_abs (numerator x) < 10 ^ 18 →
         unsigned_abs (denominator x) < 10 ^ 18 → BeginsWithNoDigit rest →
@@ -70,6 +71,7 @@ fn small_in_lowest_terms(num: i64, den: u64) -> Option<Frac>
 ///
 /// At most 18 digits are read.
 pub fn printed_whole(text: &[u8]) -> Option<(i64, &[u8])>
+    ensures small { IfSome result (λ r. unsigned_abs r.0 < 10 ^ 18) }
     ensures found { IfSome result (λ r. text.now ≡ signed_decimal r.0 ++ r.1.now) }
     ensures none { IfNone result ((n : ℤ) (rest : List ℕ) → unsigned_abs n < 10 ^ 18 →
         BeginsWithNoDigit rest → text.now ≢ signed_decimal n ++ rest) }
@@ -92,6 +94,7 @@ pub fn printed_whole(text: &[u8]) -> Option<(i64, &[u8])>
 /// stands there.
 fn printed_denominator(text: &[u8]) -> Option<(u64, &[u8])>
     ensures some { IfSome result (λ r. 0 < r.0) }
+    ensures small { IfSome result (λ r. r.0 < 10 ^ 18) }
     ensures printed { IfSome result (λ r. text.now ≡ denominator_text r.0 ++ r.1.now) }
     ensures none { IfNone result ((d : ℕ) (rest : List ℕ) → 0 < d → d < 10 ^ 18 →
         BeginsWithNoDigit rest → slice_index rest 0 ≢ 47 →
