@@ -1,4 +1,4 @@
-use Rattle.std.proofs.Common.{◌≡◌, ◌≤◌, ◌∙◌, ap, sym, subst, take, drop, length, refl, arith}
+use Rattle.std.proofs.Common.{◌≡◌, ◌≤◌, ◌∙◌, ap, subst, take, length, refl, arith}
 use Rattle.std.specs.Str.Parse.{AllDigits, digits_value}
 use Rattle.std.proofs.lemmas.List.{take-take, length-take-le}
 use Rattle.gj_lex.proofs.PrintedNumbers.{few_digits_small, number_printed, number_stands, digits_canonical, digits_dropped, digits_spell}
