@@ -27,7 +27,7 @@ pub top_small : (top k : ℕ) → (top + 1) * 10 ^ k ≤ 10 ^ 19 → top < 2 ^ 6
 top_small top k room = omega (arith, room_is_below top k (10 ^ 19) room)
 
 -- digits end where the first other byte stands
-digits_end : (xs ys : List ℕ) (k : ℕ) → AllDigits 10 (take k (xs ++ ys)) → k ≤ length (xs ++ ys) →
+pub digits_end : (xs ys : List ℕ) (k : ℕ) → AllDigits 10 (take k (xs ++ ys)) → k ≤ length (xs ++ ys) →
     (k < length (xs ++ ys) → 10 ≤ digit_value (get_or (xs ++ ys) k 0)) → AllDigits 10 xs →
     (0 < length ys → 10 ≤ digit_value (get_or ys 0 0)) → k ≡ length xs
 digits_end [] ys zero d within end all other = refl

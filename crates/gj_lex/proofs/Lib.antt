@@ -12,6 +12,7 @@ pub mod WordRuns
 pub mod WordTexts
 pub mod WrittenNumbers
 pub mod LenientLines
+pub mod CommentLines
 pub mod StrictLines
 pub mod LineNumbers
 pub mod PartLaws

@@ -1,10 +1,19 @@
 -- Texts that begin with a printed number.
-use Rattle.std.proofs.Common.{◌≡◌, ℕ, ◌<◌, ◌≤◌, ◌^◌, List, ◌∷◌, ◌++◌, length, get_or, take, drop, decimal, sym, ap, subst, ◌∙◌, take-append-drop, arith}
+use Rattle.std.proofs.Common.{◌≡◌, ◌≢◌, ℕ, zero, suc, ℤ, pos, negsuc, neg_ℤ, unsigned_abs, ◌+◌, ◌-◌, ◌<◌, ◌≤◌, ◌^◌, min, List, [], ◌∷◌, ◌++◌, length, get_or, take, drop, decimal, inl, inr, refl, sym, ap, subst, ◌∙◌, append_assoc, length-append, take-append-drop, arith}
+use Rattle.std.specs.Char.{digit_value}
+use Rattle.std.specs.Fmt.{signed_decimal}
 use Rattle.std.specs.Str.Parse.{AllDigits, digits_value}
-use Rattle.std.proofs.lemmas.Str.Parse.{digits_value_short, numerals_by_value, tells_digits}
-use Rattle.gj_lex.specs.NumberText.{denominator_text}
-use Rattle.gj_lex.proofs.CanonicalTexts.{denominator_more}
-use Rattle.gj_lex.proofs.Decimals.{decimal_of_value}
+use Rattle.std.proofs.Math.Seq.{take-append_seam, take-append-add, drop-append_seam}
+use Rattle.std.proofs.lemmas.Bool.{cases_lt}
+use Rattle.std.proofs.lemmas.Fmt.{decimal_is_IsNumeral_wide, length-decimal-le_wide}
+use Rattle.std.proofs.lemmas.Int.{ints}
+use Rattle.std.proofs.lemmas.Str.Parse.{digit_from_value, digits_value_short, numerals_by_value, tells_digits}
+use Rattle.gj_frac.specs.declared.Frac.{Frac}
+use Rattle.gj_lex.specs.LeadingText.{BeginsWithNoDigit}
+use Rattle.gj_lex.specs.NumberText.{denominator_text, fraction_text}
+use Rattle.gj_lex.proofs.CanonicalTexts.{denominator_more, denominator_one}
+use Rattle.gj_lex.proofs.Decimals.{decimal_leading_zero, decimal_of_value, decimal_some, value_of_decimal}
+use Rattle.gj_lex.proofs.LeadingDigits.{digits_end}
 
 -- the number that few digits spell is small
 pub few_digits_small : (ds : List ℕ) → AllDigits 10 ds → length ds ≤ 18 → digits_value 10 ds < 10 ^ 18
@@ -21,8 +30,114 @@ number_printed text front rest len number front_is rest_is digits value small so
     ap decimal (sym value_of) ∙ decimal_of_value front digits_of some lead (omega (arith, value_of, small)) in
     sym (take-append-drop len text) ∙ ap (λ t. t ++ drop len text) (sym front_is ∙ sym printed) ∙ ap (λ t. decimal number ++ t) (sym rest_is)
 
+-- ---- a number that stands there is read
+
+-- where a text begins with no digit, so does its front
+no_digit_ahead : (j : ℕ) (rest : List ℕ) → BeginsWithNoDigit rest → 0 < length (take j rest) → 10 ≤ digit_value (get_or (take j rest) 0 0)
+no_digit_ahead zero rest none some = absurd (omega arith)
+no_digit_ahead (suc j) [] none some = absurd (omega arith)
+no_digit_ahead (suc j) (b ∷ rest) none some = elim (cases_lt (digit_value b) 10) [
+  | inl digit ↦ absurd (none (digit_from_value b digit))
+  | inr other ↦ other
+]
+
+-- the digits at the front of a text are those of the number that stands there, if no more than 18
+-- are read and no digit stands behind them
+pub number_stands : (text front rest : List ℕ) (m k n : ℕ) → front ≡ take m text → m ≡ min (length text) 18 → AllDigits 10 (take k front) →
+    k ≤ length front → (k < length front → 10 ≤ digit_value (get_or front k 0)) → n < 10 ^ 18 → BeginsWithNoDigit rest →
+    text ≡ decimal n ++ rest → k ≡ length (decimal n)
+number_stands text front rest m k n front_is m_is digits within end small none text_is =
+    let few : length (decimal n) ≤ 18 = length-decimal-le_wide 18 n (omega arith) small (omega (arith, small)) in
+    let all = length-append (decimal n) rest in
+    let seam : m ≡ length (decimal n) + (m - length (decimal n)) = omega (arith, m_is, few, all, ap length text_is) in
+    let ahead = take (m - length (decimal n)) rest in
+    let same : front ≡ decimal n ++ ahead =
+    front_is ∙ ap (take m) text_is ∙ ap (λ j. take j (decimal n ++ rest)) seam ∙ take-append-add (decimal n) rest (m - length (decimal n)) in
+    digits_end (decimal n) ahead k (subst (λ w. AllDigits 10 (take k w)) same digits) (subst (λ w. k ≤ length w) same within)
+    (subst (λ w. k < length w → 10 ≤ digit_value (get_or w k 0)) same end) (decimal_is_IsNumeral_wide n (omega (arith, small))).0.1
+    (no_digit_ahead (m - length (decimal n)) rest none)
+
+module _ (text rest : List ℕ) (k n : ℕ) (small : n < 10 ^ 18) (text_is : text ≡ decimal n ++ rest) (k_is : k ≡ length (decimal n)) where
+  -- they are its digits
+  pub digits_taken : take k text ≡ decimal n
+  digits_taken = ap (λ i. take i text) k_is ∙ ap (take (length (decimal n))) text_is ∙ take-append_seam (decimal n) rest
+
+  -- and the rest follows them
+  pub digits_dropped : drop k text ≡ rest
+  digits_dropped = ap (λ i. drop i text) k_is ∙ ap (drop (length (decimal n))) text_is ∙ drop-append_seam (decimal n) rest
+
+  -- there is a digit, and no zero before others
+  pub digits_canonical : (front : List ℕ) → front ≡ take k text → (0 < length front) × (get_or front 0 0 ≡ 48 → length front ≡ 1)
+  digits_canonical front front_is =
+      let same : front ≡ decimal n = front_is ∙ digits_taken in
+      subst (λ ds. (0 < length ds) × (get_or ds 0 0 ≡ 48 → length ds ≡ 1)) (sym same)
+      (decimal_some n (omega (arith, small)), decimal_leading_zero n (omega (arith, small)))
+
+  -- which spell the number
+  pub digits_spell : digits_value 10 (take k text) ≡ n
+  digits_spell = ap (digits_value 10) digits_taken ∙ value_of_decimal n (omega (arith, small))
+
 -- a `/` and a number from 2 on are printed for that denominator
 pub denominator_printed : (text digits rest : List ℕ) (d : ℕ) → text ≡ 47 ∷ digits → digits ≡ decimal d ++ rest → 2 ≤ d →
     text ≡ denominator_text d ++ rest
 denominator_printed text digits rest d text_is digits_is two =
     text_is ∙ ap (λ t. 47 ∷ t) digits_is ∙ ap (λ t. t ++ rest) (sym (denominator_more d two))
+
+-- ---- what stands behind a sign or a `/`
+
+-- digits begin with no `-`
+no_minus_before : (ds bs rest : List ℕ) → AllDigits 10 ds → 0 < length ds → 45 ∷ bs ≢ ds ++ rest
+no_minus_before [] bs rest digits some e = absurd (omega arith)
+no_minus_before (c ∷ cs) bs rest digits some e =
+    let same : 45 ≡ c = ap (λ t. get_or t 0 0) e in
+    omega (arith, digit_from_value c digits.0)
+
+number_no_minus : (n : ℕ) (bs rest : List ℕ) → n < 10 ^ 18 → 45 ∷ bs ≢ decimal n ++ rest
+number_no_minus n bs rest small e =
+    let spelled = decimal_is_IsNumeral_wide n (omega (arith, small)) in
+    no_minus_before (decimal n) bs rest spelled.0.1 spelled.0.0 e
+
+-- a whole number that begins with no `-` is not below 0
+pub plain_number : (text rest : List ℕ) (n : ℤ) → ((bs : List ℕ) → text ≢ 45 ∷ bs) → text ≡ signed_decimal n ++ rest →
+    (n ≡ pos (unsigned_abs n)) × (text ≡ decimal (unsigned_abs n) ++ rest)
+plain_number text rest (pos n) other is = (refl, is)
+plain_number text rest (negsuc n) other is = absurd (other (decimal (suc n) ++ rest) is)
+
+-- one that begins with a `-` is, and its digits follow
+pub minus_number : (text digits rest : List ℕ) (n : ℤ) → unsigned_abs n < 10 ^ 18 → text ≡ 45 ∷ digits → text ≡ signed_decimal n ++ rest →
+    (n ≡ neg_ℤ (pos (unsigned_abs n))) × (0 < unsigned_abs n) × (digits ≡ decimal (unsigned_abs n) ++ rest)
+minus_number text digits rest (pos n) small minus is = absurd (number_no_minus n digits rest small (sym minus ∙ is))
+minus_number text digits rest (negsuc n) small minus is = (refl, omega arith, ap (drop 1) (sym minus ∙ is))
+
+-- a denominator that begins with no `/` is 1
+pub plain_denominator : (text rest : List ℕ) (d : ℕ) → 0 < d → ((bs : List ℕ) → text ≢ 47 ∷ bs) → text ≡ denominator_text d ++ rest →
+    (d ≡ 1) × (text ≡ rest)
+plain_denominator text rest zero some other is = absurd (omega arith)
+plain_denominator text rest (suc zero) some other is = (refl, is ∙ ap (λ t. t ++ rest) denominator_one)
+plain_denominator text rest (suc (suc d)) some other is =
+    absurd (other (decimal (suc (suc d)) ++ rest) (is ∙ ap (λ t. t ++ rest) (denominator_more (suc (suc d)) (omega arith))))
+
+-- one that begins with a `/` is at least 2, and its digits follow, if no `/` stands behind it
+pub slash_denominator : (text digits rest : List ℕ) (d : ℕ) → 0 < d → get_or rest 0 0 ≢ 47 → text ≡ 47 ∷ digits → text ≡ denominator_text d ++ rest →
+    (2 ≤ d) × (digits ≡ decimal d ++ rest)
+slash_denominator text digits rest zero some other slash is = absurd (omega arith)
+slash_denominator text digits rest (suc zero) some other slash is =
+    absurd (other (ap (λ t. get_or t 0 0) (sym (is ∙ ap (λ t. t ++ rest) denominator_one) ∙ slash)))
+slash_denominator text digits rest (suc (suc d)) some other slash is =
+    (omega arith, ap (drop 1) (sym slash ∙ is ∙ ap (λ t. t ++ rest) (denominator_more (suc (suc d)) (omega arith))))
+
+-- no digit stands behind a numerator
+no_digit_behind : (d : ℕ) (rest : List ℕ) → 0 < d → BeginsWithNoDigit rest → BeginsWithNoDigit (denominator_text d ++ rest)
+no_digit_behind zero rest some none = absurd (omega arith)
+no_digit_behind (suc zero) rest some none = subst (λ t. BeginsWithNoDigit (t ++ rest)) (sym denominator_one) none
+no_digit_behind (suc (suc d)) rest some none =
+    subst (λ t. BeginsWithNoDigit (t ++ rest)) (sym (denominator_more (suc (suc d)) (omega arith))) (λ digit. omega (arith, digit))
+
+-- a fraction that stands there is its numerator, and then its denominator
+pub fraction_stands : (text rest : List ℕ) (x : Frac) → BeginsWithNoDigit rest → text ≡ fraction_text x ++ rest →
+    (text ≡ signed_decimal x.num ++ (denominator_text (unsigned_abs x.den) ++ rest)) × (0 < unsigned_abs x.den) ×
+    BeginsWithNoDigit (denominator_text (unsigned_abs x.den) ++ rest)
+fraction_stands text rest x none is =
+    let positive = x.lowest.positive in
+    let some : 0 < unsigned_abs x.den = omega (arith, ints) in
+    (is ∙ append_assoc (signed_decimal x.num) (denominator_text (unsigned_abs x.den)) rest, some, no_digit_behind (unsigned_abs x.den) rest some none)

@@ -36,7 +36,7 @@ pub fn read_canonical(word: &[u8]) -> Option<Frac>
 /// The fraction `num/den`, if that is in lowest terms.
 ///
 /// If both numbers are below 2^64, all is done in 64 bits.
-pub(crate) fn in_lowest_terms(num: i128, den: i128) -> Option<Frac>
+fn in_lowest_terms(num: i128, den: i128) -> Option<Frac>
     requires { pos 0 <ℤ den }
     ensures found { IfSome result (λ x. (numerator x ≡ num) × (denominator x ≡ den)) }
     ensures only { IsLowest num den → IsSome result }

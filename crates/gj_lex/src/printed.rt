@@ -1,13 +1,17 @@
 //! Numbers in the form in which they are printed, read in one pass from the front of a text.
 //!
-//! Each reader gives a number and what follows its text. It reads no more than 18 digits of a
-//! number: what goes on with a digit is no end of a word, and then the line is read word by word.
-ghost use Rattle.std.specs.Prelude.{◌≡◌, ◌<◌, ◌^◌, ◌++◌, ◌∷◌, length, slice_index, decimal};
-ghost use Rattle.std.specs.Prelude.{IfSome, IsTrue};
+//! Each reader gives a number and what follows its text. At most 18 digits of a number are read. So
+//! of one with more no more than a part is read, and a digit follows: that is no end of a word, and
+//! then the line is read word by word. A number below 10^18 with no digit behind it is always read.
+ghost use Rattle.std.specs.Prelude.{◌≡◌, ◌≢◌, ◌↔◌, ◌<◌, ◌^◌, ◌++◌, ◌∷◌, ℕ, ℤ, pos, unsigned_abs};
+ghost use Rattle.std.specs.Prelude.{List, length, slice_index, decimal};
+ghost use Rattle.std.specs.Prelude.{IfSome, IfNone, IsSome, IsTrue};
 ghost use Rattle.std.specs.Fmt.{signed_decimal};
+ghost use Rattle.gj_frac.specs.Fraction.{numerator, denominator};
+ghost use Rattle.gj_frac.specs.Lowest.{IsLowest};
+ghost use Rattle.gj_lex.specs.LeadingText.{BeginsWithNoDigit};
 ghost use Rattle.gj_lex.specs.NumberText.{fraction_text, denominator_text};
 
-use crate::canonical::in_lowest_terms;
 use crate::digits::leading_value;
 use gj_frac::Frac;
 
@@ -16,7 +20,8 @@ const MOST_DIGITS: usize = 18;
 
 /// What follows the byte, if the text begins with it. It takes no memory.
 pub fn behind_byte(text: &[u8], byte: u8) -> Option<&[u8]>
-    ensures { IfSome result (λ rest. text.now ≡ byte ∷ rest.now) }
+    ensures found { IfSome result (λ rest. text.now ≡ byte ∷ rest.now) }
+    ensures none { IfNone result ((rest : List ℕ) → text.now ≢ byte ∷ rest) }
 {
     let (first, rest) = text.split_first()?;
     if *first != byte {
@@ -26,18 +31,53 @@ pub fn behind_byte(text: &[u8], byte: u8) -> Option<&[u8]>
 }
 
 /// The fraction with whose printed text the text begins, and what follows that. It takes no memory.
+///
+/// At most 18 digits of the numerator and of the denominator are read.
 pub fn printed_fraction(text: &[u8]) -> Option<(Frac, &[u8])>
-    ensures { IfSome result (λ r. text.now ≡ fraction_text r.0 ++ r.1.now) }
+    ensures small { IfSome result (λ r. (unsigned_abs (numerator r.0) < 10 ^ 18) ×
+        (unsigned_abs (denominator r.0) < 10 ^ 18)) }
+    ensures found { IfSome result (λ r. text.now ≡ fraction_text r.0 ++ r.1.now) }
+    ensures none { IfNone result ((x : Frac) (rest : List ℕ) → unsigned_abs (numerator x) < 10 ^ 18 →
+        unsigned_abs (denominator x) < 10 ^ 18 → BeginsWithNoDigit rest →
+        slice_index rest 0 ≢ 47 → text.now ≢ fraction_text x ++ rest) }
+    ensures only { IfSome result (λ r. (x : Frac) (rest : List ℕ) →
+        unsigned_abs (numerator x) < 10 ^ 18 → unsigned_abs (denominator x) < 10 ^ 18 →
+        BeginsWithNoDigit rest → slice_index rest 0 ≢ 47 → text.now ≡ fraction_text x ++ rest →
+        (r.0 ≡ x) × (r.1.now ≡ rest)) }
 {
     let (num, rest) = printed_whole(text)?;
     let (den, rest) = printed_denominator(rest)?;
-    Some((in_lowest_terms(i128::from(num), i128::from(den))?, rest))
+    Some((small_in_lowest_terms(num, den)?, rest))
+}
+
+/// The fraction `num/den`, if that is in lowest terms. All is done in 64 bits.
+fn small_in_lowest_terms(num: i64, den: u64) -> Option<Frac>
+    requires { 0 < den }
+    ensures found { IfSome result (λ x. (numerator x ≡ num) × (denominator x ≡ pos den)) }
+    ensures only { IsLowest num (pos den) → IsSome result }
+{
+    let x = Frac::of_small(num.unsigned_abs(), den);
+    if x.den() != i128::from(den) {
+        return None;
+    }
+    if num < 0 {
+        return Some(-x);
+    }
+    Some(x)
 }
 
 /// The whole number with whose printed text the text begins, and what follows that. It takes no
 /// memory.
+///
+/// At most 18 digits are read.
 pub fn printed_whole(text: &[u8]) -> Option<(i64, &[u8])>
-    ensures { IfSome result (λ r. text.now ≡ signed_decimal r.0 ++ r.1.now) }
+    ensures small { IfSome result (λ r. unsigned_abs r.0 < 10 ^ 18) }
+    ensures found { IfSome result (λ r. text.now ≡ signed_decimal r.0 ++ r.1.now) }
+    ensures none { IfNone result ((n : ℤ) (rest : List ℕ) → unsigned_abs n < 10 ^ 18 →
+        BeginsWithNoDigit rest → text.now ≢ signed_decimal n ++ rest) }
+    ensures only { IfSome result (λ r. (n : ℤ) (rest : List ℕ) → unsigned_abs n < 10 ^ 18 →
+        BeginsWithNoDigit rest → text.now ≡ signed_decimal n ++ rest →
+        (r.0 ≡ n) × (r.1.now ≡ rest)) }
 {
     let Some(digits) = behind_byte(text, b'-') else {
         let (size, rest) = printed_number(text)?;
@@ -54,7 +94,14 @@ pub fn printed_whole(text: &[u8]) -> Option<(i64, &[u8])>
 /// stands there.
 fn printed_denominator(text: &[u8]) -> Option<(u64, &[u8])>
     ensures some { IfSome result (λ r. 0 < r.0) }
+    ensures small { IfSome result (λ r. r.0 < 10 ^ 18) }
     ensures printed { IfSome result (λ r. text.now ≡ denominator_text r.0 ++ r.1.now) }
+    ensures none { IfNone result ((d : ℕ) (rest : List ℕ) → 0 < d → d < 10 ^ 18 →
+        BeginsWithNoDigit rest → slice_index rest 0 ≢ 47 →
+        text.now ≢ denominator_text d ++ rest) }
+    ensures only { IfSome result (λ r. (d : ℕ) (rest : List ℕ) → 0 < d → d < 10 ^ 18 →
+        BeginsWithNoDigit rest → slice_index rest 0 ≢ 47 → text.now ≡ denominator_text d ++ rest →
+        (r.0 ≡ d) × (r.1.now ≡ rest)) }
 {
     let Some(digits) = behind_byte(text, b'/') else {
         return Some((1, text));
@@ -68,9 +115,15 @@ fn printed_denominator(text: &[u8]) -> Option<(u64, &[u8])>
 
 /// The number with whose digits, without a leading zero, the text begins, and what follows them. It
 /// takes no memory.
+///
+/// At most 18 digits are read.
 pub fn printed_number(text: &[u8]) -> Option<(u64, &[u8])>
     ensures small { IfSome result (λ r. r.0 < 10 ^ 18) }
     ensures printed { IfSome result (λ r. text.now ≡ decimal r.0 ++ r.1.now) }
+    ensures none { IfNone result ((n : ℕ) (rest : List ℕ) → n < 10 ^ 18 → BeginsWithNoDigit rest →
+        text.now ≢ decimal n ++ rest) }
+    ensures only { IfSome result (λ r. (n : ℕ) (rest : List ℕ) → n < 10 ^ 18 →
+        BeginsWithNoDigit rest → text.now ≡ decimal n ++ rest → (r.0 ≡ n) × (r.1.now ≡ rest)) }
 {
     let (front, _) = text.split_at(text.len().min(MOST_DIGITS));
     let (number, len) = leading_value(front);
@@ -83,8 +136,8 @@ pub fn printed_number(text: &[u8]) -> Option<(u64, &[u8])>
 
 /// Whether there is a digit, and no zero before others.
 fn is_canonical(digits: &[u8]) -> bool
-    ensures { IsTrue result → (0 < length digits.now) × (slice_index digits.now 0 ≡ 48 →
-        length digits.now ≡ 1) }
+    ensures { IsTrue result ↔ ((0 < length digits.now) × (slice_index digits.now 0 ≡ 48 →
+        length digits.now ≡ 1)) }
 {
     digits.len() == 1 || (!digits.is_empty() && digits[0] != b'0')
 }

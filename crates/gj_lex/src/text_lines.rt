@@ -14,7 +14,7 @@ use crate::fault::PartFault;
 use crate::reason::Reason;
 use crate::spelling::Spelling;
 use crate::words::{first_byte, has_words};
-use memchr::memchr_iter;
+use memchr::{memchr, memchr_iter};
 
 /// A line of a text.
 #[derive(Clone, Copy, Debug)]
@@ -103,13 +103,29 @@ fn next_lenient_line(text: &[u8]) -> Option<TextLine<'_>>
 {
     let mut left = text;
     while !left.is_empty() {
-        let line = first_line(left);
-        if !is_skipped(line.bytes) {
-            return Some(line);
+        if left[0] == b'#' {
+            left = behind_comment(left);
+        } else {
+            let line = first_line(left);
+            if !is_skipped(line.bytes) {
+                return Some(line);
+            }
+            left = line.rest;
         }
-        left = line.rest;
     }
     None
+}
+
+/// What follows the first line of the text, if that begins with `#`: it is skipped.
+fn behind_comment(text: &[u8]) -> &[u8]
+    requires { slice_index text.now 0 ≡ 35 }
+    ensures { (words : List (List ℕ)) × HasFirstWords text.now words result.now × IsSkipped words }
+{
+    // A comment is mostly long, so it is sought wide from its start on.
+    match memchr(b'\n', text) {
+        Some(end) => &text[end + 1..],
+        None => b"",
+    }
 }
 
 /// The first line of the text, skipped or not: up to its first LF, or all of a text without LF.
