@@ -16,6 +16,7 @@ pub mod CutLines
 pub mod FractionalParts
 pub mod LimitsOfRows
 pub mod SeenNames
+pub mod SameNames
 pub mod FirstDemand
 pub mod CutDemands
 pub mod CutMeaning

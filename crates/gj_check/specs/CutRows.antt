@@ -1,6 +1,6 @@
 -- The rules on a row of a claim about cuts: whether all hold, and which is the first that fails
 -- (own).
-use Rattle.std.specs.Prelude.{ℕ, ◌≡◌, ◌+◌, ◌<◌, pos, List, [], ◌∷◌, map, length}
+use Rattle.std.specs.Prelude.{ℕ, ◌≡◌, ◌≢◌, ◌+◌, ◌<◌, pos, List, [], ◌∷◌, All, map, length}
 use Rattle.std.specs.declared.option.Option.{Option}
 use Rattle.std.specs.declared.option.Option.TheVariants.{Some, None}
 use Rattle.gj_frac.specs.declared.Frac.{Frac}
@@ -33,6 +33,10 @@ FailsTerm rule basic right Name before t =
 FailsTerm rule basic right Value before t =
     MeetsLimit (right ∷ map (λ u. u.entry) before) t.entry × MeetsName basic before t × (MeetsValue rule right t → ⊥)
 FailsTerm rule basic right _ before t = ⊥
+
+-- the names of the terms differ
+abbrev pub HaveDifferentNames : List CutTerm → Type 0
+HaveDifferentNames terms = (j : ℕ) → AtIndex terms j (λ before t. All (λ u. u.name ≢ t.name) before)
 
 -- the rules of all terms hold
 abbrev pub MeetTerms : CutRule → List ℕ → Frac → List CutTerm → Type 0

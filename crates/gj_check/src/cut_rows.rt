@@ -2,9 +2,9 @@
 ghost use Rattle.std.specs.Prelude.{[], ◌∷◌, IfOk};
 ghost use Rattle.gj_shape.specs.FirstViolation.{PassesAll};
 ghost use Rattle.gj_proof.specs.ProofText.{IfFunction, subject_of_rule};
-ghost use Rattle.gj_proof.specs.Rules.{MeetsLimit};
+ghost use Rattle.gj_proof.specs.Rules.{IfCut, MeetsLimit};
 ghost use Rattle.gj_check.specs.RowLimits.{IsRowDenominator};
-ghost use Rattle.gj_check.specs.CutRows.{GivesCut, IsTermsOutcome, IsRowOutcome};
+ghost use Rattle.gj_check.specs.CutRows.{GivesCut, HaveDifferentNames, IsTermsOutcome, IsRowOutcome};
 
 use crate::cut_values::{has_value, meets_fraction};
 use crate::names::first_repeated;
@@ -23,13 +23,16 @@ pub(crate) struct RowFailure {
     pub(crate) rule: CheckRule,
 }
 
-/// The first rule that fails in a row, on its line or on those of its terms; none if all hold.
+/// The first rule that fails in a row, on its line or on those of its terms; none if all hold. The
+/// names of `known`, the terms of another row, differ.
 pub(crate) fn failure_in_row(
     alloc: Global,
     rule: &CutRule,
+    known: &[CutTerm],
     row: &CutLine,
 ) -> Result<Option<RowFailure>, AllocError>
-    requires { IfFunction (subject_of_rule rule.now) PassesAll }
+    requires minimal { IfFunction (subject_of_rule rule.now) PassesAll }
+    requires known { HaveDifferentNames known.now }
     ensures { IfOk result (IsRowOutcome rule.now row.now) }
 {
     if !meets_fraction(rule, row) {
@@ -42,7 +45,9 @@ pub(crate) fn failure_in_row(
         return Ok(None);
     };
     match extended(1, *right) {
-        Some(common) => failure_in_terms(alloc, rule, basic, *right, common, terms.as_slice()),
+        Some(common) => {
+            failure_in_terms(alloc, rule, known, basic, *right, common, terms.as_slice())
+        }
         None => Ok(Some(RowFailure {
             below: 0,
             rule: CheckRule::Limit,
@@ -50,11 +55,24 @@ pub(crate) fn failure_in_row(
     }
 }
 
+/// The terms of a row with a cut, or those known before it. The names of each differ.
+pub(crate) fn known_behind<'a>(known: &'a [CutTerm], row: &'a CutLine) -> &'a [CutTerm]
+    requires known { HaveDifferentNames known.now }
+    requires row { IfCut row.now (λ basic right terms. HaveDifferentNames terms) }
+    ensures { HaveDifferentNames result.now }
+{
+    match row {
+        CutLine::Cut(_, _, terms) => terms.as_slice(),
+        CutLine::Skip(_, _, _) => known,
+    }
+}
+
 /// The first rule that fails on the lines of the terms of a row, if its right side meets its rules
-/// and has the denominator `common`; none if all hold.
+/// and has the denominator `common`; none if all hold. The names of `known` differ.
 fn failure_in_terms(
     alloc: Global,
     rule: &CutRule,
+    known: &[CutTerm],
     basic: &Name,
     right: Frac,
     common: u64,
@@ -64,9 +82,10 @@ fn failure_in_terms(
     requires gives { GivesCut rule.now right }
     requires limit { MeetsLimit [] right }
     requires common { IsRowDenominator (right ∷ []) common }
+    requires known { HaveDifferentNames known.now }
     ensures { IfOk result (IsTermsOutcome rule.now basic.now right terms.now) }
 {
-    let repeated = first_repeated(alloc, basic, terms)?;
+    let repeated = first_repeated(alloc, known, basic, terms)?;
     let mut denominator = common;
     for (index, term) in terms.iter().enumerate() {
         let below = lines_with_terms(&terms[..index]);

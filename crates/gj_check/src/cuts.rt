@@ -6,11 +6,13 @@ ghost use Rattle.gj_proof.specs.ProofText.{IfFunction, subject_of_rule};
 ghost use Rattle.gj_proof.specs.Rules.{MeetsRules};
 ghost use Rattle.gj_check.specs.FirstFailure.{IsCheckFaultOf};
 
-use crate::cut_rows::failure_in_row;
+use crate::cut_rows::{failure_in_row, known_behind};
 use crate::faults::CheckFault;
 use crate::minimality::is_minimal;
 use crate::rules::CheckRule;
-use gj_proof::{CLAIM_LINE, CutLine, CutRule, line_behind_row, line_behind_rule, line_below};
+use gj_proof::{
+    CLAIM_LINE, CutLine, CutRule, CutTerm, line_behind_row, line_behind_rule, line_below,
+};
 use std::alloc::Global;
 
 /// Checks every rule on the cuts of rows by this rule, in the order of the lines of their proof.
@@ -22,12 +24,14 @@ pub(crate) fn check_cuts(alloc: Global, rule: &CutRule, rows: &[CutLine]) -> Res
         return Err(CheckFault::Rejected(CLAIM_LINE, CheckRule::Minimal));
     }
     let mut line = line_behind_rule(rule);
+    let mut known: &[CutTerm] = &[];
     for row in rows {
-        if let Some(failure) = failure_in_row(alloc, rule, row)? {
+        if let Some(failure) = failure_in_row(alloc, rule, known, row)? {
             let line = line_below(line, failure.below)?;
             return Err(CheckFault::Rejected(line, failure.rule));
         }
         line = line_behind_row(line, row)?;
+        known = known_behind(known, row);
     }
     Ok(())
 }

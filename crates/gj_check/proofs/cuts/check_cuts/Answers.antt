@@ -6,6 +6,7 @@ use Rattle.gj_check.specs.CutRows.{MeetsCutRow, IsRowOutcome}
 use Rattle.gj_proof.proofs.AtPlaces.{with_place}
 use Rattle.gj_proof.proofs.LineCounts.{length-row}
 use Rattle.gj_check.proofs.CutLines.{count_of, count_of-append}
+use Rattle.gj_check.proofs.SameNames.{row_names_differ}
 use Rattle.gj_check.proofs.CutDemands.{rule_fails, cut_fails, cuts_meet}
 use Rattle.gj_check.proofs.cuts.check_cuts.Goals as goal
 
@@ -26,6 +27,10 @@ returns-in-Some-clause-fault c =
     (c.if-not-is_minimal_rule.ensures.0 refl) split c.loop-row.invariant.1
     (subst (IsRowOutcome c.args.rule.now l) c.in-Some.is c.in_ok-failure.ensures) (omega arith)
 
+pub known_behind-known-requires-clause-row : goal.known_behind-known-requires-clause-row
+known_behind-known-requires-clause-row c =
+    row_names_differ c.args.rule.now c.row-item.result (subst (IsRowOutcome c.args.rule.now c.row-item.result) c.in_default.is c.in_ok-failure.ensures)
+
 pub loop-row-preserved : goal.loop-row-preserved
 loop-row-preserved c =
     let rows = c.args.rows.now in
@@ -39,6 +44,7 @@ loop-row-preserved c =
       omega arith,
       subst (All (MeetsCutRow c.args.rule.now)) (sym more) (All-push (MeetsCutRow c.args.rule.now) (take i rows) l c.loop-row.invariant.1
           (subst (IsRowOutcome c.args.rule.now l) c.in_default.is c.in_ok-failure.ensures)),
+      c.known_behind-known.ensures,
     )
 
 pub returns-clause-ok : goal.returns-clause-ok
