@@ -27,14 +27,17 @@ pub term_lines_are : (columns : List (List ℕ)) (terms : List Term) →
     flat_map (named_line (codes "term ") columns) terms ≡ flat_map term_line (map (named_term columns) terms)
 term_lines_are columns terms = lines_of_named (codes "term ") columns term_line terms (λ t. refl)
 
+-- three texts, a space before the second and the third, and a line feed, put together one by one
+one_by_one : (first second third : List ℕ) →
+    first ++ (32 ∷ (second ++ (32 ∷ (third ++ 10 ∷ [])))) ≡ ((((first ++ 32 ∷ []) ++ second) ++ 32 ∷ []) ++ third) ++ 10 ∷ []
+one_by_one first second third =
+    sym (append_assoc (((first ++ 32 ∷ []) ++ second) ++ 32 ∷ []) third (10 ∷ [])
+    ∙ append_assoc ((first ++ 32 ∷ []) ++ second) (32 ∷ []) (third ++ 10 ∷ [])
+    ∙ append_assoc (first ++ 32 ∷ []) second (32 ∷ (third ++ 10 ∷ []))
+    ∙ append_assoc first (32 ∷ []) (second ++ (32 ∷ (third ++ 10 ∷ []))))
+
 pub weight_lines_are : (columns : List (List ℕ)) (terms : List Term) →
     flat_map (named_line (codes "weight ") columns) terms ≡ flat_map weight_line (map (named_term columns) terms)
-weight_lines_are columns terms = lines_of_named (codes "weight ") columns weight_line terms same where
-  same : (t : Term) → named_line (codes "weight ") columns t ≡ weight_line (named_term columns t)
-  same t =
-      let name = get_or columns t.column [] in
-      let entry = fraction_text t.entry in
-      let cut = fraction_text t.cut in
-      ap (λ xs. codes "weight " ++ xs)
-      (sym (append_assoc name (32 ∷ entry ++ 32 ∷ cut) (10 ∷ [])
-      ∙ ap (λ xs. name ++ 32 ∷ xs) (append_assoc entry (32 ∷ cut) (10 ∷ []))))
+weight_lines_are columns terms =
+    lines_of_named (codes "weight ") columns weight_line terms
+    (λ t. ap (λ xs. codes "weight " ++ xs) (one_by_one (get_or columns t.column []) (fraction_text t.entry) (fraction_text t.cut)))

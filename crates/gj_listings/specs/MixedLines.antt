@@ -72,7 +72,7 @@ weight_line t = line (codes "weight " ++ t.name ++ codes " " ++ fraction_text t.
 
 -- the line of a term with this word and the name of its column
 abbrev pub named_line : List ℕ → List (List ℕ) → Term → List ℕ
-named_line word columns t = word ++ get_or columns t.column [] ++ 32 ∷ fraction_text t.entry ++ 32 ∷ fraction_text t.cut ++ 10 ∷ []
+named_line word columns t = word ++ (get_or columns t.column [] ++ (32 ∷ (fraction_text t.entry ++ (32 ∷ (fraction_text t.cut ++ 10 ∷ [])))))
 
 -- the lines of a row: those of its whole columns as in a proof text, and a line for each continuous
 -- column

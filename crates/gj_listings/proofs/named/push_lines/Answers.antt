@@ -6,8 +6,8 @@ use Rattle.gj_cut.specs.declared.cut.Term.{Term}
 use Rattle.gj_listings.specs.MixedLines.{named_line}
 use Rattle.gj_listings.proofs.named.push_lines.Goals as goal
 
-pub write_lines-requires-clause-columns : goal.write_lines-requires-clause-columns
-write_lines-requires-clause-columns c =
+pub write_lines-start-requires-clause-columns : goal.write_lines-start-requires-clause-columns
+write_lines-start-requires-clause-columns c =
     let below = λ (t : Term). t.column < length c.args.columns.now in
     subst (All below) (sym c.split_at.ensures.front) (All-take below c.min.result c.loop-left.left.now c.loop-left.invariant.below)
 
