@@ -1,5 +1,5 @@
 //! The lines of the cuts of a tableau whose columns are all whole, with the names of its columns.
-ghost use Rattle.std.specs.Prelude.{◌≡◌, ◌++◌, All, IfOk, OnOk, length};
+ghost use Rattle.std.specs.Prelude.{◌≡◌, ◌++◌, All, OnOk, length};
 ghost use Rattle.gj_theory.specs.Cuts.{IsValueOf};
 ghost use Rattle.gj_row.specs.TableauLimits.{IsTableau, IsRowWithinLimits};
 ghost use Rattle.gj_rule.specs.Kept.{Evaluates};
@@ -13,11 +13,11 @@ ghost use Rattle.gj_claims.specs.CutLines.{AppendsCuts, HasColumns, NamesCut};
 use gj_cut::{RowCut, cut_row, gmic_cut_row};
 use gj_frac::Frac;
 use gj_lex::Name;
-use gj_listings::named_terms;
-use gj_proof::{CutLine, CutRule, SkipReason, push_row};
+use gj_listings::push_cut_row;
+use gj_proof::{CutRule, SkipReason, push_skip_line};
 use gj_row::{Row, Tableau};
 use gj_rule::{Evaluator, Rule, RuleKind, table_value};
-use gj_shape::{List, Shape};
+use gj_shape::Shape;
 use std::alloc::{AllocError, Global};
 
 /// Appends the lines of each row of the tableau, in their order: its cut by the rule, or why it has
@@ -114,23 +114,10 @@ fn push_cut(
     ensures { OnOk result ((line : CutLine) × NamesCut columns.now row.now cut.now line
         × (out.new.items ≡ out.old.items ++ row_text line)) }
 {
-    let line = line_of(alloc, columns, row, cut)?;
-    push_row(alloc, out, &line)?;
-    Ok(())
-}
-
-/// The line of a row with this cut, with the names of its columns.
-fn line_of(alloc: Global, columns: &[Name], row: &Row, cut: &RowCut) -> Result<CutLine, AllocError>
-    requires { HasColumns (length columns.now) cut.now }
-    ensures { IfOk result (NamesCut columns.now row.now cut.now) }
-{
-    let basic = row.basic.copy(alloc)?;
     match cut {
-        RowCut::Cut(terms) => {
-            let named = named_terms(alloc, columns, terms.as_slice())?;
-            Ok(CutLine::Cut(basic, row.rhs, List::of(named)))
-        }
-        RowCut::Integral => Ok(CutLine::Skip(basic, row.rhs, SkipReason::Integral)),
-        RowCut::OtherFraction => Ok(CutLine::Skip(basic, row.rhs, SkipReason::Other)),
+        RowCut::Cut(terms) => push_cut_row(alloc, out, columns, row, terms.as_slice())?,
+        RowCut::Integral => push_skip_line(alloc, out, &row.basic, row.rhs, SkipReason::Integral)?,
+        RowCut::OtherFraction => push_skip_line(alloc, out, &row.basic, row.rhs, SkipReason::Other)?,
     }
+    Ok(())
 }

@@ -1,3 +1,4 @@
 pub mod FacesTexts
 pub mod MixedRowLines
+pub mod NamedTerms
 pub mod WrittenPieces

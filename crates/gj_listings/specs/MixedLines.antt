@@ -1,5 +1,5 @@
 -- The lines of rows with continuous columns (Gomory and Johnson 1972; the form is own).
-use Rattle.std.specs.Prelude.{ℕ, ◌≡◌, ◌<◌, List, [], ◌++◌, All, codes, flat_map, get_or, map}
+use Rattle.std.specs.Prelude.{ℕ, ◌≡◌, ◌<◌, List, [], ◌∷◌, ◌++◌, All, codes, flat_map, get_or, map}
 use Rattle.std.specs.List.{AllZip}
 use Rattle.gj_frac.specs.declared.Frac.{Frac}
 use Rattle.gj_lex.specs.NumberText.{fraction_text}
@@ -69,6 +69,10 @@ MixedLineHolds m = LineHolds m.line m.weights
 -- `weight NAME C W`
 abbrev pub weight_line : CutTerm → List ℕ
 weight_line t = line (codes "weight " ++ t.name ++ codes " " ++ fraction_text t.entry ++ codes " " ++ fraction_text t.cut)
+
+-- the line of a term with this word and the name of its column
+abbrev pub named_line : List ℕ → List (List ℕ) → Term → List ℕ
+named_line word columns t = word ++ (get_or columns t.column [] ++ (32 ∷ (fraction_text t.entry ++ (32 ∷ (fraction_text t.cut ++ 10 ∷ [])))))
 
 -- the lines of a row: those of its whole columns as in a proof text, and a line for each continuous
 -- column

@@ -6,8 +6,8 @@
 //! on the table of a function's own order, with what shows it (`specs/GroupText`). [`mixed_text`]
 //! prints the cuts of the rows of a tableau of which some columns are continuous, those whose name
 //! begins with `c:` (`specs/MixedLines`): a group of lines a row, those of its whole columns as in
-//! a proof text, and a line `weight` for each continuous column. [`named_terms`] joins the terms of
-//! a cut with the names of their columns, for claims too.
+//! a proof text, and a line `weight` for each continuous column. [`push_cut_row`] prints a row
+//! with the terms of its cut, for claims too.
 #![tactic(auto)]
 
 mod columns;
@@ -23,4 +23,4 @@ pub use faces::faces_text;
 pub use group::group_text;
 pub use mixed::mixed_text;
 pub use mixed_lines::MixedLine;
-pub use named::named_terms;
+pub use named::push_cut_row;

@@ -1,17 +1,16 @@
 //! Mixed cuts, printed.
-ghost use Rattle.std.specs.Prelude.{◌≡◌, ◌++◌, flat_map, IfOk, OnOk, length};
+ghost use Rattle.std.specs.Prelude.{◌≡◌, ◌++◌, IfOk, OnOk, length};
 ghost use Rattle.gj_row.specs.TableauLimits.{IsTableau};
 ghost use Rattle.gj_proof.specs.ProofText.{IsBoundedRule};
 ghost use Rattle.gj_listings.specs.MixedLines.{AreInColumns, AreMixedCutsOf, MakesMixedCuts};
-ghost use Rattle.gj_listings.specs.MixedLines.{NamesMixedCut, mixed_row_text, weight_line};
+ghost use Rattle.gj_listings.specs.MixedLines.{NamesMixedCut, mixed_row_text};
 ghost use Rattle.gj_listings.specs.declared.mixed_lines.MixedLine.{MixedLine};
 
 use crate::mixed_lines::push_mixed_lines;
-use crate::named::line_of;
-use gj_function_lines::push_fraction_line;
+use crate::named::{push_cut_row, push_weights};
 use gj_lex::Name;
 use gj_mixed::MixedCut;
-use gj_proof::{CutRule, CutTerm, push_named, push_row, push_rule_lines};
+use gj_proof::{CutRule, SkipReason, push_rule_lines, push_skip_line};
 use gj_row::{Row, Tableau};
 use std::alloc::{AllocError, Global};
 
@@ -46,19 +45,16 @@ pub(crate) fn push_cut(
         NamesMixedCut columns.now row.now cut.now m.line m.weights
         × (out.new.items ≡ out.old.items ++ mixed_row_text m)) }
 {
-    let line = line_of(alloc, columns, row, cut)?;
-    push_row(alloc, out, &line.line)?;
-    push_weights(alloc, out, line.weights.as_slice())?;
-    Ok(())
-}
-
-/// Appends the lines of continuous columns.
-fn push_weights(alloc: Global, out: &mut Vec<u8>, weights: &[CutTerm]) -> Result<(), AllocError>
-    ensures { OnOk result (out.new.items ≡ out.old.items ++ flat_map weight_line weights.now) }
-{
-    for term in weights {
-        push_named(alloc, out, b"weight ", &term.name, term.entry)?;
-        push_fraction_line(alloc, out, b" ", term.cut)?;
+    match cut {
+        MixedCut::Cut(terms, weights) => {
+            push_cut_row(alloc, out, columns, row, terms.as_slice())?;
+            push_weights(out, columns, weights.as_slice())
+        }
+        MixedCut::Integral => {
+            push_skip_line(alloc, out, &row.basic, row.rhs, SkipReason::Integral)
+        }
+        MixedCut::OtherFraction => {
+            push_skip_line(alloc, out, &row.basic, row.rhs, SkipReason::Other)
+        }
     }
-    Ok(())
 }

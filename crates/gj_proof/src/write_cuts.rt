@@ -1,26 +1,24 @@
 //! The lines of cuts, printed.
-ghost use Rattle.std.specs.Prelude.{◌≡◌, ◌≤◌, ◌+◌, ◌++◌, ℕ, List, codes, drop, flat_map, length};
+ghost use Rattle.std.specs.Prelude.{◌≡◌, ◌≤◌, ◌+◌, ◌++◌, ◌∷◌, [], ℕ, List};
+ghost use Rattle.std.specs.Prelude.{codes, drop, flat_map, length};
 ghost use Rattle.std.specs.Prelude.{OnOk};
 ghost use Rattle.gj_lex.specs.NumberText.{fraction_text};
 ghost use Rattle.gj_proof.specs.ProofText.{AreSubjectLines, subject_of_rule, row_line, term_line};
 ghost use Rattle.gj_proof.specs.ProofText.{terms_of, row_text};
+ghost use Rattle.gj_proof.specs.declared.cut.CutLine.TheVariants.{Cut, Skip};
 
-use crate::cut::{CutLine, CutRule, CutTerm};
+use crate::cut::{CutLine, CutRule, CutTerm, SkipReason};
 use gj_frac::Frac;
 use gj_function_lines::push_function_lines;
 use gj_lex::{Name, print_frac, write_pair, write_word};
 use std::alloc::{AllocError, Global};
 
-/// The length of the longest line of a term: `term `, a name, and two fractions, each with a space
-/// before it, and a line feed.
-const LINE_SPACE: usize = 5 + 255 + 163;
+/// The length of the longest end of a line of a name and two fractions: the name, the fractions,
+/// each with a space before it, and a line feed.
+pub const NAMED_SPACE: usize = 255 + 163;
 
-/// So many lines are appended at a time at most. Room for so many is less than 2 KB, and that is
-/// cleared fast.
-const FEW: usize = 4;
-
-/// Room for so many lines.
-const FEW_SPACE: usize = FEW * LINE_SPACE;
+/// The length of the longest line of a term.
+const LINE_SPACE: usize = 5 + NAMED_SPACE;
 
 /// Appends the lines of a rule: `rule gmic`, or those of its function. An error says that memory
 /// ran out; `out` may then have a part of them.
@@ -55,70 +53,97 @@ pub fn push_row(alloc: Global, out: &mut Vec<u8>, row: &CutLine) -> Result<(), A
 {
     match row {
         CutLine::Cut(name, right, terms) => {
-            push_named(alloc, out, b"cut ", name, *right)?;
-            out.push(b'\n')?;
+            push_cut_head(alloc, out, name, *right)?;
             push_terms(out, terms.as_slice())
         }
-        CutLine::Skip(name, right, reason) => {
-            push_named(alloc, out, b"skip ", name, *right)?;
-            out.extend_from_slice(b" ")?;
-            out.extend_from_slice(reason.word().as_bytes())?;
-            out.push(b'\n')?;
-            Ok(())
-        }
+        CutLine::Skip(name, right, reason) => push_skip_line(alloc, out, name, *right, *reason),
     }
 }
 
-/// Appends the lines of terms, a few at a time, so that room is asked for once for all of them.
+/// Appends the first line of a row with a cut, of the name of its basic variable and its right
+/// side; those of the terms come behind it. An error says that memory ran out; `out` may then have
+/// a part of it.
+pub fn push_cut_head(
+    alloc: Global,
+    out: &mut Vec<u8>,
+    name: &Name,
+    right: Frac,
+) -> Result<(), AllocError>
+    ensures { OnOk result (out.new.items ≡ out.old.items ++ row_line (Cut name.now right [])) }
+{
+    push_named(alloc, out, b"cut ", name, right)?;
+    out.push(b'\n')?;
+    Ok(())
+}
+
+/// Appends the one line of a row that is passed over, of the name of its basic variable, its right
+/// side and why it has no cut. An error says that memory ran out; `out` may then have a part of it.
+pub fn push_skip_line(
+    alloc: Global,
+    out: &mut Vec<u8>,
+    name: &Name,
+    right: Frac,
+    reason: SkipReason,
+) -> Result<(), AllocError>
+    ensures { OnOk result (out.new.items ≡ out.old.items ++ row_text (Skip name.now right reason)) }
+{
+    push_named(alloc, out, b"skip ", name, right)?;
+    out.extend_from_slice(b" ")?;
+    out.extend_from_slice(reason.word().as_bytes())?;
+    out.push(b'\n')?;
+    Ok(())
+}
+
+/// Appends the lines of terms.
 fn push_terms(out: &mut Vec<u8>, terms: &[CutTerm]) -> Result<(), AllocError>
     ensures { OnOk result (out.new.items ≡ out.old.items ++ flat_map term_line terms.now) }
 {
-    let mut text = [0; FEW_SPACE];
-    let mut left = terms;
-    while !left.is_empty() {
-        let (few, rest) = left.split_at(left.len().min(FEW));
-        let start = write_terms(&mut text, few);
-        out.extend_from_slice(&text[start..])?;
-        left = rest;
+    for term in terms {
+        push_term(out, term)?;
     }
     Ok(())
 }
 
-/// Writes the lines of a few terms at the end of the text, the last line first, and says where they
-/// begin.
-fn write_terms(text: &mut [u8], terms: &[CutTerm]) -> usize
-    requires few { length terms.now ≤ FEW }
-    requires space { length text.old ≡ FEW_SPACE }
-    ensures written { drop result text.new ≡ flat_map term_line terms.now }
-    ensures begins { result ≤ length text.new }
-    ensures space { length text.new ≡ length text.old }
+/// Appends the line of a term.
+fn push_term(out: &mut Vec<u8>, term: &CutTerm) -> Result<(), AllocError>
+    ensures { OnOk result (out.new.items ≡ out.old.items ++ term_line term.now) }
 {
-    let mut start = FEW_SPACE;
-    let mut left = terms.len();
-    while left > 0 {
-        left -= 1;
-        start = write_term(text, start, &terms[left]);
-    }
-    start
+    let mut text = [0; LINE_SPACE];
+    let start = write_named(
+        &mut text, LINE_SPACE, b"term ", &term.name, term.entry, term.cut,
+    );
+    out.extend_from_slice(&text[start..])
 }
 
-/// Writes the line of a term into the text so that it ends before `end`, and says where it begins.
-fn write_term(text: &mut [u8], end: usize, term: &CutTerm) -> usize
-    requires room { LINE_SPACE ≤ end }
+/// Writes a line of a word, a name and two fractions into the text so that it ends before `end`,
+/// and says where it begins. The word has the space behind it.
+///
+/// So several lines can be written, the last one first, before they are appended at once.
+#[inline(always)]
+pub fn write_named(
+    text: &mut [u8],
+    end: usize,
+    word: &[u8],
+    name: &Name,
+    x: Frac,
+    y: Frac,
+) -> usize
+    requires room { length word.now + NAMED_SPACE ≤ end }
     requires within { end ≤ length text.old }
-    ensures written { drop result text.new ≡ term_line term.now ++ drop end text.old }
+    ensures written { drop result text.new ≡ (word.now ++ name.now ++ 32 ∷ fraction_text x
+        ++ 32 ∷ fraction_text y ++ 10 ∷ []) ++ drop end text.old }
     ensures begins { result ≤ end }
-    ensures room { end ≤ result + LINE_SPACE }
+    ensures room { end ≤ result + (length word.now + NAMED_SPACE) }
     ensures space { length text.new ≡ length text.old }
 {
-    let numbers = write_pair(text, end, term.entry, term.cut);
-    let name = write_word(text, numbers, term.name.bytes());
-    write_word(text, name, b"term ")
+    let numbers = write_pair(text, end, x, y);
+    let start = write_word(text, numbers, name.bytes());
+    write_word(text, start, word)
 }
 
 /// Appends a word, a name, a space and a fraction. An error says that memory ran out; `out` may
 /// then have a part of it.
-pub fn push_named(
+fn push_named(
     alloc: Global,
     out: &mut Vec<u8>,
     word: &[u8],
