@@ -51,20 +51,16 @@ no_place p xs h =
     at_end : (k n : ℕ) → k ≤ n → cond (nat_lt k n) (Some k) None ≡ None → n ≡ k
     at_end k n h e = grind arith
 
-searched : (p : ℕ → Bool) (xs : List ℕ) (q : Option ℕ) → position p xs ≡ q → IsFirstByte p xs q
-searched p xs None e = λ k low high yes. false≢true (sym (All-get_or (λ x. p x ≡ false) xs k 0 high (no_place p xs e)) ∙ yes)
-searched p xs (Some k) e =
-    let at = position-Some p xs k 0 e in
-    (record { low = omega arith; high = at.0; before = λ j low high yes. false≢true (sym (at.2 j high) ∙ yes) }, at.1)
-
--- as a search for a byte tells it
-pub position_of_search : (p : ℕ → Bool) (xs : List ℕ) (r : Option ℕ) → IsFirstByte p xs r → r ≡ position p xs
-position_of_search p xs r h = IsFirstByte-value p xs r h ∙ sym (IsFirstByte-value p xs (position p xs) (searched p xs (position p xs) refl))
-
 -- as an iterator over the places tells it
 pub position_of_next : (p : ℕ → Bool) (xs places_left : List ℕ) (r : Option ℕ) → TakesFirst (places p xs) r places_left → r ≡ position p xs
-position_of_next p xs rest r h = first_is r h ∙ sym (IsFirstByte-value p xs (position p xs) (searched p xs (position p xs) refl))
+position_of_next p xs rest r h = first_is r h ∙ sym (IsFirstByte-value p xs (position p xs) (searched (position p xs) refl))
   where
     first_is : (r : Option ℕ) → TakesFirst (places p xs) r rest → r ≡ first_of (places p xs)
     first_is None h = sym (ap first_of h.0 ∙ first_of_none)
     first_is (Some k) h = sym (ap first_of h ∙ first_of_some k rest)
+
+    searched : (q : Option ℕ) → position p xs ≡ q → IsFirstByte p xs q
+    searched None e = λ k low high yes. false≢true (sym (All-get_or (λ x. p x ≡ false) xs k 0 high (no_place p xs e)) ∙ yes)
+    searched (Some k) e =
+        let at = position-Some p xs k 0 e in
+        (record { low = omega arith; high = at.0; before = λ j low high yes. false≢true (sym (at.2 j high) ∙ yes) }, at.1)

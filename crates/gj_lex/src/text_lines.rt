@@ -14,7 +14,7 @@ use crate::fault::PartFault;
 use crate::reason::Reason;
 use crate::spelling::Spelling;
 use crate::words::{first_byte, has_words};
-use memchr::{memchr, memchr_iter};
+use memchr::memchr_iter;
 
 /// A line of a text.
 #[derive(Clone, Copy, Debug)]
@@ -121,8 +121,7 @@ fn behind_comment(text: &[u8]) -> &[u8]
     requires { slice_index text.now 0 ≡ 35 }
     ensures { (words : List (List ℕ)) × HasFirstWords text.now words result.now × IsSkipped words }
 {
-    // A comment is mostly long, so it is sought wide from its start on.
-    match memchr(b'\n', text) {
+    match first_line_feed(text) {
         Some(end) => &text[end + 1..],
         None => b"",
     }
