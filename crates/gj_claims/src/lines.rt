@@ -115,9 +115,8 @@ fn push_cut(
         × (out.new.items ≡ out.old.items ++ row_text line)) }
 {
     match cut {
-        RowCut::Cut(terms) => push_cut_row(alloc, out, columns, row, terms.as_slice())?,
-        RowCut::Integral => push_skip_line(alloc, out, &row.basic, row.rhs, SkipReason::Integral)?,
-        RowCut::OtherFraction => push_skip_line(alloc, out, &row.basic, row.rhs, SkipReason::Other)?,
+        RowCut::Cut(terms) => push_cut_row(alloc, out, columns, row, terms.as_slice()),
+        RowCut::Integral => push_skip_line(alloc, out, &row.basic, row.rhs, SkipReason::Integral),
+        RowCut::OtherFraction => push_skip_line(alloc, out, &row.basic, row.rhs, SkipReason::Other),
     }
-    Ok(())
 }

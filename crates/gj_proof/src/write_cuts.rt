@@ -120,14 +120,7 @@ fn push_term(out: &mut Vec<u8>, term: &CutTerm) -> Result<(), AllocError>
 ///
 /// So several lines can be written, the last one first, before they are appended at once.
 #[inline(always)]
-pub fn write_named(
-    text: &mut [u8],
-    end: usize,
-    word: &[u8],
-    name: &Name,
-    x: Frac,
-    y: Frac,
-) -> usize
+pub fn write_named(text: &mut [u8], end: usize, word: &[u8], name: &Name, x: Frac, y: Frac) -> usize
     requires room { length word.now + NAMED_SPACE ≤ end }
     requires within { end ≤ length text.old }
     ensures written { drop result text.new ≡ (word.now ++ name.now ++ 32 ∷ fraction_text x
