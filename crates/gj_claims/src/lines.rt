@@ -54,7 +54,7 @@ fn push_gmic_lines(
 {
     for row in rows {
         let cut = gmic_cut_row(alloc, row)?;
-        push_cut(alloc, out, columns, row, &cut)?;
+        push_cut(out, columns, row, &cut)?;
     }
     Ok(())
 }
@@ -97,26 +97,20 @@ fn push_lines_by<E: Evaluator>(
     let rule = Rule::new(RuleKind::Table(shape), eval);
     for row in rows {
         let cut = cut_row(alloc, &rule, row)?;
-        push_cut(alloc, out, columns, row, &cut)?;
+        push_cut(out, columns, row, &cut)?;
     }
     Ok(())
 }
 
 /// Appends the lines of a row with this cut, with the names of its columns.
-fn push_cut(
-    alloc: Global,
-    out: &mut Vec<u8>,
-    columns: &[Name],
-    row: &Row,
-    cut: &RowCut,
-) -> Result<(), AllocError>
+fn push_cut(out: &mut Vec<u8>, columns: &[Name], row: &Row, cut: &RowCut) -> Result<(), AllocError>
     requires { HasColumns (length columns.now) cut.now }
     ensures { OnOk result ((line : CutLine) × NamesCut columns.now row.now cut.now line
         × (out.new.items ≡ out.old.items ++ row_text line)) }
 {
     match cut {
-        RowCut::Cut(terms) => push_cut_row(alloc, out, columns, row, terms.as_slice()),
-        RowCut::Integral => push_skip_line(alloc, out, &row.basic, row.rhs, SkipReason::Integral),
-        RowCut::OtherFraction => push_skip_line(alloc, out, &row.basic, row.rhs, SkipReason::Other),
+        RowCut::Cut(terms) => push_cut_row(out, columns, row, terms.as_slice()),
+        RowCut::Integral => push_skip_line(out, &row.basic, row.rhs, SkipReason::Integral),
+        RowCut::OtherFraction => push_skip_line(out, &row.basic, row.rhs, SkipReason::Other),
     }
 }

@@ -46,7 +46,8 @@ pub use lenient::read_number;
 pub use line_fault::LineFault;
 pub use name::{Name, NameFault, name_of};
 pub use print::{
-    print_count, print_counts, print_frac, print_pair, push_count_line, write_pair, write_word,
+    print_count, print_counts, print_frac, print_pair, push_count_line, write_pair, write_spaced,
+    write_word,
 };
 pub use printed::{behind_byte, printed_fraction, printed_number, printed_whole};
 pub use reason::Reason;

@@ -141,9 +141,9 @@ pub fn write_word(text: &mut [u8], end: usize, word: &[u8]) -> usize
     start
 }
 
-/// Writes a space and a fraction into the text so that they end before `end`, and says where they
-/// begin.
-fn write_spaced(text: &mut [u8], end: usize, x: Frac) -> usize
+/// Writes a space and a fraction in canonical form into the text so that they end before `end`, and
+/// says where they begin.
+pub fn write_spaced(text: &mut [u8], end: usize, x: Frac) -> usize
     requires room { 81 ≤ end }
     requires within { end ≤ length text.old }
     ensures written { drop result text.new ≡ 32 ∷ fraction_text x ++ drop end text.old }

@@ -34,7 +34,6 @@ pub fn mixed_text(alloc: Global, rule: &CutRule, tableau: &Tableau) -> Result<Ve
 /// Appends the lines of a row with this cut: those of its whole columns, or that it is passed over,
 /// and behind them a line for each continuous column.
 pub(crate) fn push_cut(
-    alloc: Global,
     out: &mut Vec<u8>,
     columns: &[Name],
     row: &Row,
@@ -47,14 +46,10 @@ pub(crate) fn push_cut(
 {
     match cut {
         MixedCut::Cut(terms, weights) => {
-            push_cut_row(alloc, out, columns, row, terms.as_slice())?;
+            push_cut_row(out, columns, row, terms.as_slice())?;
             push_weights(out, columns, weights.as_slice())
         }
-        MixedCut::Integral => {
-            push_skip_line(alloc, out, &row.basic, row.rhs, SkipReason::Integral)
-        }
-        MixedCut::OtherFraction => {
-            push_skip_line(alloc, out, &row.basic, row.rhs, SkipReason::Other)
-        }
+        MixedCut::Integral => { push_skip_line(out, &row.basic, row.rhs, SkipReason::Integral) }
+        MixedCut::OtherFraction => { push_skip_line(out, &row.basic, row.rhs, SkipReason::Other) }
     }
 }

@@ -69,7 +69,7 @@ fn push_gmic_lines(
     let continuous = continuous_columns(alloc, columns)?;
     for row in rows {
         let cut = gmic_cut_mixed(alloc, row, continuous.as_slice())?;
-        push_cut(alloc, out, columns, row, &cut)?;
+        push_cut(out, columns, row, &cut)?;
     }
     Ok(())
 }
@@ -136,7 +136,7 @@ fn push_lines_by<E: Evaluator, G: Evaluator>(
     let continuous = continuous_columns(alloc, columns)?;
     for row in rows {
         let cut = cut_mixed(alloc, &rule, &slopes, row, continuous.as_slice())?;
-        push_cut(alloc, out, columns, row, &cut)?;
+        push_cut(out, columns, row, &cut)?;
     }
     Ok(())
 }

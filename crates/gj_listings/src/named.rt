@@ -11,7 +11,7 @@ use gj_cut::Term;
 use gj_lex::Name;
 use gj_proof::{NAMED_SPACE, push_cut_head, write_named};
 use gj_row::Row;
-use std::alloc::{AllocError, Global};
+use std::alloc::AllocError;
 
 /// The length of the longest word, `weight `.
 const WORD_SPACE: usize = 7;
@@ -29,7 +29,6 @@ const FEW_SPACE: usize = FEW * LINE_SPACE;
 /// Appends the lines of a row with a cut of these terms, with the names of their columns. An error
 /// says that memory ran out; `out` may then have a part of them.
 pub fn push_cut_row(
-    alloc: Global,
     out: &mut Vec<u8>,
     columns: &[Name],
     row: &Row,
@@ -39,7 +38,7 @@ pub fn push_cut_row(
     ensures { OnOk result ((named : List CutTerm) × AllZip (IsNamedTerm columns.now) terms.now named
         × (out.new.items ≡ out.old.items ++ row_text (Cut row.now.basic row.now.rhs named))) }
 {
-    push_cut_head(alloc, out, &row.basic, row.rhs)?;
+    push_cut_head(out, &row.basic, row.rhs)?;
     push_lines(out, b"term ", columns, terms)?;
     Ok(())
 }

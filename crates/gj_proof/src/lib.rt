@@ -42,7 +42,5 @@ pub use numbers::{MODULUS, Numbers};
 pub use pivot::PivotRow;
 pub use read::read_proof;
 pub use write::{push_violation_line, write_proof};
-pub use write_cuts::{
-    NAMED_SPACE, push_cut_head, push_row, push_rule_lines, push_skip_line, write_named,
-};
+pub use write_cuts::{NAMED_SPACE, push_cut_head, push_rule_lines, push_skip_line, write_named};
 pub use write_extreme::{push_halves, push_halves_line};

@@ -64,7 +64,7 @@ fn push_own_lines(alloc: Global, out: &mut Vec<u8>, claim: &Claim) -> Result<(),
     match claim {
         Claim::Minimal(_) => Ok(()),
         Claim::NotMinimal(_, violation) => push_violation_line(alloc, out, *violation),
-        Claim::Cut(_, rows) => push_rows(alloc, out, rows.as_slice()),
+        Claim::Cut(_, rows) => push_rows(out, rows.as_slice()),
         Claim::Extreme(_, lines, rows) => push_extreme_lines(
             out,
             Numbers::Whole,

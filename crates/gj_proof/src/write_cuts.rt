@@ -10,12 +10,15 @@ ghost use Rattle.gj_proof.specs.declared.cut.CutLine.TheVariants.{Cut, Skip};
 use crate::cut::{CutLine, CutRule, CutTerm, SkipReason};
 use gj_frac::Frac;
 use gj_function_lines::push_function_lines;
-use gj_lex::{Name, print_frac, write_pair, write_word};
+use gj_lex::{Name, write_pair, write_spaced, write_word};
 use std::alloc::{AllocError, Global};
 
 /// The length of the longest end of a line of a name and two fractions: the name, the fractions,
 /// each with a space before it, and a line feed.
 pub const NAMED_SPACE: usize = 255 + 163;
+
+/// The length of the longest start of a row: `skip `, a name, a space and a fraction.
+const ROW_SPACE: usize = 5 + 255 + 81;
 
 /// The length of the longest line of a term.
 const LINE_SPACE: usize = 5 + NAMED_SPACE;
@@ -33,45 +36,36 @@ pub fn push_rule_lines(alloc: Global, out: &mut Vec<u8>, rule: &CutRule) -> Resu
 }
 
 /// Appends the lines of all rows, each with its terms.
-pub(crate) fn push_rows(
-    alloc: Global,
-    out: &mut Vec<u8>,
-    rows: &[CutLine],
-) -> Result<(), AllocError>
+pub(crate) fn push_rows(out: &mut Vec<u8>, rows: &[CutLine]) -> Result<(), AllocError>
     ensures { OnOk result (out.new.items ≡ out.old.items ++ flat_map row_text rows.now) }
 {
     for row in rows {
-        push_row(alloc, out, row)?;
+        push_row(out, row)?;
     }
     Ok(())
 }
 
 /// Appends the lines of a row. An error says that memory ran out; `out` may then have a part of
 /// them.
-pub fn push_row(alloc: Global, out: &mut Vec<u8>, row: &CutLine) -> Result<(), AllocError>
+fn push_row(out: &mut Vec<u8>, row: &CutLine) -> Result<(), AllocError>
     ensures { OnOk result (out.new.items ≡ out.old.items ++ row_text row.now) }
 {
     match row {
         CutLine::Cut(name, right, terms) => {
-            push_cut_head(alloc, out, name, *right)?;
+            push_cut_head(out, name, *right)?;
             push_terms(out, terms.as_slice())
         }
-        CutLine::Skip(name, right, reason) => push_skip_line(alloc, out, name, *right, *reason),
+        CutLine::Skip(name, right, reason) => push_skip_line(out, name, *right, *reason),
     }
 }
 
 /// Appends the first line of a row with a cut, of the name of its basic variable and its right
 /// side; those of the terms come behind it. An error says that memory ran out; `out` may then have
 /// a part of it.
-pub fn push_cut_head(
-    alloc: Global,
-    out: &mut Vec<u8>,
-    name: &Name,
-    right: Frac,
-) -> Result<(), AllocError>
+pub fn push_cut_head(out: &mut Vec<u8>, name: &Name, right: Frac) -> Result<(), AllocError>
     ensures { OnOk result (out.new.items ≡ out.old.items ++ row_line (Cut name.now right [])) }
 {
-    push_named(alloc, out, b"cut ", name, right)?;
+    push_named(out, b"cut ", name, right)?;
     out.push(b'\n')?;
     Ok(())
 }
@@ -79,7 +73,6 @@ pub fn push_cut_head(
 /// Appends the one line of a row that is passed over, of the name of its basic variable, its right
 /// side and why it has no cut. An error says that memory ran out; `out` may then have a part of it.
 pub fn push_skip_line(
-    alloc: Global,
     out: &mut Vec<u8>,
     name: &Name,
     right: Frac,
@@ -87,7 +80,7 @@ pub fn push_skip_line(
 ) -> Result<(), AllocError>
     ensures { OnOk result (out.new.items ≡ out.old.items ++ row_text (Skip name.now right reason)) }
 {
-    push_named(alloc, out, b"skip ", name, right)?;
+    push_named(out, b"skip ", name, right)?;
     out.extend_from_slice(b" ")?;
     out.extend_from_slice(reason.word().as_bytes())?;
     out.push(b'\n')?;
@@ -134,20 +127,16 @@ pub fn write_named(text: &mut [u8], end: usize, word: &[u8], name: &Name, x: Fra
     write_word(text, start, word)
 }
 
-/// Appends a word, a name, a space and a fraction. An error says that memory ran out; `out` may
-/// then have a part of it.
-fn push_named(
-    alloc: Global,
-    out: &mut Vec<u8>,
-    word: &[u8],
-    name: &Name,
-    x: Frac,
-) -> Result<(), AllocError>
+/// Appends the word of a row with the space behind it, a name, a space and a fraction. An error
+/// says that memory ran out; `out` is then as it was.
+fn push_named(out: &mut Vec<u8>, word: &[u8], name: &Name, x: Frac) -> Result<(), AllocError>
+    requires { length word.now ≤ 5 }
     ensures { OnOk result (out.new.items ≡ out.old.items ++
         (word.now ++ name.now ++ codes " " ++ fraction_text x)) }
 {
-    out.extend_from_slice(word)?;
-    out.extend_from_slice(name.bytes())?;
-    out.extend_from_slice(b" ")?;
-    print_frac(alloc, out, x)
+    let mut text = [0; ROW_SPACE];
+    let right = write_spaced(&mut text, ROW_SPACE, x);
+    let start = write_word(&mut text, right, name.bytes());
+    let start = write_word(&mut text, start, word);
+    out.extend_from_slice(&text[start..])
 }
