@@ -55,7 +55,7 @@ pub(crate) fn failure_in_row(
     }
 }
 
-/// The terms of a row with a cut, or those known before it. The names of each differ.
+/// Terms whose names differ: those of the row if it has a cut, else those known before it.
 pub(crate) fn known_behind<'a>(known: &'a [CutTerm], row: &'a CutLine) -> &'a [CutTerm]
     requires known { HaveDifferentNames known.now }
     requires row { IfCut row.now (λ basic right terms. HaveDifferentNames terms) }

@@ -9,8 +9,8 @@ use indexmap::IndexSet;
 use std::alloc::{AllocError, Global};
 
 /// The index of the first term whose name is that of the basic variable or of a term before it; the
-/// number of terms if each name is new. The names of `known`, the terms of another row, differ: if
-/// the terms have the same, no set of names is made.
+/// number of terms if each name is new. The names of `known`, the terms of another row, differ: for
+/// terms that have them, and not that of the basic variable, no set of names is needed.
 pub(crate) fn first_repeated(
     alloc: Global,
     known: &[CutTerm],
