@@ -1,6 +1,11 @@
-use Rattle.std.proofs.Common.{ap, not}
+use Rattle.std.proofs.Common.{◌<◌, List, [], length, ap, not, sym, subst}
+use Rattle.std.specs.List.{AllZip}
+use Rattle.std.proofs.lemmas.List.{take_all}
+use Rattle.gj_shape.specs.Limits.{IsRowNumber}
+use Rattle.gj_row.specs.declared.tableau.Entry.{Entry}
+use Rattle.gj_cut.specs.declared.cut.Term.{Term}
 use Rattle.gj_cut.specs.RowCuts.{IsTermOf}
-use Rattle.gj_mixed.specs.MixedCuts.{IsWeightTermOf, is_continuous}
+use Rattle.gj_mixed.specs.MixedCuts.{IsWeightTermOf, is_continuous, whole_entries, continuous_entries}
 use Rattle.gj_mixed.proofs.MixedTerms.{zip_kept, zip_dropped}
 use Rattle.gj_mixed.proofs.row_cuts.terms_of.Goals as goal
 use Rattle.gj_mixed.proofs.row_cuts.terms_of.Goals.{then-flag+in_ok-push, else-flag+in_ok-push-2}
@@ -32,3 +37,29 @@ loop-entry-preserved g c =
             c.entry-item.is w.if-flag.false (ap (λ v. v.items) w.weights-is) kept.weights;
       }
     ]
+
+pub loop-entry-init : goal.loop-entry-init
+loop-entry-init g c = record {
+  terms = subst (λ (made : List Term). AllZip (IsTermOf g.E.Evaluator.answers c.args.rule.now) [] made) (sym c.in_ok-terms.ensures.items) tt;
+  weights = subst (λ (made : List Term). AllZip (IsWeightTermOf g.G.Evaluator.answers c.args.slopes.now) [] made) (sym c.new-weights.ensures.items) tt;
+}
+
+pub bounds-continuous-entry : goal.bounds-continuous-entry
+bounds-continuous-entry g c =
+    subst (λ (entry : Entry). entry.column < length c.args.continuous.now) (sym c.entry-item.is)
+    (c.requires.columns c.loop-entry.entry-index c.entry-item.result c.loop-entry-test.true)
+
+pub mixed_term-made-requires : goal.mixed_term-made-requires
+mixed_term-made-requires g c =
+    subst (λ (entry : Entry). IsRowNumber entry.value) (sym c.entry-item.is)
+    (c.requires.range c.loop-entry.entry-index c.entry-item.result c.loop-entry-test.true)
+
+pub returns-clause-terms : goal.returns-clause-terms
+returns-clause-terms g c =
+    subst (λ (entries : List Entry). AllZip (IsTermOf g.E.Evaluator.answers c.args.rule.now) (whole_entries c.args.continuous.now entries) c.loop-entry.terms.items)
+    (take_all c.loop-entry.entry-index c.args.entries.now c.loop-entry-test.false) c.loop-entry.invariant.terms
+
+pub returns-clause-weights : goal.returns-clause-weights
+returns-clause-weights g c =
+    subst (λ (entries : List Entry). AllZip (IsWeightTermOf g.G.Evaluator.answers c.args.slopes.now) (continuous_entries c.args.continuous.now entries) c.loop-entry.weights.items)
+    (take_all c.loop-entry.entry-index c.args.entries.now c.loop-entry-test.false) c.loop-entry.invariant.weights
