@@ -26,6 +26,20 @@ pub record AreSums (component : List ℕ) (slopes values : List ℤ) (n : ℕ) (
   pub last : value ≡ slope_sum component slopes n
   pub narrow : All Fits values
 
+-- the first sum is 0
+pub first_sum : (component : List ℕ) (slopes values more : List ℤ) → 0 < length component → values ≡ [] → more ≡ values ++ pos 0 ∷ [] →
+    AreSums component slopes more 0 (pos 0)
+first_sum component slopes values more some empty items =
+    let here : pos 0 ≡ slope_sum component slopes 0 =
+    sym (ap (λ r. total (map (slope_at component slopes) (range_with_len 0 r))) (mod-eq_of_lt some)) in
+    let one : more ≡ pos 0 ∷ [] = items ∙ ap (λ xs. xs ++ pos 0 ∷ []) empty in
+    record {
+      below = some;
+      listed = one ∙ ap (λ y. y ∷ []) here;
+      last = here;
+      narrow = subst (All Fits) (sym one) (All-push Fits [] (pos 0) (λ k d h. absurd (omega arith)) (omega arith));
+    }
+
 pub next_sum : (component : List ℕ) (slopes : List ℤ) (n : ℕ) (value : ℤ) → n + 1 < length component →
     value ≡ slope_sum component slopes n → value +ℤ slope_at component slopes n ≡ slope_sum component slopes (n + 1)
 next_sum component slopes n value below e =
@@ -61,3 +75,15 @@ pub slope_before_last : (component before_last : List ℕ) (slopes : List ℤ) (
 slope_before_last component before_last slopes last n e below =
     ap (λ c. get_or slopes c (pos 0))
     (sym (ap (λ cs. get_or cs n 0) e ∙ get_or_append_left before_last (last ∷ []) 0 n below))
+
+-- it names one of the slopes
+pub slope_there : (component before_last : List ℕ) (last n m : ℕ) → component ≡ before_last ++ last ∷ [] → n < length before_last →
+    n + 1 < length component → All (λ c. c < m) component → get_or before_last n 0 < m
+slope_there component before_last last n m e below more h =
+    let within : n < length component = omega arith in
+    subst (λ c. c < m) (ap (λ cs. get_or cs n 0) e ∙ get_or_append_left before_last (last ∷ []) 0 n below) (h n 0 within)
+
+-- after the last interval but one all sums are listed
+pub all_sums : (component : List ℕ) (slopes values : List ℤ) (n : ℕ) (value : ℤ) → n + 1 ≡ length component →
+    AreSums component slopes values n value → values ≡ map (slope_sum component slopes) (range_with_len 0 (length component))
+all_sums component slopes values n value e h = h.listed ∙ ap (λ m. map (slope_sum component slopes) (range_with_len 0 m)) e
