@@ -4,8 +4,8 @@
 //! next line, `words_at` a line of given words, `end_at` that nothing follows, and `split_word` and
 //! its like the words of a line; `fraction_of`, `is_count` and `count_of` read numbers,
 //! `print_frac`, `print_pair`, `print_count` and `print_counts` print them, and `push_count_line` a
-//! line of a word and a count. `write_pair` and `write_word` write a pair of fractions and a word
-//! into a text that has room for them.
+//! line of a word and a count. `write_pair`, `write_spaced` and `write_word` write a pair of
+//! fractions, a space and a fraction, and a word into a text that has room for them.
 //! None of the readers takes memory. `leading_decimal` reads a decimal whose end is not known yet.
 //! `printed_fraction`, `printed_whole` and `printed_number` read a number as it is printed, and
 //! `behind_byte` one byte, where the text is read from its front and not cut into words.

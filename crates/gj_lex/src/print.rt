@@ -45,8 +45,8 @@ pub fn push_count_line(out: &mut Vec<u8>, word: &[u8], n: u32) -> Result<(), All
 
 /// Appends a fraction in canonical form, as `-1/2` or `3`.
 ///
-/// It takes an allocator first, as every call that may run out of memory does, though `out` grows
-/// by its own. An error says that memory ran out; `out` is then as it was.
+/// The allocator is not used, since `out` grows by its own. An error says that memory ran out; `out`
+/// is then as it was.
 pub fn print_frac(_alloc: Global, out: &mut Vec<u8>, x: Frac) -> Result<(), AllocError>
     ensures ok { OnOk result (out.new.items ≡ out.old.items ++ fraction_text x) }
     ensures err { OnErr result (out.new.items ≡ out.old.items) }

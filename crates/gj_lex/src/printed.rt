@@ -1,8 +1,10 @@
 //! Numbers in the form in which they are printed, read in one pass from the front of a text.
 //!
-//! Each reader gives a number and what follows its text. At most 18 digits of a number are read. So
-//! of one with more no more than a part is read, and a digit follows: that is no end of a word, and
-//! then the line is read word by word. A number below 10^18 with no digit behind it is always read.
+//! Each reader gives a number and what follows its text. At most 18 digits of a number are read, of a
+//! fraction at most 18 of each part. If more stand there, a digit follows what was read: that is no
+//! end of a word, and then the line is read word by word. A whole number below 10^18 in absolute
+//! value with no digit behind it is always read. So is a fraction whose parts are both so small, if
+//! neither a digit nor a `/` follows.
 ghost use Rattle.std.specs.Prelude.{◌≡◌, ◌≢◌, ◌↔◌, ◌<◌, ◌^◌, ◌++◌, ◌∷◌, ℕ, ℤ, pos, unsigned_abs};
 ghost use Rattle.std.specs.Prelude.{List, length, slice_index, decimal};
 ghost use Rattle.std.specs.Prelude.{IfSome, IfNone, IsSome, IsTrue};
@@ -50,7 +52,7 @@ pub fn printed_fraction(text: &[u8]) -> Option<(Frac, &[u8])>
     Some((small_in_lowest_terms(num, den)?, rest))
 }
 
-/// The fraction `num/den`, if that is in lowest terms. All is done in 64 bits.
+/// The fraction `num/den`, if that is in lowest terms. The divisor is sought in 64 bits.
 fn small_in_lowest_terms(num: i64, den: u64) -> Option<Frac>
     requires { 0 < den }
     ensures found { IfSome result (λ x. (numerator x ≡ num) × (denominator x ≡ pos den)) }

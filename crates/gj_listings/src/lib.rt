@@ -1,5 +1,5 @@
 //! Texts that are no proofs: the faces of a function, the verdict on a table, the cuts of rows with
-//! continuous columns.
+//! continuous columns. And the lines of the cut of a row, which a proof text has too.
 //!
 //! [`faces_text`] prints the maximal additive faces in walk order, a line why each covered interval
 //! is covered, and the uncovered intervals (`specs/FacesText`). [`group_text`] prints the verdict

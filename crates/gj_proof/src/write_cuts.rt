@@ -65,7 +65,7 @@ fn push_row(out: &mut Vec<u8>, row: &CutLine) -> Result<(), AllocError>
 pub fn push_cut_head(out: &mut Vec<u8>, name: &Name, right: Frac) -> Result<(), AllocError>
     ensures { OnOk result (out.new.items ≡ out.old.items ++ row_line (Cut name.now right [])) }
 {
-    push_named(out, b"cut ", name, right)?;
+    push_row_start(out, b"cut ", name, right)?;
     out.push(b'\n')?;
     Ok(())
 }
@@ -80,7 +80,7 @@ pub fn push_skip_line(
 ) -> Result<(), AllocError>
     ensures { OnOk result (out.new.items ≡ out.old.items ++ row_text (Skip name.now right reason)) }
 {
-    push_named(out, b"skip ", name, right)?;
+    push_row_start(out, b"skip ", name, right)?;
     out.extend_from_slice(b" ")?;
     out.extend_from_slice(reason.word().as_bytes())?;
     out.push(b'\n')?;
@@ -128,8 +128,8 @@ pub fn write_named(text: &mut [u8], end: usize, word: &[u8], name: &Name, x: Fra
 }
 
 /// Appends the word of a row with the space behind it, a name, a space and a fraction. An error
-/// says that memory ran out; `out` is then as it was.
-fn push_named(out: &mut Vec<u8>, word: &[u8], name: &Name, x: Frac) -> Result<(), AllocError>
+/// says that memory ran out.
+fn push_row_start(out: &mut Vec<u8>, word: &[u8], name: &Name, x: Frac) -> Result<(), AllocError>
     requires { length word.now ≤ 5 }
     ensures { OnOk result (out.new.items ≡ out.old.items ++
         (word.now ++ name.now ++ codes " " ++ fraction_text x)) }

@@ -8,7 +8,7 @@ use crate::faults::RowReason;
 use gj_frac::{Frac, lcm};
 use gj_shape::{GREATEST_DENOMINATOR, GREATEST_NUMBER, small_denominator};
 
-/// The greatest whole number of a row.
+/// The greatest absolute value of a number of a row, with a sign.
 const GREATEST_WHOLE: i128 = GREATEST_NUMBER as i128;
 
 /// The number that was read, behind numbers with the least common denominator `scale`, and the
