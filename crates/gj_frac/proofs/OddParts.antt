@@ -101,12 +101,15 @@ from_difference a b g h = ⊎_elim
     IsGcd-from_sub a b g above (IsGcd-swap _ _ _ (subst₂ (λ m n. IsGcd m n g) lesser difference h)))
     (cases_lt a b)
 
--- an odd number and the odd part of another: one step by their difference
-pub from_odd_difference : (a b g : ℕ) → a % 2 ≡ 1 → 0 < b → b < 2 ^ 64 →
-    IsGcd (min a (b / 2 ^ trailing_zeros w64 b)) (abs_diff a (b / 2 ^ trailing_zeros w64 b)) g → IsGcd a b g
-from_odd_difference a b g odd some fits h =
-    subst (λ n. IsGcd a n g) (odd_part b some fits).1
-    (odd_scaled a (b / 2 ^ trailing_zeros w64 b) g (trailing_zeros w64 b) odd (from_difference _ _ _ h))
+-- two odd numbers: the odd part of their difference, and the lesser of them, have their divisors
+pub from_odd_difference : (a b g : ℕ) → a % 2 ≡ 1 → b % 2 ≡ 1 → 0 < abs_diff a b → abs_diff a b < 2 ^ 64 →
+    IsGcd (abs_diff a b / 2 ^ trailing_zeros w64 (abs_diff a b)) (min a b) g → IsGcd a b g
+from_odd_difference a b g a_odd b_odd some fits h =
+    let zeros = trailing_zeros w64 (abs_diff a b) in
+    let odd : min a b % 2 ≡ 1 = ⊎_elim (λ below. omega (arith, a_odd)) (λ above. omega (arith, b_odd)) (cases_lt a b) in
+    from_difference a b g
+    (subst (λ n. IsGcd (min a b) n g) (odd_part (abs_diff a b) some fits).1
+    (odd_scaled (min a b) (abs_diff a b / 2 ^ zeros) g zeros odd (IsGcd-swap _ _ _ h)))
 
 -- the greater and the lesser of two numbers have the divisors of the two
 pub from_sorted : (a b m n g : ℕ) → m ≡ max a b → n ≡ min a b → IsGcd m n g → IsGcd a b g

@@ -62,19 +62,27 @@ impl Frac {
         ensures { IsRatio result num (pos (10 ^ places)) }
     {
         let size = num.unsigned_abs();
-        if size == 0 {
-            return Frac { num: 0, den: 1 };
-        }
         if size >= 1 << 64 || places > SHORT {
             return Frac::reduced(num, power_of_ten(places) as i128);
         }
-        let size = size as u64;
-        let twos = (size.trailing_zeros() as usize).min(places);
-        let fraction = without_fives(size >> twos, places, places - twos);
+        let fraction = Frac::short_decimal(size as u64, places);
         if num < 0 {
             return -fraction;
         }
         fraction
+    }
+
+    /// The same for a number without a sign, below 2^64, and at most 19 places.
+    #[inline(always)]
+    pub fn short_decimal(num: u64, places: usize) -> Frac
+        requires { places ≤ 19 }
+        ensures { IsRatio result (pos num) (pos (10 ^ places)) }
+    {
+        if num == 0 {
+            return Frac { num: 0, den: 1 };
+        }
+        let twos = (num.trailing_zeros() as usize).min(places);
+        without_fives(num >> twos, places, places - twos)
     }
 }
 

@@ -1,5 +1,5 @@
 //! The greatest common divisor and the least common multiple.
-ghost use Rattle.std.specs.Prelude.{◌<◌, ◌≡◌, ◌%◌};
+ghost use Rattle.std.specs.Prelude.{◌<◌, ◌≡◌, ◌%◌, ◌^◌};
 ghost use Rattle.std.specs.Int.{IsGcd};
 ghost use Rattle.gj_lemmas.specs.Divisors.{IsLcm};
 
@@ -28,12 +28,17 @@ pub fn gcd(a: u128, b: u128) -> u128
 
 /// The greatest common divisor of two whole numbers below 2^64; that of 0 and 0 is 0.
 ///
-/// After one remainder, which brings numbers of different sizes together, it divides no more.
+/// Numbers of different sizes are brought together by a remainder. Then it divides no more.
 pub(crate) fn gcd_in_64_bits(a: u64, b: u64) -> u64
     ensures { IsGcd a b result }
 {
-    let greater = a.max(b);
-    let lesser = a.min(b);
+    let mut greater = a.max(b);
+    let mut lesser = a.min(b);
+    while lesser >= 1 << 63 {
+        let rest = greater % lesser;
+        greater = lesser;
+        lesser = rest;
+    }
     if lesser == 0 {
         return greater;
     }
@@ -52,27 +57,35 @@ pub(crate) fn gcd_in_64_bits(a: u64, b: u64) -> u64
 fn gcd_of_positive(a: u64, b: u64) -> u64
     requires first { 0 < a }
     requires second { 0 < b }
+    requires first_fits { a < 2 ^ 63 }
+    requires second_fits { b < 2 ^ 63 }
     ensures { IsGcd a b result }
 {
     let a_zeros = a.trailing_zeros();
     let b_zeros = b.trailing_zeros();
-    gcd_with_odd(a >> a_zeros, b >> b_zeros) << a_zeros.min(b_zeros)
+    gcd_of_odd(a >> a_zeros, b >> b_zeros) << a_zeros.min(b_zeros)
 }
 
-/// The greatest common divisor of an odd number and another, by the binary algorithm: the odd part
-/// of the difference of two odd numbers stands for the greater of them.
-fn gcd_with_odd(a: u64, b: u64) -> u64
-    requires { a % 2 ≡ 1 }
+/// The greatest common divisor of two odd numbers, by the binary algorithm: the odd part of their
+/// difference stands for the greater of them.
+///
+/// The trailing zeros of a difference do not wait for its absolute value.
+fn gcd_of_odd(a: u64, b: u64) -> u64
+    requires odd { a % 2 ≡ 1 }
+    requires other_odd { b % 2 ≡ 1 }
+    requires fits { a < 2 ^ 63 }
+    requires other_fits { b < 2 ^ 63 }
     ensures { IsGcd a b result }
 {
-    let mut odd = a;
-    let mut rest = b;
-    while rest != 0 {
-        let other = rest >> rest.trailing_zeros();
-        rest = odd.abs_diff(other);
-        odd = odd.min(other);
+    let mut first = a;
+    let mut second = b;
+    while first != second {
+        let difference = first as i64 - second as i64;
+        let size = difference.unsigned_abs();
+        second = first.min(second);
+        first = size >> size.trailing_zeros();
     }
-    odd
+    first
 }
 
 /// The least common multiple of two whole numbers, the first not 0; that of a number and 0 is 0.
@@ -83,6 +96,15 @@ pub fn lcm(a: u32, b: u32) -> u64
     if b != 0 && a % b == 0 {
         return u64::from(a);
     }
+    lcm_by_gcd(a, b)
+}
+
+/// The same, if the second number does not divide the first.
+#[inline(never)]
+fn lcm_by_gcd(a: u32, b: u32) -> u64
+    requires { 0 < a }
+    ensures { IsLcm a b result }
+{
     let divisor = gcd_in_64_bits(u64::from(a), u64::from(b)) as u32;
     u64::from(a / divisor) * u64::from(b)
 }

@@ -32,7 +32,7 @@ use divisors::gcd_in_64_bits;
 pub use divisors::{gcd, lcm};
 pub use laws::{ExactNumber, equal_values_are_one};
 pub use operators::fits_over_one_denominator;
-use parts::{common_divisor, quotient};
+use parts::{common_divisor, quotient, small_quotient};
 
 /// A fraction in lowest terms with a positive denominator; zero is 0/1.
 ///
@@ -87,15 +87,9 @@ impl Frac {
         ensures { IsRatio result (pos num) (pos den) }
     {
         let divisor = gcd_in_64_bits(num, den);
-        if divisor == 1 {
-            return Frac {
-                num: i128::from(num),
-                den: i128::from(den),
-            };
-        }
         Frac {
-            num: i128::from(num / divisor),
-            den: i128::from(den / divisor),
+            num: i128::from(small_quotient(num, divisor)),
+            den: i128::from(small_quotient(den, divisor)),
         }
     }
 
@@ -126,7 +120,9 @@ impl Frac {
         if num >= 0 && num < SMALL && den >= 0 && den < SMALL {
             return Frac::of_small(num as u64, den as u64);
         }
-        Frac::reduced_in_128_bits(num, den)
+        // Named, so that the other answer need not stand in memory.
+        let fraction = Frac::reduced_in_128_bits(num, den);
+        fraction
     }
 
     /// The same, whatever the sizes and the signs of the parts.

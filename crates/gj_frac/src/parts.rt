@@ -30,6 +30,17 @@ pub(crate) fn quotient(n: i128, divisor: i128) -> i128
     }
 }
 
+/// The same for numbers below 2^64, of which the second need not divide the first.
+pub(crate) fn small_quotient(n: u64, divisor: u64) -> u64
+    requires { 0 < divisor }
+    ensures { result ≡ n / divisor }
+{
+    if divisor == 1 {
+        return n;
+    }
+    n / divisor
+}
+
 /// A whole number divided by a positive one, rounded down.
 pub(crate) fn floor_quotient(n: i128, d: i128) -> i128
     requires { pos 0 <ℤ d }

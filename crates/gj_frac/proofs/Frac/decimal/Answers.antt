@@ -2,8 +2,7 @@ use Rattle.std.proofs.Common.{◌≡◌, ◌<◌, ◌^◌, pos, neg_ℤ, unsigne
 use Rattle.std.proofs.Math.Nat.{one-le-pow}
 use Rattle.std.proofs.lemmas.Int.{to_z-of_z, ints}
 use Rattle.gj_frac.specs.Fraction.{IsRatio}
-use Rattle.gj_frac.proofs.OddParts.{twos_left}
-use Rattle.gj_frac.proofs.TenPowers.{ten_small, read_ten, decimal_is}
+use Rattle.gj_frac.proofs.TenPowers.{ten_small, read_ten}
 use Rattle.gj_frac.proofs.SameValues.{negation_is}
 use Rattle.gj_frac.proofs.Frac.decimal.Goals as goal
 use mir.Syntax.{w128}
@@ -30,24 +29,17 @@ returns-then-size c =
     let num = to_z-of_z w128 c.args.num c.ranges.num in
     simp (num, power) at c.reduced.ensures
 
-pub without_fives-fraction-requires-clause-odd : goal.without_fives-fraction-requires-clause-odd
-without_fives-fraction-requires-clause-odd c = twos_left c.unsigned_abs-size.result c.min-twos.result c.args.places (omega arith) (omega arith) c.min-twos.ensures
-
 pub returns-then-num-lt0 : goal.returns-then-num-lt0
 returns-then-num-lt0 c =
     let num = to_z-of_z w128 c.args.num c.ranges.num in
     let size : c.unsigned_abs-size.result ≡ unsigned_abs c.args.num = c.unsigned_abs-size.ensures.value ∙ ap unsigned_abs num in
     let same : neg_ℤ (pos c.unsigned_abs-size.result) ≡ c.args.num = omega (arith, ints) in
-    let value = decimal_is _ _ c.unsigned_abs-size.result c.min-twos.result c.args.places (omega arith) (omega arith) c.min-twos.ensures
-    c.without_fives-fraction.ensures in
     subst (λ z. IsRatio c.neg.result z (pos (10 ^ c.args.places))) same
-    (negation_is c.without_fives-fraction.result c.neg.result (pos c.unsigned_abs-size.result) (pos (10 ^ c.args.places)) c.neg.ensures value)
+    (negation_is c.short_decimal-fraction.result c.neg.result (pos c.unsigned_abs-size.result) (pos (10 ^ c.args.places)) c.neg.ensures c.short_decimal-fraction.ensures)
 
 pub returns : goal.returns
 returns c =
     let num = to_z-of_z w128 c.args.num c.ranges.num in
     let size : c.unsigned_abs-size.result ≡ unsigned_abs c.args.num = c.unsigned_abs-size.ensures.value ∙ ap unsigned_abs num in
     let same : pos c.unsigned_abs-size.result ≡ c.args.num = omega (arith, ints) in
-    let value = decimal_is _ _ c.unsigned_abs-size.result c.min-twos.result c.args.places (omega arith) (omega arith) c.min-twos.ensures
-    c.without_fives-fraction.ensures in
-    subst (λ z. IsRatio c.without_fives-fraction.result z (pos (10 ^ c.args.places))) same value
+    subst (λ z. IsRatio c.short_decimal-fraction.result z (pos (10 ^ c.args.places))) same c.short_decimal-fraction.ensures
