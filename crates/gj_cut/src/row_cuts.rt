@@ -97,6 +97,8 @@ fn cut_at_place<E: Evaluator>(
 }
 
 /// The terms of the entries.
+// Its loop needs all registers: it stays a function of its own.
+#[inline(never)]
 fn terms<E: Evaluator>(
     alloc: Global,
     rule: &Rule<E>,
@@ -107,7 +109,7 @@ fn terms<E: Evaluator>(
 {
     let mut terms = Vec::with_capacity(alloc, entries.len())?;
     for entry in entries {
-        terms.push(term(rule, *entry))?;
+        terms.push_reserved(term(rule, *entry));
     }
     Ok(terms)
 }

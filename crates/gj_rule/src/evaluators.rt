@@ -13,6 +13,8 @@ use gj_shape::{GREATEST_DENOMINATOR, GREATEST_NUMBER, Shape};
 /// f is between 0 and 1, both excluded. Both denominators are at most 2^62; x may be of any size.
 /// Over the product of both denominators r, f and 1 are whole numbers. The value is a quotient of
 /// two of them or of two differences, so that one divisor is sought.
+// A loop over the entries of a row calls it for each.
+#[inline(always)]
 pub fn gmic_value(f: Frac, x: Frac) -> Frac
     requires inside { IsInside f }
     requires f_fine { unsigned_abs (denominator f) ≤ 2 ^ 62 }
@@ -23,10 +25,13 @@ pub fn gmic_value(f: Frac, x: Frac) -> Frac
     let part = product(rest.num(), f.den());
     let place = product(f.num(), rest.den());
     if part <= place {
-        return Frac::reduced(part, place);
+        // Named, so that the values need not stand in memory.
+        let rising = Frac::reduced(part, place);
+        return rising;
     }
     let one = product(rest.den(), f.den());
-    Frac::reduced(one - part, one - place)
+    let falling = Frac::reduced(one - part, one - place);
+    falling
 }
 
 /// Whether x can stand in a row: its denominator is at most 2^31 - 1, and it is at most 2^31 in
@@ -39,6 +44,7 @@ pub fn is_in_range(x: Frac) -> bool
 }
 
 /// The value of the function at x, a fraction that can stand in a row.
+#[inline(always)]
 pub fn table_value(shape: &Shape, x: Frac) -> Frac
     requires { IsRowNumber x }
     ensures { IsValueOf shape.now x result }

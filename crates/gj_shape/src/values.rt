@@ -1,6 +1,6 @@
 //! The value of a function at a fraction.
 ghost use Rattle.std.specs.Prelude.{◌≡◌, ◌<◌, ◌≤◌, ◌+◌, ◌*◌, ◌^◌, ℕ, ◌≢◌, pos, ◌*ℤ◌, ◌+ℤ◌, length};
-ghost use Rattle.std.specs.Prelude.{unsigned_abs};
+ghost use Rattle.std.specs.Prelude.{unsigned_abs, ◌%◌};
 ghost use Rattle.gj_frac.specs.Fraction.{IsRatio, numerator, denominator};
 ghost use Rattle.gj_shape.specs.Limits.{IsSmallNumber};
 ghost use Rattle.gj_shape.specs.Refinement.{entry_or_value};
@@ -29,6 +29,8 @@ impl Shape {
     /// x has a denominator of at most 2^62 and is at most 2^31 in absolute value. Each point of a
     /// violation that `find_violation` answers or that passes the rule `point` is so: it is from 0
     /// up to, not including, 1 and has a denominator of at most 2^62.
+    // A loop over the entries of a row calls it for each.
+    #[inline(always)]
     pub fn value_at(&self, x: Frac) -> Frac
         requires fine { unsigned_abs (denominator x) ≤ 2 ^ 62 }
         requires size { IsSmallNumber x }
@@ -41,6 +43,7 @@ impl Shape {
     }
 
     /// The value at n/(q steps), for the order q.
+    #[inline(always)]
     fn value_on_grid(&self, n: i128, steps: u64) -> Frac
         requires some { 0 < steps }
         requires few { steps ≤ 2 ^ 62 }
@@ -48,7 +51,9 @@ impl Shape {
     {
         let (index, remainder) = place_within(n, self.order(), steps);
         let numerator = self.entry_or_value(self.value_numerators(), index, remainder, steps);
-        Frac::reduced(numerator, self.common_denominator() * i128::from(steps))
+        // Named, so that it need not stand in memory.
+        let value = Frac::reduced(numerator, self.common_denominator() * i128::from(steps));
+        value
     }
 
     /// `steps` times what stands at index/q + remainder/(q steps), for the order q: the entry of
@@ -70,11 +75,22 @@ impl Shape {
         if remainder == 0 {
             return weighted(steps, entries[index]);
         }
-        let next = (index + 1) % self.order() as usize;
+        let next = place_behind(index, self.order());
         let start = self.right_numerators()[index];
         let end = self.left_numerators()[next];
         weighted(steps - remainder, start) + weighted(remainder, end)
     }
+}
+
+/// The index of the place behind this one, for the order q: 0 behind q - 1.
+fn place_behind(index: usize, order: u32) -> usize
+    requires { index < order }
+    ensures { result ≡ (index + 1) % order }
+{
+    if index + 1 == order as usize {
+        return 0;
+    }
+    index + 1
 }
 
 /// The index i below q and the remainder r below `steps` for which n/(q steps) differs from

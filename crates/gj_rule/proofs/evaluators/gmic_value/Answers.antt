@@ -29,8 +29,8 @@ product-one-requires-clause-n_small c =
     c.requires.x_fine)
 
 -- the place is not 0, and not 1
-pub reduced-requires-clause-zero : goal.reduced-requires-clause-zero
-reduced-requires-clause-zero c =
+pub reduced-rising-requires-clause-zero : goal.reduced-rising-requires-clause-zero
+reduced-rising-requires-clause-zero c =
     let f = c.args.f in
     let rest = c.fract-rest.result in
     let place = parts_read c.product-place.result c.num-2.result c.den-2.result f rest
@@ -40,8 +40,8 @@ reduced-requires-clause-zero c =
     rw (reads_as c.product-place.result (f.num *ℤ rest.den) place (rw (sym place) (omega arith)))
     (omega (arith, ints))
 
-pub reduced-requires-2-clause-zero : goal.reduced-requires-2-clause-zero
-reduced-requires-2-clause-zero c =
+pub reduced-falling-requires-clause-zero : goal.reduced-falling-requires-clause-zero
+reduced-falling-requires-clause-zero c =
     let f = c.args.f in
     let rest = c.fract-rest.result in
     let place = parts_read c.product-place.result c.num-2.result c.den-2.result f rest
@@ -75,15 +75,15 @@ overflow_sub-one-2 c =
     let place = reads_as c.product-place.result c.product-place.result refl (omega arith) in
     search rules
 
-pub reduced-requires-2-clause-num_fits : goal.reduced-requires-2-clause-num_fits
-reduced-requires-2-clause-num_fits c =
+pub reduced-falling-requires-clause-num_fits : goal.reduced-falling-requires-clause-num_fits
+reduced-falling-requires-clause-num_fits c =
     let one_small = c.product-one.ensures.fits in
     let part_small = c.product-part.ensures.fits in
     rw (difference_read c.product-one.result c.product-part.result one_small part_small)
     (omega (arith, ints))
 
-pub reduced-requires-2-clause-den_fits : goal.reduced-requires-2-clause-den_fits
-reduced-requires-2-clause-den_fits c =
+pub reduced-falling-requires-clause-den_fits : goal.reduced-falling-requires-clause-den_fits
+reduced-falling-requires-clause-den_fits c =
     let one_small = c.product-one.ensures.fits in
     let place_small = c.product-place.ensures.fits in
     rw (difference_read c.product-one.result c.product-place.result one_small place_small)
@@ -106,9 +106,9 @@ returns-then-part-place c =
     let here = c.if-part-place.true in
     let low : (rest.num *ℤ f.den) ≤ℤ (f.num *ℤ rest.den) = subst₂ (λ (a b : ℤ). a ≤ℤ b) part_read
     place_read (omega (arith, ints)) in
-    rising_value f c.args.x rest c.reduced.result (rest_parts c.args.x rest
+    rising_value f c.args.x rest c.reduced-rising.result (rest_parts c.args.x rest
     c.fract-rest.ensures.value) (λ above. omega (arith, ints))
-    (subst₂ (IsRatio c.reduced.result) part_read place_read c.reduced.ensures)
+    (subst₂ (IsRatio c.reduced-rising.result) part_read place_read c.reduced-rising.ensures)
 
 pub returns : goal.returns
 returns c =
@@ -131,11 +131,11 @@ returns c =
     let here = c.if-part-place.false in
     let high : (f.num *ℤ rest.den) <ℤ (rest.num *ℤ f.den) = subst₂ (λ (a b : ℤ). a <ℤ b) place_read
     part_read (omega (arith, ints)) in
-    falling_value f c.args.x rest c.reduced-2.result (rest_parts c.args.x rest
+    falling_value f c.args.x rest c.reduced-falling.result (rest_parts c.args.x rest
     c.fract-rest.ensures.value) high
-    (subst₂ (IsRatio c.reduced-2.result)
+    (subst₂ (IsRatio c.reduced-falling.result)
     (difference_read c.product-one.result c.product-part.result one_small part_small ∙
     ap₂ (λ a b. a -ℤ b) one part)
     (difference_read c.product-one.result c.product-place.result one_small place_small ∙
     ap₂ (λ a b. a -ℤ b) one place)
-    c.reduced-2.ensures)
+    c.reduced-falling.ensures)

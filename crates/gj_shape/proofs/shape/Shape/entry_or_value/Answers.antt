@@ -22,10 +22,11 @@ returns-clause-value c =
     ≡ c.weighted-2.result +ℤ c.weighted-3.result = omega (arith, ints) in
     let start : to_z w64 (of_z w64 (get_or c.right_numerators.result.now i (pos 0))) ≡ get_or f.right i (pos 0) =
     to_z-of_z w64 _ (search rules) ∙ ap (λ xs. get_or xs i (pos 0)) c.right_numerators.ensures.value in
-    let end : to_z w64 (of_z w64 (get_or c.left_numerators.result.now ((i + 1) % c.order.result) (pos 0))) ≡ get_or f.left
+    let behind : c.place_behind-next.result ≡ (i + 1) % f.order = c.place_behind-next.ensures ∙ ap (λ n. (i + 1) % n) c.order.ensures.value in
+    let end : to_z w64 (of_z w64 (get_or c.left_numerators.result.now c.place_behind-next.result (pos 0))) ≡ get_or f.left
     ((i + 1) % f.order) (pos 0) =
     to_z-of_z w64 _ (search rules)
-    ∙ ap₂ (λ xs n. get_or xs ((i + 1) % n) (pos 0)) c.left_numerators.ensures.value c.order.ensures.value in
+    ∙ ap₂ (λ xs n. get_or xs n (pos 0)) c.left_numerators.ensures.value behind in
     sum ∙ ap₂ (λ x y. x +ℤ y) (c.weighted-2.ensures.value ∙ ap (λ z. pos (m - r) *ℤ z) start)
     (c.weighted-3.ensures.value ∙ ap (λ z. pos r *ℤ z) end)
     ∙ sym (entry_of_limits f c.args.entries.now m i r c.order.ensures.limits (omega arith) c.requires.index)
