@@ -6,8 +6,7 @@ use Rattle.std.proofs.lemmas.List.{drop_more}
 use Rattle.std.proofs.lemmas.List.Elements.{All-get_or, All-from_get_or}
 use Rattle.std.proofs.lemmas.List.Quantifiers.{position-Some}
 use Rattle.std.proofs.lemmas.List.Sums.{prefix_len-le-length, fails_before_first}
-use Rattle.memchr.specs.Find.{IsFirst, IsFirstByte, Nowhere}
-use Rattle.memchr.proofs.lemmas.FindLemmas.{Nowhere-then}
+use Rattle.memchr.specs.Find.{IsFirst, IsFirstByte}
 use Rattle.memchr.proofs.lemmas.ValueLemmas.{IsFirstByte-value}
 
 -- the place where the test first passes
@@ -53,18 +52,6 @@ position_of_first p xs r h = IsFirstByte-value p xs r h ∙ sym (IsFirstByte-val
     searched (Some k) e =
         let at = position-Some p xs k 0 e in
         (record { low = omega arith; high = at.0; before = λ j low high yes. false≢true (sym (at.2 j high) ∙ yes) }, at.1)
-
--- a search that goes on where an earlier one ended with none
-pub first_later : (P : ℕ → Type 0) (a b c : ℕ) → a ≤ b → Nowhere P a b → (r : Option ℕ) → IsFirst P b c r → IsFirst P a c r
-first_later P a b c h none None more = Nowhere-then none more
-first_later P a b c h none (Some k) found = (
-  record {
-    low = let low = found.0.low in omega arith;
-    high = found.0.high;
-    before = Nowhere-then none found.0.before;
-  },
-  found.1,
-)
 
 -- what is found stays so if the search goes on further
 pub first_wider : (P : ℕ → Type 0) (a b c k : ℕ) → b ≤ c → IsFirst P a b (Some k) → IsFirst P a c (Some k)

@@ -94,7 +94,7 @@ pub(crate) fn first_line_feed(text: &[u8]) -> Option<usize>
     ensures { result ≡ position is_line_feed text.now }
 {
     // Most lines are short.
-    if 96 <= text.len() {
+    if 128 <= text.len() {
         if let Some(place) = near_line_feed(text) {
             return Some(place);
         }
@@ -102,11 +102,11 @@ pub(crate) fn first_line_feed(text: &[u8]) -> Option<usize>
     far_line_feed(text)
 }
 
-/// Where the first LF stands in the first 96 bytes.
+/// Where the first LF stands in the first 128 bytes.
 #[inline(always)]
 fn near_line_feed(text: &[u8]) -> Option<usize>
-    requires { 96 ≤ length text.now }
-    ensures { IsFirst (Passes is_line_feed text.now) 0 96 result }
+    requires { 128 ≤ length text.now }
+    ensures { IsFirst (Passes is_line_feed text.now) 0 128 result }
 {
     if let Some(place) = line_feed_among(text, 0) {
         return Some(place);
@@ -114,7 +114,10 @@ fn near_line_feed(text: &[u8]) -> Option<usize>
     if let Some(place) = line_feed_among(text, 32) {
         return Some(place);
     }
-    line_feed_among(text, 64)
+    if let Some(place) = line_feed_among(text, 64) {
+        return Some(place);
+    }
+    line_feed_among(text, 96)
 }
 
 /// Where the first LF stands in the 32 bytes from a place on.

@@ -9,4 +9,4 @@ returns-in-Some c =
     let text = c.args.text.now in
     let feeds = Passes is_line_feed text in
     position_of_first is_line_feed text (Some c.in-Some.place)
-    (first_wider feeds 0 96 (length text) c.in-Some.place c.if-text-ge96.true c.in-Some.ensures)
+    (first_wider feeds 0 128 (length text) c.in-Some.place c.if-text-ge128.true c.in-Some.ensures)
