@@ -2,6 +2,7 @@ pub mod Decimals
 pub mod FirstPlaces
 pub mod LeadingDigits
 pub mod LineEnds
+pub mod LineFeedBits
 pub mod LineWords
 pub mod Places
 pub mod SignedNumbers

@@ -2,9 +2,11 @@
 
 ghost use Rattle.std.specs.Prelude.{◌≡◌, ◌≢◌, ◌-◌, ◌==◌, ◌↔◌, ◌<◌, ◌∷◌, ◌++◌, [], ℕ, List, All};
 ghost use Rattle.std.specs.Prelude.{length, drop, slice_index, IfSome, IfNone, IfOk, IfErr, OnOk};
-ghost use Rattle.std.specs.Prelude.{IsTrue};
-ghost use Rattle.std.specs.List.{position, slice_split};
-ghost use Rattle.gj_lex.specs.Words.{word_texts};
+ghost use Rattle.std.specs.Prelude.{◌+◌, ◌≤◌, IsTrue, not, take};
+ghost use Rattle.std.specs.Int.{bit_at};
+ghost use Rattle.std.specs.List.{position, position_or_len, slice_split};
+ghost use Rattle.memchr.specs.Find.{IsFirst, Passes};
+ghost use Rattle.gj_lex.specs.Words.{is_blank, word_texts};
 ghost use Rattle.gj_lex.specs.TextLines.{is_line_feed, AreBytesOf, HasFirstWords, HasNextLine};
 ghost use Rattle.gj_lex.specs.TextLines.{IsSkipped, IsSkippedText, HasLine, HasNothing, IsWord};
 ghost use Rattle.gj_lex.specs.TextLines.{HasStrictLine, IsLineNumber};
@@ -14,7 +16,8 @@ use crate::fault::PartFault;
 use crate::reason::Reason;
 use crate::spelling::Spelling;
 use crate::words::{first_byte, has_words};
-use memchr::memchr_iter;
+use memchr::{memchr, memchr_iter};
+use std::simd::prelude::*;
 
 /// A line of a text.
 #[derive(Clone, Copy, Debug)]
@@ -86,11 +89,68 @@ pub fn line_number(text: &[u8], left: usize) -> u64
 }
 
 /// Where the first LF stands.
+#[inline(always)]
 pub(crate) fn first_line_feed(text: &[u8]) -> Option<usize>
     ensures { result ≡ position is_line_feed text.now }
 {
-    // The iterator looks near first, which suits short lines.
-    memchr_iter(b'\n', text).next()
+    // Most lines are short.
+    if 128 <= text.len() {
+        if let Some(place) = near_line_feed(text) {
+            return Some(place);
+        }
+    }
+    far_line_feed(text)
+}
+
+/// Where the first LF stands in the first 128 bytes.
+#[inline(always)]
+fn near_line_feed(text: &[u8]) -> Option<usize>
+    requires { 128 ≤ length text.now }
+    ensures { IsFirst (Passes is_line_feed text.now) 0 128 result }
+{
+    if let Some(place) = line_feed_among(text, 0) {
+        return Some(place);
+    }
+    if let Some(place) = line_feed_among(text, 32) {
+        return Some(place);
+    }
+    if let Some(place) = line_feed_among(text, 64) {
+        return Some(place);
+    }
+    line_feed_among(text, 96)
+}
+
+/// Where the first LF stands in the 32 bytes from a place on.
+#[inline(always)]
+fn line_feed_among(text: &[u8], from: usize) -> Option<usize>
+    requires { from + 32 ≤ length text.now }
+    ensures { IsFirst (Passes is_line_feed text.now) from (from + 32) result }
+{
+    let bits = line_feed_bits(text, from);
+    if bits == 0 {
+        return None;
+    }
+    Some(from + bits.trailing_zeros() as usize)
+}
+
+/// Bit k says whether a LF stands at the k-th of the 32 bytes from a place on.
+#[inline(always)]
+fn line_feed_bits(text: &[u8], from: usize) -> u64
+    requires { from + 32 ≤ length text.now }
+    ensures { (k : ℕ) → (bit_at result k ≡ 1) ↔
+        (slice_index (take 32 (drop from text.now)) k ≡ 10) }
+{
+    u8x32::from_slice(&text[from..])
+        .simd_eq(u8x32::splat(b'\n'))
+        .to_bitmask()
+}
+
+/// Where the first LF stands, however far away.
+#[inline(never)]
+fn far_line_feed(text: &[u8]) -> Option<usize>
+    ensures { result ≡ position is_line_feed text.now }
+{
+    memchr(b'\n', text)
 }
 
 // ---- lenient lines
@@ -103,7 +163,7 @@ fn next_lenient_line(text: &[u8]) -> Option<TextLine<'_>>
 {
     let mut left = text;
     while !left.is_empty() {
-        if left[0] == b'#' {
+        if begins_comment(left) {
             left = behind_comment(left);
         } else {
             let line = first_line(left);
@@ -116,9 +176,25 @@ fn next_lenient_line(text: &[u8]) -> Option<TextLine<'_>>
     None
 }
 
-/// What follows the first line of the text, if that begins with `#`: it is skipped.
+/// Whether the text begins with a comment: its first byte other than space and tab is `#`.
+#[inline(always)]
+fn begins_comment(text: &[u8]) -> bool
+    requires { 0 < length text.now }
+    ensures { IsTrue result ↔
+        (slice_index text.now (position_or_len (λ b. not (is_blank b)) text.now) ≡ 35) }
+{
+    if text[0] == b'#' {
+        return true;
+    }
+    match first_byte(text) {
+        Some(place) => text[place] == b'#',
+        None => false,
+    }
+}
+
+/// What follows the first line of the text, if that is a comment: it is skipped.
 fn behind_comment(text: &[u8]) -> &[u8]
-    requires { slice_index text.now 0 ≡ 35 }
+    requires { slice_index text.now (position_or_len (λ b. not (is_blank b)) text.now) ≡ 35 }
     ensures { (words : List (List ℕ)) × HasFirstWords text.now words result.now × IsSkipped words }
 {
     match first_line_feed(text) {

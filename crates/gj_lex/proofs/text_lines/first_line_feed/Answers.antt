@@ -1,10 +1,12 @@
-use Rattle.std.proofs.Common.{subst}
-use Rattle.memchr.specs.Find.{TakesFirst}
+use Rattle.std.proofs.Common.{Some, length}
+use Rattle.memchr.specs.Find.{Passes}
 use Rattle.gj_lex.specs.TextLines.{is_line_feed}
-use Rattle.gj_lex.proofs.FirstPlaces.{position_of_next}
+use Rattle.gj_lex.proofs.FirstPlaces.{position_of_first, first_wider}
 use Rattle.gj_lex.proofs.text_lines.first_line_feed.Goals as goal
 
-pub returns : goal.returns
-returns c =
-    position_of_next is_line_feed c.args.text.now c.next.new.self c.next.result
-    (subst (λ all. TakesFirst all c.next.result c.next.new.self) c.memchr_iter.ensures.value c.next.ensures.steps)
+pub returns-in-Some : goal.returns-in-Some
+returns-in-Some c =
+    let text = c.args.text.now in
+    let feeds = Passes is_line_feed text in
+    position_of_first is_line_feed text (Some c.in-Some.place)
+    (first_wider feeds 0 128 (length text) c.in-Some.place c.if-text-ge128.true c.in-Some.ensures)

@@ -18,8 +18,8 @@ returns-then-not-is_skipped-clause-found c =
     (here _ c.first_line-line.ensures.start c.first_line-line.ensures.words
     (λ s. true≢false (sym (c.is_skipped.ensures.1 s) ∙ c.if-not-is_skipped.true)))
 
-pub loop-left-preserved-then-left-eq35 : goal.loop-left-preserved-then-left-eq35
-loop-left-preserved-then-left-eq35 c =
+pub loop-left-preserved-then-begins_comment : goal.loop-left-preserved-then-begins_comment
+loop-left-preserved-then-begins_comment c =
     let comment = c.behind_comment-left.ensures in
     record {
       found = λ start words rest h. c.loop-left.invariant.found start words rest (further _ _ _ comment.1 comment.2 h);
