@@ -10,7 +10,7 @@ ghost use Rattle.gj_lex.specs.NumberText.{IsWritten};
 ghost use Rattle.gj_lex.specs.SpelledNumbers.{IsFractionWord};
 ghost use Rattle.gj_lex.specs.declared.spelling.Spelling.{Spelling};
 
-use crate::digits::{SHORT, leading_value, leading_value_after};
+use crate::digits::{SHORT, leading_value, leading_value_by_lanes};
 use crate::lenient::begins_with;
 use gj_frac::Frac;
 
@@ -51,7 +51,7 @@ fn leading_digits(text: &[u8]) -> Option<(u64, usize, &[u8])>
     let (_, behind) = near.split_at(count);
     match behind.split_first() {
         Some((b'.', digits)) => {
-            let (top, places) = leading_value_after(whole, digits);
+            let (top, places) = leading_value_by_lanes(whole, digits);
             if places == 0 {
                 return Some((whole, 0, &text[count..]));
             }

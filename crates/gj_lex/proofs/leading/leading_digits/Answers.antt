@@ -11,9 +11,9 @@ returns-else-places-eq0-clause-found c =
     let near = c.split_at.result.0.now in
     let far = c.split_at.result.1.now in
     let lead = c.leading_value-whole.ensures in
-    let more = c.leading_value_after-top.ensures in
+    let more = c.leading_value_by_lanes-top.ensures in
     let k = c.leading_value-whole.result.1 in
-    let j = c.leading_value_after-top.result.1 in
+    let j = c.leading_value_by_lanes-top.result.1 in
     let point = c.in-Some-eq46-default in
     let parts : text ≡ near ++ far =
     sym (take-append-drop c.min.result text) ∙ (λ i. sym c.split_at.ensures.front i ++ sym c.split_at.ensures.back i) in
@@ -22,11 +22,11 @@ returns-else-places-eq0-clause-found c =
     let some : 0 < k = grind (arith, nat_tests) in
     let few : 0 < j = grind (arith, nat_tests) in
     let begins = point_begins text near far parts k lead.digits lead.within some c.leading_value-whole.result.0 lead.value point.digits.now at
-    j c.leading_value_after-top.result.0 more.digits more.within few more.value in (
+    j c.leading_value_by_lanes-top.result.0 more.digits more.within few more.value in (
       begins.0,
       begins.1 ∙ ap (λ b. begins.0 ++ b) (sym (take_rest text (k + 1 + j))),
       begins.2,
-      top_small c.leading_value_after-top.result.0 (length point.digits.now - j) more.room,
+      top_small c.leading_value_by_lanes-top.result.0 (length point.digits.now - j) more.room,
       omega (arith, more.within, point.ensures.cases.1, c.split_at-2.ensures.back_len, c.split_at.ensures.front_len, c.min.ensures),
     )
 
