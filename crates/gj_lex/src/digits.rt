@@ -1,7 +1,7 @@
 //! Whole numbers in digits, without a leading zero.
 
 ghost use Rattle.std.specs.Prelude.{◌≡◌, ◌↔◌, ◌+◌, ◌*◌, ◌^◌, ◌<◌, ◌≤◌, ◌-◌, ℕ, ◌++◌, length, take};
-ghost use Rattle.std.specs.Prelude.{drop, slice_index, decimal, IfSome, IsTrue};
+ghost use Rattle.std.specs.Prelude.{drop, slice_index, decimal, IfSome, IfNone, IsTrue};
 ghost use Rattle.std.specs.Option.{SomeIff};
 ghost use Rattle.std.specs.Char.{digit_value};
 ghost use Rattle.std.specs.Str.Parse.{AllDigits, IsNumeral, digits_value, digits_value_after};
@@ -13,6 +13,9 @@ const LIMIT: u128 = 0x7fff_ffff_ffff_ffff_ffff_ffff_ffff_ffff;
 
 /// So many digits make a number that fits 64 bits.
 pub(crate) const SHORT: usize = 19;
+
+/// No more digits at the front of a text are read: a number of so many fits 64 bits with a sign.
+pub(crate) const MOST_DIGITS: usize = 18;
 
 /// What a digit at each of eight places is worth, and zeros behind them. The weights of `count`
 /// digits, and zeros, begin `8 - count` places on.
@@ -179,8 +182,9 @@ fn leading_value_of_many(front: u64, word: &[u8]) -> (u64, usize)
 #[inline(always)]
 fn end_of_digits(word: &[u8]) -> Option<usize>
     requires { 8 ≤ length word.now }
-    ensures { IfSome result (λ count. (count < 8) × AllDigits 10 (take count word.now) ×
+    ensures found { IfSome result (λ count. (count < 8) × AllDigits 10 (take count word.now) ×
         (10 ≤ digit_value (slice_index word.now count))) }
+    ensures none { IfNone result (AllDigits 10 (take 8 word.now)) }
 {
     let digits = u8x8::from_slice(word) - u8x8::splat(b'0');
     let others = digits.simd_gt(u8x8::splat(9)).to_bitmask();

@@ -1,8 +1,7 @@
-use Rattle.std.proofs.Common.{◌≡◌, ◌<◌, ◌+◌, ◌-◌, ◌∷◌, ◌++◌, drop, length, sym, ◌∙◌, ap, take-append-drop, arith}
+use Rattle.std.proofs.Common.{◌≡◌, ◌<◌, ◌+◌, ◌∷◌, ◌++◌, drop, sym, ◌∙◌, ap, take-append-drop, arith}
 use Rattle.std.proofs.lemmas.Bool.Decides.{nat_tests}
 use Rattle.std.proofs.lemmas.List.{take_rest}
-use Rattle.gj_lex.proofs.LeadingDigits.{top_small}
-use Rattle.gj_lex.proofs.LeadingNumbers.{no_digit_first, point_begins}
+use Rattle.gj_lex.proofs.LeadingNumbers.{no_digit_first, point_begins, point_small, whole_begins, whole_small}
 use Rattle.gj_lex.proofs.leading.leading_digits.Goals as goal
 
 pub returns-else-places-eq0-clause-found : goal.returns-else-places-eq0-clause-found
@@ -26,7 +25,9 @@ returns-else-places-eq0-clause-found c =
       begins.0,
       begins.1 ∙ ap (λ b. begins.0 ++ b) (sym (take_rest text (k + 1 + j))),
       begins.2,
-      top_small c.leading_value_by_lanes-top.result.0 (length point.digits.now - j) more.room,
+      point_small text near far parts k lead.digits lead.within some c.leading_value-whole.result.0 lead.value point.digits.now at
+          j c.leading_value_by_lanes-top.result.0 more.digits more.within more.value
+          (omega (arith, c.split_at.ensures.front_len, c.min.ensures)),
       omega (arith, more.within, point.ensures.cases.1, c.split_at-2.ensures.back_len, c.split_at.ensures.front_len, c.min.ensures),
     )
 
@@ -39,3 +40,41 @@ returns-then-count-eq0-clause-none c =
     sym (take-append-drop c.min.result text) ∙ (λ i. sym c.split_at.ensures.front i ++ sym c.split_at.ensures.back i) in
     no_digit_first text near far c.leading_value-whole.result.1 parts (λ none. omega (arith, none, c.split_at.ensures.front_len, c.min.ensures))
     (grind (arith, nat_tests)) c.leading_value-whole.ensures.all
+
+pub returns-then-places-eq0-clause-found : goal.returns-then-places-eq0-clause-found
+returns-then-places-eq0-clause-found c =
+    let text = c.args.text.now in
+    let near = c.split_at.result.0.now in
+    let far = c.split_at.result.1.now in
+    let lead = c.leading_value-whole.ensures in
+    let k = c.leading_value-whole.result.1 in
+    let parts : text ≡ near ++ far =
+    sym (take-append-drop c.min.result text) ∙ (λ i. sym c.split_at.ensures.front i ++ sym c.split_at.ensures.back i) in
+    let some : 0 < k = grind (arith, nat_tests) in
+    let begins = whole_begins text near far parts k lead.digits lead.within some c.leading_value-whole.result.0 lead.value in (
+      begins.0,
+      begins.1 ∙ ap (λ b. begins.0 ++ b) (sym (take_rest text k)),
+      begins.2,
+      whole_small text near far parts k lead.digits lead.within some c.leading_value-whole.result.0 lead.value
+          (omega (arith, c.split_at.ensures.front_len, c.min.ensures)),
+      omega arith,
+    )
+
+pub returns-in_default-clause-found : goal.returns-in_default-clause-found
+returns-in_default-clause-found c =
+    let text = c.args.text.now in
+    let near = c.split_at.result.0.now in
+    let far = c.split_at.result.1.now in
+    let lead = c.leading_value-whole.ensures in
+    let k = c.leading_value-whole.result.1 in
+    let parts : text ≡ near ++ far =
+    sym (take-append-drop c.min.result text) ∙ (λ i. sym c.split_at.ensures.front i ++ sym c.split_at.ensures.back i) in
+    let some : 0 < k = grind (arith, nat_tests) in
+    let begins = whole_begins text near far parts k lead.digits lead.within some c.leading_value-whole.result.0 lead.value in (
+      begins.0,
+      begins.1 ∙ ap (λ b. begins.0 ++ b) (sym (take_rest text k)),
+      begins.2,
+      whole_small text near far parts k lead.digits lead.within some c.leading_value-whole.result.0 lead.value
+          (omega (arith, c.split_at.ensures.front_len, c.min.ensures)),
+      omega arith,
+    )
