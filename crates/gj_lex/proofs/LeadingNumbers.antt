@@ -34,6 +34,10 @@ behind_word text word back k is long =
     let same : drop k text ≡ back = ap (λ i. drop i text) (sym long) ∙ ap (drop (length word)) is ∙ drop-append_seam word back in
     is ∙ ap (λ b. word ++ b) (sym same)
 
+-- the two parts of a text that is split
+pub parts_of_split : (text near far : List ℕ) (m : ℕ) → near ≡ take m text → far ≡ drop m text → text ≡ near ++ far
+parts_of_split text near far m front back = sym (take-append-drop m text) ∙ (λ i. sym front i ++ sym back i)
+
 -- two runs of digits are one
 digits_joined : (xs ys : List ℕ) → AllDigits 10 xs → AllDigits 10 ys → AllDigits 10 (xs ++ ys)
 digits_joined [] ys first second = second
@@ -44,13 +48,20 @@ module _ (text near far : List ℕ) (parts : text ≡ near ++ far) (k : ℕ) (di
   numeral : IsNumeral 10 (take k near)
   numeral = (omega (arith, length-take-le k near within), digits)
 
-  -- digits
-  pub whole_begins : BeginsWithWritten text top 1 (drop k text)
-  whole_begins =
+  -- digits alone, at most 18 of them
+  pub whole_read : (rest : List ℕ) → rest ≡ drop k text → length near ≤ 18 →
+      (word : List ℕ) × (text ≡ word ++ rest) × IsWritten word top 1 × (top < 10 ^ 18) × (0 ≤ 18)
+  whole_read rest rest_is few =
       let front = take k near in
       let near_is : text ≡ front ++ (drop k near ++ far) =
       parts ∙ ap (λ b. b ++ far) (sym (take-append-drop k near)) ∙ append_assoc front (drop k near) far in
-      (front, behind_word text front (drop k near ++ far) k near_is (length-take-le k near within), whole numeral is refl)
+      let long : length front ≡ k = length-take-le k near within in (
+        front,
+        behind_word text front (drop k near ++ far) k near_is long ∙ ap (λ b. front ++ b) (sym rest_is),
+        whole numeral is refl,
+        omega (arith, is, few_digits_small front digits (omega (arith, long, within, few))),
+        omega arith,
+      )
 
   -- digits, a point and digits
   pub point_begins : (ds : List ℕ) → drop k near ≡ 46 ∷ ds → (j value : ℕ) → AllDigits 10 (take j ds) → j ≤ length ds → 0 < j →
@@ -70,12 +81,7 @@ module _ (text near far : List ℕ) (parts : text ≡ near ++ far) (k : ℕ) (di
         point front back refl numeral (omega arith, more) (point_value front back top value is value_is) (ap (λ n. 10 ^ n) (sym long)),
       )
 
-  -- at most 18 digits are a number below 10^18
-  pub whole_small : length near ≤ 18 → top < 10 ^ 18
-  whole_small few =
-      omega (arith, is, few_digits_small (take k near) digits (omega (arith, length-take-le k near within, within, few)))
-
-  -- and so are they with a point between them
+  -- if these are at most 18 bytes, the number is below 10^18
   pub point_small : (ds : List ℕ) → drop k near ≡ 46 ∷ ds → (j value : ℕ) → AllDigits 10 (take j ds) → j ≤ length ds →
       value ≡ digits_value_after 10 top (take j ds) → length near ≤ 18 → value < 10 ^ 18
   point_small ds at j value more short value_is few =
