@@ -1,5 +1,5 @@
 -- Numbers at the front of a text, and the bytes of numbers in lenient form.
-use Rattle.std.proofs.Common.{◌≡◌, ◌≢◌, ℕ, ◌+◌, ◌^◌, ◌<◌, ◌≤◌, List, [], ◌∷◌, ◌++◌, length, get_or, take, drop, pos, true, false, eqb, refl, sym, ◌∙◌, ap, subst, inl, inr, arith, append-nil, append_assoc, length-append, take-append-drop}
+use Rattle.std.proofs.Common.{◌≡◌, ◌≢◌, ℕ, suc, ◌+◌, ◌^◌, ◌<◌, ◌≤◌, List, [], ◌∷◌, ◌++◌, length, get_or, take, drop, pos, true, false, eqb, refl, sym, ◌∙◌, ap, subst, inl, inr, arith, append-nil, append_assoc, length-append, take-append-drop}
 use Rattle.std.specs.Char.{IsAsciiDigit, digit_value}
 use Rattle.std.specs.List.{All}
 use Rattle.std.specs.Str.Parse.{AllDigits, IsNumeral, digits_value, digits_value_after, starts_with_minus, without_leading_sign}
@@ -16,6 +16,7 @@ use Rattle.gj_lex.specs.NumberText.{IsWritten}
 use Rattle.gj_lex.specs.NumberText.IsWritten.{whole, ratio, point}
 use Rattle.gj_lex.specs.SpelledNumbers.{IsFractionWord}
 use Rattle.gj_lex.specs.declared.spelling.Spelling.TheVariants.{Lenient}
+use Rattle.gj_lex.proofs.PrintedNumbers.{few_digits_small}
 use Rattle.gj_lex.proofs.SignedNumbers.{with_sign, number_found}
 use Rattle.gj_lex.proofs.SpelledWords.{no_sign}
 use Rattle.gj_lex.proofs.WordBytes.{all_from_digits}
@@ -33,10 +34,34 @@ behind_word text word back k is long =
     let same : drop k text ≡ back = ap (λ i. drop i text) (sym long) ∙ ap (drop (length word)) is ∙ drop-append_seam word back in
     is ∙ ap (λ b. word ++ b) (sym same)
 
+-- the two parts of a text that is split
+pub parts_of_split : (text near far : List ℕ) (m : ℕ) → near ≡ take m text → far ≡ drop m text → text ≡ near ++ far
+parts_of_split text near far m front back = sym (take-append-drop m text) ∙ (λ i. sym front i ++ sym back i)
+
+-- two runs of digits are one
+digits_joined : (xs ys : List ℕ) → AllDigits 10 xs → AllDigits 10 ys → AllDigits 10 (xs ++ ys)
+digits_joined [] ys first second = second
+digits_joined (x ∷ xs) ys first second = (first.0, digits_joined xs ys first.1 second)
+
 module _ (text near far : List ℕ) (parts : text ≡ near ++ far) (k : ℕ) (digits : AllDigits 10 (take k near)) (within : k ≤ length near)
     (some : 0 < k) (top : ℕ) (is : top ≡ digits_value 10 (take k near)) where
   numeral : IsNumeral 10 (take k near)
   numeral = (omega (arith, length-take-le k near within), digits)
+
+  -- digits alone, at most 18 of them
+  pub whole_read : (rest : List ℕ) → rest ≡ drop k text → length near ≤ 18 →
+      (word : List ℕ) × (text ≡ word ++ rest) × IsWritten word top 1 × (top < 10 ^ 18) × (0 ≤ 18)
+  whole_read rest rest_is few =
+      let front = take k near in
+      let near_is : text ≡ front ++ (drop k near ++ far) =
+      parts ∙ ap (λ b. b ++ far) (sym (take-append-drop k near)) ∙ append_assoc front (drop k near) far in
+      let long : length front ≡ k = length-take-le k near within in (
+        front,
+        behind_word text front (drop k near ++ far) k near_is long ∙ ap (λ b. front ++ b) (sym rest_is),
+        whole numeral is refl,
+        omega (arith, is, few_digits_small front digits (omega (arith, long, within, few))),
+        omega arith,
+      )
 
   -- digits, a point and digits
   pub point_begins : (ds : List ℕ) → drop k near ≡ 46 ∷ ds → (j value : ℕ) → AllDigits 10 (take j ds) → j ≤ length ds → 0 < j →
@@ -55,6 +80,18 @@ module _ (text near far : List ℕ) (parts : text ≡ near ++ far) (k : ℕ) (di
             (parts ∙ ap (λ b. b ++ far) near_is ∙ append_assoc word (drop j ds) far) all,
         point front back refl numeral (omega arith, more) (point_value front back top value is value_is) (ap (λ n. 10 ^ n) (sym long)),
       )
+
+  -- if these are at most 18 bytes, the number is below 10^18
+  pub point_small : (ds : List ℕ) → drop k near ≡ 46 ∷ ds → (j value : ℕ) → AllDigits 10 (take j ds) → j ≤ length ds →
+      value ≡ digits_value_after 10 top (take j ds) → length near ≤ 18 → value < 10 ^ 18
+  point_small ds at j value more short value_is few =
+      let front = take k near in
+      let back = take j ds in
+      let long : length near ≡ k + suc (length ds) =
+      ap length (sym (take-append-drop k near)) ∙ length-append front (drop k near) ∙ (λ i. length-take-le k near within i + length (at i)) in
+      let all : length (front ++ back) ≤ 18 =
+      omega (arith, length-append front back, length-take-le k near within, length-take-le j ds short, long, short, few) in
+      omega (arith, point_value front back top value is value_is, few_digits_small (front ++ back) (digits_joined front back digits more) all)
 
 -- no digit stands first
 pub no_digit_first : (text near far : List ℕ) (k : ℕ) → text ≡ near ++ far → (length near ≡ 0 → length text ≡ 0) → k ≡ 0 →

@@ -1,4 +1,5 @@
 pub mod Decimals
+pub mod DigitLanes
 pub mod FirstPlaces
 pub mod LeadingDigits
 pub mod LineEnds

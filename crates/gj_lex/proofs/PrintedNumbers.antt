@@ -97,13 +97,7 @@ number_no_minus n bs rest small e =
     let spelled = decimal_is_IsNumeral_wide n (omega (arith, small)) in
     no_minus_before (decimal n) bs rest spelled.0.1 spelled.0.0 e
 
--- a whole number that begins with no `-` is not below 0
-pub plain_number : (text rest : List ℕ) (n : ℤ) → ((bs : List ℕ) → text ≢ 45 ∷ bs) → text ≡ signed_decimal n ++ rest →
-    (n ≡ pos (unsigned_abs n)) × (text ≡ decimal (unsigned_abs n) ++ rest)
-plain_number text rest (pos n) other is = (refl, is)
-plain_number text rest (negsuc n) other is = absurd (other (decimal (suc n) ++ rest) is)
-
--- one that begins with a `-` is, and its digits follow
+-- a whole number that begins with a `-` is below 0, and its digits follow
 pub minus_number : (text digits rest : List ℕ) (n : ℤ) → unsigned_abs n < 10 ^ 18 → text ≡ 45 ∷ digits → text ≡ signed_decimal n ++ rest →
     (n ≡ neg_ℤ (pos (unsigned_abs n))) × (0 < unsigned_abs n) × (digits ≡ decimal (unsigned_abs n) ++ rest)
 minus_number text digits rest (pos n) small minus is = absurd (number_no_minus n digits rest small (sym minus ∙ is))

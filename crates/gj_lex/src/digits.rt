@@ -1,16 +1,30 @@
 //! Whole numbers in digits, without a leading zero.
 
 ghost use Rattle.std.specs.Prelude.{◌≡◌, ◌↔◌, ◌+◌, ◌*◌, ◌^◌, ◌<◌, ◌≤◌, ◌-◌, ℕ, ◌++◌, length, take};
-ghost use Rattle.std.specs.Prelude.{drop, slice_index, decimal, IfSome, IsTrue};
+ghost use Rattle.std.specs.Prelude.{drop, slice_index, decimal, IfSome, IfNone, IsTrue};
 ghost use Rattle.std.specs.Option.{SomeIff};
 ghost use Rattle.std.specs.Char.{digit_value};
 ghost use Rattle.std.specs.Str.Parse.{AllDigits, IsNumeral, digits_value, digits_value_after};
+
+use std::simd::prelude::*;
 
 /// The greatest number that is read: 2^127 - 1.
 const LIMIT: u128 = 0x7fff_ffff_ffff_ffff_ffff_ffff_ffff_ffff;
 
 /// So many digits make a number that fits 64 bits.
 pub(crate) const SHORT: usize = 19;
+
+/// No more digits at the front of a text are read: a number of so many fits 64 bits with a sign.
+pub(crate) const MOST_DIGITS: usize = 18;
+
+/// What a digit at each of eight places is worth, and zeros behind them. The weights of `count`
+/// digits, and zeros, begin `8 - count` places on.
+const WEIGHTS: [u32; 16] = [
+    10_000_000, 1_000_000, 100_000, 10_000, 1_000, 100, 10, 1, 0, 0, 0, 0, 0, 0, 0, 0,
+];
+
+/// The powers of 10, by their exponents.
+const TEN_POWERS: [u64; 8] = [1, 10, 100, 1_000, 10_000, 100_000, 1_000_000, 10_000_000];
 
 /// The number that the word spells in digits, without a leading zero.
 ///
@@ -125,6 +139,72 @@ pub(crate) fn leading_value_after(front: u64, word: &[u8]) -> (u64, usize)
         value = value * 10 + digit;
     }
     (value, word.len())
+}
+
+/// The same, by a look at eight bytes at once. Most numbers have fewer digits than that behind their
+/// point.
+#[inline(always)]
+pub(crate) fn leading_value_by_lanes(front: u64, word: &[u8]) -> (u64, usize)
+    requires { (front + 1) * 10 ^ length word.now ≤ 10 ^ 19 }
+    ensures digits { AllDigits 10 (take result.1 word.now) }
+    ensures value { result.0 ≡ digits_value_after 10 front (take result.1 word.now) }
+    ensures within { result.1 ≤ length word.now }
+    ensures all { result.1 < length word.now → 10 ≤ digit_value (slice_index word.now result.1) }
+    ensures room { (result.0 + 1) * 10 ^ (length word.now - result.1) ≤ 10 ^ 19 }
+{
+    if word.len() < 8 {
+        return leading_value_after(front, word);
+    }
+    match end_of_digits(word) {
+        Some(count) => (
+            front * TEN_POWERS[count] + value_of_front(word, count),
+            count,
+        ),
+        None => leading_value_of_many(front, word),
+    }
+}
+
+/// The same digit by digit, for words that begin with eight digits or more.
+#[inline(never)]
+fn leading_value_of_many(front: u64, word: &[u8]) -> (u64, usize)
+    requires { (front + 1) * 10 ^ length word.now ≤ 10 ^ 19 }
+    ensures digits { AllDigits 10 (take result.1 word.now) }
+    ensures value { result.0 ≡ digits_value_after 10 front (take result.1 word.now) }
+    ensures within { result.1 ≤ length word.now }
+    ensures all { result.1 < length word.now → 10 ≤ digit_value (slice_index word.now result.1) }
+    ensures room { (result.0 + 1) * 10 ^ (length word.now - result.1) ≤ 10 ^ 19 }
+{
+    leading_value_after(front, word)
+}
+
+/// Where the first byte that is no digit stands among the first eight of the word. A byte before `0`
+/// is far above 9 once `0` is taken away.
+#[inline(always)]
+fn end_of_digits(word: &[u8]) -> Option<usize>
+    requires { 8 ≤ length word.now }
+    ensures found { IfSome result (λ count. (count < 8) × AllDigits 10 (take count word.now) ×
+        (10 ≤ digit_value (slice_index word.now count))) }
+    ensures none { IfNone result (AllDigits 10 (take 8 word.now)) }
+{
+    let digits = u8x8::from_slice(word) - u8x8::splat(b'0');
+    let others = digits.simd_gt(u8x8::splat(9)).to_bitmask();
+    if others == 0 {
+        return None;
+    }
+    Some(others.trailing_zeros() as usize)
+}
+
+/// The number that the first `count` bytes of the word spell. Lanes behind these count for nothing.
+#[inline(always)]
+fn value_of_front(word: &[u8], count: usize) -> u64
+    requires length { 8 ≤ length word.now }
+    requires count { count ≤ 8 }
+    requires digits { AllDigits 10 (take count word.now) }
+    ensures { result ≡ digits_value 10 (take count word.now) }
+{
+    let digits = u8x8::from_slice(word) - u8x8::splat(b'0');
+    let weights = u32x8::from_slice(&WEIGHTS[8 - count..]);
+    u64::from((digits.cast::<u32>() * weights).reduce_sum())
 }
 
 /// What the byte is worth, if it is a digit. A byte before `0` is far above 9 once `0` is taken away.

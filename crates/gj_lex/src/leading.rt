@@ -10,13 +10,13 @@ ghost use Rattle.gj_lex.specs.NumberText.{IsWritten};
 ghost use Rattle.gj_lex.specs.SpelledNumbers.{IsFractionWord};
 ghost use Rattle.gj_lex.specs.declared.spelling.Spelling.{Spelling};
 
-use crate::digits::{SHORT, leading_value, leading_value_after};
+use crate::digits::{MOST_DIGITS, leading_value, leading_value_by_lanes};
 use crate::lenient::begins_with;
 use gj_frac::Frac;
 
 /// The decimal that the text begins with, as `-20.609`, and what follows it.
 ///
-/// A `-` may stand first, and then digits, or digits, `.` and digits. Of these at most 19 bytes are
+/// A `-` may stand first, and then digits, or digits, `.` and digits. Of these at most 18 bytes are
 /// read: what follows may go on with digits. None if no digit stands first, or behind the `-`.
 // Loops over numbers call it for each: what it gives stays in registers.
 #[inline(always)]
@@ -40,10 +40,10 @@ pub fn leading_decimal(text: &[u8]) -> Option<(Frac, &[u8])>
 #[inline(always)]
 fn leading_digits(text: &[u8]) -> Option<(u64, usize, &[u8])>
     ensures found { IfSome result (λ r. (word : List ℕ) × (text.now ≡ word ++ r.2.now) ×
-        IsWritten word r.0 (10 ^ r.1) × (r.0 < 2 ^ 64) × (r.1 ≤ 19)) }
+        IsWritten word r.0 (10 ^ r.1) × (r.0 < 10 ^ 18) × (r.1 ≤ 18)) }
     ensures none { IfNone result (BeginsWithNoDigit text.now) }
 {
-    let (near, _) = text.split_at(text.len().min(SHORT));
+    let (near, _) = text.split_at(text.len().min(MOST_DIGITS));
     let (whole, count) = leading_value(near);
     if count == 0 {
         return None;
@@ -51,7 +51,7 @@ fn leading_digits(text: &[u8]) -> Option<(u64, usize, &[u8])>
     let (_, behind) = near.split_at(count);
     match behind.split_first() {
         Some((b'.', digits)) => {
-            let (top, places) = leading_value_after(whole, digits);
+            let (top, places) = leading_value_by_lanes(whole, digits);
             if places == 0 {
                 return Some((whole, 0, &text[count..]));
             }

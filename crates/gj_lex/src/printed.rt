@@ -14,11 +14,8 @@ ghost use Rattle.gj_frac.specs.Lowest.{IsLowest};
 ghost use Rattle.gj_lex.specs.LeadingText.{BeginsWithNoDigit};
 ghost use Rattle.gj_lex.specs.NumberText.{fraction_text, denominator_text};
 
-use crate::digits::leading_value;
+use crate::digits::{MOST_DIGITS, leading_value};
 use gj_frac::Frac;
-
-/// No more digits of a number are read: a number of so many fits 64 bits with a sign.
-const MOST_DIGITS: usize = 18;
 
 /// What follows the byte, if the text begins with it. It takes no memory.
 pub fn behind_byte(text: &[u8], byte: u8) -> Option<&[u8]>
