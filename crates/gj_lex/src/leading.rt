@@ -1,10 +1,9 @@
 //! Decimals at the front of a text.
 
-ghost use Rattle.std.specs.Prelude.{◌≡◌, ◌^◌, ◌<◌, ◌≤◌, ◌++◌, ℕ, pos, List, drop, IfSome};
+ghost use Rattle.std.specs.Prelude.{◌≡◌, ◌^◌, ◌<◌, ◌≤◌, ◌++◌, ℕ, List, drop, IfSome};
 ghost use Rattle.std.specs.Prelude.{IfNone};
 ghost use Rattle.std.specs.Int.{from_bool};
 ghost use Rattle.std.specs.Str.Parse.{starts_with_minus};
-ghost use Rattle.gj_frac.specs.Fraction.{IsRatio};
 ghost use Rattle.gj_lex.specs.LeadingText.{BeginsWithNoDigit};
 ghost use Rattle.gj_lex.specs.NumberText.{IsWritten};
 ghost use Rattle.gj_lex.specs.SpelledNumbers.{IsFractionWord};
@@ -28,7 +27,7 @@ pub fn leading_decimal(text: &[u8]) -> Option<(Frac, &[u8])>
 {
     let minus = begins_with(text, b'-');
     let (top, places, rest) = leading_digits(&text[usize::from(minus)..])?;
-    let size = decimal_of(top, places);
+    let size = Frac::short_decimal(top, places);
     if minus {
         return Some((-size, rest));
     }
@@ -59,13 +58,4 @@ fn leading_digits(text: &[u8]) -> Option<(u64, usize, &[u8])>
         }
         _ => Some((whole, 0, &text[count..])),
     }
-}
-
-/// The number over 10 to the number of places.
-#[inline(always)]
-fn decimal_of(top: u64, places: usize) -> Frac
-    requires { places ≤ 38 }
-    ensures { IsRatio result (pos top) (pos (10 ^ places)) }
-{
-    Frac::decimal(i128::from(top), places)
 }

@@ -16,14 +16,14 @@ returns-then-minus-clause-found c =
     minus_begins text _ c.in_ok-top.rest.now c.in_ok-top.top (10 ^ c.in_ok-top.places) c.neg.result
     (behind_minus text (sym c.if-minus.true ∙ c.begins_with-minus.ensures) ∙ behind) (read.0, read.1, read.2) (omega (arith, read.3))
     (ten_small c.in_ok-top.places (omega (arith, read.4))) (one-le-pow c.in_ok-top.places 10 (omega arith))
-    (negation_is c.decimal_of-size.result c.neg.result (pos c.in_ok-top.top) (pos (10 ^ c.in_ok-top.places)) c.neg.ensures c.decimal_of-size.ensures)
+    (negation_is c.short_decimal-size.result c.neg.result (pos c.in_ok-top.top) (pos (10 ^ c.in_ok-top.places)) c.neg.ensures c.short_decimal-size.ensures)
 
 pub returns-clause-found : goal.returns-clause-found
 returns-clause-found c =
     let text = c.args.text.now in
     let read = c.in_ok-top.ensures.found in
     let none : c.from.result ≡ 0 = c.from.ensures ∙ ap from_bool c.if-minus.false in
-    plain_begins text _ c.in_ok-top.rest.now c.in_ok-top.top (10 ^ c.in_ok-top.places) c.decimal_of-size.result
+    plain_begins text _ c.in_ok-top.rest.now c.in_ok-top.top (10 ^ c.in_ok-top.places) c.short_decimal-size.result
     (take_rest text c.from.result ∙ ap (λ i. drop i text) none) (read.0, read.1, read.2) (omega (arith, read.3))
     (ten_small c.in_ok-top.places (omega (arith, read.4))) (one-le-pow c.in_ok-top.places 10 (omega arith))
-    c.decimal_of-size.ensures
+    c.short_decimal-size.ensures
