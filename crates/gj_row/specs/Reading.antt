@@ -1,5 +1,5 @@
 -- What the steps of the reader answer (own).
-use Rattle.std.specs.Prelude.{ℕ, ◌≡◌, ◌≢◌, ◌+◌, ◌<◌, ◌≤◌, ◌==◌, ◌||◌, Bool, true, false, List, [], ◌∷◌, ◌++◌, Option, Some, None, All, IfSome, IfNone, length, map, replicate, Vec}
+use Rattle.std.specs.Prelude.{ℕ, ◌≡◌, ◌≢◌, ◌+◌, ◌<◌, ◌≤◌, ◌==◌, ◌||◌, Bool, true, false, List, [], ◌∷◌, ◌++◌, Option, Some, None, All, IfSome, IfNone, length, map, replicate}
 use Rattle.std.specs.List.{slice_split}
 use Rattle.std.specs.Borrow.{Bor}
 use Rattle.csv.specs.Machine.{next_record}
@@ -9,6 +9,7 @@ use Rattle.csv.specs.declared.parser.State.{State}
 use Rattle.csv.specs.declared.parser.State.TheVariants as state
 use Rattle.csv.specs.declared.reader.Reader.{Reader}
 use Rattle.csv.specs.declared.reader.Trim.TheVariants as trim
+use Rattle.smallvec.specs.SmallVec.{SmallVec}
 use Rattle.gj_frac.specs.declared.Frac.{Frac}
 use Rattle.gj_shape.specs.Limits.{greatest_number, denominator_bound, IsSmallNumber}
 use Rattle.gj_shape.specs.Given.{IsLeastCommonDenominator}
@@ -147,7 +148,7 @@ pub record HasRead (used : ℕ) (words : List (List ℕ)) (right : Frac) (scale 
 -- ---- names
 
 -- the bytes of each name
-abbrev pub bytes_of : {A : Type 0} → List (Vec ℕ A) → List (List ℕ)
+abbrev pub bytes_of : List (SmallVec ℕ) → List (List ℕ)
 bytes_of names = map (λ name. name.items) names
 
 -- ---- rows

@@ -13,7 +13,7 @@ ghost use Rattle.gj_row.specs.declared.tableau.Tableau.{Tableau};
 
 use crate::faults::{RecordFault, RowFault, RowReason};
 use crate::fields::{Fields, field_count, first_word, no_fields};
-use crate::header::{Header, header_of, new_name};
+use crate::header::{Header, NameBytes, header_of, new_name};
 use crate::numbers::numbers_of;
 use crate::records::{Records, next_record, records_of};
 use crate::tableau::{Row, Tableau};
@@ -121,7 +121,7 @@ fn rows_in<'a>(
     records: &mut Records<'a>,
     fields: &mut Fields<'a>,
     columns: &[Name],
-    names: &mut IndexSet<Vec<u8>>,
+    names: &mut IndexSet<NameBytes>,
 ) -> Result<Vec<Row>, RowFault>
     requires { length columns.now ≤ most_columns }
     ensures found { IfOk result (λ rows. HoldsBehindHeader columns.now
@@ -150,7 +150,7 @@ fn rows_in<'a>(
 fn next_row(
     alloc: Global,
     fields: &Fields<'_>,
-    names: &mut IndexSet<Vec<u8>>,
+    names: &mut IndexSet<NameBytes>,
     columns: usize,
     rows: usize,
     used: usize,
