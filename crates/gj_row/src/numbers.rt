@@ -27,9 +27,6 @@ use std::alloc::Global;
 /// The greatest number of entries of a tableau that are not 0.
 const MOST_ENTRIES: usize = 100_000;
 
-/// Room is made for so many entries of a line before it is read.
-const MOST_LIKELY: usize = 64;
-
 /// The right side and the entries of a row.
 #[derive(Drop)]
 pub(crate) struct Numbers {
@@ -42,11 +39,12 @@ pub(crate) struct Numbers {
 }
 
 /// The numbers that stand behind the name, if the rows before it have `used` entries that are
-/// not 0.
+/// not 0. Room is made for at most `likely` entries of a line before it is read.
 pub(crate) fn numbers_of(
     alloc: Global,
     fields: &Fields<'_>,
     used: usize,
+    likely: usize,
 ) -> Result<Numbers, RecordFault>
     requires wide { 2 ≤ length (fields_in fields.now) }
     requires narrow { length (fields_in fields.now) ≤ most_columns + 2 }
@@ -60,15 +58,21 @@ pub(crate) fn numbers_of(
         return numbers_in(alloc, &fields.read, used);
     };
     match first_field(line).1 {
-        Some(numbers) => numbers_in_line(alloc, numbers, used),
+        Some(numbers) => numbers_in_line(alloc, numbers, used, likely),
         None => unreachable!(),
     }
 }
 
 /// The numbers that stand in the line, if the rows before it have `used` entries that are not 0.
+/// Room is made for at most `likely` entries before they are read.
 // Its loop needs all registers: it stays a function of its own.
 #[inline(never)]
-fn numbers_in_line(alloc: Global, line: &[u8], used: usize) -> Result<Numbers, RecordFault>
+fn numbers_in_line(
+    alloc: Global,
+    line: &[u8],
+    used: usize,
+    likely: usize,
+) -> Result<Numbers, RecordFault>
     requires narrow { length (fields_of_line line.now) ≤ most_columns + 1 }
     requires few { used ≤ most_entries }
     ensures found { IfOk result (λ n. HasRead used (map word_of (fields_of_line line.now))
@@ -78,7 +82,7 @@ fn numbers_in_line(alloc: Global, line: &[u8], used: usize) -> Result<Numbers, R
 {
     let (right, behind) = first_field(line);
     let (rhs, mut scale) = right_side(word_of(right))?;
-    let mut entries = Vec::with_capacity(alloc, likely_entries_in(line))?;
+    let mut entries = Vec::with_capacity(alloc, room_in(line, likely))?;
     let mut column = 0;
     let mut left = behind;
     while let Some(rest) = left {
@@ -107,7 +111,7 @@ fn numbers_in(alloc: Global, fields: &ByteRecord, used: usize) -> Result<Numbers
         (drop 1 (words_in fields.now)))) }
 {
     let (rhs, mut scale) = right_side(word_at(fields, 1))?;
-    let mut entries = Vec::with_capacity(alloc, likely_entries(fields))?;
+    let mut entries = Vec::with_capacity(alloc, room_in_record(fields))?;
     for place in 2..fields.len() {
         let word = word_at(fields, place);
         let number = entry_number(word);
@@ -123,15 +127,16 @@ fn numbers_in(alloc: Global, fields: &ByteRecord, used: usize) -> Result<Numbers
 /// How many entries of a record to make room for: as many as there are columns, but no more than
 /// its bytes would spell by eight each, so that a row whose fields are mostly empty takes no room
 /// for all columns.
-fn likely_entries(fields: &ByteRecord) -> usize
+fn room_in_record(fields: &ByteRecord) -> usize
     requires { 2 ≤ length (fields_of fields.now) }
 {
     (fields.len() - 2).min(fields.as_slice().len() / 8)
 }
 
-/// The same for a line, but no more than `MOST_LIKELY`, since its fields may be mostly empty.
-fn likely_entries_in(line: &[u8]) -> usize {
-    (line.len() / 8).min(MOST_LIKELY)
+/// How many entries of a line to make room for: no more than its bytes would spell by eight each,
+/// nor than are likely.
+fn room_in(line: &[u8], likely: usize) -> usize {
+    (line.len() / 8).min(likely)
 }
 
 /// How many empty fields the line begins with, the number that the field behind them spells, if it
