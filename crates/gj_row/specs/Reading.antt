@@ -1,5 +1,5 @@
 -- What the steps of the reader answer (own).
-use Rattle.std.specs.Prelude.{ℕ, ◌≡◌, ◌≢◌, ◌+◌, ◌<◌, ◌≤◌, ◌==◌, ◌||◌, Bool, true, false, List, [], ◌∷◌, ◌++◌, Option, Some, None, All, IfSome, IfNone, length, map, replicate}
+use Rattle.std.specs.Prelude.{ℕ, ◌≡◌, ◌≢◌, ◌+◌, ◌<◌, ◌≤◌, ◌==◌, ◌||◌, Bool, true, false, List, [], ◌∷◌, ◌++◌, Option, Some, None, All, length, map}
 use Rattle.std.specs.List.{slice_split}
 use Rattle.std.specs.Borrow.{Bor}
 use Rattle.csv.specs.Machine.{next_record}
@@ -84,13 +84,11 @@ words_of_fields fields = map word_of (fields_in fields)
 
 -- ---- numbers
 
--- the line begins with so many empty fields; the next field spells the number, or none, and these
--- fields follow it
-pub record HasNumberBehind (line : List ℕ) (empty : ℕ) (number : Option Frac) (behind : List (List ℕ)) : Type 0 where
+-- the first field of the line spells the entry, and these fields follow it
+pub record BeginsWithEntry (line : List ℕ) (x : Frac) (behind : List (List ℕ)) : Type 0 where
   pub field : List ℕ
-  pub fields_are : fields_of_line line ≡ replicate empty [] ++ field ∷ behind
-  pub found : IfSome number (SpellsEntry (word_of field))
-  pub none : IfNone number ((x : Frac) → SpellsEntry (word_of field) x → ⊥)
+  pub fields_are : fields_of_line line ≡ field ∷ behind
+  pub spelled : SpellsEntry (word_of field) x
 
 -- why what was read cannot follow numbers with the least common denominator `scale`
 abbrev pub StopsAt : ℕ → Option Frac → RowReason → Type 0
@@ -134,6 +132,13 @@ StopsEntry P scale count Columns = ⊥
 StopsEntry P scale count Rows = ⊥
 StopsEntry P scale count Name = ⊥
 StopsEntry P scale count Twice = ⊥
+
+-- why the first field of the line cannot follow as an entry, behind so many entries that are not 0
+pub record StopsAtFirst (line : List ℕ) (scale count : ℕ) (e : RowReason) : Type 0 where
+  pub field : List ℕ
+  pub behind : List (List ℕ)
+  pub fields_are : fields_of_line line ≡ field ∷ behind
+  pub stops : StopsEntry (SpellsEntry (word_of field)) scale count e
 
 -- numbers within the limits, whose least common denominator is `scale`, have been read from the
 -- words, with these entries that are not 0

@@ -11,8 +11,8 @@ ghost use Rattle.gj_shape.specs.Denominators.{Extends};
 ghost use Rattle.gj_row.specs.TableauLimits.{most_columns, most_entries};
 ghost use Rattle.gj_row.specs.TableauText.{SpellsEntry, entry_at, is_zero, word_of};
 ghost use Rattle.gj_row.specs.FirstFault.{HasNumberFault};
-ghost use Rattle.gj_row.specs.Reading.{StopsNumber, StopsEntry, HasNumberBehind, HasRead, NamesReason};
-ghost use Rattle.gj_row.specs.Reading.{fields_behind, fields_in};
+ghost use Rattle.gj_row.specs.Reading.{StopsNumber, StopsEntry, StopsAtFirst, BeginsWithEntry};
+ghost use Rattle.gj_row.specs.Reading.{HasRead, NamesReason, fields_behind, fields_in};
 ghost use Rattle.gj_row.specs.Reading.{fields_of_line, words_in, words_of_fields};
 
 use crate::faults::{RecordFault, RowReason};
@@ -86,9 +86,10 @@ fn numbers_in_line(
     let mut column = 0;
     let mut left = behind;
     while let Some(rest) = left {
-        let (empty, number, next) = number_behind_empty(rest);
+        let empty = leading_commas(rest);
         column += empty as u32;
-        scale = with_number(&mut entries, scale, used, column, number)?;
+        let (multiple, next) = with_first(&mut entries, scale, used, column, &rest[empty..])?;
+        scale = multiple;
         column += 1;
         left = next;
     }
@@ -139,35 +140,43 @@ fn room_in(line: &[u8], likely: usize) -> usize {
     (line.len() / 8).min(likely)
 }
 
-/// How many empty fields the line begins with, the number that the field behind them spells, if it
-/// spells one, and what follows the comma behind that field.
+/// Adds the number that the first field of the line spells as the entry for the column, unless it is
+/// 0, and gives the least common denominator with it, and what follows the comma behind the field.
+/// The reason is `Number` if the field spells none.
 #[inline(always)]
-fn number_behind_empty(line: &[u8]) -> (usize, Option<Frac>, Option<&[u8]>)
-    ensures { HasNumberBehind line.now result.0 result.1 (fields_behind result.2) }
+fn with_first<'a>(
+    entries: &mut Vec<Entry>,
+    scale: u32,
+    used: usize,
+    column: u32,
+    line: &'a [u8],
+) -> Result<(u32, Option<&'a [u8]>), RecordFault>
+    requires low { 0 < scale }
+    requires high { scale < denominator_bound }
+    requires few { used + length entries.old.items ≤ most_entries }
+    ensures found { IfOk result (λ r. (x : Frac) ×
+        BeginsWithEntry line.now x (fields_behind r.1) ×
+        Extends greatest_number scale x r.0
+        × (entries.new.items ≡ entries.old.items ++ entry_at column x) ×
+        (used + length entries.new.items ≤ most_entries)) }
+    ensures refused { IfErr result (NamesReason (StopsAtFirst line.now scale
+        (used + length entries.old.items))) }
 {
-    let empty = leading_commas(line);
-    let (number, behind) = first_number(&line[empty..]);
-    (empty, number, behind)
-}
-
-/// The number that the first field of the line spells, if it spells one, and what follows the comma
-/// behind it.
-#[inline(always)]
-fn first_number(line: &[u8]) -> (Option<Frac>, Option<&[u8]>)
-    ensures { HasNumberBehind line.now 0 result.0 (fields_behind result.1) }
-{
-    if let Some((x, behind)) = first_decimal(line) {
-        return (Some(x), behind);
+    match first_decimal(line) {
+        Some((x, behind)) => {
+            let multiple = with_number(entries, scale, used, column, Some(x))?;
+            Ok((multiple, behind))
+        }
+        None => with_spelled(entries, scale, used, column, line),
     }
-    let (field, behind) = first_field(line);
-    (entry_number(word_of(field)), behind)
 }
 
-/// The same if the field is a short decimal without a blank, as most are: it is read where it
-/// stands, before its end is known.
+/// The number that the first field of the line spells, and what follows the comma behind it, if the
+/// field is a short decimal without a blank, as most are: it is read where it stands, before its
+/// end is known.
 #[inline(always)]
 fn first_decimal(line: &[u8]) -> Option<(Frac, Option<&[u8]>)>
-    ensures { IfSome result (λ r. HasNumberBehind line.now 0 (Some r.0) (fields_behind r.1)) }
+    ensures { IfSome result (λ r. BeginsWithEntry line.now r.0 (fields_behind r.1)) }
 {
     let (x, rest) = leading_decimal(line)?;
     match rest.split_first() {
@@ -177,9 +186,36 @@ fn first_decimal(line: &[u8]) -> Option<(Frac, Option<&[u8]>)>
     }
 }
 
+/// The same as `with_first`, for a field that may be spelled in any way.
+// Few fields come here: it takes no registers of the others' loop.
+#[inline(never)]
+fn with_spelled<'a>(
+    entries: &mut Vec<Entry>,
+    scale: u32,
+    used: usize,
+    column: u32,
+    line: &'a [u8],
+) -> Result<(u32, Option<&'a [u8]>), RecordFault>
+    requires low { 0 < scale }
+    requires high { scale < denominator_bound }
+    requires few { used + length entries.old.items ≤ most_entries }
+    ensures found { IfOk result (λ r. (x : Frac) ×
+        BeginsWithEntry line.now x (fields_behind r.1) ×
+        Extends greatest_number scale x r.0
+        × (entries.new.items ≡ entries.old.items ++ entry_at column x) ×
+        (used + length entries.new.items ≤ most_entries)) }
+    ensures refused { IfErr result (NamesReason (StopsAtFirst line.now scale
+        (used + length entries.old.items))) }
+{
+    let (field, behind) = first_field(line);
+    let number = entry_number(word_of(field));
+    let multiple = with_number(entries, scale, used, column, number)?;
+    Ok((multiple, behind))
+}
+
 /// Adds the number as the entry for the column, unless it is 0, and gives the least common
 /// denominator with it. The reason is `Number` if there is none.
-// Two loops call it for each field.
+// Each field passes it.
 #[inline(always)]
 fn with_number(
     entries: &mut Vec<Entry>,
