@@ -51,7 +51,7 @@ fn is_small(x: Frac) -> bool
 }
 
 /// The same, by the denominator too.
-// Few numbers come here: it takes no registers of the others' loop.
+// Few numbers come here, and they take no registers of the others' loop.
 #[inline(never)]
 fn is_small_fraction(x: Frac) -> bool
     ensures { IsTrue result ↔ IsSmallNumber x }

@@ -88,10 +88,19 @@ fn numbers_in_line(
     while let Some(rest) = left {
         let empty = leading_commas(rest);
         column += empty as u32;
-        let (multiple, next) = with_first(&mut entries, scale, used, column, &rest[empty..])?;
-        scale = multiple;
+        let line = &rest[empty..];
+        match first_decimal(line) {
+            Some((x, next)) => {
+                scale = with_number(&mut entries, scale, used, column, Some(x))?;
+                left = next;
+            }
+            None => {
+                let (multiple, next) = with_first(&mut entries, scale, used, column, line)?;
+                scale = multiple;
+                left = next;
+            }
+        }
         column += 1;
-        left = next;
     }
     Ok(Numbers {
         rhs,
@@ -140,37 +149,6 @@ fn room_in(line: &[u8], likely: usize) -> usize {
     (line.len() / 8).min(likely)
 }
 
-/// Adds the number that the first field of the line spells as the entry for the column, unless it is
-/// 0, and gives the least common denominator with it, and what follows the comma behind the field.
-/// The reason is `Number` if the field spells none.
-#[inline(always)]
-fn with_first<'a>(
-    entries: &mut Vec<Entry>,
-    scale: u32,
-    used: usize,
-    column: u32,
-    line: &'a [u8],
-) -> Result<(u32, Option<&'a [u8]>), RecordFault>
-    requires low { 0 < scale }
-    requires high { scale < denominator_bound }
-    requires few { used + length entries.old.items ≤ most_entries }
-    ensures found { IfOk result (λ r. (x : Frac) ×
-        BeginsWithEntry line.now x (fields_behind r.1) ×
-        Extends greatest_number scale x r.0
-        × (entries.new.items ≡ entries.old.items ++ entry_at column x) ×
-        (used + length entries.new.items ≤ most_entries)) }
-    ensures refused { IfErr result (NamesReason (StopsAtFirst line.now scale
-        (used + length entries.old.items))) }
-{
-    match first_decimal(line) {
-        Some((x, behind)) => {
-            let multiple = with_number(entries, scale, used, column, Some(x))?;
-            Ok((multiple, behind))
-        }
-        None => with_spelled(entries, scale, used, column, line),
-    }
-}
-
 /// The number that the first field of the line spells, and what follows the comma behind it, if the
 /// field is a short decimal without a blank, as most are: it is read where it stands, before its
 /// end is known.
@@ -186,10 +164,12 @@ fn first_decimal(line: &[u8]) -> Option<(Frac, Option<&[u8]>)>
     }
 }
 
-/// The same as `with_first`, for a field that may be spelled in any way.
-// Few fields come here: it takes no registers of the others' loop.
+/// Adds the number that the first field of the line spells, in whatever form, as the entry for the
+/// column, unless it is 0, and gives the least common denominator with it, and what follows the
+/// comma behind the field. The reason is `Number` if the field spells none.
+// Few fields come here, and they take no registers of the others' loop.
 #[inline(never)]
-fn with_spelled<'a>(
+fn with_first<'a>(
     entries: &mut Vec<Entry>,
     scale: u32,
     used: usize,
