@@ -1,5 +1,5 @@
 -- A field that is a number without blanks.
-use Rattle.std.proofs.Common.{◌≡◌, ℕ, ◌-◌, ◌<◌, false, List, [], ◌∷◌, ◌++◌, All, Some, reverse, length, refl, sym, ◌∙◌, ap, subst, inr, arith, append-nil}
+use Rattle.std.proofs.Common.{◌≡◌, ℕ, ◌-◌, ◌<◌, false, List, [], ◌∷◌, ◌++◌, All, reverse, length, refl, sym, ◌∙◌, ap, subst, inr, arith, append-nil}
 use Rattle.std.proofs.lemmas.Bool.Decides.{nat_tests}
 use Rattle.std.proofs.lemmas.List.{reverse-reverse, length-reverse, get_or-reverse}
 use Rattle.std.proofs.lemmas.List.Elements.{All-head, All-weaker, All-from_get_or, All-get_or}
@@ -10,7 +10,7 @@ use Rattle.gj_lex.specs.Words.{is_blank}
 use Rattle.gj_lex.specs.declared.spelling.Spelling.TheVariants.{Lenient}
 use Rattle.gj_lex.proofs.LeadingNumbers.{BeginsWithFraction, IsLenientByte, lenient_bytes}
 use Rattle.gj_row.specs.TableauText.{SpellsEntry, word_of, without_blanks_before}
-use Rattle.gj_row.specs.Reading.{HasNumberBehind, fields_of_line, is_comma}
+use Rattle.gj_row.specs.Reading.{BeginsWithEntry, fields_of_line, is_comma}
 
 no_comma : (b : ℕ) → IsLenientByte b → is_comma b ≡ false
 no_comma b h = let other = h.no_comma in grind (arith, nat_tests)
@@ -40,25 +40,23 @@ spells word x h =
     subst (λ w. SpellsEntry w x) (sym (is_word word (All-weaker IsLenientByte (λ b. is_blank b ≡ false) no_blank word (lenient_bytes word x h)))) (inr h)
 
 -- a number is the whole line
-pub decimal_alone : (line rest : List ℕ) (x : Frac) → BeginsWithFraction line x rest → length rest ≡ 0 → HasNumberBehind line 0 (Some x) []
+pub decimal_alone : (line rest : List ℕ) (x : Frac) → BeginsWithFraction line x rest → length rest ≡ 0 → BeginsWithEntry line x []
 decimal_alone line [] x (word, is, spelled) none =
     let bytes = All-weaker IsLenientByte (λ b. is_comma b ≡ false) no_comma word (lenient_bytes word x spelled) in
     record {
       field = word;
       fields_are = ap fields_of_line (is ∙ append-nil word) ∙ slice_split_none is_comma word bytes;
-      found = spells word x spelled;
-      none = tt;
+      spelled = spells word x spelled;
     }
 decimal_alone line (b ∷ rest) x begins none = absurd (omega arith)
 
 -- a comma follows it
 pub decimal_first : (line rest behind : List ℕ) (comma : ℕ) (x : Frac) → BeginsWithFraction line x rest → rest ≡ comma ∷ behind → comma ≡ 44 →
-    HasNumberBehind line 0 (Some x) (fields_of_line behind)
+    BeginsWithEntry line x (fields_of_line behind)
 decimal_first line rest behind comma x (word, is, spelled) next at =
     let bytes = All-weaker IsLenientByte (λ b. is_comma b ≡ false) no_comma word (lenient_bytes word x spelled) in
     record {
       field = word;
       fields_are = ap fields_of_line (is ∙ ap (λ r. word ++ r) next) ∙ slice_split_at is_comma word comma behind bytes (rw at refl);
-      found = spells word x spelled;
-      none = tt;
+      spelled = spells word x spelled;
     }

@@ -1,8 +1,8 @@
 -- Where the first line and the first field end.
-use Rattle.std.proofs.Common.{◌≡◌, ◌≢◌, ℕ, zero, suc, ◌+◌, ◌<◌, ◌≤◌, Bool, not, true, false, cond, nat_lt, List, [], ◌∷◌, ◌++◌, All, Option, Some, None, take, drop, get_or, replicate, length, unwrap_or, refl, sym, ap, ◌∙◌, subst, inl, inr, arith}
+use Rattle.std.proofs.Common.{◌≡◌, ◌≢◌, ℕ, zero, suc, ◌+◌, ◌-◌, ◌<◌, ◌≤◌, Bool, not, true, false, cond, nat_lt, List, [], ◌∷◌, ◌++◌, All, Option, Some, None, take, drop, get_or, replicate, length, unwrap_or, refl, sym, ap, ◌∙◌, subst, inl, inr, arith}
 use Rattle.std.specs.List.{position, position_or_len}
 use Rattle.std.proofs.lemmas.Bool.{cases_Bool, false_from_ne_true}
-use Rattle.std.proofs.lemmas.List.{take-append-drop}
+use Rattle.std.proofs.lemmas.List.{take-append-drop, take_rest}
 use Rattle.std.proofs.lemmas.List.Elements.{All-nil, All-cons, All-weaker}
 use Rattle.std.proofs.lemmas.List.Quantifiers.{position-Some}
 use Rattle.std.proofs.lemmas.List.Sums.{position_or_len_is}
@@ -85,7 +85,7 @@ field_before line field behind end first field_is behind_is =
     ∙ ap (λ f. f ∷ fields_of_line (drop (end + 1) line)) (sym field_is) ∙ ap (λ l. field ∷ fields_of_line l) (sym behind_is)
 
 -- commas at the start of a line end empty fields
-pub fields_behind_commas : (line : List ℕ) (run : ℕ) → run ≤ position_or_len (λ b. not (is_comma b)) line →
+fields_behind_commas : (line : List ℕ) (run : ℕ) → run ≤ position_or_len (λ b. not (is_comma b)) line →
     fields_of_line line ≡ replicate run [] ++ fields_of_line (drop run line)
 fields_behind_commas line zero short = refl
 fields_behind_commas [] (suc run) short = absurd (omega arith)
@@ -99,6 +99,12 @@ fields_behind_commas (b ∷ line) (suc run) short =
           let place : position_or_len (λ b. not (is_comma b)) (b ∷ line) ≡ 0 = ap (λ t. cond (not (not t)) (1 + behind) 0) other in
           absurd (omega arith)
     ]
+
+-- the fields of what the line has behind them
+pub behind_commas : (line : List ℕ) (run : ℕ) → run ≡ position_or_len (λ b. not (is_comma b)) line →
+    fields_of_line line ≡ replicate run [] ++ fields_of_line (take (length line - run) (drop run line))
+behind_commas line run count =
+    fields_behind_commas line run (omega (arith, count)) ∙ ap (λ rest. replicate run [] ++ fields_of_line rest) (sym (take_rest line run))
 
 -- ---- a search for a byte
 

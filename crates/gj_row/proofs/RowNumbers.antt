@@ -224,9 +224,9 @@ pub front_long : {used : ℕ} {fields left : List (List ℕ)} {right : Frac} {sc
     HasReadFront used fields left right scale entries column → column + 1 + length left ≡ length fields
 front_long {left = left} h = let all = ap length h.fields_are in omega (arith, all, length-append h.front left, h.place)
 
-pub length_behind_empty : (left : List (List ℕ)) (empty : ℕ) (f : List ℕ) (behind : List (List ℕ)) →
-    left ≡ replicate empty [] ++ f ∷ behind → length left ≡ empty + 1 + length behind
-length_behind_empty left empty f behind is =
+pub length_behind_empty : (left : List (List ℕ)) (empty : ℕ) (more : List (List ℕ)) → left ≡ replicate empty [] ++ more →
+    length left ≡ empty + length more
+length_behind_empty left empty more is =
     let all = ap length is in
     let run : length (replicate {A = List ℕ} empty []) ≡ empty = length-replicate empty [] in
-    omega (arith, all, run, length-append (replicate empty []) (f ∷ behind))
+    omega (arith, all, run, length-append (replicate empty []) more)

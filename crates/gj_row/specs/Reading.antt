@@ -1,5 +1,5 @@
 -- What the steps of the reader answer (own).
-use Rattle.std.specs.Prelude.{ℕ, ◌≡◌, ◌≢◌, ◌+◌, ◌<◌, ◌≤◌, ◌==◌, ◌||◌, Bool, true, false, List, [], ◌∷◌, ◌++◌, Option, Some, None, All, IfSome, IfNone, length, map, replicate, Vec}
+use Rattle.std.specs.Prelude.{ℕ, ◌≡◌, ◌≢◌, ◌+◌, ◌<◌, ◌≤◌, ◌==◌, ◌||◌, Bool, true, false, List, [], ◌∷◌, ◌++◌, Option, Some, None, All, length, map}
 use Rattle.std.specs.List.{slice_split}
 use Rattle.std.specs.Borrow.{Bor}
 use Rattle.csv.specs.Machine.{next_record}
@@ -9,6 +9,7 @@ use Rattle.csv.specs.declared.parser.State.{State}
 use Rattle.csv.specs.declared.parser.State.TheVariants as state
 use Rattle.csv.specs.declared.reader.Reader.{Reader}
 use Rattle.csv.specs.declared.reader.Trim.TheVariants as trim
+use Rattle.smallvec.specs.SmallVec.{SmallVec}
 use Rattle.gj_frac.specs.declared.Frac.{Frac}
 use Rattle.gj_shape.specs.Limits.{greatest_number, denominator_bound, IsSmallNumber}
 use Rattle.gj_shape.specs.Given.{IsLeastCommonDenominator}
@@ -83,13 +84,11 @@ words_of_fields fields = map word_of (fields_in fields)
 
 -- ---- numbers
 
--- the line begins with so many empty fields; the next field spells the number, or none, and these
--- fields follow it
-pub record HasNumberBehind (line : List ℕ) (empty : ℕ) (number : Option Frac) (behind : List (List ℕ)) : Type 0 where
+-- the first field of the line spells the entry, and these fields follow it
+pub record BeginsWithEntry (line : List ℕ) (x : Frac) (behind : List (List ℕ)) : Type 0 where
   pub field : List ℕ
-  pub fields_are : fields_of_line line ≡ replicate empty [] ++ field ∷ behind
-  pub found : IfSome number (SpellsEntry (word_of field))
-  pub none : IfNone number ((x : Frac) → SpellsEntry (word_of field) x → ⊥)
+  pub fields_are : fields_of_line line ≡ field ∷ behind
+  pub spelled : SpellsEntry (word_of field) x
 
 -- why what was read cannot follow numbers with the least common denominator `scale`
 abbrev pub StopsAt : ℕ → Option Frac → RowReason → Type 0
@@ -134,6 +133,13 @@ StopsEntry P scale count Rows = ⊥
 StopsEntry P scale count Name = ⊥
 StopsEntry P scale count Twice = ⊥
 
+-- why the first field of the line cannot follow as an entry, behind so many entries that are not 0
+pub record StopsAtFirst (line : List ℕ) (scale count : ℕ) (e : RowReason) : Type 0 where
+  pub field : List ℕ
+  pub behind : List (List ℕ)
+  pub fields_are : fields_of_line line ≡ field ∷ behind
+  pub stops : StopsEntry (SpellsEntry (word_of field)) scale count e
+
 -- numbers within the limits, whose least common denominator is `scale`, have been read from the
 -- words, with these entries that are not 0
 pub record HasRead (used : ℕ) (words : List (List ℕ)) (right : Frac) (scale : ℕ) (entries : List Entry) : Type 0 where
@@ -147,7 +153,7 @@ pub record HasRead (used : ℕ) (words : List (List ℕ)) (right : Frac) (scale 
 -- ---- names
 
 -- the bytes of each name
-abbrev pub bytes_of : {A : Type 0} → List (Vec ℕ A) → List (List ℕ)
+abbrev pub bytes_of : List (SmallVec ℕ) → List (List ℕ)
 bytes_of names = map (λ name. name.items) names
 
 -- ---- rows

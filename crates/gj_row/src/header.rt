@@ -12,10 +12,17 @@ use crate::fields::{Fields, record_of_line, word_at};
 use csv::ByteRecord;
 use gj_lex::{Name, NameFault};
 use indexmap::IndexSet;
+use smallvec::SmallVec;
 use std::alloc::Global;
 
 /// The greatest number of columns.
 const MOST_COLUMNS: usize = 10_000;
+
+/// So many bytes of a name stand in the set of names itself; a longer name takes memory there.
+const INLINE: usize = 16;
+
+/// The bytes of a name, as a key of the set of names.
+pub(crate) type NameBytes = SmallVec<u8, INLINE>;
 
 /// The names of the columns, as a list and as those that stand already.
 #[derive(Drop)]
@@ -23,7 +30,7 @@ pub(crate) struct Header {
     /// The names of the columns.
     pub(crate) columns: Vec<Name>,
     /// The bytes of all names so far, each once.
-    pub(crate) names: IndexSet<Vec<u8>>,
+    pub(crate) names: IndexSet<NameBytes>,
 }
 
 /// The names of the columns in record 1.
@@ -88,7 +95,7 @@ fn has_word(fields: &ByteRecord, place: usize, word: &[u8]) -> bool
 /// The reason is `Name` if the word is no name, and `Twice` if it stands already.
 pub(crate) fn new_name(
     alloc: Global,
-    names: &mut IndexSet<Vec<u8>>,
+    names: &mut IndexSet<NameBytes>,
     word: &[u8],
 ) -> Result<Name, RecordFault>
     ensures name { IfOk result (λ name. name ≡ word.now) }
@@ -102,7 +109,7 @@ pub(crate) fn new_name(
         Err(NameFault::Form) => return Err(RecordFault::Refused(RowReason::Name)),
         Err(NameFault::Memory(error)) => return Err(RecordFault::Memory(error)),
     };
-    let bytes = Vec::from_slice(alloc, word)?;
+    let bytes = SmallVec::from_slice(alloc, word)?;
     if !names.insert(bytes)? {
         return Err(RecordFault::Refused(RowReason::Twice));
     }

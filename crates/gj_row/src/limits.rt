@@ -47,5 +47,14 @@ fn is_small(x: Frac) -> bool
     if -GREATEST_WHOLE <= x.num() && x.num() <= GREATEST_WHOLE {
         return true;
     }
+    is_small_fraction(x)
+}
+
+/// The same, by the denominator too.
+// Few numbers come here, and they take no registers of the others' loop.
+#[inline(never)]
+fn is_small_fraction(x: Frac) -> bool
+    ensures { IsTrue result ↔ IsSmallNumber x }
+{
     x.num().unsigned_abs() <= x.den().unsigned_abs().saturating_mul(GREATEST_NUMBER)
 }

@@ -11,8 +11,8 @@ ghost use Rattle.gj_shape.specs.Denominators.{Extends};
 ghost use Rattle.gj_row.specs.TableauLimits.{most_columns, most_entries};
 ghost use Rattle.gj_row.specs.TableauText.{SpellsEntry, entry_at, is_zero, word_of};
 ghost use Rattle.gj_row.specs.FirstFault.{HasNumberFault};
-ghost use Rattle.gj_row.specs.Reading.{StopsNumber, StopsEntry, HasNumberBehind, HasRead, NamesReason};
-ghost use Rattle.gj_row.specs.Reading.{fields_behind, fields_in};
+ghost use Rattle.gj_row.specs.Reading.{StopsNumber, StopsEntry, StopsAtFirst, BeginsWithEntry};
+ghost use Rattle.gj_row.specs.Reading.{HasRead, NamesReason, fields_behind, fields_in};
 ghost use Rattle.gj_row.specs.Reading.{fields_of_line, words_in, words_of_fields};
 
 use crate::faults::{RecordFault, RowReason};
@@ -27,9 +27,6 @@ use std::alloc::Global;
 /// The greatest number of entries of a tableau that are not 0.
 const MOST_ENTRIES: usize = 100_000;
 
-/// Room is made for so many entries of a line before it is read.
-const MOST_LIKELY: usize = 64;
-
 /// The right side and the entries of a row.
 #[derive(Drop)]
 pub(crate) struct Numbers {
@@ -42,11 +39,12 @@ pub(crate) struct Numbers {
 }
 
 /// The numbers that stand behind the name, if the rows before it have `used` entries that are
-/// not 0.
+/// not 0. Room is made for at most `likely` entries of a line before it is read.
 pub(crate) fn numbers_of(
     alloc: Global,
     fields: &Fields<'_>,
     used: usize,
+    likely: usize,
 ) -> Result<Numbers, RecordFault>
     requires wide { 2 ≤ length (fields_in fields.now) }
     requires narrow { length (fields_in fields.now) ≤ most_columns + 2 }
@@ -60,15 +58,21 @@ pub(crate) fn numbers_of(
         return numbers_in(alloc, &fields.read, used);
     };
     match first_field(line).1 {
-        Some(numbers) => numbers_in_line(alloc, numbers, used),
+        Some(numbers) => numbers_in_line(alloc, numbers, used, likely),
         None => unreachable!(),
     }
 }
 
 /// The numbers that stand in the line, if the rows before it have `used` entries that are not 0.
+/// Room is made for at most `likely` entries before they are read.
 // Its loop needs all registers: it stays a function of its own.
 #[inline(never)]
-fn numbers_in_line(alloc: Global, line: &[u8], used: usize) -> Result<Numbers, RecordFault>
+fn numbers_in_line(
+    alloc: Global,
+    line: &[u8],
+    used: usize,
+    likely: usize,
+) -> Result<Numbers, RecordFault>
     requires narrow { length (fields_of_line line.now) ≤ most_columns + 1 }
     requires few { used ≤ most_entries }
     ensures found { IfOk result (λ n. HasRead used (map word_of (fields_of_line line.now))
@@ -78,15 +82,25 @@ fn numbers_in_line(alloc: Global, line: &[u8], used: usize) -> Result<Numbers, R
 {
     let (right, behind) = first_field(line);
     let (rhs, mut scale) = right_side(word_of(right))?;
-    let mut entries = Vec::with_capacity(alloc, likely_entries_in(line))?;
+    let mut entries = Vec::with_capacity(alloc, room_in(line, likely))?;
     let mut column = 0;
     let mut left = behind;
     while let Some(rest) = left {
-        let (empty, number, next) = number_behind_empty(rest);
+        let empty = leading_commas(rest);
         column += empty as u32;
-        scale = with_number(&mut entries, scale, used, column, number)?;
+        let line = &rest[empty..];
+        match first_decimal(line) {
+            Some((x, next)) => {
+                scale = with_number(&mut entries, scale, used, column, Some(x))?;
+                left = next;
+            }
+            None => {
+                let (multiple, next) = with_first(&mut entries, scale, used, column, line)?;
+                scale = multiple;
+                left = next;
+            }
+        }
         column += 1;
-        left = next;
     }
     Ok(Numbers {
         rhs,
@@ -107,7 +121,7 @@ fn numbers_in(alloc: Global, fields: &ByteRecord, used: usize) -> Result<Numbers
         (drop 1 (words_in fields.now)))) }
 {
     let (rhs, mut scale) = right_side(word_at(fields, 1))?;
-    let mut entries = Vec::with_capacity(alloc, likely_entries(fields))?;
+    let mut entries = Vec::with_capacity(alloc, room_in_record(fields))?;
     for place in 2..fields.len() {
         let word = word_at(fields, place);
         let number = entry_number(word);
@@ -123,46 +137,24 @@ fn numbers_in(alloc: Global, fields: &ByteRecord, used: usize) -> Result<Numbers
 /// How many entries of a record to make room for: as many as there are columns, but no more than
 /// its bytes would spell by eight each, so that a row whose fields are mostly empty takes no room
 /// for all columns.
-fn likely_entries(fields: &ByteRecord) -> usize
+fn room_in_record(fields: &ByteRecord) -> usize
     requires { 2 ≤ length (fields_of fields.now) }
 {
     (fields.len() - 2).min(fields.as_slice().len() / 8)
 }
 
-/// The same for a line, but no more than `MOST_LIKELY`, since its fields may be mostly empty.
-fn likely_entries_in(line: &[u8]) -> usize {
-    (line.len() / 8).min(MOST_LIKELY)
+/// How many entries of a line to make room for: no more than its bytes would spell by eight each,
+/// nor than are likely.
+fn room_in(line: &[u8], likely: usize) -> usize {
+    (line.len() / 8).min(likely)
 }
 
-/// How many empty fields the line begins with, the number that the field behind them spells, if it
-/// spells one, and what follows the comma behind that field.
-#[inline(always)]
-fn number_behind_empty(line: &[u8]) -> (usize, Option<Frac>, Option<&[u8]>)
-    ensures { HasNumberBehind line.now result.0 result.1 (fields_behind result.2) }
-{
-    let empty = leading_commas(line);
-    let (number, behind) = first_number(&line[empty..]);
-    (empty, number, behind)
-}
-
-/// The number that the first field of the line spells, if it spells one, and what follows the comma
-/// behind it.
-#[inline(always)]
-fn first_number(line: &[u8]) -> (Option<Frac>, Option<&[u8]>)
-    ensures { HasNumberBehind line.now 0 result.0 (fields_behind result.1) }
-{
-    if let Some((x, behind)) = first_decimal(line) {
-        return (Some(x), behind);
-    }
-    let (field, behind) = first_field(line);
-    (entry_number(word_of(field)), behind)
-}
-
-/// The same if the field is a short decimal without a blank, as most are: it is read where it
-/// stands, before its end is known.
+/// The number that the first field of the line spells, and what follows the comma behind it, if the
+/// field is a short decimal without a blank, as most are: it is read where it stands, before its
+/// end is known.
 #[inline(always)]
 fn first_decimal(line: &[u8]) -> Option<(Frac, Option<&[u8]>)>
-    ensures { IfSome result (λ r. HasNumberBehind line.now 0 (Some r.0) (fields_behind r.1)) }
+    ensures { IfSome result (λ r. BeginsWithEntry line.now r.0 (fields_behind r.1)) }
 {
     let (x, rest) = leading_decimal(line)?;
     match rest.split_first() {
@@ -172,9 +164,38 @@ fn first_decimal(line: &[u8]) -> Option<(Frac, Option<&[u8]>)>
     }
 }
 
+/// Adds the number that the first field of the line spells, in whatever form, as the entry for the
+/// column, unless it is 0, and gives the least common denominator with it, and what follows the
+/// comma behind the field. The reason is `Number` if the field spells none.
+// Few fields come here, and they take no registers of the others' loop.
+#[inline(never)]
+fn with_first<'a>(
+    entries: &mut Vec<Entry>,
+    scale: u32,
+    used: usize,
+    column: u32,
+    line: &'a [u8],
+) -> Result<(u32, Option<&'a [u8]>), RecordFault>
+    requires low { 0 < scale }
+    requires high { scale < denominator_bound }
+    requires few { used + length entries.old.items ≤ most_entries }
+    ensures found { IfOk result (λ r. (x : Frac) ×
+        BeginsWithEntry line.now x (fields_behind r.1) ×
+        Extends greatest_number scale x r.0
+        × (entries.new.items ≡ entries.old.items ++ entry_at column x) ×
+        (used + length entries.new.items ≤ most_entries)) }
+    ensures refused { IfErr result (NamesReason (StopsAtFirst line.now scale
+        (used + length entries.old.items))) }
+{
+    let (field, behind) = first_field(line);
+    let number = entry_number(word_of(field));
+    let multiple = with_number(entries, scale, used, column, number)?;
+    Ok((multiple, behind))
+}
+
 /// Adds the number as the entry for the column, unless it is 0, and gives the least common
 /// denominator with it. The reason is `Number` if there is none.
-// Two loops call it for each field.
+// Each field passes it.
 #[inline(always)]
 fn with_number(
     entries: &mut Vec<Entry>,

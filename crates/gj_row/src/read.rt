@@ -13,7 +13,7 @@ ghost use Rattle.gj_row.specs.declared.tableau.Tableau.{Tableau};
 
 use crate::faults::{RecordFault, RowFault, RowReason};
 use crate::fields::{Fields, field_count, first_word, no_fields};
-use crate::header::{Header, header_of, new_name};
+use crate::header::{Header, NameBytes, header_of, new_name};
 use crate::numbers::numbers_of;
 use crate::records::{Records, next_record, records_of};
 use crate::tableau::{Row, Tableau};
@@ -24,6 +24,9 @@ use std::alloc::Global;
 
 /// The greatest number of rows.
 const MOST_ROWS: usize = 10_000;
+
+/// Room is made for so many entries of the first row before it is read.
+const FIRST_LIKELY: usize = 64;
 
 impl Tableau {
     /// The tableau that the text spells: records of comma-separated values, of which the first is
@@ -121,7 +124,7 @@ fn rows_in<'a>(
     records: &mut Records<'a>,
     fields: &mut Fields<'a>,
     columns: &[Name],
-    names: &mut IndexSet<Vec<u8>>,
+    names: &mut IndexSet<NameBytes>,
 ) -> Result<Vec<Row>, RowFault>
     requires { length columns.now ≤ most_columns }
     ensures found { IfOk result (λ rows. HoldsBehindHeader columns.now
@@ -133,10 +136,21 @@ fn rows_in<'a>(
 {
     let mut rows = Vec::new(alloc);
     let mut used = 0;
+    let mut likely = FIRST_LIKELY;
     while next_record(records, fields)? {
-        match next_row(alloc, fields, names, columns.len(), rows.len(), used) {
+        match next_row(
+            alloc,
+            fields,
+            names,
+            columns.len(),
+            rows.len(),
+            used,
+            likely,
+        ) {
             Ok(row) => {
-                used += row.entries.as_slice().len();
+                let count = row.entries.as_slice().len();
+                used += count;
+                likely = likely_behind(count);
                 rows.push(row)?;
             }
             Err(fault) => return Err(fault.in_record(rows.len() as u64 + 2)),
@@ -145,15 +159,23 @@ fn rows_in<'a>(
     Ok(rows)
 }
 
+/// How many entries to make room for behind a row with so many: a few more, since the rows of a
+/// tableau are often alike.
+fn likely_behind(count: usize) -> usize {
+    count.saturating_add(count / 8).saturating_add(16)
+}
+
 /// The row in the record, behind so many rows, with `used` entries that are not 0, of a tableau
-/// with so many columns and these names.
+/// with so many columns and these names. Room is made for at most `likely` entries before they are
+/// read.
 fn next_row(
     alloc: Global,
     fields: &Fields<'_>,
-    names: &mut IndexSet<Vec<u8>>,
+    names: &mut IndexSet<NameBytes>,
     columns: usize,
     rows: usize,
     used: usize,
+    likely: usize,
 ) -> Result<Row, RecordFault>
     requires narrow { columns ≤ most_columns }
     requires few { used ≤ most_entries }
@@ -174,7 +196,7 @@ fn next_row(
         return Err(RecordFault::Refused(RowReason::Rows));
     }
     let basic = new_name(alloc, names, first_word(fields))?;
-    let numbers = numbers_of(alloc, fields, used)?;
+    let numbers = numbers_of(alloc, fields, used, likely)?;
     Ok(Row {
         basic,
         rhs: numbers.rhs,

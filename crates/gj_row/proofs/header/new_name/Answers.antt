@@ -8,7 +8,7 @@ pub returns-then-not-branch-clause-refused : goal.returns-then-not-branch-clause
 returns-then-not-branch-clause-refused c =
     let keys = c.args.names.now.keys in
     let old = not_false _ (sym c.in_ok-insert.ensures.added ∙ c.if-not-branch.true) in
-    (c.in-Ok.ensures.valid, subst (Contains (bytes_of keys)) c.in_ok-bytes.ensures.items (stands_already keys c.in_ok-bytes.bytes old))
+    (c.in-Ok.ensures.valid, subst (Contains (bytes_of keys)) c.in_ok-bytes.ensures.ok (stands_already keys c.in_ok-bytes.bytes old))
 
 pub returns-clause-new : goal.returns-clause-new
 returns-clause-new c =
@@ -16,7 +16,7 @@ returns-clause-new c =
     let new = not_true _ (sym c.in_ok-insert.ensures.added ∙ c.if-not-branch.false) in
     record {
       valid = c.in-Ok.ensures.valid;
-      differs = subst (λ w. Contains (bytes_of keys) w → ⊥) c.in_ok-bytes.ensures.items (stands_not keys c.in_ok-bytes.bytes new);
+      differs = subst (λ w. Contains (bytes_of keys) w → ⊥) c.in_ok-bytes.ensures.ok (stands_not keys c.in_ok-bytes.bytes new);
     }
 
 pub returns-clause-kept : goal.returns-clause-kept
@@ -24,4 +24,4 @@ returns-clause-kept c =
     let keys = c.args.names.now.keys in
     let new = not_true _ (sym c.in_ok-insert.ensures.added ∙ c.if-not-branch.false) in
     ap bytes_of c.in_ok-insert.ensures.keys ∙ name_kept keys c.in_ok-bytes.bytes new
-    ∙ ap (λ w. bytes_of keys ++ w ∷ []) c.in_ok-bytes.ensures.items
+    ∙ ap (λ w. bytes_of keys ++ w ∷ []) c.in_ok-bytes.ensures.ok

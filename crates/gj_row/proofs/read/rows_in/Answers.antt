@@ -44,14 +44,14 @@ loop-rows-preserved c =
     let rows = c.loop-rows.rows.items in
     let row = c.in-Ok.row in
     let read = c.in-Ok.ensures in
-    let used = ap (λ l. c.loop-rows.used + length l) c.as_slice.ensures in
+    let used = ap (λ l. c.loop-rows.used + length l) c.as_slice-count.ensures in
     let room : length rows < 10000 = omega (arith, c.len.ensures, read.room) in
     record {
       few = omega (arith, used, read.row.few);
       read = λ text h. let so_far = c.loop-rows.invariant.read text h in
           row_added text c.loop-rows.records c.next_record.new.records (fields_in c.next_record.new.fields) (bytes_of c.loop-rows.names.keys)
           c.args.columns.now (bytes_of c.next_row.new.names.keys) rows c.push.new.self.items c.loop-rows.used
-          (c.loop-rows.used + length c.as_slice.result.now) row so_far
+          (c.loop-rows.used + length c.as_slice-count.result.now) row so_far
           (c.in_ok-next_record.ensures.some c.if-branch.true text so_far.before so_far.stands) room read.row read.new read.kept
           c.in_ok-push-in-Ok.ensures.items used;
     }
