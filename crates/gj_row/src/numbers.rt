@@ -1,6 +1,6 @@
 //! The numbers of a row.
 ghost use Rattle.std.specs.Prelude.{◌≡◌, ◌<◌, ◌≤◌, ◌+◌, ◌++◌, pos, Some, IfOk, IfErr, IfSome};
-ghost use Rattle.std.specs.Prelude.{IfNone, length, drop, map};
+ghost use Rattle.std.specs.Prelude.{IfNone, OnOk, length, drop, map, ◌∷◌, []};
 ghost use Rattle.csv.specs.Records.{fields_of};
 ghost use Rattle.gj_frac.specs.declared.Frac.{Frac};
 ghost use Rattle.gj_frac.specs.Fraction.{IsRatio};
@@ -22,7 +22,7 @@ use crate::tableau::Entry;
 use csv::ByteRecord;
 use gj_frac::Frac;
 use gj_lex::{Spelling, fraction_of, leading_decimal};
-use std::alloc::Global;
+use std::alloc::{AllocError, Global};
 
 /// The greatest number of entries of a tableau that are not 0.
 const MOST_ENTRIES: usize = 100_000;
@@ -221,8 +221,21 @@ fn with_number(
     if used + entries.len() >= MOST_ENTRIES {
         return Err(RecordFault::Refused(RowReason::Entries));
     }
-    entries.push(Entry { column, value: x })?;
+    push_entry(entries, Entry { column, value: x })?;
     Ok(multiple)
+}
+
+/// Adds the entry. Where there is room for it, as mostly, it needs no call.
+#[inline(always)]
+fn push_entry(entries: &mut Vec<Entry>, entry: Entry) -> Result<(), AllocError>
+    ensures { OnOk result (entries.new.items ≡ entries.old.items ++ entry ∷ []) }
+{
+    if entries.len() < entries.capacity() {
+        entries.push_reserved(entry);
+        return Ok(());
+    }
+    entries.push(entry)?;
+    Ok(())
 }
 
 /// Whether the number is 0.

@@ -31,8 +31,8 @@ returns-clause-found c =
     let x = c.in_ok-x.x in
     let items = c.args.entries.now.items in
     let one = entry_one c.args.column x (sym c.is_zero.ensures ∙ c.if-is_zero.false) in
-    let pushed = c.in_ok-push.ensures.items in
-    let count : length c.push.new.self.items ≡ length items + 1 = ap length pushed ∙ length_push items (record { column = c.args.column; value = x }) in (
+    let pushed = c.in_ok-push_entry.ensures in
+    let count : length c.push_entry.new.entries.items ≡ length items + 1 = ap length pushed ∙ length_push items (record { column = c.args.column; value = x }) in (
       x,
       c.in_ok-x.ensures.read,
       c.in_ok-x.ensures.least,
