@@ -1,12 +1,18 @@
 -- Powers of 10, and what the factors 2 and 5 leave of a fraction over one.
-use Rattle.std.proofs.Common.{◌≡◌, ◌≢◌, ◌⊎◌, ⊎_elim, ℕ, zero, suc, ◌+◌, ◌-◌, ◌*◌, ◌/◌, ◌%◌, ◌^◌, ◌<◌, ◌≤◌, List, [], ◌∷◌, get_or, ℤ, pos, ◌*ℤ◌, refl, sym, ap, subst, ◌∙◌, arith, min, w64, to_z}
+use Rattle.std.proofs.Common.{◌≡◌, ◌≢◌, ◌⊎◌, ⊎_elim, ℕ, zero, suc, ◌+◌, ◌-◌, ◌*◌, ◌/◌, ◌%◌, ◌^◌, ◌<◌, ◌≤◌, List, [], ◌∷◌, get_or, Bool, true, false, not, ℤ, pos, ◌*ℤ◌, neg_ℤ, unsigned_abs, refl, sym, ap, subst, ◌∙◌, arith, min, w64, to_z}
 use Rattle.std.specs.Int.{IsGcd, trailing_zeros}
+use Rattle.std.specs.Int.Signed.{lt_z_yes, lt_z_no}
 use Rattle.std.proofs.Math.Nat.{mul_assoc, mul_comm, one-dvd, pow-suc, pow-le-pow_right, mul-le-mul, mul-div_cancel, mul-pos, one-le-pow, mod-eq_of_lt}
 use Rattle.std.proofs.lemmas.Nat.{pow-add, mul-pow, pow_pos}
 use Rattle.std.proofs.lemmas.Nat.Gcd.{IsGcd-from_zero, IsGcd-from_mod}
 use Rattle.std.proofs.lemmas.Int.{ints, to_z_pos}
+use Rattle.std.proofs.Math.IntN.{neg_ℤ-neg_ℤ}
 use Rattle.gj_frac.specs.Lowest.{IsLowest}
+use Rattle.gj_frac.specs.Fraction.{with_sign}
+use Rattle.gj_lemmas.proofs.Integers.{neg_mul_z}
 use Rattle.gj_lemmas.proofs.Divisors.{coprime_product}
+use lib.Dec.{T}
+use lib.Signed.{lt_z}
 use mir.Syntax.{w128}
 use Rattle.gj_frac.proofs.OddParts.{coprime_power, odd_power, twos_part}
 use Rattle.gj_frac.proofs.Reduced.{same_from_multiples}
@@ -130,3 +136,43 @@ pub decimal_is : (n d : ℤ) (size twos places : ℕ) → 0 < size → size < 2 
     n *ℤ pos (5 ^ places * 2 ^ (places - twos)) ≡ pos (size / 2 ^ twos) *ℤ d → n *ℤ pos (10 ^ places) ≡ pos size *ℤ d
 decimal_is n d size twos places some fits least =
     twos_out n d size (size / 2 ^ twos) places twos (twos_part size twos some fits (omega arith)) (omega arith)
+
+-- ---- numbers with a sign
+
+-- a fraction in lowest terms stays so with a sign
+pub lowest_with_sign : (s : Bool) (n : ℕ) (d : ℤ) → IsLowest (pos n) d → IsLowest (with_sign s n) d
+lowest_with_sign false n d h = h
+lowest_with_sign true n d h =
+    let same : unsigned_abs (neg_ℤ (pos n)) ≡ n = omega (arith, ints) in
+    record {
+      positive = h.positive;
+      num_fits = rw same h.num_fits;
+      den_fits = h.den_fits;
+      coprime = rw same h.coprime;
+    }
+
+-- equal cross products stay equal with a sign
+pub product_with_sign : (s : Bool) (m n a b : ℕ) → m * a ≡ n * b → with_sign s m *ℤ pos a ≡ with_sign s n *ℤ pos b
+product_with_sign false m n a b is = ap pos is
+product_with_sign true m n a b is =
+    neg_mul_z (pos m) (pos a) ∙ ap (λ k. neg_ℤ (pos k)) is ∙ sym (neg_mul_z (pos n) (pos b))
+
+-- the same of a number with a sign
+pub signed_decimal_is : (s : Bool) (n d : ℤ) (size twos places : ℕ) → 0 < size → size < 2 ^ 64 → twos ≡ min (trailing_zeros w64 size) places →
+    n *ℤ pos (5 ^ places * 2 ^ (places - twos)) ≡ with_sign s (size / 2 ^ twos) *ℤ d → n *ℤ pos (10 ^ places) ≡ with_sign s size *ℤ d
+signed_decimal_is false n d size twos places some fits least is = decimal_is n d size twos places some fits least is
+signed_decimal_is true n d size twos places some fits least is =
+    let rest = size / 2 ^ twos in
+    let tens = pos (5 ^ places * 2 ^ (places - twos)) in
+    let turned : neg_ℤ n *ℤ tens ≡ pos rest *ℤ d =
+    neg_mul_z n tens ∙ ap neg_ℤ (is ∙ neg_mul_z (pos rest) d) ∙ neg_ℤ-neg_ℤ (pos rest *ℤ d) in
+    let value = decimal_is (neg_ℤ n) d size twos places some fits least turned in
+    sym (neg_ℤ-neg_ℤ (n *ℤ pos (10 ^ places))) ∙ ap neg_ℤ (sym (neg_mul_z n (pos (10 ^ places))) ∙ value) ∙ sym (neg_mul_z (pos size) d)
+
+-- a whole number is its absolute value with its sign
+pub sign_and_size : (z : ℤ) → with_sign (lt_z z (pos 0)) (unsigned_abs z) ≡ z
+sign_and_size z = by (lt_z z (pos 0)) refl
+  where
+    by : (t : Bool) → lt_z z (pos 0) ≡ t → with_sign t (unsigned_abs z) ≡ z
+    by true e = omega (arith, ints, lt_z_yes {a = z} {b = pos 0} (subst T (sym e) tt))
+    by false e = omega (arith, ints, lt_z_no {a = z} {b = pos 0} (subst (λ t. T (not t)) (sym e) tt))

@@ -1,6 +1,6 @@
 -- The value of a fraction, and what a `Frac` is (own; the usual cross products over whole numbers
 -- without bound).
-use Rattle.std.specs.Prelude.{ℕ, ℤ, pos, ◌≡◌, ◌*ℤ◌, ◌+ℤ◌, ◌-ℤ◌, neg_ℤ, ◌<ℤ◌, ◌≤ℤ◌, ◌^◌, ◌<◌, ◌≤◌, ◌*◌, unsigned_abs}
+use Rattle.std.specs.Prelude.{Bool, if◌then◌else◌, ℕ, ℤ, pos, ◌≡◌, ◌*ℤ◌, ◌+ℤ◌, ◌-ℤ◌, neg_ℤ, ◌<ℤ◌, ◌≤ℤ◌, ◌^◌, ◌<◌, ◌≤◌, ◌*◌, unsigned_abs}
 use Rattle.gj_frac.specs.declared.Frac.{Frac}
 
 -- a fraction of whole numbers without bound; its bottom is not 0
@@ -70,3 +70,7 @@ IsAtMost n x = unsigned_abs (numerator x) ≤ n * unsigned_abs (denominator x)
 -- the denominator of x is below d
 abbrev pub HasDenominatorBelow : ℕ → Frac → Type 0
 HasDenominatorBelow d x = unsigned_abs (denominator x) < d
+
+-- a number with a sign
+abbrev pub with_sign : Bool → ℕ → ℤ
+with_sign is_negative size = if is_negative then neg_ℤ (pos size) else pos size

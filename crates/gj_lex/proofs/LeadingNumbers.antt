@@ -1,6 +1,7 @@
 -- Numbers at the front of a text, and the bytes of numbers in lenient form.
-use Rattle.std.proofs.Common.{◌≡◌, ◌≢◌, ℕ, suc, ◌+◌, ◌^◌, ◌<◌, ◌≤◌, List, [], ◌∷◌, ◌++◌, length, get_or, take, drop, pos, true, false, eqb, refl, sym, ◌∙◌, ap, subst, inl, inr, arith, append-nil, append_assoc, length-append, take-append-drop}
+use Rattle.std.proofs.Common.{◌≡◌, ◌≢◌, ℕ, suc, ◌+◌, ◌^◌, ◌<◌, ◌≤◌, List, [], ◌∷◌, ◌++◌, length, get_or, take, drop, pos, Bool, true, false, eqb, refl, sym, ◌∙◌, ap, subst, inl, inr, arith, append-nil, append_assoc, length-append, take-append-drop}
 use Rattle.std.specs.Char.{IsAsciiDigit, digit_value}
+use Rattle.std.specs.Int.{from_bool}
 use Rattle.std.specs.List.{All}
 use Rattle.std.specs.Str.Parse.{AllDigits, IsNumeral, digits_value, digits_value_after, starts_with_minus, without_leading_sign}
 use Rattle.std.proofs.lemmas.Bool.{cases_Bool}
@@ -10,14 +11,14 @@ use Rattle.std.proofs.lemmas.Str.{digit_value_digit}
 use Rattle.std.proofs.lemmas.List.Elements.{All-append, All-cons, All-nil, All-weaker}
 use Rattle.std.proofs.Math.Seq.{drop-append_seam}
 use Rattle.gj_frac.specs.declared.Frac.{Frac}
-use Rattle.gj_frac.specs.Fraction.{IsRatio}
+use Rattle.gj_frac.specs.Fraction.{IsRatio, with_sign}
 use Rattle.gj_lex.specs.LeadingText.{BeginsWithNoDigit}
 use Rattle.gj_lex.specs.NumberText.{IsWritten}
 use Rattle.gj_lex.specs.NumberText.IsWritten.{whole, ratio, point}
 use Rattle.gj_lex.specs.SpelledNumbers.{IsFractionWord}
 use Rattle.gj_lex.specs.declared.spelling.Spelling.TheVariants.{Lenient}
 use Rattle.gj_lex.proofs.PrintedNumbers.{few_digits_small}
-use Rattle.gj_lex.proofs.SignedNumbers.{with_sign, number_found}
+use Rattle.gj_lex.proofs.SignedNumbers.{number_found}
 use Rattle.gj_lex.proofs.SpelledWords.{no_sign}
 use Rattle.gj_lex.proofs.WordBytes.{all_from_digits}
 use Rattle.gj_lex.proofs.WrittenNumbers.{point_value}
@@ -137,6 +138,14 @@ minus_begins text behind rest n d x is (word, parts, written) small low some val
 pub behind_minus : (text : List ℕ) → true ≡ starts_with_minus text → text ≡ 45 ∷ drop 1 text
 behind_minus [] is = cc is
 behind_minus (c ∷ cs) is = let minus : c ≡ 45 = grind (arith, nat_tests) in ap (λ b. b ∷ cs) minus
+
+-- both, by what the text begins with
+pub signed_begins : (text behind rest : List ℕ) (minus : Bool) (n d : ℕ) (x : Frac) → minus ≡ starts_with_minus text →
+    behind ≡ drop (from_bool minus) text → BeginsWithWritten behind n d rest → n < 2 ^ 127 → d < 2 ^ 127 → 0 < d →
+    IsRatio x (with_sign minus n) (pos d) → BeginsWithFraction text x rest
+signed_begins text behind rest false n d x first is begins = plain_begins text behind rest n d x is begins
+signed_begins text behind rest true n d x first is begins =
+    minus_begins text behind rest n d x (behind_minus text first ∙ ap (λ b. 45 ∷ b) (sym is)) begins
 
 -- ---- the bytes of numbers
 

@@ -1,13 +1,9 @@
 -- A number in lenient form, with its sign, and the fraction that it is.
-use Rattle.std.proofs.Common.{◌≡◌, ℕ, ◌^◌, ◌<◌, ℤ, pos, neg_ℤ, List, Bool, if◌then◌else◌, sym, ◌∙◌, ap, subst}
+use Rattle.std.proofs.Common.{◌≡◌, ℕ, ◌^◌, ◌<◌, ℤ, pos, List, Bool, sym, ◌∙◌, ap, subst}
 use Rattle.std.specs.Str.Parse.{starts_with_minus, without_leading_sign}
 use Rattle.gj_frac.specs.declared.Frac.{Frac}
-use Rattle.gj_frac.specs.Fraction.{IsRatio}
+use Rattle.gj_frac.specs.Fraction.{IsRatio, with_sign}
 use Rattle.gj_lex.specs.NumberText.{IsNumberText, IsWritten}
-
--- a number with a sign
-abbrev pub with_sign : Bool → ℕ → ℤ
-with_sign minus top = if minus then neg_ℤ (pos top) else pos top
 
 -- what was read behind a sign is spelled so, with the sign
 pub number_found : (word rest : List ℕ) (minus : Bool) (top bottom : ℕ) (x : Frac) → rest ≡ without_leading_sign word →

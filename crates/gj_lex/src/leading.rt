@@ -27,11 +27,7 @@ pub fn leading_decimal(text: &[u8]) -> Option<(Frac, &[u8])>
 {
     let minus = begins_with(text, b'-');
     let (top, places, rest) = leading_digits(&text[usize::from(minus)..])?;
-    let size = Frac::short_decimal(top, places);
-    if minus {
-        return Some((-size, rest));
-    }
-    Some((size, rest))
+    Some((Frac::short_decimal(minus, top, places), rest))
 }
 
 /// The number that the text begins with, without a sign: that of all its digits, how many of them

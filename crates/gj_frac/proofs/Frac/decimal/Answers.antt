@@ -1,10 +1,10 @@
-use Rattle.std.proofs.Common.{◌≡◌, ◌<◌, ◌^◌, pos, neg_ℤ, unsigned_abs, subst, ◌∙◌, ap, arith}
+use Rattle.std.proofs.Common.{◌≡◌, ◌<◌, ◌^◌, pos, unsigned_abs, subst, ◌∙◌, ap, ap₂, to_z, of_z, arith}
 use Rattle.std.proofs.Math.Nat.{one-le-pow}
 use Rattle.std.proofs.lemmas.Int.{to_z-of_z, ints}
-use Rattle.gj_frac.specs.Fraction.{IsRatio}
-use Rattle.gj_frac.proofs.TenPowers.{ten_small, read_ten}
-use Rattle.gj_frac.proofs.SameValues.{negation_is}
+use Rattle.gj_frac.specs.Fraction.{IsRatio, with_sign}
+use Rattle.gj_frac.proofs.TenPowers.{ten_small, read_ten, sign_and_size}
 use Rattle.gj_frac.proofs.Frac.decimal.Goals as goal
+use lib.Signed.{lt_z}
 use mir.Syntax.{w128}
 
 pub overflow_cast-power_of_ten : goal.overflow_cast-power_of_ten
@@ -29,17 +29,10 @@ returns-then-size c =
     let num = to_z-of_z w128 c.args.num c.ranges.num in
     simp (num, power) at c.reduced.ensures
 
-pub returns-then-num-lt0 : goal.returns-then-num-lt0
-returns-then-num-lt0 c =
-    let num = to_z-of_z w128 c.args.num c.ranges.num in
-    let size : c.unsigned_abs-size.result ≡ unsigned_abs c.args.num = c.unsigned_abs-size.ensures.value ∙ ap unsigned_abs num in
-    let same : neg_ℤ (pos c.unsigned_abs-size.result) ≡ c.args.num = omega (arith, ints) in
-    subst (λ z. IsRatio c.neg.result z (pos (10 ^ c.args.places))) same
-    (negation_is c.short_decimal-fraction.result c.neg.result (pos c.unsigned_abs-size.result) (pos (10 ^ c.args.places)) c.neg.ensures c.short_decimal-fraction.ensures)
-
 pub returns : goal.returns
 returns c =
     let num = to_z-of_z w128 c.args.num c.ranges.num in
     let size : c.unsigned_abs-size.result ≡ unsigned_abs c.args.num = c.unsigned_abs-size.ensures.value ∙ ap unsigned_abs num in
-    let same : pos c.unsigned_abs-size.result ≡ c.args.num = omega (arith, ints) in
-    subst (λ z. IsRatio c.short_decimal-fraction.result z (pos (10 ^ c.args.places))) same c.short_decimal-fraction.ensures
+    let value : with_sign (lt_z (to_z w128 (of_z w128 c.args.num)) (pos 0)) c.unsigned_abs-size.result ≡ c.args.num =
+    ap₂ (λ z n. with_sign (lt_z z (pos 0)) n) num size ∙ sign_and_size c.args.num in
+    subst (λ z. IsRatio c.short_decimal.result z (pos (10 ^ c.args.places))) value c.short_decimal.ensures
