@@ -1,15 +1,12 @@
 //! The limits of the numbers in a row.
 ghost use Rattle.std.specs.Prelude.{◌≡◌, ◌<◌, ◌↔◌, Some, IfOk, IfErr, IsTrue};
-ghost use Rattle.gj_shape.specs.Limits.{greatest_number, IsSmallNumber};
+ghost use Rattle.gj_shape.specs.Limits.{denominator_bound, greatest_number, IsSmallNumber};
 ghost use Rattle.gj_shape.specs.Denominators.{Extends};
 ghost use Rattle.gj_row.specs.Reading.{StopsAt};
 
 use crate::faults::RowReason;
 use gj_frac::{Frac, lcm};
 use gj_shape::{GREATEST_DENOMINATOR, GREATEST_NUMBER, small_denominator};
-
-/// The greatest absolute value of a number of a row, with a sign.
-const GREATEST_WHOLE: i128 = GREATEST_NUMBER as i128;
 
 /// The number that was read, behind numbers with the least common denominator `scale`, and the
 /// least common denominator with it.
@@ -19,7 +16,8 @@ const GREATEST_WHOLE: i128 = GREATEST_NUMBER as i128;
 // Each number of a row passes it.
 #[inline(always)]
 pub(crate) fn within(scale: u32, number: Option<Frac>) -> Result<(Frac, u32), RowReason>
-    requires { 0 < scale }
+    requires low { 0 < scale }
+    requires high { scale < denominator_bound }
     ensures read { IfOk result (λ r. number ≡ Some r.0) }
     ensures least { IfOk result (λ r. Extends greatest_number scale r.0 r.1) }
     ensures refused { IfErr result (StopsAt scale number) }
@@ -33,6 +31,9 @@ pub(crate) fn within(scale: u32, number: Option<Frac>) -> Result<(Frac, u32), Ro
     let Some(den) = small_denominator(x) else {
         return Err(RowReason::Fine);
     };
+    if scale % den == 0 {
+        return Ok((x, scale));
+    }
     let multiple = lcm(scale, den);
     if multiple > u64::from(GREATEST_DENOMINATOR) {
         return Err(RowReason::Fine);
@@ -44,10 +45,10 @@ pub(crate) fn within(scale: u32, number: Option<Frac>) -> Result<(Frac, u32), Ro
 fn is_small(x: Frac) -> bool
     ensures { IsTrue result ↔ IsSmallNumber x }
 {
-    if -GREATEST_WHOLE <= x.num() && x.num() <= GREATEST_WHOLE {
-        return true;
+    match i64::try_from(x.num()) {
+        Ok(num) if u128::from(num.unsigned_abs()) <= GREATEST_NUMBER => true,
+        _ => is_small_fraction(x),
     }
-    is_small_fraction(x)
 }
 
 /// The same, by the denominator too.

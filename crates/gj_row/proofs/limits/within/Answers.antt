@@ -1,5 +1,5 @@
 use Rattle.std.proofs.Common.{refl, sym, subst, arith, rules}
-use Rattle.std.proofs.lemmas.Nat.Gcd.{le_of_dvd}
+use Rattle.std.proofs.lemmas.Nat.Gcd.{le_of_dvd, dvd_refl, dvd_of_mod-eq-zero}
 use Rattle.std.specs.Int.{◌∣◌}
 use Rattle.gj_lemmas.specs.Divisors.{IsLcm}
 use Rattle.gj_row.proofs.limits.within.Goals as goal
@@ -33,4 +33,12 @@ returns-clause-least c = record {
   least = subst (λ n. IsLcm c.args.scale n c.lcm-multiple.result) c.in-Some-small_denominator.ensures.1
       c.lcm-multiple.ensures;
   high = omega (arith, c.if-multiple-from.false);
+}
+
+pub returns-then-scale-den-eq0-clause-least : goal.returns-then-scale-den-eq0-clause-least
+returns-then-scale-den-eq0-clause-least c = record {
+  small = c.if-not-is_small.ensures.0 refl;
+  least = subst (λ n. IsLcm c.args.scale n c.args.scale) c.in-Some-small_denominator.ensures.1
+      (dvd_refl c.args.scale, dvd_of_mod-eq-zero c.in-Some-small_denominator.den c.if-scale-den-eq0.true, λ m p q. p);
+  high = c.requires.high;
 }
