@@ -1,13 +1,11 @@
 -- Where the first line and the first field end.
-use Rattle.std.proofs.Common.{◌≡◌, ◌≢◌, ℕ, zero, suc, ◌+◌, ◌-◌, ◌<◌, ◌≤◌, Bool, not, true, false, cond, nat_lt, List, [], ◌∷◌, ◌++◌, All, Option, Some, None, take, drop, get_or, replicate, length, unwrap_or, refl, sym, ap, ◌∙◌, subst, inl, inr, arith}
+use Rattle.std.proofs.Common.{◌≡◌, ◌≢◌, ℕ, zero, suc, ◌+◌, ◌-◌, ◌<◌, ◌≤◌, Bool, not, true, false, cond, List, [], ◌∷◌, ◌++◌, All, Some, None, take, drop, replicate, length, unwrap_or, refl, sym, ap, ◌∙◌, subst, inl, inr, arith}
 use Rattle.std.specs.List.{position, position_or_len}
-use Rattle.std.proofs.lemmas.Bool.{cases_Bool, false_from_ne_true}
+use Rattle.std.proofs.lemmas.Bool.{cases_Bool}
 use Rattle.std.proofs.lemmas.List.{take-append-drop, take_rest}
 use Rattle.std.proofs.lemmas.List.Elements.{All-nil, All-cons, All-weaker}
 use Rattle.std.proofs.lemmas.List.Quantifiers.{position-Some}
-use Rattle.std.proofs.lemmas.List.Sums.{position_or_len_is}
 use Rattle.std.proofs.lemmas.List.Splits.{slice_split_none, slice_split_first, slice_split-cons_yes}
-use Rattle.memchr.specs.Find.{IsFirstByte}
 use Rattle.gj_lemmas.proofs.Choices.{not_true, not_false}
 use Rattle.gj_lex.proofs.CanonicalTexts.{position_unwrapped}
 use Rattle.gj_lex.proofs.FirstPlaces.{no_place}
@@ -105,25 +103,3 @@ pub behind_commas : (line : List ℕ) (run : ℕ) → run ≡ position_or_len (�
     fields_of_line line ≡ replicate run [] ++ fields_of_line (take (length line - run) (drop run line))
 behind_commas line run count =
     fields_behind_commas line run (omega (arith, count)) ∙ ap (λ rest. replicate run [] ++ fields_of_line rest) (sym (take_rest line run))
-
--- ---- a search for a byte
-
-some_place : (i n : ℕ) → i < n → Some i ≡ cond (nat_lt i n) (Some i) None
-some_place i n within = grind arith
-
-none_place : (n : ℕ) → None ≡ cond (nat_lt n n) (Some n) None
-none_place n = grind arith
-
--- what it found is the first place
-pub place_found : (p : ℕ → Bool) (xs : List ℕ) (r : Option ℕ) → IsFirstByte p xs r → r ≡ position p xs
-place_found p xs None none =
-    let at : position_or_len p xs ≡ length xs =
-    position_or_len_is p xs (length xs) 0 (omega arith)
-    (λ k below. false_from_ne_true (p (get_or xs k 0)) (none k (omega arith) below)) (λ within. absurd (omega (arith, within))) in
-    none_place (length xs) ∙ ap (λ n. cond (nat_lt n (length xs)) (Some n) None) (sym at)
-place_found p xs (Some i) found =
-    let within : i < length xs = found.0.high in
-    let at : position_or_len p xs ≡ i =
-    position_or_len_is p xs i 0 (omega arith)
-    (λ k below. false_from_ne_true (p (get_or xs k 0)) (found.0.before k (omega arith) below)) (λ here. found.1) in
-    some_place i (length xs) within ∙ ap (λ n. cond (nat_lt n (length xs)) (Some n) None) (sym at)
