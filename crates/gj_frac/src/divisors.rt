@@ -28,7 +28,9 @@ pub fn gcd(a: u128, b: u128) -> u128
 
 /// The greatest common divisor of two whole numbers below 2^64; that of 0 and 0 is 0.
 ///
-/// Numbers of different sizes are brought together by a remainder. Then it divides no more.
+/// Numbers of different sizes are brought together by a remainder. Then it divides no more. Before
+/// that the lesser number is below 2^63, after at most one turn of the loop, so that a difference
+/// fits 64 bits with its sign.
 pub(crate) fn gcd_in_64_bits(a: u64, b: u64) -> u64
     ensures { IsGcd a b result }
 {
@@ -69,7 +71,8 @@ fn gcd_of_positive(a: u64, b: u64) -> u64
 /// The greatest common divisor of two odd numbers, by the binary algorithm: the odd part of their
 /// difference stands for the greater of them.
 ///
-/// The trailing zeros of a difference do not wait for its absolute value.
+/// A difference has as many trailing zeros as its absolute value, so a processor can count them
+/// before that is known.
 fn gcd_of_odd(a: u64, b: u64) -> u64
     requires odd { a % 2 ≡ 1 }
     requires other_odd { b % 2 ≡ 1 }
@@ -99,7 +102,7 @@ pub fn lcm(a: u32, b: u32) -> u64
     lcm_by_gcd(a, b)
 }
 
-/// The same, if the second number does not divide the first.
+/// The same, by the greatest common divisor.
 #[inline(never)]
 fn lcm_by_gcd(a: u32, b: u32) -> u64
     requires { 0 < a }

@@ -120,7 +120,7 @@ impl Frac {
         if num >= 0 && num < SMALL && den >= 0 && den < SMALL {
             return Frac::of_small(num as u64, den as u64);
         }
-        // Named, so that the other answer need not stand in memory.
+        // Named, so that the compiler keeps the other answer out of memory.
         let fraction = Frac::reduced_in_128_bits(num, den);
         fraction
     }

@@ -30,7 +30,7 @@ pub(crate) fn quotient(n: i128, divisor: i128) -> i128
     }
 }
 
-/// The same for numbers below 2^64, of which the second need not divide the first.
+/// A whole number below 2^64 divided by another, rounded down.
 pub(crate) fn small_quotient(n: u64, divisor: u64) -> u64
     requires { 0 < divisor }
     ensures { result ≡ n / divisor }

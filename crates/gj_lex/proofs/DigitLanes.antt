@@ -219,7 +219,7 @@ module _ (word : List ℕ) (long : 8 ≤ length word) (fits : (k : ℕ) → Fits
 
 -- ---- a number and the digits behind it
 
--- the power_table of 10
+-- the powers of 10 below 10 ^ 8
 abbrev pub power_table : List ℕ
 power_table = 1 ∷ 10 ∷ 100 ∷ 1_000 ∷ 10_000 ∷ 100_000 ∷ 1_000_000 ∷ 10_000_000 ∷ []
 

@@ -15,8 +15,9 @@ use gj_frac::Frac;
 
 /// The decimal that the text begins with, as `-20.609`, and what follows it.
 ///
-/// A `-` may stand first, and then digits, or digits, `.` and digits. Of these at most 18 bytes are
-/// read: what follows may go on with digits. None if no digit stands first, or behind the `-`.
+/// A `-` may stand first, and then digits, or digits, `.` and digits. Behind the `-` at most 18
+/// bytes are read, the point among them: what follows may go on with digits. None if no digit
+/// stands first, or behind the `-`.
 // Loops over numbers call it for each: what it gives stays in registers.
 #[inline(always)]
 pub fn leading_decimal(text: &[u8]) -> Option<(Frac, &[u8])>

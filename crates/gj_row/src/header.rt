@@ -18,7 +18,7 @@ use std::alloc::Global;
 /// The greatest number of columns.
 const MOST_COLUMNS: usize = 10_000;
 
-/// So many bytes of a name stand in the set of names itself; a longer name takes memory there.
+/// A name of at most so many bytes stands in the set of names itself; a longer one takes memory.
 const INLINE: usize = 16;
 
 /// The bytes of a name, as a key of the set of names.

@@ -143,8 +143,8 @@ fn room_in_record(fields: &ByteRecord) -> usize
     (fields.len() - 2).min(fields.as_slice().len() / 8)
 }
 
-/// How many entries of a line to make room for: no more than its bytes would spell by eight each,
-/// nor than are likely.
+/// How many entries of a line to make room for: at most `likely`, and at most one for each eight of
+/// its bytes.
 fn room_in(line: &[u8], likely: usize) -> usize {
     (line.len() / 8).min(likely)
 }
@@ -167,7 +167,8 @@ fn first_decimal(line: &[u8]) -> Option<(Frac, Option<&[u8]>)>
 /// Adds the number that the first field of the line spells, in whatever form, as the entry for the
 /// column, unless it is 0, and gives the least common denominator with it, and what follows the
 /// comma behind the field. The reason is `Number` if the field spells none.
-// Few fields come here, and they take no registers of the others' loop.
+// Fractions, fields with blanks and empty fields at the end come here. A call keeps them out of the
+// registers of the loop over decimals.
 #[inline(never)]
 fn with_first<'a>(
     entries: &mut Vec<Entry>,

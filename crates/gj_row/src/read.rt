@@ -166,8 +166,8 @@ fn likely_behind(count: usize) -> usize {
 }
 
 /// The row in the record, behind so many rows, with `used` entries that are not 0, of a tableau
-/// with so many columns and these names. Room is made for at most `likely` entries before they are
-/// read.
+/// with so many columns and these names. Room is made for at most `likely` entries of a line before
+/// they are read.
 fn next_row(
     alloc: Global,
     fields: &Fields<'_>,

@@ -25,7 +25,7 @@ pub fn gmic_value(f: Frac, x: Frac) -> Frac
     let part = product(rest.num(), f.den());
     let place = product(f.num(), rest.den());
     if part <= place {
-        // Named, so that the values need not stand in memory.
+        // Both values are named, so that the compiler keeps them out of memory.
         let rising = Frac::reduced(part, place);
         return rising;
     }

@@ -51,7 +51,7 @@ impl Shape {
     {
         let (index, remainder) = place_within(n, self.order(), steps);
         let numerator = self.entry_or_value(self.value_numerators(), index, remainder, steps);
-        // Named, so that it need not stand in memory.
+        // Named, so that the compiler keeps it out of memory.
         let value = Frac::reduced(numerator, self.common_denominator() * i128::from(steps));
         value
     }
