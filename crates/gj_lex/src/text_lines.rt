@@ -16,7 +16,7 @@ use crate::fault::PartFault;
 use crate::reason::Reason;
 use crate::spelling::Spelling;
 use crate::words::{first_byte, has_words};
-use memchr::{memchr, memchr_iter};
+use memchr::memchr_iter;
 use std::simd::prelude::*;
 
 /// A line of a text.
@@ -150,7 +150,7 @@ fn line_feed_bits(text: &[u8], from: usize) -> u64
 fn far_line_feed(text: &[u8]) -> Option<usize>
     ensures { result ≡ position is_line_feed text.now }
 {
-    memchr(b'\n', text)
+    memchr_iter(b'\n', text).next()
 }
 
 // ---- lenient lines
