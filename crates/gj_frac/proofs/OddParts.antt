@@ -6,6 +6,8 @@ use Rattle.std.proofs.lemmas.Bool.{cases_lt}
 use Rattle.std.proofs.lemmas.Nat.{pow-add}
 use Rattle.std.proofs.lemmas.Nat.Bits.{bit_at-trailing_zeros}
 use Rattle.std.proofs.lemmas.Nat.Gcd.{IsGcd-from_zero, IsGcd-from_mod, IsGcd-from_sub, IsGcd-swap, dvd_trans}
+use Rattle.std.specs.Int.Count.{count_trailing_zeros}
+use lib.Count.{under}
 use Rattle.gj_lemmas.proofs.Divisors.{gauss, gcd_scaled, coprime_divisor, coprime_product}
 
 -- ---- an odd number beside a power of 2
@@ -70,6 +72,27 @@ low_zeros n (suc k) zeros =
 pub odd_part : (n : ℕ) → 0 < n → n < 2 ^ 64 →
     (n / 2 ^ trailing_zeros w64 n % 2 ≡ 1) × (n / 2 ^ trailing_zeros w64 n * 2 ^ trailing_zeros w64 n ≡ n)
 odd_part n some fits = let h = bit_at-trailing_zeros w64 n some fits in (h.1, low_zeros n (trailing_zeros w64 n) h.2)
+
+under_same : (d e s t : ℕ) → d ≡ e → (d ≡ 0 → s ≡ t) → under d s ≡ under e t
+under_same zero e s t same rest = subst (λ n. under 0 s ≡ under n t) same (ap suc (rest refl))
+under_same (suc d) e s t same rest = subst (λ n. under (suc d) s ≡ under n t) same refl
+
+-- two numbers that add up to a power of 2 have as many trailing zeros
+zeros_of_rest : (k a b : ℕ) → a + b ≡ 2 ^ k → count_trailing_zeros k a ≡ count_trailing_zeros k b
+unfolding count_trailing_zeros
+zeros_of_rest zero a b sum = refl
+zeros_of_rest (suc k) a b sum = under_same (a % 2) (b % 2) _ _ (omega (arith, pow-suc 2 k))
+    (λ even. zeros_of_rest k (a / 2) (b / 2) (omega (arith, pow-suc 2 k)))
+
+-- so have a difference that wraps and its absolute value
+pub zeros_of_difference : (a b : ℕ) → a < 2 ^ 64 → b < 2 ^ 64 → trailing_zeros w64 ((b + (2 ^ 64 - a)) % 2 ^ 64) ≡ trailing_zeros w64 (abs_diff a b)
+zeros_of_difference a b a_fits b_fits = ⊎_elim
+    (λ below. let same : (b + (2 ^ 64 - a)) % 2 ^ 64 ≡ abs_diff a b = omega arith in ap (trailing_zeros w64) same)
+    (λ above. ⊎_elim
+    (λ less. zeros_of_rest 64 ((b + (2 ^ 64 - a)) % 2 ^ 64) (abs_diff a b) (omega arith))
+    (λ equal. let same : (b + (2 ^ 64 - a)) % 2 ^ 64 ≡ abs_diff a b = omega arith in ap (trailing_zeros w64) same)
+    (cases_lt b a))
+    (cases_lt a b)
 
 -- without so many twos, or fewer, it has the rest of its factors
 pub twos_part : (n k : ℕ) → 0 < n → n < 2 ^ 64 → k ≤ trailing_zeros w64 n → n / 2 ^ k * 2 ^ k ≡ n

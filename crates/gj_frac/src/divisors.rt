@@ -28,19 +28,12 @@ pub fn gcd(a: u128, b: u128) -> u128
 
 /// The greatest common divisor of two whole numbers below 2^64; that of 0 and 0 is 0.
 ///
-/// Numbers of different sizes are brought together by a remainder. Then it divides no more. Before
-/// that the lesser number is below 2^63, after at most one turn of the loop, so that a difference
-/// fits 64 bits with its sign.
+/// Numbers of different sizes are brought together by a remainder. Then it divides no more.
 pub(crate) fn gcd_in_64_bits(a: u64, b: u64) -> u64
     ensures { IsGcd a b result }
 {
-    let mut greater = a.max(b);
-    let mut lesser = a.min(b);
-    while lesser >= 1 << 63 {
-        let rest = greater % lesser;
-        greater = lesser;
-        lesser = rest;
-    }
+    let greater = a.max(b);
+    let lesser = a.min(b);
     if lesser == 0 {
         return greater;
     }
@@ -59,8 +52,6 @@ pub(crate) fn gcd_in_64_bits(a: u64, b: u64) -> u64
 fn gcd_of_positive(a: u64, b: u64) -> u64
     requires first { 0 < a }
     requires second { 0 < b }
-    requires first_fits { a < 2 ^ 63 }
-    requires second_fits { b < 2 ^ 63 }
     ensures { IsGcd a b result }
 {
     let a_zeros = a.trailing_zeros();
@@ -71,22 +62,20 @@ fn gcd_of_positive(a: u64, b: u64) -> u64
 /// The greatest common divisor of two odd numbers, by the binary algorithm: the odd part of their
 /// difference stands for the greater of them.
 ///
-/// A difference has as many trailing zeros as its absolute value, so a processor can count them
-/// before that is known.
+/// The difference that wraps has as many trailing zeros as the absolute value, so a processor can
+/// count them before that is known. It is taken the other way round: so no number is negated.
 fn gcd_of_odd(a: u64, b: u64) -> u64
     requires odd { a % 2 ≡ 1 }
     requires other_odd { b % 2 ≡ 1 }
-    requires fits { a < 2 ^ 63 }
-    requires other_fits { b < 2 ^ 63 }
     ensures { IsGcd a b result }
 {
     let mut first = a;
     let mut second = b;
     while first != second {
-        let difference = first as i64 - second as i64;
-        let size = difference.unsigned_abs();
-        second = first.min(second);
-        first = size >> size.trailing_zeros();
+        let zeros = second.wrapping_sub(first).trailing_zeros();
+        let size = first.abs_diff(second);
+        second = second.min(first);
+        first = size >> zeros;
     }
     first
 }

@@ -1,21 +1,16 @@
-use Rattle.std.proofs.Common.{◌≡◌, ◌≢◌, ◌<◌, ◌%◌, ◌^◌, ◌/◌, ℕ, pos, ◌-ℤ◌, min, unsigned_abs, subst, subst₂, sym, ⊎_elim, ◌∙◌, arith, w64}
+use Rattle.std.proofs.Common.{◌≡◌, ◌≢◌, ◌<◌, ◌+◌, ◌-◌, ◌%◌, ◌^◌, ◌/◌, ℕ, min, subst, subst₂, ap₂, sym, ⊎_elim, arith, w64}
 use Rattle.std.specs.Int.{IsGcd, abs_diff, trailing_zeros}
-use Rattle.std.proofs.Math.Nat.{div-le_self}
 use Rattle.std.proofs.lemmas.Bool.{cases_lt}
-use Rattle.std.proofs.lemmas.Int.{to_z_pos, to_z-of_z, ints}
 use Rattle.std.proofs.lemmas.Nat.Gcd.{dvd_refl}
-use Rattle.gj_frac.proofs.OddParts.{odd_part, from_odd_difference}
+use Rattle.gj_frac.proofs.OddParts.{odd_part, from_odd_difference, zeros_of_difference}
 use Rattle.gj_frac.proofs.divisors.gcd_of_odd.Goals as goal
-
--- the absolute value of the difference of two whole numbers
-size_of_difference : (a b : ℕ) → unsigned_abs (pos a -ℤ pos b) ≡ abs_diff a b
-size_of_difference a b = omega (arith, ints)
 
 differ_by_some : (a b : ℕ) → a ≢ b → 0 < abs_diff a b
 differ_by_some a b differ = omega arith
 
-small_difference : (a b : ℕ) → a < 2 ^ 63 → b < 2 ^ 63 → abs_diff a b < 2 ^ 63
-small_difference a b a_fits b_fits = omega arith
+-- the lesser of two numbers, in either order
+lesser_is : (a b n : ℕ) → n ≡ min b a → n ≡ min a b
+lesser_is a b n is = omega arith
 
 lesser_odd : (a b n : ℕ) → a % 2 ≡ 1 → b % 2 ≡ 1 → n ≡ min a b → n % 2 ≡ 1
 lesser_odd a b n a_odd b_odd least = ⊎_elim
@@ -28,23 +23,16 @@ loop-first-preserved c =
     let held = c.loop-first.invariant in
     let f = c.loop-first.first in
     let s = c.loop-first.second in
-    let first = to_z_pos w64 f held.first_fits in
-    let second = to_z_pos w64 s held.second_fits in
-    let difference = to_z-of_z w64 (pos f -ℤ pos s) (omega (arith, ints, held.first_fits, held.second_fits)) in
-    let size : c.unsigned_abs-size.result ≡ abs_diff f s = (simp (first, second, difference) at c.unsigned_abs-size.ensures.value) ∙ size_of_difference f s in
     let some = differ_by_some f s c.loop-first-test.true in
-    let fits = small_difference f s held.first_fits held.second_fits in
-    let below : abs_diff f s < 2 ^ 64 = omega (arith, fits) in
-    let odd : c.unsigned_abs-size.result / 2 ^ trailing_zeros w64 c.unsigned_abs-size.result % 2 ≡ 1 =
-    subst (λ n. n / 2 ^ trailing_zeros w64 n % 2 ≡ 1) (sym size) (odd_part (abs_diff f s) some below).0 in
-    let most = div-le_self c.unsigned_abs-size.result (2 ^ trailing_zeros w64 c.unsigned_abs-size.result) in
+    let below : abs_diff f s < 2 ^ 64 = omega arith in
+    let zeros = zeros_of_difference f s (omega arith) (omega arith) in
+    let quotient : c.abs_diff-size.result / 2 ^ trailing_zeros w64 ((s + (2 ^ 64 - f)) % 2 ^ 64) ≡
+    abs_diff f s / 2 ^ trailing_zeros w64 (abs_diff f s) = ap₂ (λ m n. m / 2 ^ n) c.abs_diff-size.ensures zeros in
     record {
-      first = odd;
-      second = lesser_odd f s c.min-second.result held.first held.second c.min-second.ensures;
-      first_fits = omega (arith, most, size, fits);
-      second_fits = omega (arith, c.min-second.ensures, held.first_fits);
+      first = subst (λ n. n % 2 ≡ 1) (sym quotient) (odd_part (abs_diff f s) some below).0;
+      second = lesser_odd f s c.min-second.result held.first held.second (lesser_is f s _ c.min-second.ensures);
       divisors = λ g h. held.divisors g (from_odd_difference f s g held.first held.second some below
-          (subst₂ (λ m n. IsGcd (m / 2 ^ trailing_zeros w64 m) n g) size c.min-second.ensures h));
+          (subst₂ (λ m n. IsGcd m n g) quotient (lesser_is f s _ c.min-second.ensures) h));
     }
 
 pub returns : goal.returns

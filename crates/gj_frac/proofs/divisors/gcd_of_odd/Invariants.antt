@@ -1,4 +1,4 @@
-use Rattle.std.proofs.Common.{ℕ, ◌≡◌, ◌<◌, ◌^◌, ◌%◌, ◌+◌}
+use Rattle.std.proofs.Common.{ℕ, ◌≡◌, ◌%◌, ◌+◌}
 use Rattle.std.specs.Int.{IsGcd}
 use Rattle.gj_frac.proofs.divisors.gcd_of_odd.Given as goal
 
@@ -6,8 +6,6 @@ abbrev pub invariant-loop-first : goal.invariant-loop-first
 invariant-loop-first l = record {
   first : l.first % 2 ≡ 1;
   second : l.second % 2 ≡ 1;
-  first_fits : l.first < 2 ^ 63;
-  second_fits : l.second < 2 ^ 63;
   divisors : (g : ℕ) → IsGcd l.first l.second g → IsGcd l.fn.a l.fn.b g;
 }
 

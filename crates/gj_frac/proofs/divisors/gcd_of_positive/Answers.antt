@@ -1,27 +1,15 @@
 use Rattle.std.proofs.Common.{◌≡◌, ◌*◌, ◌%◌, ◌^◌, ◌≤◌, min, subst, subst₂, sym, ap, ◌∙◌, arith, w64}
 use Rattle.std.specs.Int.{IsGcd, trailing_zeros}
-use Rattle.std.proofs.Math.Nat.{mod-eq_of_lt, div-le_self}
+use Rattle.std.proofs.Math.Nat.{mod-eq_of_lt}
 use Rattle.std.proofs.lemmas.Nat.Gcd.{le_of_dvd}
 use Rattle.gj_frac.proofs.OddParts.{odd_part, odd_powers}
 use Rattle.gj_frac.proofs.divisors.gcd_of_positive.Goals as goal
 
 pub gcd_of_odd-requires-clause-odd : goal.gcd_of_odd-requires-clause-odd
-gcd_of_odd-requires-clause-odd c = (odd_part c.args.a c.requires.first (omega (arith, c.requires.first_fits))).0
+gcd_of_odd-requires-clause-odd c = (odd_part c.args.a c.requires.first (omega arith)).0
 
 pub gcd_of_odd-requires-clause-other_odd : goal.gcd_of_odd-requires-clause-other_odd
-gcd_of_odd-requires-clause-other_odd c = (odd_part c.args.b c.requires.second (omega (arith, c.requires.second_fits))).0
-
-pub gcd_of_odd-requires-clause-fits : goal.gcd_of_odd-requires-clause-fits
-gcd_of_odd-requires-clause-fits c =
-    let most = div-le_self c.args.a (2 ^ trailing_zeros w64 c.args.a) in
-    let fits = c.requires.first_fits in
-    omega arith
-
-pub gcd_of_odd-requires-clause-other_fits : goal.gcd_of_odd-requires-clause-other_fits
-gcd_of_odd-requires-clause-other_fits c =
-    let most = div-le_self c.args.b (2 ^ trailing_zeros w64 c.args.b) in
-    let fits = c.requires.second_fits in
-    omega arith
+gcd_of_odd-requires-clause-other_odd c = (odd_part c.args.b c.requires.second (omega arith)).0
 
 pub returns : goal.returns
 returns c =
