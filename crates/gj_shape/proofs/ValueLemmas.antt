@@ -1,6 +1,6 @@
 -- The value of a function at a fraction, read off its table at any index of the place.
-use Rattle.std.proofs.Common.{◌≡◌, ℕ, zero, suc, ◌+◌, ◌-◌, ◌*◌, ◌/◌, ◌%◌, ◌<◌, ℤ, pos, negsuc, ◌+ℤ◌, ◌*ℤ◌, List, [], ◌∷◌, length, get_or, unsigned_abs, sym, ap, ap₂, subst, subst₂, ◌∙◌, refl, arith}
-use Rattle.std.proofs.Math.Nat.{div-add-mod', mod-lt}
+use Rattle.std.proofs.Common.{◌≡◌, ℕ, zero, suc, ◌+◌, ◌-◌, ◌*◌, ◌/◌, ◌%◌, ◌^◌, ◌<◌, ◌≤◌, ℤ, pos, negsuc, ◌+ℤ◌, ◌*ℤ◌, List, [], ◌∷◌, length, get_or, unsigned_abs, sym, ap, ap₂, subst, subst₂, ◌∙◌, refl, arith}
+use Rattle.std.proofs.Math.Nat.{div-add-mod', mod-lt, mul-le-mul_left}
 use Rattle.std.proofs.lemmas.Int.{ints}
 use Rattle.std.specs.Int.{int_rem_euclid}
 use Rattle.std.specs.Prelude.{neg_ℤ}
@@ -33,6 +33,19 @@ pub congruent_to_parts : (n : ℤ) (m d e place : ℕ) → 0 < m * d → e ≡ d
 congruent_to_parts n m d e place some same is =
     let together : place / e * d + place % e ≡ place = ap (λ k. place / k * d + place % k) same ∙ div-add-mod' place d in
     subst (λ z. IsCongruent n z (m * d)) (sym (ap pos together ∙ is)) (congruent_to_remainder n (m * d) some)
+
+scaled_remainder : (r d e : ℕ) (k : ℤ) → (pos r +ℤ k *ℤ pos d) *ℤ pos e ≡ pos (r * e) +ℤ k *ℤ pos (e * d)
+scaled_remainder r d e k = by_ring (pos r ∷ k ∷ pos d ∷ pos e ∷ []) (search ring depth 30) refl
+
+-- a number times m is congruent to its remainder by d times m, put together again from its parts by e
+pub congruent_to_scaled : (n : ℤ) (m d e rest : ℕ) → 0 < d → e ≡ d → pos rest ≡ int_rem_euclid n (pos d) →
+    IsCongruent (n *ℤ pos m) (pos (rest * m / e * d + rest * m % e)) (m * d)
+congruent_to_scaled n m d e rest some same is =
+    let place = rest * m in
+    let together : place / e * d + place % e ≡ place = ap (λ k. place / k * d + place % k) same ∙ div-add-mod' place d in
+    let (k, split) = congruent_to_remainder n d some in
+    let whole : n ≡ pos rest +ℤ k *ℤ pos d = split ∙ ap (λ z. z +ℤ k *ℤ pos d) (sym is) in
+    (k, ap (λ z. z *ℤ pos m) whole ∙ scaled_remainder rest d m k ∙ ap (λ j. pos j +ℤ k *ℤ pos (m * d)) (sym together))
 
 pub congruent_join : (i n j : ℤ) (p : ℕ) → IsCongruent i n p → IsCongruent n j p → IsCongruent i j p
 congruent_join i n j p (k, e) (l, g) =
@@ -99,3 +112,17 @@ entry_of_limits f xs m a zero h some below = absurd (omega arith)
 entry_of_limits f xs m a (suc r) h some below =
     let length_is = h.right_length in
     ap₂ (λ x y. pos (m - suc r) *ℤ x +ℤ pos (suc r) *ℤ y) (at_below f.right a (omega arith)) (at_by_remainder f.left (a + 1) f.order h.left_length)
+
+-- a number between itself and itself, where nothing remains
+pub nothing_remains : (m r : ℕ) (v : ℤ) → r ≡ 0 → pos m *ℤ v ≡ pos (m - r) *ℤ v +ℤ pos r *ℤ v
+nothing_remains m zero v none =
+    let whole : m - 0 ≡ m = omega arith in
+    subst (λ n. pos m *ℤ v ≡ pos n *ℤ v +ℤ pos 0 *ℤ v) (sym whole) (by_ring (pos m ∷ v ∷ []) (search ring depth 20) refl)
+nothing_remains m (suc r) v none = absurd (omega arith)
+
+-- a mean of numbers of 32 bits by weights of which the sum has 32 bits
+pub mean_below : (m r a b : ℕ) → r < m → m < 2 ^ 32 → a < 2 ^ 32 → b < 2 ^ 32 → (m - r) * a + r * b < 2 ^ 64
+mean_below m r a b below few a_few b_few =
+    let start : (m - r) * a ≤ (m - r) * 4294967295 = mul-le-mul_left (m - r) (omega arith) in
+    let end : r * b ≤ r * 4294967295 = mul-le-mul_left r (omega arith) in
+    omega arith

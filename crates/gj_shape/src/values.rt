@@ -1,6 +1,6 @@
 //! The value of a function at a fraction.
 ghost use Rattle.std.specs.Prelude.{◌≡◌, ◌<◌, ◌≤◌, ◌+◌, ◌*◌, ◌^◌, ℕ, ◌≢◌, pos, ◌*ℤ◌, ◌+ℤ◌, length};
-ghost use Rattle.std.specs.Prelude.{unsigned_abs, ◌%◌};
+ghost use Rattle.std.specs.Prelude.{unsigned_abs, ◌%◌, ◌-◌, IfSome};
 ghost use Rattle.gj_frac.specs.Fraction.{IsRatio, numerator, denominator};
 ghost use Rattle.gj_shape.specs.Limits.{IsSmallNumber};
 ghost use Rattle.gj_shape.specs.Refinement.{entry_or_value};
@@ -39,11 +39,69 @@ impl Shape {
         ensures not_negative { (n d : ℕ) → IsPoint x n d →
             IsRatio result (value_of self.now n d) (pos (self.now.scale * d)) }
     {
-        self.value_on_grid(x.num() * i128::from(self.order()), x.den() as u64)
+        if let Some((numerator, denominator)) = self.small_value_at(x) {
+            // Both values are named, so that the compiler keeps them out of memory.
+            let small = Frac::of_small(numerator, denominator);
+            return small;
+        }
+        let value = self.value_on_grid(x.num() * i128::from(self.order()), x.den() as u64);
+        value
+    }
+
+    /// The value of the function at x, as a quotient of two numbers below 2^64.
+    ///
+    /// None if the denominator of x needs more than 32 bits, its numerator more than 64, or if a
+    /// number beside x is negative or needs more than 32.
+    #[inline(always)]
+    fn small_value_at(&self, x: Frac) -> Option<(u64, u64)>
+        ensures some { IfSome result (λ r. 0 < r.1) }
+        ensures value { IfSome result (λ r. (v : Frac) → IsRatio v (pos r.0) (pos r.1) →
+            IsValueAt self.now (numerator x *ℤ pos self.now.order)
+            (unsigned_abs (denominator x)) v) }
+    {
+        let (Ok(num), Ok(den)) = (i64::try_from(x.num()), u32::try_from(x.den())) else {
+            return None;
+        };
+        let (index, remainder) = small_place(num, self.order(), den);
+        let numerator = self.small_between(index, remainder, den)?;
+        Some((numerator, self.common_denominator() as u64 * u64::from(den)))
+    }
+
+    /// `steps` times the value at index/q + remainder/(q steps), for the order q. None if a number
+    /// beside it is negative or needs more than 32 bits.
+    #[inline(always)]
+    fn small_between(&self, index: usize, remainder: u64, steps: u32) -> Option<u64>
+        requires index { index < self.now.order }
+        requires remainder { remainder < steps }
+        ensures { IfSome result (λ n. pos n ≡
+            entry_or_value self.now self.now.value steps index remainder) }
+    {
+        let (start, end) = self.beside(index, remainder);
+        if start < 0 || start >= 1 << 32 || end < 0 || end >= 1 << 32 {
+            return None;
+        }
+        let weight = u64::from(steps) - remainder;
+        Some(weight * start as u64 + remainder * end as u64)
+    }
+
+    /// The numbers between which the value at a place behind index/q lies, for the order q: the
+    /// limits around the place, or the value there twice if nothing remains.
+    fn beside(&self, index: usize, remainder: u64) -> (i64, i64)
+        requires index { index < self.now.order }
+        ensures { (m : ℕ) → remainder < m →
+            entry_or_value self.now self.now.value m index remainder ≡
+            pos (m - remainder) *ℤ result.0 +ℤ pos remainder *ℤ result.1 }
+    {
+        if remainder == 0 {
+            let value = self.value_numerators()[index];
+            return (value, value);
+        }
+        let next = place_behind(index, self.order());
+        (self.right_numerators()[index], self.left_numerators()[next])
     }
 
     /// The value at n/(q steps), for the order q.
-    #[inline(always)]
+    #[inline(never)]
     fn value_on_grid(&self, n: i128, steps: u64) -> Frac
         requires some { 0 < steps }
         requires few { steps ≤ 2 ^ 62 }
@@ -91,6 +149,21 @@ fn place_behind(index: usize, order: u32) -> usize
         return 0;
     }
     index + 1
+}
+
+/// The index i below q and the remainder r below `den` for which num/den differs from
+/// i/q + r/(q den) by a whole number, for the order q.
+#[inline(always)]
+fn small_place(num: i64, order: u32, den: u32) -> (usize, u64)
+    requires den { 0 < den }
+    ensures index { 0 < order → result.0 < order }
+    ensures remainder { result.1 < den }
+    ensures congruent { IsCongruent (num *ℤ pos order)
+        (pos (result.0 * den + result.1)) (order * den) }
+{
+    let steps = u64::from(den);
+    let place = num.rem_euclid(i64::from(den)) as u64 * u64::from(order);
+    ((place / steps) as usize, place % steps)
 }
 
 /// The index i below q and the remainder r below `steps` for which n/(q steps) differs from
