@@ -1,5 +1,5 @@
 //! The limits of the numbers in a row.
-ghost use Rattle.std.specs.Prelude.{◌≡◌, ◌<◌, ◌↔◌, Some, IfOk, IfErr, IsTrue};
+ghost use Rattle.std.specs.Prelude.{◌≡◌, ◌<◌, ◌≤◌, ◌*◌, ◌↔◌, Some, IfOk, IfErr, IsTrue};
 ghost use Rattle.gj_shape.specs.Limits.{denominator_bound, greatest_number, IsSmallNumber};
 ghost use Rattle.gj_shape.specs.Denominators.{Extends};
 ghost use Rattle.gj_row.specs.Reading.{StopsAt};
@@ -47,15 +47,15 @@ fn is_small(x: Frac) -> bool
 {
     match i64::try_from(x.num()) {
         Ok(num) if u128::from(num.unsigned_abs()) <= GREATEST_NUMBER => true,
-        _ => is_small_fraction(x),
+        _ => is_small_quotient(x.num().unsigned_abs(), x.den().unsigned_abs()),
     }
 }
 
-/// The same, by the denominator too.
-// Few numbers come here, and they take no registers of the others' loop.
+/// Whether n/d is at most 2^31.
+// Few numbers come here. They come in parts, since a copy of a fraction would be made for each.
 #[inline(never)]
-fn is_small_fraction(x: Frac) -> bool
-    ensures { IsTrue result ↔ IsSmallNumber x }
+fn is_small_quotient(n: u128, d: u128) -> bool
+    ensures { IsTrue result ↔ (n ≤ greatest_number * d) }
 {
-    x.num().unsigned_abs() <= x.den().unsigned_abs().saturating_mul(GREATEST_NUMBER)
+    n <= d.saturating_mul(GREATEST_NUMBER)
 }

@@ -1,5 +1,5 @@
-use Rattle.std.proofs.Common.{◌≡◌, ◌<◌, ◌+◌, ◌-◌, ◌*◌, ◌^◌, unsigned_abs, to_z, of_z, w64, subst, sym, arith, rules}
-use Rattle.std.proofs.lemmas.Int.{ints, to_z-of_z}
+use Rattle.std.proofs.Common.{◌<◌, ◌+◌, ◌-◌, ◌*◌, ◌^◌, unsigned_abs, to_z, of_z, w64, subst, sym, arith}
+use Rattle.std.proofs.lemmas.Int.{ints}
 use Rattle.gj_shape.proofs.ValueLemmas.{mean_below}
 use Rattle.gj_shape.proofs.shape.Shape.small_between.Goals as goal
 

@@ -1,5 +1,5 @@
 use Rattle.std.proofs.Common.{◌≡◌, ℤ, ◌+◌, ◌*◌, ◌*ℤ◌, pos, unsigned_abs, to_z, of_z, w64, sym, ap, ap₂, subst, subst₂, refl, ◌∙◌, rules, arith}
-use Rattle.std.proofs.lemmas.Int.{ints, to_z-of_z}
+use Rattle.std.proofs.lemmas.Int.{to_z-of_z}
 use Rattle.gj_frac.specs.Fraction.{IsRatio, numerator, denominator}
 use Rattle.gj_lemmas.proofs.Quotients.{parts_of_place}
 use Rattle.gj_shape.specs.Table.{table, entry}
