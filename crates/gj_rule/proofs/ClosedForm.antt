@@ -24,11 +24,11 @@ reads_as v z e fits = ap read e ∙ read_part z fits
 
 -- ---- the parts of what the code forms
 
--- each floor of x leaves the numerator of r over the denominator of x
-abbrev pub IsRestOf : Frac → Frac → Type 0
-IsRestOf x r = (w : ℤ) → IsFloor x w → (r.num ≡ x.num -ℤ w *ℤ x.den) × (r.den ≡ x.den)
+-- each floor of x leaves n over d, the denominator of x
+abbrev pub IsRestOf : Frac → ℤ → ℤ → Type 0
+IsRestOf x n d = (w : ℤ) → IsFloor x w → (n ≡ x.num -ℤ w *ℤ x.den) × (d ≡ x.den)
 
-pub rest_parts : (x r : Frac) → ((w : ℤ) → IsFloor x w → IsRatio r (numerator x -ℤ w *ℤ denominator x) (denominator x)) → IsRestOf x r
+pub rest_parts : (x r : Frac) → ((w : ℤ) → IsFloor x w → IsRatio r (numerator x -ℤ w *ℤ denominator x) (denominator x)) → IsRestOf x r.num r.den
 rest_parts x r is w floor =
     let n = x.num -ℤ w *ℤ x.den in
     let next : (w +ℤ pos 1) *ℤ x.den ≡ w *ℤ x.den +ℤ x.den = add_mul_z w (pos 1) x.den ∙ ap (λ z. w *ℤ x.den +ℤ z) (one_mul_z x.den) in
@@ -39,7 +39,7 @@ rest_parts x r is w floor =
     parts_from_is r n x.den x.lowest.positive lowest.coprime (is w floor)
 
 -- the denominator of the rest is that of x, so it is no greater
-pub rest_fine : (x r : Frac) → IsRestOf x r → unsigned_abs x.den ≤ 2 ^ 62 → unsigned_abs r.den ≤ 2 ^ 62
+pub rest_fine : (x r : Frac) → IsRestOf x r.num r.den → unsigned_abs x.den ≤ 2 ^ 62 → unsigned_abs r.den ≤ 2 ^ 62
 rest_fine x r rest fine = subst (λ d. unsigned_abs d ≤ 2 ^ 62) (sym (rest _ (quotient_is_floor x)).1) fine
 
 -- ---- whole numbers over the product of both denominators
@@ -77,13 +77,13 @@ place_below f r below =
 
 -- ---- the two branches
 
-pub rising_value : (f x r y : Frac) → IsRestOf x r → (LessValue (fraction_of f) (fraction_of r) → ⊥) →
-    IsRatio y (numerator r *ℤ denominator f) (numerator f *ℤ denominator r) → IsGmicValue f x y
-rising_value f x r y rest low is = record {
+pub rising_value : (f x y : Frac) (n d : ℤ) → IsRestOf x n d → (LessValue (fraction_of f) (record { top = n; bottom = d }) → ⊥) →
+    IsRatio y (n *ℤ denominator f) (numerator f *ℤ d) → IsGmicValue f x y
+rising_value f x y n d rest low is = record {
   rises = λ w floor h. let parts = rest w floor in
       subst₂ (λ n d. SameValue (fraction_of y) (quotient_of (record { top = n; bottom = d })
       (fraction_of f))) parts.0 parts.1
-      (subst (IsRatio y (r.num *ℤ f.den)) (mul_comm_z f.num r.den) is);
+      (subst (IsRatio y (n *ℤ f.den)) (mul_comm_z f.num d) is);
   falls = λ w floor h. let parts = rest w floor in
       absurd (low (subst₂ (λ n d. LessValue (fraction_of f) (record { top = n; bottom = d })) (sym parts.0) (sym parts.1) h));
 }
@@ -95,18 +95,17 @@ one_minus_top a b = omega (arith, ints)
 pub one_times : (a : ℤ) → a ≡ pos 1 *ℤ a
 one_times a = sym (one_mul_z a)
 
-pub falling_value : (f x r y : Frac) → IsRestOf x r → LessValue (fraction_of f) (fraction_of r) →
-    IsRatio y (denominator r *ℤ denominator f -ℤ numerator r *ℤ denominator f)
-    (denominator r *ℤ denominator f -ℤ numerator f *ℤ denominator r) →
+pub falling_value : (f x y : Frac) (n d : ℤ) → IsRestOf x n d → LessValue (fraction_of f) (record { top = n; bottom = d }) →
+    IsRatio y (d *ℤ denominator f -ℤ n *ℤ denominator f) (d *ℤ denominator f -ℤ numerator f *ℤ d) →
     IsGmicValue f x y
-falling_value f x r y rest high is = record {
+falling_value f x y n d rest high is = record {
   rises = λ w floor low. let parts = rest w floor in
       absurd (low (subst₂ (λ n m. LessValue (fraction_of f) (record { top = n; bottom = m })) parts.0 parts.1 high));
   falls = λ w floor h. let parts = rest w floor in
-      let top = sym (sub_mul_z r.den r.num f.den) ∙ ap₂ (λ a b. a *ℤ b)
+      let top = sym (sub_mul_z d n f.den) ∙ ap₂ (λ a b. a *ℤ b)
       (ap₂ (λ a b. a -ℤ b) parts.1 parts.0 ∙ one_minus_top x.den (x.num -ℤ w *ℤ x.den)) (one_times f.den) in
-      let bottom = ap (λ z. r.den *ℤ f.den -ℤ z) (mul_comm_z f.num r.den) ∙
-      sym (mul_sub_z r.den f.den f.num)
+      let bottom = ap (λ z. d *ℤ f.den -ℤ z) (mul_comm_z f.num d) ∙
+      sym (mul_sub_z d f.den f.num)
       ∙ ap₂ (λ a b. a *ℤ b) (parts.1 ∙ one_times x.den) (one_minus_top f.den f.num) in
       subst₂ (IsRatio y) top bottom is;
 }

@@ -1,2 +1,3 @@
 pub mod ClosedForm
+pub mod SmallCuts
 pub mod SmallParts

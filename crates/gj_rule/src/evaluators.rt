@@ -1,5 +1,5 @@
 //! Evaluators.
-ghost use Rattle.std.specs.Prelude.{◌≡◌, ◌≢◌, ◌↔◌, IsTrue, ◌≤◌, ◌<◌, ◌^◌, ◌*ℤ◌, unsigned_abs};
+ghost use Rattle.std.specs.Prelude.{◌≡◌, ◌≢◌, ◌↔◌, IsTrue, ◌≤◌, ◌<◌, ◌^◌, ◌*ℤ◌, unsigned_abs, pos, IfSome};
 ghost use Rattle.gj_frac.specs.Fraction.{IsRatio, IsInside, denominator};
 ghost use Rattle.gj_theory.specs.Cuts.{IsGmicValue, IsValueOf};
 ghost use Rattle.gj_shape.specs.Limits.{IsRowNumber};
@@ -16,6 +16,44 @@ use gj_shape::{GREATEST_DENOMINATOR, GREATEST_NUMBER, Shape};
 // A loop over the entries of a row calls it for each.
 #[inline(always)]
 pub fn gmic_value(f: Frac, x: Frac) -> Frac
+    requires inside { IsInside f }
+    requires f_fine { unsigned_abs (denominator f) ≤ 2 ^ 62 }
+    requires x_fine { unsigned_abs (denominator x) ≤ 2 ^ 62 }
+    ensures { IsGmicValue f x result }
+{
+    if let Some((top, bottom)) = small_gmic_parts(f, x) {
+        // Named, so that the compiler keeps it out of memory.
+        let value = Frac::of_small(top, bottom);
+        return value;
+    }
+    great_gmic_value(f, x)
+}
+
+/// The value as a quotient of two numbers of 64 bits, of which the second is not 0. None if a part
+/// of f or the denominator of x needs more than 32 bits, or the numerator of x more than 64.
+#[inline(always)]
+fn small_gmic_parts(f: Frac, x: Frac) -> Option<(u64, u64)>
+    requires inside { IsInside f }
+    ensures some { IfSome result (λ r. 0 < r.1) }
+    ensures value { IfSome result
+        (λ r. (v : Frac) → IsRatio v (pos r.0) (pos r.1) → IsGmicValue f x v) }
+{
+    let f_num = u64::from(u32::try_from(f.num()).ok()?);
+    let f_den = u64::from(u32::try_from(f.den()).ok()?);
+    let num = i64::try_from(x.num()).ok()?;
+    let den = u32::try_from(x.den()).ok()?;
+    let part = num.rem_euclid(i64::from(den)) as u64 * f_den;
+    let place = f_num * u64::from(den);
+    if part <= place {
+        return Some((part, place));
+    }
+    let one = u64::from(den) * f_den;
+    Some((one - part, one - place))
+}
+
+/// The value in 128 bits, whatever the sizes of the parts.
+#[inline(always)]
+fn great_gmic_value(f: Frac, x: Frac) -> Frac
     requires inside { IsInside f }
     requires f_fine { unsigned_abs (denominator f) ≤ 2 ^ 62 }
     requires x_fine { unsigned_abs (denominator x) ≤ 2 ^ 62 }

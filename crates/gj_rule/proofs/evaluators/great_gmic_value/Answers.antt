@@ -2,7 +2,7 @@ use Rattle.std.proofs.Common.{rules, ◌≤◌, ◌^◌, ℤ, ◌*ℤ◌, ◌-�
 use Rattle.std.proofs.lemmas.Int.{ints}
 use Rattle.gj_frac.specs.Fraction.{IsRatio}
 use Rattle.gj_rule.proofs.ClosedForm.{reads_as, rest_parts, rest_fine, parts_read, product_read, difference_read, place_positive, place_below, rising_value, falling_value}
-use Rattle.gj_rule.proofs.evaluators.gmic_value.Goals as goal
+use Rattle.gj_rule.proofs.evaluators.great_gmic_value.Goals as goal
 
 -- the parts of the rest are small
 pub product-part-requires-clause-n_small : goal.product-part-requires-clause-n_small
@@ -106,7 +106,7 @@ returns-then-part-place c =
     let here = c.if-part-place.true in
     let low : (rest.num *ℤ f.den) ≤ℤ (f.num *ℤ rest.den) = subst₂ (λ (a b : ℤ). a ≤ℤ b) part_read
     place_read (omega (arith, ints)) in
-    rising_value f c.args.x rest c.reduced-rising.result (rest_parts c.args.x rest
+    rising_value f c.args.x c.reduced-rising.result rest.num rest.den (rest_parts c.args.x rest
     c.fract-rest.ensures.value) (λ above. omega (arith, ints))
     (subst₂ (IsRatio c.reduced-rising.result) part_read place_read c.reduced-rising.ensures)
 
@@ -131,7 +131,7 @@ returns c =
     let here = c.if-part-place.false in
     let high : (f.num *ℤ rest.den) <ℤ (rest.num *ℤ f.den) = subst₂ (λ (a b : ℤ). a <ℤ b) place_read
     part_read (omega (arith, ints)) in
-    falling_value f c.args.x rest c.reduced-falling.result (rest_parts c.args.x rest
+    falling_value f c.args.x c.reduced-falling.result rest.num rest.den (rest_parts c.args.x rest
     c.fract-rest.ensures.value) high
     (subst₂ (IsRatio c.reduced-falling.result)
     (difference_read c.product-one.result c.product-part.result one_small part_small ∙
