@@ -51,10 +51,14 @@ fn part(number: Option<i128>) -> Result<i128, Wide>
     }
 }
 
-/// The product of two whole numbers, if it fits a part of a fraction.
+/// The product of two whole numbers, if it fits a part of a fraction. That of two numbers of 64 bits
+/// always does.
 pub fn checked_product(n: i128, m: i128) -> Result<i128, Wide>
     ensures { OkIff result (Fits (n *ℤ m)) (n *ℤ m) }
 {
+    if let (Ok(n), Ok(m)) = (i64::try_from(n), i64::try_from(m)) {
+        return Ok(i128::from(n) * i128::from(m));
+    }
     part(n.checked_mul(m))
 }
 
