@@ -139,6 +139,8 @@ struct Terms {
 }
 
 /// The terms of the entries, by whether their columns are continuous.
+// Its loop needs all registers: it stays a function of its own.
+#[inline(never)]
 fn terms_of<E: Evaluator, G: Evaluator>(
     alloc: Global,
     rule: &Rule<E>,
@@ -158,11 +160,10 @@ fn terms_of<E: Evaluator, G: Evaluator>(
     let mut weights = Vec::new(alloc);
     for entry in entries {
         let flag = continuous[entry.column as usize];
-        let made = mixed_term(rule, slopes, *entry, flag);
         if flag {
-            weights.push(made)?;
+            weights.push(weight_term(slopes, *entry))?;
         } else {
-            terms.push(made)?;
+            terms.push_reserved(term(rule, *entry));
         }
     }
     Ok(Terms { terms, weights })

@@ -1,14 +1,13 @@
-use Rattle.std.proofs.Common.{◌<◌, List, [], length, ap, not, sym, subst}
+use Rattle.std.proofs.Common.{◌≡◌, ◌<◌, List, length, ap, not, sym, subst, ◌∙◌, arith}
 use Rattle.std.specs.List.{AllZip}
 use Rattle.std.proofs.lemmas.List.{take_all}
-use Rattle.gj_shape.specs.Limits.{IsRowNumber}
+use Rattle.std.specs.Vec.{vec_len, vec_capacity}
 use Rattle.gj_row.specs.declared.tableau.Entry.{Entry}
-use Rattle.gj_cut.specs.declared.cut.Term.{Term}
 use Rattle.gj_cut.specs.RowCuts.{IsTermOf}
 use Rattle.gj_mixed.specs.MixedCuts.{IsWeightTermOf, is_continuous, whole_entries, continuous_entries}
 use Rattle.gj_mixed.proofs.MixedTerms.{zip_kept, zip_dropped}
 use Rattle.gj_mixed.proofs.row_cuts.terms_of.Goals as goal
-use Rattle.gj_mixed.proofs.row_cuts.terms_of.Goals.{then-flag+in_ok-push, else-flag+in_ok-push-2}
+use Rattle.gj_mixed.proofs.row_cuts.terms_of.Goals.{then-flag+in_ok-push, else-flag}
 
 pub loop-entry-preserved : goal.loop-entry-preserved
 loop-entry-preserved g c =
@@ -22,37 +21,35 @@ loop-entry-preserved g c =
     let below = c.loop-entry-test.true in
     let kept = c.loop-entry.invariant in
     elim c.if-flag.branch [
-      | then-flag+in_ok-push w ↦ record {
-        terms = zip_dropped terms (λ e. not (here e)) entries i x c.loop-entry.terms.items c.if-flag.terms.items below
-            c.entry-item.is (ap not w.if-flag.true) (ap (λ v. v.items) w.terms-is) kept.terms;
-        weights = zip_kept weights here entries i x c.loop-entry.weights.items w.push.new.self.items c.if-flag.weights.items
-            c.mixed_term-made.result below c.entry-item.is w.if-flag.true (ap (λ v. v.items) w.weights-is) w.in_ok-push.ensures.items
-            kept.weights (c.mixed_term-made.ensures.continuous w.if-flag.true);
-      }
-      | else-flag+in_ok-push-2 w ↦ record {
-        terms = zip_kept terms (λ e. not (here e)) entries i x c.loop-entry.terms.items w.push-else-flag.new.self.items
-            c.if-flag.terms.items c.mixed_term-made.result below c.entry-item.is (ap not w.if-flag.false)
-            (ap (λ v. v.items) w.terms-is) w.in_ok-push-2.ensures.items kept.terms (c.mixed_term-made.ensures.whole w.if-flag.false);
-        weights = zip_dropped weights here entries i x c.loop-entry.weights.items c.if-flag.weights.items below
-            c.entry-item.is w.if-flag.false (ap (λ v. v.items) w.weights-is) kept.weights;
-      }
+      | then-flag+in_ok-push w ↦
+          let same : vec_len c.if-flag.terms ≡ vec_len c.loop-entry.terms = ap (λ v. vec_len v) w.terms-is in
+          record {
+            few = omega arith;
+            room = ap (λ v. vec_capacity v) w.terms-is ∙ kept.room;
+            terms = zip_dropped terms (λ e. not (here e)) entries i x c.loop-entry.terms.items c.if-flag.terms.items below
+                c.entry-item.is (ap not w.if-flag.true) (ap (λ v. v.items) w.terms-is) kept.terms;
+            weights = zip_kept weights here entries i x c.loop-entry.weights.items w.push.new.self.items c.if-flag.weights.items
+                w.weight_term.result below c.entry-item.is w.if-flag.true (ap (λ v. v.items) w.weights-is) w.in_ok-push.ensures.items
+                kept.weights w.weight_term.ensures;
+          }
+      | else-flag w ↦
+          let same : vec_len c.if-flag.terms ≡ vec_len w.push_reserved.new.self = ap (λ v. vec_len v) w.terms-is in
+          let more = w.push_reserved.ensures.len in
+          record {
+            few = omega arith;
+            room = ap (λ v. vec_capacity v) w.terms-is ∙ w.push_reserved.ensures.capacity ∙ kept.room;
+            terms = zip_kept terms (λ e. not (here e)) entries i x c.loop-entry.terms.items w.push_reserved.new.self.items
+                c.if-flag.terms.items w.term.result below c.entry-item.is (ap not w.if-flag.false)
+                (ap (λ v. v.items) w.terms-is) w.push_reserved.ensures.items kept.terms w.term.ensures;
+            weights = zip_dropped weights here entries i x c.loop-entry.weights.items c.if-flag.weights.items below
+                c.entry-item.is w.if-flag.false (ap (λ v. v.items) w.weights-is) kept.weights;
+          }
     ]
-
-pub loop-entry-init : goal.loop-entry-init
-loop-entry-init g c = record {
-  terms = subst (λ (made : List Term). AllZip (IsTermOf g.E.Evaluator.answers c.args.rule.now) [] made) (sym c.in_ok-terms.ensures.items) tt;
-  weights = subst (λ (made : List Term). AllZip (IsWeightTermOf g.G.Evaluator.answers c.args.slopes.now) [] made) (sym c.new-weights.ensures.items) tt;
-}
 
 pub bounds-continuous-entry : goal.bounds-continuous-entry
 bounds-continuous-entry g c =
     subst (λ (entry : Entry). entry.column < length c.args.continuous.now) (sym c.entry-item.is)
     (c.requires.columns c.loop-entry.entry-index c.entry-item.result c.loop-entry-test.true)
-
-pub mixed_term-made-requires : goal.mixed_term-made-requires
-mixed_term-made-requires g c =
-    subst (λ (entry : Entry). IsRowNumber entry.value) (sym c.entry-item.is)
-    (c.requires.range c.loop-entry.entry-index c.entry-item.result c.loop-entry-test.true)
 
 pub returns-clause-terms : goal.returns-clause-terms
 returns-clause-terms g c =
