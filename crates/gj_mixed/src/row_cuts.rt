@@ -160,10 +160,11 @@ fn terms_of<E: Evaluator, G: Evaluator>(
     let mut weights = Vec::new(alloc);
     for entry in entries {
         let flag = continuous[entry.column as usize];
+        let made = mixed_term(rule, slopes, *entry, flag);
         if flag {
-            weights.push(weight_term(slopes, *entry))?;
+            weights.push(made)?;
         } else {
-            terms.push_reserved(term(rule, *entry));
+            terms.push_reserved(made);
         }
     }
     Ok(Terms { terms, weights })

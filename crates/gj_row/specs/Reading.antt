@@ -213,7 +213,7 @@ pub record LinesStandBehind (text : List ℕ) (before : List (List (List ℕ))) 
 
 -- the next record is the one behind these records of the text
 abbrev pub StandsBehind : List ℕ → List (List (List ℕ)) → Records → Type 0
-StandsBehind text before (text_records.Quoted reader) = ReaderStandsBehind text before reader
+StandsBehind text before (text_records.Quoted reader) = ReaderStandsBehind text before reader.value
 StandsBehind text before (text_records.Plain left) = LinesStandBehind text before left.now
 
 -- the next record is the one behind record 1 of the text, which names these columns; the names so

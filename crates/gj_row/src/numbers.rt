@@ -88,14 +88,14 @@ fn numbers_in_line(
     while let Some(rest) = left {
         let empty = leading_commas(rest);
         column += empty as u32;
-        let line = &rest[empty..];
-        match first_decimal(line) {
+        let front = &rest[empty..];
+        match first_decimal(front) {
             Some((x, next)) => {
                 scale = with_number(&mut entries, scale, used, column, Some(x))?;
                 left = next;
             }
             None => {
-                let (multiple, next) = with_first(&mut entries, scale, used, column, line)?;
+                let (multiple, next) = with_first(&mut entries, scale, used, column, front)?;
                 scale = multiple;
                 left = next;
             }

@@ -75,7 +75,7 @@ fn tableau_in(alloc: Global, bytes: &[u8]) -> Result<Tableau, RowFault>
     ensures found { IfOk result (IsTableauText bytes.now) }
     ensures refused { IfErr result (NamesRecord (IsFirstFaultOfTableau bytes.now)) }
 {
-    let mut records = records_of(alloc, bytes);
+    let mut records = records_of(alloc, bytes)?;
     tableau_from(alloc, &mut records)
 }
 

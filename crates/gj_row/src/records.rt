@@ -16,20 +16,31 @@ use std::alloc::{AllocError, Global};
 /// What is left of the records of a text.
 #[derive(Drop)]
 pub(crate) enum Records<'a> {
-    /// The records of a text with quotes.
-    Quoted(Reader<&'a [u8]>),
+    /// The records of a text with quotes. What reads them has a buffer of 8 KB, for which no other
+    /// text makes room.
+    Quoted(Box<Reader<&'a [u8]>>),
     /// The rest of a text that has none.
     Plain(&'a [u8]),
 }
 
 /// The records of the text.
-pub(crate) fn records_of(alloc: Global, bytes: &[u8]) -> Records<'_>
-    ensures { StandsBehind bytes.now [] result }
+pub(crate) fn records_of(alloc: Global, bytes: &[u8]) -> Result<Records<'_>, AllocError>
+    ensures { IfOk result (StandsBehind bytes.now []) }
 {
     match memchr(b'"', bytes) {
-        Some(_) => Records::Quoted(reader_of(alloc, bytes)),
-        None => Records::Plain(without_mark(bytes)),
+        Some(_) => quoted_records(alloc, bytes),
+        None => Ok(Records::Plain(without_mark(bytes))),
     }
+}
+
+/// The records of the text, as `csv` reads them.
+// A call keeps the reader out of the frame of its caller.
+#[inline(never)]
+fn quoted_records(alloc: Global, bytes: &[u8]) -> Result<Records<'_>, AllocError>
+    ensures { IfOk result (StandsBehind bytes.now []) }
+{
+    let reader = Box::new(alloc, reader_of(alloc, bytes))?;
+    Ok(Records::Quoted(reader))
 }
 
 /// What reads the records of the text.

@@ -2,6 +2,7 @@ use Rattle.std.proofs.Common.{◌≡◌, ◌<◌, List, length, ap, not, sym, su
 use Rattle.std.specs.List.{AllZip}
 use Rattle.std.proofs.lemmas.List.{take_all}
 use Rattle.std.specs.Vec.{vec_len, vec_capacity}
+use Rattle.gj_shape.specs.Limits.{IsRowNumber}
 use Rattle.gj_row.specs.declared.tableau.Entry.{Entry}
 use Rattle.gj_cut.specs.RowCuts.{IsTermOf}
 use Rattle.gj_mixed.specs.MixedCuts.{IsWeightTermOf, is_continuous, whole_entries, continuous_entries}
@@ -29,8 +30,8 @@ loop-entry-preserved g c =
             terms = zip_dropped terms (λ e. not (here e)) entries i x c.loop-entry.terms.items c.if-flag.terms.items below
                 c.entry-item.is (ap not w.if-flag.true) (ap (λ v. v.items) w.terms-is) kept.terms;
             weights = zip_kept weights here entries i x c.loop-entry.weights.items w.push.new.self.items c.if-flag.weights.items
-                w.weight_term.result below c.entry-item.is w.if-flag.true (ap (λ v. v.items) w.weights-is) w.in_ok-push.ensures.items
-                kept.weights w.weight_term.ensures;
+                c.mixed_term-made.result below c.entry-item.is w.if-flag.true (ap (λ v. v.items) w.weights-is) w.in_ok-push.ensures.items
+                kept.weights (c.mixed_term-made.ensures.continuous w.if-flag.true);
           }
       | else-flag w ↦
           let same : vec_len c.if-flag.terms ≡ vec_len w.push_reserved.new.self = ap (λ v. vec_len v) w.terms-is in
@@ -39,8 +40,8 @@ loop-entry-preserved g c =
             few = omega arith;
             room = ap (λ v. vec_capacity v) w.terms-is ∙ w.push_reserved.ensures.capacity ∙ kept.room;
             terms = zip_kept terms (λ e. not (here e)) entries i x c.loop-entry.terms.items w.push_reserved.new.self.items
-                c.if-flag.terms.items w.term.result below c.entry-item.is (ap not w.if-flag.false)
-                (ap (λ v. v.items) w.terms-is) w.push_reserved.ensures.items kept.terms w.term.ensures;
+                c.if-flag.terms.items c.mixed_term-made.result below c.entry-item.is (ap not w.if-flag.false)
+                (ap (λ v. v.items) w.terms-is) w.push_reserved.ensures.items kept.terms (c.mixed_term-made.ensures.whole w.if-flag.false);
             weights = zip_dropped weights here entries i x c.loop-entry.weights.items c.if-flag.weights.items below
                 c.entry-item.is w.if-flag.false (ap (λ v. v.items) w.weights-is) kept.weights;
           }
@@ -50,6 +51,11 @@ pub bounds-continuous-entry : goal.bounds-continuous-entry
 bounds-continuous-entry g c =
     subst (λ (entry : Entry). entry.column < length c.args.continuous.now) (sym c.entry-item.is)
     (c.requires.columns c.loop-entry.entry-index c.entry-item.result c.loop-entry-test.true)
+
+pub mixed_term-made-requires : goal.mixed_term-made-requires
+mixed_term-made-requires g c =
+    subst (λ (entry : Entry). IsRowNumber entry.value) (sym c.entry-item.is)
+    (c.requires.range c.loop-entry.entry-index c.entry-item.result c.loop-entry-test.true)
 
 pub returns-clause-terms : goal.returns-clause-terms
 returns-clause-terms g c =

@@ -8,8 +8,8 @@ use Rattle.gj_row.proofs.read.tableau_in.Goals as goal
 pub returns : goal.returns
 returns c =
     let text = c.args.bytes.now in
-    let start = c.records_of-records.ensures in
-    let records = c.records_of-records.result in record {
+    let start = c.in_ok-records.ensures in
+    let records = c.in_ok-records.records in record {
       found = IfOk-weaker c.tableau_from.result (λ t. HoldsOfText records (λ text. IsTableauText text t)) (IsTableauText text)
           (λ t read. read text start) c.tableau_from.ensures.found;
       refused = IfErr-weaker c.tableau_from.result (NamesRecord (λ n e. HoldsOfText records (λ text. IsFirstFaultOfTableau text n e)))

@@ -1,18 +1,18 @@
-use Rattle.std.proofs.Common.{◌≡◌, true, All, subst, inl, ◌∙◌}
+use Rattle.std.proofs.Common.{◌≡◌, true, All, subst, sym, inl, ◌∙◌}
 use Rattle.std.specs.Option.{IfNone}
 use Rattle.csv.specs.Reading.{ReadRecord, default_config, strip_bom}
 use Rattle.csv.specs.Records.{fields_of}
 use Rattle.csv.specs.declared.parser.State.TheVariants.{StartRecord}
 use Rattle.csv.proofs.ReadFacts.{rows-end, rows-more}
-use Rattle.gj_row.specs.Reading.{StandsBehind, bytes_left, is_line_end}
+use Rattle.gj_row.specs.Reading.{ReaderStandsBehind, StandsBehind, bytes_left, is_line_end}
 use Rattle.gj_row.proofs.CsvRecords.{records_end}
 use Rattle.gj_row.proofs.Lines.{line_read, blanks_end}
 use Rattle.gj_row.proofs.records.next_record.Goals as goal
 
 pub returns-in-Ok-clause-end : goal.returns-in-Ok-clause-end
 returns-in-Ok-clause-end c = λ none text before stands.
-    let at = subst (StandsBehind text before) c.in-Quoted.is stands in
-    let old = c.in-Quoted.reader in
+    let old = c.deref_mut.result.now in
+    let at = subst (ReaderStandsBehind text before) (sym c.deref_mut.ensures.value) (subst (StandsBehind text before) c.in-Quoted.is stands) in
     let new = c.read_byte_record.new.self in
     let fields = fields_of c.read_byte_record.new.row in
     let step = subst (λ found. ReadRecord bytes_left old new found fields) none (c.in-Ok.ensures.reads at.no_trim at.ready) in
@@ -21,8 +21,8 @@ returns-in-Ok-clause-end c = λ none text before stands.
 
 pub returns-in-Ok-clause-some : goal.returns-in-Ok-clause-some
 returns-in-Ok-clause-some c = λ some text before stands.
-    let at = subst (StandsBehind text before) c.in-Quoted.is stands in
-    let old = c.in-Quoted.reader in
+    let old = c.deref_mut.result.now in
+    let at = subst (ReaderStandsBehind text before) (sym c.deref_mut.ensures.value) (subst (StandsBehind text before) c.in-Quoted.is stands) in
     let new = c.read_byte_record.new.self in
     let fields = fields_of c.read_byte_record.new.row in
     let step = subst (λ found. ReadRecord bytes_left old new found fields) some (c.in-Ok.ensures.reads at.no_trim at.ready) in
