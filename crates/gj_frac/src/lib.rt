@@ -93,19 +93,6 @@ impl Frac {
         }
     }
 
-    /// The fraction `num/den` of two whole numbers of 64 bits with a sign; den is not 0.
-    fn of_signed(num: i64, den: i64) -> Frac
-        requires { unsigned_abs den ≢ 0 }
-        ensures { IsRatio result num den }
-    {
-        let size = Frac::of_small(num.unsigned_abs(), den.unsigned_abs());
-        match (num < 0, den < 0) {
-            (false, false) | (true, true) => size,
-            (true, false) => -size,
-            (false, true) => -size,
-        }
-    }
-
     /// The numerator in lowest terms.
     pub fn num(self) -> i128
         ensures { result ≡ numerator self }
@@ -138,8 +125,7 @@ impl Frac {
         fraction
     }
 
-    /// The same, whatever the sizes and the signs of the parts. Those of 64 bits with a sign are
-    /// reduced in 64 bits too.
+    /// The same, whatever the sizes and the signs of the parts.
     #[inline(never)]
     fn reduced_in_128_bits(num: i128, den: i128) -> Frac
         requires zero { unsigned_abs den ≢ 0 }
@@ -147,9 +133,6 @@ impl Frac {
         requires den_fits { unsigned_abs den < 2 ^ 127 }
         ensures { IsRatio result num den }
     {
-        if let (Ok(num), Ok(den)) = (i64::try_from(num), i64::try_from(den)) {
-            return Frac::of_signed(num, den);
-        }
         let divisor = common_divisor(num, den);
         Frac::coprime(quotient(num, divisor), quotient(den, divisor))
     }
