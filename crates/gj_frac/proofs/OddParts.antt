@@ -73,6 +73,23 @@ pub odd_part : (n : ℕ) → 0 < n → n < 2 ^ 64 →
     (n / 2 ^ trailing_zeros w64 n % 2 ≡ 1) × (n / 2 ^ trailing_zeros w64 n * 2 ^ trailing_zeros w64 n ≡ n)
 odd_part n some fits = let h = bit_at-trailing_zeros w64 n some fits in (h.1, low_zeros n (trailing_zeros w64 n) h.2)
 
+-- without so many twos, or fewer, it has the rest of its factors
+pub twos_part : (n k : ℕ) → 0 < n → n < 2 ^ 64 → k ≤ trailing_zeros w64 n → n / 2 ^ k * 2 ^ k ≡ n
+twos_part n k some fits fewer =
+    let h = bit_at-trailing_zeros w64 n some fits in
+    low_zeros n k (λ i low. h.2 i (omega arith))
+
+-- as many twos taken out as there are, but p at most: all p of them, or what is left is odd
+pub twos_left : (n k p : ℕ) → 0 < n → n < 2 ^ 64 → k ≡ min (trailing_zeros w64 n) p → (p - k ≡ 0) ⊎ (n / 2 ^ k % 2 ≡ 1)
+twos_left n k p some fits is = ⊎_elim
+    (λ below.
+    let all : trailing_zeros w64 n ≡ k = omega arith in
+    inr (subst (λ i. n / 2 ^ i % 2 ≡ 1) all (odd_part n some fits).0))
+    (λ above. inl (omega arith))
+    (cases_lt (trailing_zeros w64 n) p)
+
+-- ---- the trailing zeros of a difference
+
 under_same : (d e s t : ℕ) → d ≡ e → (d ≡ 0 → s ≡ t) → under d s ≡ under e t
 under_same zero e s t same rest = subst (λ n. under 0 s ≡ under n t) same (ap suc (rest refl))
 under_same (suc d) e s t same rest = subst (λ n. under (suc d) s ≡ under n t) same refl
@@ -93,21 +110,6 @@ zeros_of_difference a b a_fits b_fits = ⊎_elim
     (λ equal. let same : (b + (2 ^ 64 - a)) % 2 ^ 64 ≡ abs_diff a b = omega arith in ap (trailing_zeros w64) same)
     (cases_lt b a))
     (cases_lt a b)
-
--- without so many twos, or fewer, it has the rest of its factors
-pub twos_part : (n k : ℕ) → 0 < n → n < 2 ^ 64 → k ≤ trailing_zeros w64 n → n / 2 ^ k * 2 ^ k ≡ n
-twos_part n k some fits fewer =
-    let h = bit_at-trailing_zeros w64 n some fits in
-    low_zeros n k (λ i low. h.2 i (omega arith))
-
--- as many twos taken out as there are, but p at most: all p of them, or what is left is odd
-pub twos_left : (n k p : ℕ) → 0 < n → n < 2 ^ 64 → k ≡ min (trailing_zeros w64 n) p → (p - k ≡ 0) ⊎ (n / 2 ^ k % 2 ≡ 1)
-twos_left n k p some fits is = ⊎_elim
-    (λ below.
-    let all : trailing_zeros w64 n ≡ k = omega arith in
-    inr (subst (λ i. n / 2 ^ i % 2 ≡ 1) all (odd_part n some fits).0))
-    (λ above. inl (omega arith))
-    (cases_lt (trailing_zeros w64 n) p)
 
 -- ---- differences
 

@@ -51,8 +51,8 @@ fn part(number: Option<i128>) -> Result<i128, Wide>
     }
 }
 
-/// The product of two whole numbers, if it fits a part of a fraction. That of two numbers of 64 bits
-/// always does.
+/// The product of two whole numbers, if it fits a part of a fraction. That of two numbers of 64
+/// bits always does.
 pub fn checked_product(n: i128, m: i128) -> Result<i128, Wide>
     ensures { OkIff result (Fits (n *ℤ m)) (n *ℤ m) }
 {

@@ -3,9 +3,10 @@ ghost use Rattle.std.specs.Prelude.{◌<◌, ◌≡◌, ◌%◌, ◌^◌};
 ghost use Rattle.std.specs.Int.{IsGcd};
 ghost use Rattle.gj_lemmas.specs.Divisors.{IsLcm};
 
-/// The greatest common divisor of two whole numbers, by Euclid's algorithm; that of 0 and 0 is 0.
+/// The greatest common divisor of two whole numbers; that of 0 and 0 is 0.
 ///
-/// From the first pair of numbers below 2^64 on, all is done in 64 bits, which is much faster.
+/// Remainders bring the numbers below 2^64. From there on all is done in 64 bits, which is much
+/// faster.
 pub fn gcd(a: u128, b: u128) -> u128
     ensures { IsGcd a b result }
 {
@@ -62,8 +63,9 @@ fn gcd_of_positive(a: u64, b: u64) -> u64
 /// The greatest common divisor of two odd numbers, by the binary algorithm: the odd part of their
 /// difference stands for the greater of them.
 ///
-/// The difference that wraps has as many trailing zeros as the absolute value, so a processor can
-/// count them before that is known. It is taken the other way round: so no number is negated.
+/// The difference that wraps has as many trailing zeros as the absolute value of the difference, so
+/// a processor can count them before that is known. The second number stands first, which saves the
+/// compiler a negation.
 fn gcd_of_odd(a: u64, b: u64) -> u64
     requires odd { a % 2 ≡ 1 }
     requires other_odd { b % 2 ≡ 1 }

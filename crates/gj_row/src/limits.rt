@@ -52,7 +52,7 @@ fn is_small(x: Frac) -> bool
 }
 
 /// Whether n/d is at most 2^31.
-// Few numbers come here. They come in parts, since a copy of a fraction would be made for each.
+// Few numbers come here. They come as two, since of a fraction the loop would keep a copy.
 #[inline(never)]
 fn is_small_quotient(n: u128, d: u128) -> bool
     ensures { IsTrue result ↔ (n ≤ greatest_number * d) }

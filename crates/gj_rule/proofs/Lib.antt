@@ -1,3 +1,3 @@
 pub mod ClosedForm
-pub mod SmallCuts
+mod SmallCuts
 pub mod SmallParts

@@ -1,5 +1,6 @@
 //! Evaluators.
-ghost use Rattle.std.specs.Prelude.{◌≡◌, ◌≢◌, ◌↔◌, IsTrue, ◌≤◌, ◌<◌, ◌^◌, ◌*ℤ◌, unsigned_abs, pos, IfSome};
+ghost use Rattle.std.specs.Prelude.{◌≡◌, ◌≢◌, ◌↔◌, IsTrue, ◌≤◌, ◌<◌, ◌^◌, ◌*ℤ◌, pos};
+ghost use Rattle.std.specs.Prelude.{unsigned_abs, IfSome};
 ghost use Rattle.gj_frac.specs.Fraction.{IsRatio, IsInside, denominator};
 ghost use Rattle.gj_theory.specs.Cuts.{IsGmicValue, IsValueOf};
 ghost use Rattle.gj_shape.specs.Limits.{IsRowNumber};
@@ -26,7 +27,7 @@ pub fn gmic_value(f: Frac, x: Frac) -> Frac
         let value = Frac::of_small(top, bottom);
         return value;
     }
-    great_gmic_value(f, x)
+    gmic_value_in_128_bits(f, x)
 }
 
 /// The value as a quotient of two numbers of 64 bits, of which the second is not 0. None if a part
@@ -51,9 +52,9 @@ fn small_gmic_parts(f: Frac, x: Frac) -> Option<(u64, u64)>
     Some((one - part, one - place))
 }
 
-/// The value in 128 bits, whatever the sizes of the parts.
+/// The same in 128 bits, for denominators of at most 2^62.
 #[inline(always)]
-fn great_gmic_value(f: Frac, x: Frac) -> Frac
+fn gmic_value_in_128_bits(f: Frac, x: Frac) -> Frac
     requires inside { IsInside f }
     requires f_fine { unsigned_abs (denominator f) ≤ 2 ^ 62 }
     requires x_fine { unsigned_abs (denominator x) ≤ 2 ^ 62 }

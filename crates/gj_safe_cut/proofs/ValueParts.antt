@@ -24,7 +24,7 @@ complement_parts x c low high is =
 
 -- ---- the two branches: r is the fractional part of x, c is 1 - r, and d is 1 - f
 
-pub rising_value : (f x r y : Frac) → IsRestOf x r → (LessValue (fraction_of f) (fraction_of r) → ⊥) →
+pub rising_value : (f x r y : Frac) → IsRestOf x r.num r.den → (LessValue (fraction_of f) (fraction_of r) → ⊥) →
     SameValue (fraction_of y) (quotient_of (fraction_of r) (fraction_of f)) → IsGmicValue f x y
 rising_value f x r y rest low is = record {
   rises = λ w floor h. let parts = rest w floor in
@@ -33,7 +33,7 @@ rising_value f x r y rest low is = record {
       absurd (low (subst₂ (λ n d. LessValue (fraction_of f) (record { top = n; bottom = d })) (sym parts.0) (sym parts.1) h));
 }
 
-pub falling_value : (f x r c d y : Frac) → IsRestOf x r → LessValue (fraction_of f) (fraction_of r) →
+pub falling_value : (f x r c d y : Frac) → IsRestOf x r.num r.den → LessValue (fraction_of f) (fraction_of r) →
     (c.num ≡ r.den -ℤ r.num) × (c.den ≡ r.den) → (d.num ≡ f.den -ℤ f.num) × (d.den ≡ f.den) →
     SameValue (fraction_of y) (quotient_of (fraction_of c) (fraction_of d)) → IsGmicValue f x y
 falling_value f x r c d y rest high c_is d_is is = record {

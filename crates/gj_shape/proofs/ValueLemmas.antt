@@ -6,7 +6,7 @@ use Rattle.std.specs.Int.{int_rem_euclid}
 use Rattle.std.specs.Prelude.{neg_ℤ}
 use Rattle.gj_frac.specs.declared.Frac.{Frac}
 use Rattle.gj_frac.specs.Fraction.{IsRatio, numerator, denominator}
-use Rattle.gj_lemmas.proofs.Integers.{add_mul_z}
+use Rattle.gj_lemmas.proofs.Integers.{add_mul_z, first_only_z}
 use Rattle.gj_lemmas.proofs.Quotients.{same_remainder, same_at_remainder}
 use Rattle.gj_lemmas.proofs.Ring.{by_ring, ring}
 use Rattle.gj_shape.specs.FunctionData.{FunctionData, IsWithinBounds, at}
@@ -27,12 +27,15 @@ congruent_to_remainder (negsuc a) p some =
     let below = mod-lt a some in
     (negsuc (a / p), omega (arith, ints))
 
+-- a number put together again from its parts
+rejoined : (place d e : ℕ) → e ≡ d → place / e * d + place % e ≡ place
+rejoined place d e same = ap (λ k. place / k * d + place % k) same ∙ div-add-mod' place d
+
 -- a number is congruent to its remainder by m d, put together again from its parts by d
 pub congruent_to_parts : (n : ℤ) (m d e place : ℕ) → 0 < m * d → e ≡ d → pos place ≡ int_rem_euclid n (pos (m * d)) →
     IsCongruent n (pos (place / e * d + place % e)) (m * d)
 congruent_to_parts n m d e place some same is =
-    let together : place / e * d + place % e ≡ place = ap (λ k. place / k * d + place % k) same ∙ div-add-mod' place d in
-    subst (λ z. IsCongruent n z (m * d)) (sym (ap pos together ∙ is)) (congruent_to_remainder n (m * d) some)
+    subst (λ z. IsCongruent n z (m * d)) (sym (ap pos (rejoined place d e same) ∙ is)) (congruent_to_remainder n (m * d) some)
 
 scaled_remainder : (r d e : ℕ) (k : ℤ) → (pos r +ℤ k *ℤ pos d) *ℤ pos e ≡ pos (r * e) +ℤ k *ℤ pos (e * d)
 scaled_remainder r d e k = by_ring (pos r ∷ k ∷ pos d ∷ pos e ∷ []) (search ring depth 30) refl
@@ -41,11 +44,9 @@ scaled_remainder r d e k = by_ring (pos r ∷ k ∷ pos d ∷ pos e ∷ []) (sea
 pub congruent_to_scaled : (n : ℤ) (m d e rest : ℕ) → 0 < d → e ≡ d → pos rest ≡ int_rem_euclid n (pos d) →
     IsCongruent (n *ℤ pos m) (pos (rest * m / e * d + rest * m % e)) (m * d)
 congruent_to_scaled n m d e rest some same is =
-    let place = rest * m in
-    let together : place / e * d + place % e ≡ place = ap (λ k. place / k * d + place % k) same ∙ div-add-mod' place d in
     let (k, split) = congruent_to_remainder n d some in
     let whole : n ≡ pos rest +ℤ k *ℤ pos d = split ∙ ap (λ z. z +ℤ k *ℤ pos d) (sym is) in
-    (k, ap (λ z. z *ℤ pos m) whole ∙ scaled_remainder rest d m k ∙ ap (λ j. pos j +ℤ k *ℤ pos (m * d)) (sym together))
+    (k, ap (λ z. z *ℤ pos m) whole ∙ scaled_remainder rest d m k ∙ ap (λ j. pos j +ℤ k *ℤ pos (m * d)) (sym (rejoined (rest * m) d e same)))
 
 pub congruent_join : (i n j : ℤ) (p : ℕ) → IsCongruent i n p → IsCongruent n j p → IsCongruent i j p
 congruent_join i n j p (k, e) (l, g) =
@@ -117,7 +118,7 @@ entry_of_limits f xs m a (suc r) h some below =
 pub nothing_remains : (m r : ℕ) (v : ℤ) → r ≡ 0 → pos m *ℤ v ≡ pos (m - r) *ℤ v +ℤ pos r *ℤ v
 nothing_remains m zero v none =
     let whole : m - 0 ≡ m = omega arith in
-    subst (λ n. pos m *ℤ v ≡ pos n *ℤ v +ℤ pos 0 *ℤ v) (sym whole) (by_ring (pos m ∷ v ∷ []) (search ring depth 20) refl)
+    subst (λ n. pos m *ℤ v ≡ pos n *ℤ v +ℤ pos 0 *ℤ v) (sym whole) (first_only_z m v v)
 nothing_remains m (suc r) v none = absurd (omega arith)
 
 -- a mean of numbers of 32 bits by weights of which the sum has 32 bits

@@ -40,7 +40,7 @@ impl Shape {
             IsRatio result (value_of self.now n d) (pos (self.now.scale * d)) }
     {
         if let Some((numerator, denominator)) = self.small_value_at(x) {
-            // Both values are named, so that the compiler keeps them out of memory.
+            // Both answers are named, so that the compiler keeps them out of memory.
             let small = Frac::of_small(numerator, denominator);
             return small;
         }
@@ -51,7 +51,7 @@ impl Shape {
     /// The value of the function at x, as a quotient of two numbers below 2^64.
     ///
     /// None if the denominator of x needs more than 32 bits, its numerator more than 64, or if a
-    /// number beside x is negative or needs more than 32.
+    /// numerator of the function beside x is negative or needs more than 32.
     #[inline(always)]
     fn small_value_at(&self, x: Frac) -> Option<(u64, u64)>
         ensures some { IfSome result (λ r. 0 < r.1) }
@@ -67,8 +67,8 @@ impl Shape {
         Some((numerator, self.common_denominator() as u64 * u64::from(den)))
     }
 
-    /// `steps` times the value at index/q + remainder/(q steps), for the order q. None if a number
-    /// beside it is negative or needs more than 32 bits.
+    /// `steps` times the value at index/q + remainder/(q steps), for the order q. None if a
+    /// numerator beside that place is negative or needs more than 32 bits.
     #[inline(always)]
     fn small_between(&self, index: usize, remainder: u64, steps: u32) -> Option<u64>
         requires index { index < self.now.order }
@@ -109,9 +109,7 @@ impl Shape {
     {
         let (index, remainder) = place_within(n, self.order(), steps);
         let numerator = self.entry_or_value(self.value_numerators(), index, remainder, steps);
-        // Named, so that the compiler keeps it out of memory.
-        let value = Frac::reduced(numerator, self.common_denominator() * i128::from(steps));
-        value
+        Frac::reduced(numerator, self.common_denominator() * i128::from(steps))
     }
 
     /// `steps` times what stands at index/q + remainder/(q steps), for the order q: the entry of

@@ -1,4 +1,4 @@
-use Rattle.std.proofs.Common.{◌≡◌, ◌≤◌, ◌<◌, ◌^◌, ℤ, ◌*ℤ◌, unsigned_abs, to_z, of_z, w64, ap, ap₂, subst, ◌∙◌, rules, arith}
+use Rattle.std.proofs.Common.{◌≡◌, ◌<◌, ◌^◌, ℤ, ◌*ℤ◌, unsigned_abs, to_z, of_z, w64, ap, ap₂, subst, ◌∙◌, rules, arith}
 use Rattle.std.proofs.lemmas.Int.{to_z-of_z, fits_signed_from_abs, unsigned_abs-mul, ints}
 use Rattle.std.proofs.lemmas.Nat.{mul-le}
 use Rattle.gj_frac.proofs.Refusals.{step_fits}
@@ -6,14 +6,11 @@ use Rattle.gj_frac.proofs.checked.checked_product.Goals as goal
 use mir.Syntax.{w128}
 use mir.Val.{SFits}
 
-small_size : (n : ℤ) → SFits w64 n → unsigned_abs n ≤ 2 ^ 63
-small_size n fits = omega (arith, ints)
-
 -- the product of two numbers of 64 bits fits
 small_product : (n m : ℤ) → SFits w64 n → SFits w64 m → unsigned_abs (n *ℤ m) < 2 ^ 127
 small_product n m n_fits m_fits =
     let size = unsigned_abs-mul n m in
-    let most = mul-le (unsigned_abs n) (unsigned_abs m) (2 ^ 63) (2 ^ 63) (small_size n n_fits) (small_size m m_fits) in
+    let most = mul-le (unsigned_abs n) (unsigned_abs m) (2 ^ 63) (2 ^ 63) (omega (arith, ints, n_fits)) (omega (arith, ints, m_fits)) in
     omega arith
 
 pub returns : goal.returns

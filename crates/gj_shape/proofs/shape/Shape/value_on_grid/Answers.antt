@@ -31,8 +31,8 @@ returns c =
     let limits = c.order.ensures.limits in
     let denominator = scaled_read c.common_denominator.result c.from.result f.scale d c.common_denominator.ensures.value c.from.ensures
     (scale_low f limits) c.requires.few in
-    value_from_place f c.args.n d place c.reduced-value.result limits c.requires.some congruent
-    (subst₂ (λ x y. IsRatio c.reduced-value.result x y) numerator denominator c.reduced-value.ensures)
+    value_from_place f c.args.n d place c.reduced.result limits c.requires.some congruent
+    (subst₂ (λ x y. IsRatio c.reduced.result x y) numerator denominator c.reduced.ensures)
 
 pub overflow_mul-common_denominator : goal.overflow_mul-common_denominator
 overflow_mul-common_denominator c =
@@ -40,18 +40,18 @@ overflow_mul-common_denominator c =
     scaled_fits c.common_denominator.result c.from.result f.scale c.args.steps c.common_denominator.ensures.value c.from.ensures
     (scale_low f c.order.ensures.limits) c.requires.few
 
-pub reduced-value-requires-clause-zero : goal.reduced-value-requires-clause-zero
-reduced-value-requires-clause-zero c =
+pub reduced-requires-clause-zero : goal.reduced-requires-clause-zero
+reduced-requires-clause-zero c =
     let f = c.args.self.now in
     let limits = c.order.ensures.limits in
     scaled_some c.common_denominator.result c.from.result f.scale c.args.steps c.common_denominator.ensures.value c.from.ensures
     (scale_low f limits) c.requires.few limits.scale_low c.requires.some
 
-pub reduced-value-requires-clause-num_fits : goal.reduced-value-requires-clause-num_fits
-reduced-value-requires-clause-num_fits c = read_below c.entry_or_value-numerator.result c.entry_or_value-numerator.ensures.fits
+pub reduced-requires-clause-num_fits : goal.reduced-requires-clause-num_fits
+reduced-requires-clause-num_fits c = read_below c.entry_or_value-numerator.result c.entry_or_value-numerator.ensures.fits
 
-pub reduced-value-requires-clause-den_fits : goal.reduced-value-requires-clause-den_fits
-reduced-value-requires-clause-den_fits c =
+pub reduced-requires-clause-den_fits : goal.reduced-requires-clause-den_fits
+reduced-requires-clause-den_fits c =
     let f = c.args.self.now in
     scaled_below c.common_denominator.result c.from.result f.scale c.args.steps c.common_denominator.ensures.value c.from.ensures
     (scale_low f c.order.ensures.limits) c.requires.few

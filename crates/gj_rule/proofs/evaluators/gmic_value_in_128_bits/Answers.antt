@@ -2,7 +2,7 @@ use Rattle.std.proofs.Common.{rules, ◌≤◌, ◌^◌, ℤ, ◌*ℤ◌, ◌-�
 use Rattle.std.proofs.lemmas.Int.{ints}
 use Rattle.gj_frac.specs.Fraction.{IsRatio}
 use Rattle.gj_rule.proofs.ClosedForm.{reads_as, rest_parts, rest_fine, parts_read, product_read, difference_read, place_positive, place_below, rising_value, falling_value}
-use Rattle.gj_rule.proofs.evaluators.great_gmic_value.Goals as goal
+use Rattle.gj_rule.proofs.evaluators.gmic_value_in_128_bits.Goals as goal
 
 -- the parts of the rest are small
 pub product-part-requires-clause-n_small : goal.product-part-requires-clause-n_small
