@@ -2,7 +2,7 @@
 use Rattle.std.proofs.Common.{◌≡◌, ◌↔◌, ℕ, ◌+◌, ◌*◌, ◌<◌, ◌≤◌, ℤ, pos, List, length, get_or, sym, subst, ◌∙◌, arith}
 use Rattle.std.proofs.lemmas.Int.{ints}
 use Rattle.gj_shape.specs.FunctionData.{FunctionData, IsWithinBounds, at}
-use Rattle.gj_lanes.specs.Lanes.{ArePeriods}
+use Rattle.gj_loops.specs.Lanes.{ArePeriods}
 use Rattle.gj_check.specs.declared.squares.Lanes.{Lanes}
 use Rattle.gj_check.specs.declared.squares.Part.{Part}
 use Rattle.gj_check.specs.Lanes.{AreLanesOf, HasIndex, IsPartBelow, HasNoExcess, part_at}

@@ -1,7 +1,7 @@
 -- The pieces of a function in lanes of one width (own).
 use Rattle.std.specs.Prelude.{ℕ, ℤ, min, max, ◌+◌, ◌<◌, ◌≤◌, length, slice_index_or}
 use Rattle.gj_shape.specs.FunctionData.{FunctionData}
-use Rattle.gj_lanes.specs.Lanes.{ArePeriods}
+use Rattle.gj_loops.specs.Lanes.{ArePeriods}
 use Rattle.gj_check.specs.declared.squares.Lanes.{Lanes}
 use Rattle.gj_check.specs.declared.squares.Part.{Part}
 

@@ -16,7 +16,7 @@ use crate::entries::Entry;
 use crate::pieces::{adds_up, wrapped};
 use crate::squares::Lanes;
 use crate::tables::is_subadditive_by;
-use gj_lanes::{UnsignedLane, write_periods};
+use gj_loops::{UnsignedLane, write_periods};
 use gj_shape::{GREATEST_ORDER, Shape};
 
 /// How many entries there are: those of two periods of the greatest order.

@@ -4,7 +4,7 @@ ghost use Rattle.std.specs.Prelude.{◌≡◌, ◌<◌, ◌≤◌, ◌↔◌, Is
 ghost use Rattle.gj_check.specs.Tests.{IsSubadditiveRow};
 ghost use Rattle.gj_check.specs.Lanes.{IsPartBelow, HasNoExcess};
 
-use gj_lanes::UnsignedLane;
+use gj_loops::UnsignedLane;
 use gj_shape::Shape;
 
 /// The numbers of a function at i/q for each i up to 2 q, each times the common denominator.

@@ -8,8 +8,8 @@ ghost use Rattle.gj_check_groups.specs.KeptTable.{IsKeptAt};
 ghost use Rattle.gj_check_groups.specs.RowNumbers.{AreRowNumbers};
 
 use crate::modulo::make_kept_modulo;
+use gj_loops::make_kept;
 use gj_proof::Numbers;
-use gj_reduce::make_kept;
 use gj_shape::List;
 use std::alloc::{AllocError, Global};
 

@@ -7,7 +7,7 @@
 //! no `size`. The rule `rank`, that there are as many groups as components, is not among them. It
 //! calls nothing of the elimination that finds such rows: the step on two rows of residues and the
 //! counts of a row, the natural loops for their definitions, are written out here too. The step on
-//! two rows of whole numbers is that of `gj_reduce`, which both call.
+//! two rows of whole numbers is that of `gj_loops`, which both call.
 #![tactic(auto)]
 
 mod begin;

@@ -7,8 +7,8 @@ ghost use Rattle.gj_check_groups.specs.RowNumbers.{AreRowNumbers};
 
 use crate::modulo::reduce_modulo;
 use gj_frac::Wide;
+use gj_loops::reduce_by;
 use gj_proof::Numbers;
-use gj_reduce::reduce_by;
 
 /// Reduces a row of these numbers by a kept row with its pivot at the column. After an error some
 /// entries are changed.

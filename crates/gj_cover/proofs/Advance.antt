@@ -8,8 +8,8 @@ use Rattle.std.proofs.lemmas.Bool.{ne_eqb}
 use Rattle.gj_shape.specs.Cover.{AreJoined, IsNextLine, components_in}
 use Rattle.gj_shape.specs.declared.extremality.CoverLine.{CoverLine}
 use Rattle.gj_cover.specs.CoverOf.{number_at}
-use Rattle.gj_sets.specs.IndexSets.{has}
-use Rattle.gj_sets.specs.declared.index_set.IndexSet.{IndexSet}
+use Rattle.gj_loops.specs.IndexSets.{has}
+use Rattle.gj_loops.specs.declared.index_set.IndexSet.{IndexSet}
 use Rattle.gj_cover.specs.Progress.{IsProgress, unnumbered, AreClasses, AreSearched}
 use Rattle.gj_cover.specs.declared.progress.Progress.{Progress}
 use Rattle.gj_cover.proofs.NextLines.{next_to, in_turn, numbers, joined_classes, opened_classes, near_more, free_more, searched_on, searched_to, one_less, from_below}

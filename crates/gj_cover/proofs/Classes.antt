@@ -4,8 +4,8 @@ use Rattle.std.specs.List.{Contains}
 use Rattle.std.specs.List.Sorted.{IsStrictlyIncreasing}
 use Rattle.std.proofs.Math.Nat.{mod-lt, mod-eq_of_lt}
 use Rattle.std.proofs.lemmas.Bool.{cases_order, cases_Bool, and_parts, and_from, and_right, or_cases, or_left, or_right, or_from, not-true, not_from_true, not_from_false, eqb-false, eqb-true, eq-eqb, ne_eqb}
-use Rattle.gj_sets.specs.IndexSets.{has, IsFirst}
-use Rattle.gj_sets.specs.declared.index_set.IndexSet.{IndexSet}
+use Rattle.gj_loops.specs.IndexSets.{has, IsFirst}
+use Rattle.gj_loops.specs.declared.index_set.IndexSet.{IndexSet}
 use Rattle.gj_shape.specs.Cover.{AreJoined, LeadsTo, here, onward, IsCovered, IsInClassOf}
 use Rattle.gj_shape.specs.FirstViolation.{IsLeastFrom}
 use Rattle.gj_cover.specs.CoverOf.{IsLeastClass}

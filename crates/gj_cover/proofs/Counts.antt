@@ -1,7 +1,7 @@
 -- How many indices pass a test.
 use Rattle.std.proofs.Common.{◌≡◌, ℕ, zero, suc, ◌<◌, ◌≤◌, Bool, true, false, cond, refl, sym, ap, ◌∙◌, inl, inr, arith}
 use Rattle.std.proofs.lemmas.Bool.Decides.{eqb_tells}
-use Rattle.gj_sets.specs.IndexSets.{count_below}
+use Rattle.gj_loops.specs.IndexSets.{count_below}
 
 not_more : (p r : Bool) → (r ≡ true → p ≡ true) → cond r 1 0 ≤ cond p 1 0
 not_more true true h = omega arith

@@ -7,8 +7,8 @@ use Rattle.std.proofs.lemmas.List.Sums.{sum_by-set}
 use Rattle.gj_shape.specs.Cover.{HasComponent, opened, joined, AreJoined, IsDirectlyCovered, LeadsTo, here, onward, IsCovered, JoinsLines, IsNextLine, components_in}
 use Rattle.gj_shape.specs.declared.extremality.CoverLine.{CoverLine}
 use Rattle.gj_cover.specs.CoverOf.{number_at}
-use Rattle.gj_sets.specs.IndexSets.{has}
-use Rattle.gj_sets.specs.declared.index_set.IndexSet.{IndexSet}
+use Rattle.gj_loops.specs.IndexSets.{has}
+use Rattle.gj_loops.specs.declared.index_set.IndexSet.{IndexSet}
 use Rattle.gj_cover.specs.Progress.{AreInTurn, AreNumbered, AreClasses, AreFree, AreNear, AreSearched, unnumbered}
 use Rattle.gj_cover.proofs.LineLists.{split_end, component_stays, line_number, number_line, no_number, no_line, number_same, number_other, number_from, none_from, number_stays, number_within}
 use Rattle.gj_theory.proofs.CoverPaths.{joined_turned, leads_turned}

@@ -5,9 +5,9 @@ use Rattle.std.proofs.Math.ListN.{set}
 use Rattle.std.proofs.Math.Nat.{mod-lt}
 use Rattle.std.proofs.lemmas.Bool.{cases_lt, lt-ltb, le-ltb}
 use Rattle.std.proofs.lemmas.Bool.Decides.{eqb_tells}
-use Rattle.gj_sets.proofs.Bits.{and_all}
-use Rattle.gj_sets.specs.IndexSets.{has, IsFirst}
-use Rattle.gj_sets.specs.declared.index_set.IndexSet.{IndexSet}
+use Rattle.gj_loops.proofs.Bits.{and_all}
+use Rattle.gj_loops.specs.IndexSets.{has, IsFirst}
+use Rattle.gj_loops.specs.declared.index_set.IndexSet.{IndexSet}
 use Rattle.gj_cover.specs.SetRows.{in_row, AreColumns, AreFirsts, AreSeconds}
 use Rattle.gj_cover.proofs.SetRows.{row_has, row_before, row_pushed, row_written, row_stays}
 use Rattle.gj_cover.proofs.Edges.{one_step}

@@ -3,7 +3,7 @@ use Rattle.std.proofs.Common.{◌≡◌, inl, inr, ℕ, ◌+◌, ◌-◌, ◌%�
 use Rattle.std.specs.Prelude.{◌==◌, if◌then◌else◌}
 use Rattle.std.proofs.Math.Nat.{mod-eq_of_lt, mod-eq-sub-mod, mod_self}
 use Rattle.std.proofs.lemmas.Bool.{cases_lt, cases_eq, eq-eqb, ne_eqb, le-ltb, le-leb, lt-leb, and_left, cond_both, leb-true, leb-false, ltb-true, lt-ltb, and_parts}
-use Rattle.gj_sets.proofs.Bits.{or_nothing}
+use Rattle.gj_loops.proofs.Bits.{or_nothing}
 
 -- where an index is that was turned to j by s
 abbrev pub place_of : ℕ → ℕ → ℕ → ℕ

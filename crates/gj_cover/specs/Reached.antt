@@ -1,7 +1,7 @@
 -- Intervals to which joined ones lead (own): what is kept while more are found.
 use Rattle.std.specs.Prelude.{ℕ, ◌≡◌, ◌≢◌, ◌⊎◌, ◌<◌, ◌||◌, false, not, IsTrue}
-use Rattle.gj_sets.specs.IndexSets.{has, count_below}
-use Rattle.gj_sets.specs.declared.index_set.IndexSet.{IndexSet}
+use Rattle.gj_loops.specs.IndexSets.{has, count_below}
+use Rattle.gj_loops.specs.declared.index_set.IndexSet.{IndexSet}
 use Rattle.gj_shape.specs.Cover.{AreJoined, IsCovered, LeadsTo}
 use Rattle.gj_cover.specs.declared.reached.Reached.{Reached}
 

@@ -1,7 +1,7 @@
 -- Rows of sets of indices, as pairs (own).
 use Rattle.std.specs.Prelude.{ℕ, ◌≡◌, ◌+◌, ◌%◌, ◌<◌, List, Bool, false, map, slice_index_or}
-use Rattle.gj_sets.specs.IndexSets.{has}
-use Rattle.gj_sets.specs.declared.index_set.IndexSet.{IndexSet}
+use Rattle.gj_loops.specs.IndexSets.{has}
+use Rattle.gj_loops.specs.declared.index_set.IndexSet.{IndexSet}
 
 -- whether b is in the set of a
 unfoldable pub in_row : List IndexSet → ℕ → ℕ → Bool

@@ -1,7 +1,7 @@
 -- Tight pairs by their second index and by their sum (own).
 use Rattle.std.specs.Prelude.{ℕ, ◌≡◌, ◌+◌, ◌-◌, ◌%◌, ◌<◌, List, length}
 use denote.Struct.Props.{props}
-use Rattle.gj_sets.specs.declared.index_set.IndexSet.{IndexSet}
+use Rattle.gj_loops.specs.declared.index_set.IndexSet.{IndexSet}
 use Rattle.gj_cover.specs.SetRows.{in_row, AreRound, AreColumns, AreFirsts, AreSeconds}
 use Rattle.gj_cover.specs.declared.table.Sides.{Sides}
 use Rattle.gj_cover.specs.declared.table.Sides.TheVariants.{Apart, Rows}

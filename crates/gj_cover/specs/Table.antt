@@ -1,7 +1,7 @@
 -- Tight pairs as sets of indices (own).
 use Rattle.std.specs.Prelude.{ℕ, ◌≢◌, ◌↔◌, ◌%◌, ◌<◌, Bool, IsTrue}
-use Rattle.gj_sets.specs.IndexSets.{has}
-use Rattle.gj_sets.specs.declared.index_set.IndexSet.{IndexSet}
+use Rattle.gj_loops.specs.IndexSets.{has}
+use Rattle.gj_loops.specs.declared.index_set.IndexSet.{IndexSet}
 use Rattle.gj_shape.specs.Cover.{Joins, Covers, AreJoined}
 use Rattle.gj_shape.specs.declared.faces.FaceKind.{FaceKind}
 use Rattle.gj_cover.specs.SetRows.{in_row}

@@ -1,7 +1,7 @@
 //! The class of the least uncovered interval.
 ghost use Rattle.std.specs.Prelude.{ℕ, ◌↔◌, ◌<◌, ◌≤◌, Contains, IfOk, IsTrue};
 ghost use Rattle.std.specs.List.Sorted.{IsStrictlyIncreasing};
-ghost use Rattle.gj_sets.specs.IndexSets.{has};
+ghost use Rattle.gj_loops.specs.IndexSets.{has};
 ghost use Rattle.gj_shape.specs.Limits.{greatest_order};
 ghost use Rattle.gj_cover.specs.CoverOf.{IsLeastClass};
 ghost use Rattle.gj_cover.specs.Reached.{AreUncovered};
@@ -9,7 +9,7 @@ ghost use Rattle.gj_cover.specs.Table.{IsTightInTable};
 
 use crate::reached::Reached;
 use crate::table::Table;
-use gj_sets::IndexSet;
+use gj_loops::IndexSet;
 use std::alloc::{AllocError, Global};
 
 /// The class of the least free interval, in ascending order, if the free intervals are the

@@ -8,7 +8,7 @@ ghost use Rattle.gj_cover.specs.Table.{TellsTight};
 use crate::table::Table;
 use crate::transposed::no_pairs;
 use gj_faces::Run;
-use gj_sets::IndexSet;
+use gj_loops::IndexSet;
 use std::alloc::{AllocError, Global};
 
 /// The table of the pairs in the runs.

@@ -1,12 +1,12 @@
 //! The intervals that are joined to one.
 ghost use Rattle.std.specs.Prelude.{ℕ, ◌≡◌, ◌⊎◌, ◌↔◌, ◌<◌, IsTrue};
-ghost use Rattle.gj_sets.specs.IndexSets.{has};
+ghost use Rattle.gj_loops.specs.IndexSets.{has};
 ghost use Rattle.gj_cover.specs.Links.{Links};
 ghost use Rattle.gj_cover.specs.Sides.{AreOwnSides};
 ghost use Rattle.gj_cover.specs.Table.{IsTightInTable, IsJoinedSet};
 
 use crate::table::Table;
-use gj_sets::IndexSet;
+use gj_loops::IndexSet;
 
 /// The intervals that are joined to the interval, besides itself. A triangle has an edge for each
 /// two of its projections.

@@ -1,7 +1,7 @@
 //! The table of the tight pairs of a function.
 ghost use Rattle.std.specs.Prelude.{ℕ, ℤ, pos, ◌≡◌, ◌↔◌, ◌+◌, ◌-◌, ◌<◌, ◌≤◌, ◌+ℤ◌, false};
 ghost use Rattle.std.specs.Prelude.{length, IfOk, IsTrue};
-ghost use Rattle.gj_sets.specs.IndexSets.{has};
+ghost use Rattle.gj_loops.specs.IndexSets.{has};
 ghost use Rattle.gj_shape.specs.Additive.{IsTight};
 ghost use Rattle.gj_shape.specs.FunctionData.{at};
 ghost use Rattle.gj_shape.specs.Given.{IsOrder};
@@ -12,7 +12,7 @@ ghost use Rattle.gj_cover.specs.Table.{TellsTight};
 
 use crate::table::Table;
 use gj_faces::TightPairs;
-use gj_sets::IndexSet;
+use gj_loops::IndexSet;
 use gj_shape::Shape;
 use std::alloc::{AllocError, Global};
 

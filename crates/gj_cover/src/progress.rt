@@ -9,7 +9,7 @@ use crate::covered::Cover;
 use crate::first_faces::{first_covering, first_joining};
 use crate::joined::joined;
 use crate::table::Table;
-use gj_sets::IndexSet;
+use gj_loops::IndexSet;
 use gj_shape::{CoverLine, List};
 use std::alloc::{AllocError, Global};
 

@@ -1,12 +1,12 @@
 //! The intervals to which joined ones lead from one of them.
 ghost use Rattle.std.specs.Prelude.{ℕ, ◌↔◌, ◌<◌, IsTrue};
-ghost use Rattle.gj_sets.specs.IndexSets.{has};
+ghost use Rattle.gj_loops.specs.IndexSets.{has};
 ghost use Rattle.gj_shape.specs.Cover.{IsInClassOf};
 ghost use Rattle.gj_cover.specs.Table.{IsTightInTable};
 
 use crate::joined::joined;
 use crate::table::Table;
-use gj_sets::IndexSet;
+use gj_loops::IndexSet;
 
 /// The intervals that were reached, and those among them whose joined intervals are still to be
 /// looked for.

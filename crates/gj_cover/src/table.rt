@@ -1,13 +1,13 @@
 //! The tight pairs as sets.
 ghost use Rattle.std.specs.Prelude.{ℕ, ◌≡◌, ◌↔◌, ◌+◌, ◌*◌, ◌<◌, ◌≤◌, false, nat_lt, length};
 ghost use Rattle.std.specs.Prelude.{IfOk, IfSome, IsTrue};
-ghost use Rattle.gj_sets.specs.IndexSets.{has};
+ghost use Rattle.gj_loops.specs.IndexSets.{has};
 ghost use Rattle.gj_shape.specs.Additive.{IsAdditive};
 ghost use Rattle.gj_shape.specs.Given.{IsOrder};
 ghost use Rattle.gj_cover.specs.Sides.{AreSides, one_way};
 
 use crate::transposed::{first_indices, transposed};
-use gj_sets::IndexSet;
+use gj_loops::IndexSet;
 use gj_shape::{FaceKind, wrapped};
 use std::alloc::{AllocError, Global};
 
@@ -48,7 +48,7 @@ enum Sides {
 
 impl Table {
     ghost use Rattle.std.specs.Prelude.{ℕ, ◌%◌, ◌&&◌, nat_lt};
-    ghost use Rattle.gj_sets.specs.IndexSets.{has};
+    ghost use Rattle.gj_loops.specs.IndexSets.{has};
     ghost use Rattle.gj_cover.specs.Sides.{AreOwnSides};
     ghost use Rattle.gj_cover.specs.Table.{IsTightInTable, is_tight_in};
 

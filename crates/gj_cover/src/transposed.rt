@@ -1,11 +1,11 @@
 //! Rows of pairs in another order.
 ghost use Rattle.std.specs.Prelude.{ℕ, ◌≡◌, ◌+◌, ◌-◌, ◌<◌, ◌≤◌, ◌&&◌, ◌||◌, ◌==◌, false, nat_le};
 ghost use Rattle.std.specs.Prelude.{if◌then◌else◌, length, IfOk};
-ghost use Rattle.gj_sets.specs.IndexSets.{has};
+ghost use Rattle.gj_loops.specs.IndexSets.{has};
 ghost use Rattle.gj_shape.specs.Limits.{greatest_order};
 ghost use Rattle.gj_cover.specs.SetRows.{in_row, AreColumns, AreFirsts};
 
-use gj_sets::IndexSet;
+use gj_loops::IndexSet;
 use std::alloc::{AllocError, Global};
 
 /// The rows with the indices turned around, if there are as many indices as rows: a is in row b

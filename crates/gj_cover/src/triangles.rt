@@ -1,11 +1,11 @@
 //! The squares with an additive triangle that covers an interval, as sets.
 ghost use Rattle.std.specs.Prelude.{ℕ, ◌≡◌, ◌≢◌, ◌↔◌, ◌<◌, false, IsTrue};
-ghost use Rattle.gj_sets.specs.IndexSets.{has};
+ghost use Rattle.gj_loops.specs.IndexSets.{has};
 ghost use Rattle.gj_shape.specs.declared.faces.FaceKind.{FaceKind};
 ghost use Rattle.gj_cover.specs.Table.{CoversBy};
 
 use crate::table::Table;
-use gj_sets::IndexSet;
+use gj_loops::IndexSet;
 
 /// The indices b for which a triangle of the square (i, b) covers the interval i.
 pub(crate) fn covering_row(table: &Table, i: u32) -> IndexSet

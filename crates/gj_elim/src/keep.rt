@@ -8,7 +8,7 @@ ghost use Rattle.gj_elim.specs.Tables.{ArePlaces, AreExtents};
 
 use crate::extent::{Extent, extent_of};
 use crate::log::LogRow;
-use gj_reduce::make_kept;
+use gj_loops::make_kept;
 use gj_shape::List;
 use std::alloc::{AllocError, Global};
 

@@ -14,7 +14,7 @@ use crate::extent::{Extent, extent_of};
 use crate::faults::ElimFault;
 use crate::lazy::{GREATEST_BOUND, Reached, load, reduce_lazily, store};
 use crate::log::LogRow;
-use gj_reduce::reduce_by;
+use gj_loops::reduce_by;
 use gj_shape::List;
 
 /// The place of the line with this pivot in a log.

@@ -7,7 +7,7 @@ ghost use Rattle.gj_shape.specs.SlopeRows.{total};
 ghost use Rattle.gj_frac.specs.Fraction.{Fits};
 
 use gj_frac::{Wide, checked_total};
-use gj_reduce::{common_divisor, product};
+use gj_loops::{common_divisor, product};
 use std::alloc::{AllocError, Global};
 
 /// 1 at the column, and 0 at the other columns.

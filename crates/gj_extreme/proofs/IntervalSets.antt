@@ -5,8 +5,8 @@ use Rattle.std.proofs.lemmas.Bool.{and_parts, cases_lt, or_cases}
 use Rattle.std.proofs.lemmas.Bool.Decides.{eqb_tells}
 use Rattle.std.proofs.lemmas.List.{get_or_default, get_or-set_same, get_or-set_other, get_or-replicate, length-replicate}
 use Rattle.gj_lemmas.proofs.Choices.{not_false}
-use Rattle.gj_sets.specs.IndexSets.{has, no_set}
-use Rattle.gj_sets.specs.declared.index_set.IndexSet.{IndexSet}
+use Rattle.gj_loops.specs.IndexSets.{has, no_set}
+use Rattle.gj_loops.specs.declared.index_set.IndexSet.{IndexSet}
 use Rattle.gj_faces.specs.TightPairs.{IsTightIn}
 use Rattle.gj_faces.specs.declared.tight_pairs.TightPairs.{TightPairs}
 use Rattle.gj_extreme.specs.PairsLeft.{AreIntervalsOf, HasPairBefore, ArePairsLeft}

@@ -1,7 +1,7 @@
 -- Tight pairs of one row whose rows need not be looked at (own).
 use Rattle.std.specs.Prelude.{ℕ, ◌≡◌, ◌<◌, ◌≤◌, List, false, IsTrue, length, get_or}
-use Rattle.gj_sets.specs.IndexSets.{has, no_set}
-use Rattle.gj_sets.specs.declared.index_set.IndexSet.{IndexSet}
+use Rattle.gj_loops.specs.IndexSets.{has, no_set}
+use Rattle.gj_loops.specs.declared.index_set.IndexSet.{IndexSet}
 use Rattle.gj_shape.specs.SlopeRows.{row_of}
 use Rattle.gj_shape.specs.declared.extremality.RowName.TheVariants.{Pair}
 use Rattle.gj_faces.specs.TightPairs.{IsTightIn}

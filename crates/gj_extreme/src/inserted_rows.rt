@@ -18,7 +18,7 @@ ghost use Rattle.gj_extreme.specs.PairsLeft.{AreIntervalsOf, ArePairsLeft};
 use crate::seen::{SeenPair, SeenPairs};
 use gj_elim::{Basis, ElimFault, Inserted};
 use gj_faces::TightPairs;
-use gj_sets::IndexSet;
+use gj_loops::IndexSet;
 use gj_shape::{RowName, Shape, wrapped};
 use gj_system::SlopeRows;
 use std::alloc::{AllocError, Global};

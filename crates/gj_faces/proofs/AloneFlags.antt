@@ -1,7 +1,7 @@
 -- Which faces of a square are maximal, from the tight pairs around it.
 use Rattle.std.proofs.Common.{◌≡◌, ◌↔◌, ◌⊎◌, inl, inr, ℕ, ◌+◌, ◌-◌, ◌<◌, ◌≤◌, Bool, true, false, ◌&&◌, ◌||◌, not, ap, sym, ◌∙◌, lit<, arith}
 use Rattle.std.proofs.lemmas.Bool.{and_parts, and_from, not-true, not_from_false, or_parts, or_from, or_left, or_right, and_left, false_from_ne_true, true≢false}
-use Rattle.gj_sets.specs.IndexSets.{has}
+use Rattle.gj_loops.specs.IndexSets.{has}
 use Rattle.gj_shape.specs.Additive.{IsTight, IsMaximalFace}
 use Rattle.gj_shape.specs.FunctionData.{FunctionData, IsWithinBounds}
 use Rattle.gj_shape.specs.declared.faces.FaceKind.{FaceKind}

@@ -2,8 +2,8 @@
 use Rattle.std.proofs.Common.{◌≡◌, ◌↔◌, ℕ, zero, suc, ◌+◌, ◌-◌, ◌<◌, ◌≤◌, List, [], ◌∷◌, ◌++◌, Bool, true, false, cond, ◌&&◌, length, length-append, refl, sym, ap, subst, ◌∙◌, lit<, arith}
 use Rattle.std.specs.List.{range_with_len, flat_map}
 use Rattle.std.proofs.lemmas.Bool.{and_parts, and_from, true≢false}
-use Rattle.gj_sets.specs.IndexSets.{count_below}
-use Rattle.gj_sets.proofs.Counts.{counted_more, counted_none, counted_past}
+use Rattle.gj_loops.specs.IndexSets.{count_below}
+use Rattle.gj_loops.proofs.Counts.{counted_more, counted_none, counted_past}
 use Rattle.gj_shape.specs.Additive.{IsTight, IsAdditive}
 use Rattle.gj_shape.specs.FunctionData.{FunctionData, IsWithinBounds}
 use Rattle.gj_shape.specs.WalkOrder.{faces_of_square}

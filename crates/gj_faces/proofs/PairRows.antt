@@ -4,9 +4,9 @@ use Rattle.std.proofs.Math.Nat.{mod-eq_of_lt, mod-mod, mod-lt, add-mod_right}
 use Rattle.std.proofs.lemmas.Bool.{cases_eq, cases_lt, false_from_ne_true, eq-eqb, ne_eqb}
 use Rattle.std.proofs.lemmas.List.{get_or_append_left, get_or_push, length_push, get_or_past}
 use Rattle.std.specs.Prelude.{◌==◌, if◌then◌else◌}
-use Rattle.gj_sets.specs.IndexSets.{has, no_set}
-use Rattle.gj_sets.specs.declared.index_set.IndexSet.{IndexSet}
-use Rattle.gj_sets.proofs.Bits.{none_in_no_set}
+use Rattle.gj_loops.specs.IndexSets.{has, no_set}
+use Rattle.gj_loops.specs.declared.index_set.IndexSet.{IndexSet}
+use Rattle.gj_loops.proofs.Bits.{none_in_no_set}
 use Rattle.gj_shape.specs.Additive.{IsTight}
 use Rattle.gj_shape.specs.FunctionData.{FunctionData, IsWithinBounds}
 use Rattle.gj_faces.specs.Rows.{AreSetsWithin, TellsRow, AreRows}

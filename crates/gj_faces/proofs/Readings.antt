@@ -3,7 +3,7 @@ use Rattle.std.proofs.Common.{◌≡◌, ◌↔◌, inl, inr, ℕ, ◌+◌, ◌-
 use Rattle.std.proofs.lemmas.Bool.{cases_lt}
 use Rattle.std.proofs.lemmas.Int.{ints, to_z-of_z, fits_signed_from_abs}
 use Rattle.std.proofs.lemmas.List.{get_or_past, get_or-drop, get_or-take}
-use Rattle.gj_lanes.specs.Lanes.{IsInRange, AreInRange, AreLanesInRange, ArePeriods}
+use Rattle.gj_loops.specs.Lanes.{IsInRange, AreInRange, AreLanesInRange, ArePeriods}
 use Rattle.gj_shape.specs.Additive.{IsTight}
 use Rattle.gj_shape.specs.FunctionData.{FunctionData, IsWithinBounds, at}
 use Rattle.gj_shape.proofs.AtLemmas.{at_below}

@@ -4,7 +4,7 @@ use Rattle.std.proofs.Math.Nat.{mod-eq_of_lt, mod-mod, mod-lt}
 use Rattle.std.proofs.lemmas.Bool.{cases_eq, cases_lt, and_parts, and_right, not-true, not-false, le-leb}
 use Rattle.std.proofs.lemmas.List.{get_or_append_left, get_or_push, length_push}
 use Rattle.std.proofs.lemmas.List.Elements.{All-push, All-weaker}
-use Rattle.gj_sets.proofs.Bits.{and_all}
+use Rattle.gj_loops.proofs.Bits.{and_all}
 use Rattle.gj_faces.specs.declared.run.Run.{Run}
 use Rattle.gj_faces.specs.Runs.{InRuns, IsRunOf, EndsBefore, IsWholeRun, AreRunsOf}
 use Rattle.gj_faces.specs.RunsBefore.{ComesBefore, IsTightRun, AreRunsBefore}

@@ -1,7 +1,7 @@
 -- Rows of indices below an order (own).
 use Rattle.std.specs.Prelude.{ℕ, ◌≡◌, ◌↔◌, ◌<◌, ◌≤◌, List, false, IsTrue, length, get_or}
-use Rattle.gj_sets.specs.IndexSets.{has, no_set}
-use Rattle.gj_sets.specs.declared.index_set.IndexSet.{IndexSet}
+use Rattle.gj_loops.specs.IndexSets.{has, no_set}
+use Rattle.gj_loops.specs.declared.index_set.IndexSet.{IndexSet}
 use Rattle.gj_shape.specs.Additive.{IsTight}
 use Rattle.gj_shape.specs.FunctionData.{FunctionData}
 

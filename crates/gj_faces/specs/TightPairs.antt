@@ -1,6 +1,6 @@
 -- Tight pairs, row by row (own).
 use Rattle.std.specs.Prelude.{ℕ, ◌≡◌, ◌↔◌, ◌%◌, ◌<◌, ◌≤◌, IsTrue, get_or}
-use Rattle.gj_sets.specs.IndexSets.{has, no_set}
+use Rattle.gj_loops.specs.IndexSets.{has, no_set}
 use Rattle.gj_shape.specs.FunctionData.{FunctionData}
 use Rattle.gj_shape.specs.Additive.{IsTight}
 use Rattle.gj_faces.specs.declared.tight_pairs.TightPairs.{TightPairs}

@@ -1,6 +1,6 @@
 //! Which faces of a row of squares are maximal.
 use crate::tight_pairs::TightPairs;
-use gj_sets::IndexSet;
+use gj_loops::IndexSet;
 use gj_shape::{FaceKind, Shape, wrapped};
 
 /// For each kind the indices b below the order for which the face of the square (a, b) is a maximal
@@ -23,7 +23,7 @@ pub(crate) struct Alone {
 
 impl Alone {
     ghost use Rattle.std.specs.Prelude.{ℕ, ◌≡◌, ◌<◌, false, IsTrue};
-    ghost use Rattle.gj_sets.specs.IndexSets.{has};
+    ghost use Rattle.gj_loops.specs.IndexSets.{has};
     ghost use Rattle.gj_shape.specs.FunctionData.{FunctionData};
     ghost use Rattle.gj_shape.specs.Limits.{greatest_order};
     ghost use Rattle.gj_faces.specs.Alone.{AreAlone};

@@ -2,11 +2,10 @@
 ghost use Rattle.std.specs.Prelude.{ℕ, pos, ◌≡◌, ◌↔◌, ◌+◌, ◌*◌, ◌-ℤ◌, ◌<◌, ◌≤◌, ◌^◌, length, IfOk};
 ghost use Rattle.std.specs.Prelude.{IsTrue};
 ghost use Rattle.gj_shape.specs.Limits.{greatest_order};
-ghost use Rattle.gj_lanes.specs.Lanes.{AreInRange};
+ghost use Rattle.gj_loops.specs.Lanes.{AreInRange};
 ghost use Rattle.gj_faces.specs.Rows.{AreRows};
 
-use gj_lanes::{SignedLane, write_periods};
-use gj_sets::IndexSet;
+use gj_loops::{IndexSet, SignedLane, write_periods};
 use gj_shape::{GREATEST_ORDER, Shape};
 use std::alloc::{AllocError, Global};
 

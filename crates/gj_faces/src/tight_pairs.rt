@@ -4,7 +4,7 @@ ghost use Rattle.gj_shape.specs.Given.{IsOrder};
 ghost use Rattle.gj_faces.specs.Rows.{AreSetsWithin};
 
 use crate::lanes::tight_rows;
-use gj_sets::IndexSet;
+use gj_loops::IndexSet;
 use gj_shape::Shape;
 use std::alloc::{AllocError, Global};
 
@@ -20,7 +20,7 @@ pub struct TightPairs {
 
 impl TightPairs {
     ghost use Rattle.std.specs.Prelude.{ℕ, ◌↔◌, ◌<◌, ◌≤◌, false, IfOk, IsTrue, MatchOption};
-    ghost use Rattle.gj_sets.specs.IndexSets.{has};
+    ghost use Rattle.gj_loops.specs.IndexSets.{has};
     ghost use Rattle.gj_shape.specs.FunctionData.{IsContinuous};
     ghost use Rattle.gj_faces.specs.TightPairs.{IsTightIn, IsNextTight, AreTightPairsOf};
 

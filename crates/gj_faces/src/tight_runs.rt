@@ -1,6 +1,6 @@
 //! The tight pairs of a continuous function as runs.
 ghost use Rattle.std.specs.Prelude.{ℕ, ◌↔◌, ◌+◌, ◌<◌, IsTrue, OnOk, IfOk};
-ghost use Rattle.gj_sets.specs.IndexSets.{has};
+ghost use Rattle.gj_loops.specs.IndexSets.{has};
 ghost use Rattle.gj_shape.specs.Additive.{IsTight};
 ghost use Rattle.gj_shape.specs.FunctionData.{IsContinuous};
 ghost use Rattle.gj_shape.specs.Given.{IsOrder};
@@ -9,7 +9,7 @@ ghost use Rattle.gj_faces.specs.RunsBefore.{AreRunsBefore};
 
 use crate::run::Run;
 use crate::tight_pairs::TightPairs;
-use gj_sets::IndexSet;
+use gj_loops::IndexSet;
 use gj_shape::Shape;
 use std::alloc::{AllocError, Global};
 

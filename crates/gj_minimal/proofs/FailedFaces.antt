@@ -17,7 +17,7 @@ use Rattle.gj_theory.proofs.Lanes.{PassesAt, HasLanes, FitAtSums, mirrored_squar
 use Rattle.gj_minimal.specs.FirstFailure.{IsFirstFailingIndex, HoldsBelow}
 use Rattle.gj_minimal.specs.declared.failures.Failure.TheVariants as failure
 use Rattle.gj_minimal.specs.Failures.{FailsFirst, PassesRow, IsNonnegativeIn}
-use Rattle.gj_lanes.specs.Lanes.{AreInRange}
+use Rattle.gj_loops.specs.Lanes.{AreInRange}
 use Rattle.gj_minimal.proofs.NumbersInLanes.{natural_at, natural_is}
 
 -- how many corners a face has does not depend on the square

@@ -2,7 +2,7 @@
 use Rattle.std.proofs.Common.{◌≡◌, ℕ, ◌*◌, ◌<◌, ◌≤◌, ℤ, pos, unsigned_abs, List, length, get_or, ap, sym, subst, ◌∙◌, arith}
 use Rattle.std.proofs.lemmas.Int.{ints}
 use Rattle.gj_shape.specs.FunctionData.{at}
-use Rattle.gj_lanes.specs.Lanes.{AreInRange, ArePeriods}
+use Rattle.gj_loops.specs.Lanes.{AreInRange, ArePeriods}
 
 -- the numbers from 0 on, as naturals
 abbrev pub natural_at : List ℤ → ℕ → ℕ

@@ -11,7 +11,7 @@ use crate::failures::Failure;
 use crate::squares::squares_pass;
 use crate::widths::{COUNT, SMALL_COUNT, SMALL_ORDER, is_short};
 use gj_complex::{Square, corners};
-use gj_lanes::{UnsignedLane, write_periods};
+use gj_loops::{UnsignedLane, write_periods};
 use gj_shape::{Face, FaceKind, Shape};
 
 /// The kinds of faces that are no vertices, in walk order.

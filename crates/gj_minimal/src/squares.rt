@@ -3,7 +3,7 @@ ghost use Rattle.std.specs.Prelude.{ℕ, ◌≡◌, ◌<◌, ◌≤◌, IsTrue};
 ghost use Rattle.gj_theory.specs.EarlierTests.{PassesVertices, PassesSquare};
 ghost use Rattle.gj_minimal.specs.Lanes.{AreLimits};
 
-use gj_lanes::UnsignedLane;
+use gj_loops::UnsignedLane;
 use gj_shape::Shape;
 
 /// Whether no limit of the slack on the faces of the square (a, b) but its vertex is found to be

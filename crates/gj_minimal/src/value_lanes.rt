@@ -2,9 +2,9 @@
 ghost use Rattle.std.specs.Prelude.{◌≡◌, ◌⊎◌, ◌+◌, ◌-◌, ◌*◌, ◌<◌, IsTrue, max};
 ghost use Rattle.gj_shape.specs.FunctionData.{IsWithinBounds};
 ghost use Rattle.gj_minimal.specs.Failures.{PassesAhead, PassesWithSum};
-ghost use Rattle.gj_lanes.specs.Lanes.{ArePeriods};
+ghost use Rattle.gj_loops.specs.Lanes.{ArePeriods};
 
-use gj_lanes::UnsignedLane;
+use gj_loops::UnsignedLane;
 use gj_shape::Shape;
 
 /// Whether no slack at (a/q, b/q) is found to be negative, for each b and c from a with b at most c

@@ -4,12 +4,12 @@ ghost use Rattle.gj_shape.specs.FunctionData.{IsWithinBounds};
 ghost use Rattle.gj_theory.specs.EarlierTests.{PassesVertex, PassesSymmetry, PassesVertices};
 ghost use Rattle.gj_minimal.specs.FirstFailure.{IsFirstFailingIndex, HoldsBelow};
 ghost use Rattle.gj_minimal.specs.Failures.{FailsFirst, PassesVertexRow};
-ghost use Rattle.gj_lanes.specs.Lanes.{ArePeriods};
+ghost use Rattle.gj_loops.specs.Lanes.{ArePeriods};
 
 use crate::failures::Failure;
 use crate::value_lanes::row_passes;
 use crate::widths::{COUNT, SMALL_COUNT, SMALL_ORDER, is_short};
-use gj_lanes::{UnsignedLane, write_periods};
+use gj_loops::{UnsignedLane, write_periods};
 use gj_shape::{Face, FaceKind, Shape};
 
 /// The first failed test of the slack at grid points, row by row, over lanes that are as narrow and

@@ -17,7 +17,7 @@ use Rattle.gj_shape.proofs.TableLemmas.{table_of_order, limits_are_slacks, slack
 use Rattle.gj_lemmas.proofs.Quotients.{same_at_remainder}
 use Rattle.gj_theory.specs.CornerSlacks.{IsBelowCorners}
 use Rattle.gj_theory.proofs.CornerSlacks.{grid_slacks_low, slack_at_multiples, reached_beside_zero}
-use Rattle.gj_lanes.specs.Lanes.{IsInRange}
+use Rattle.gj_loops.specs.Lanes.{IsInRange}
 use Rattle.gj_theory.proofs.SlacksAndSizes.{least_slack}
 use Rattle.gj_perturb.specs.Lanes.{HoldValues, lane_slack, triangle, AreSubadditive, no_slack, IsAtCorner, IsBesideZero, AreLeast, IsLeastAt, IsInRows}
 use Rattle.gj_perturb.proofs.LaneSlacks.{slack_small}

@@ -2,7 +2,7 @@
 use Rattle.std.specs.Prelude.{ℕ, pos, ◌≡◌, ◌⊎◌, ◌+◌, ◌-◌, ◌*◌, ◌<◌, ◌≤◌, ◌^◌, List, [], ◌∷◌, length, get_or, All}
 use Rattle.std.specs.List.{Contains}
 use Rattle.gj_shape.specs.FunctionData.{FunctionData}
-use Rattle.gj_lanes.specs.Lanes.{ArePeriods}
+use Rattle.gj_loops.specs.Lanes.{ArePeriods}
 
 -- the slack at a pair of indices, if it is not negative
 abbrev pub lane_slack : List ℕ → ℕ → ℕ → ℕ

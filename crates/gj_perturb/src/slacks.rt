@@ -6,7 +6,7 @@ ghost use Rattle.gj_shape.specs.Table.{IsMinimal};
 ghost use Rattle.gj_perturb.specs.Lanes.{HoldValues};
 
 use crate::lanes::{least_at_corners, least_on_grid, least_slacks};
-use gj_lanes::write_periods;
+use gj_loops::write_periods;
 use gj_shape::Shape;
 use std::alloc::{AllocError, Global};
 

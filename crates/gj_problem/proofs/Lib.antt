@@ -1,3 +1,6 @@
+pub mod RationalLaws
+pub mod RationalRing
+pub mod RationalOrder
 pub mod Numerators
 pub mod HeldInequalities
 pub mod AddedSums

@@ -1,8 +1,8 @@
 -- Pieces that items make, and their sums.
 use Rattle.std.proofs.Common.{◌≡◌, ⊎_elim, inl, inr, List, [], ◌∷◌, ◌++◌, All, refl, sym, ap, subst, ◌∙◌}
 use Rattle.std.proofs.lemmas.List.Elements.{All-nil, All-cons, All-head, All-tail}
-use Rattle.gj_rational.specs.Rational.{Rational, rational, ◌+ℚ◌, ◌*ℚ◌}
-use Rattle.gj_rational.proofs.RationalLaws.{zero_add_q, add_assoc_q}
+use Rattle.gj_problem.specs.Rational.{Rational, rational, ◌+ℚ◌, ◌*ℚ◌}
+use Rattle.gj_problem.proofs.RationalLaws.{zero_add_q, add_assoc_q}
 use Rattle.gj_problem.specs.declared.pieces.Piece.{Piece}
 use Rattle.gj_problem.specs.Problems.{surplus_at}
 use Rattle.gj_problem.specs.Aggregates.{pieces_at, AreMadeOf}

@@ -7,8 +7,8 @@ use Rattle.gj_frac.specs.SameParts.{same_parts_same}
 use Rattle.gj_frac.proofs.Floors.{same_from_IsFloor}
 use Rattle.gj_lemmas.proofs.Integers.{mul_lt_cancel_right_z}
 use Rattle.gj_lemmas.proofs.Lists.{All-back}
-use Rattle.gj_rational.specs.Rational.{Rational, whole, rational, ◌+ℚ◌, ◌*ℚ◌, ◌-ℚ◌}
-use Rattle.gj_rational.proofs.RationalRing.{by_ring_q, ring_q}
+use Rattle.gj_problem.specs.Rational.{Rational, whole, rational, ◌+ℚ◌, ◌*ℚ◌, ◌-ℚ◌}
+use Rattle.gj_problem.proofs.RationalRing.{by_ring_q, ring_q}
 use Rattle.gj_problem.specs.declared.problem.Problem.{Problem}
 use Rattle.gj_problem.specs.declared.pieces.Piece.{Piece}
 use Rattle.gj_problem.specs.Problems.{value_at, surplus_at}

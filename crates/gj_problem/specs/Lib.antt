@@ -1,3 +1,4 @@
+pub mod Rational
 pub mod Problems
 pub mod Rows
 pub mod Aggregates

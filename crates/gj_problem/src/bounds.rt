@@ -1,7 +1,7 @@
 //! Columns turned to their bounds.
 ghost use Rattle.std.specs.Prelude.{◌≡◌, ◌↔◌, true, false, [], None, length};
 ghost use Rattle.std.specs.Prelude.{IfOk, IsTrue, MatchOption};
-ghost use Rattle.gj_rational.specs.Rational.{rational, ◌-ℚ◌};
+ghost use Rattle.gj_problem.specs.Rational.{rational, ◌-ℚ◌};
 ghost use Rattle.gj_problem.specs.Aggregates.{pieces_at, held, IsLeftOut, IsTurned, IsFree};
 ghost use Rattle.gj_problem.specs.Aggregates.{IsLowerBound, IsUpperBound, IsFromLower, IsFromUpper};
 ghost use Rattle.gj_problem.specs.Steps.{IsMadeNext, AreTurnedOrFree};

@@ -1,6 +1,6 @@
 //! Cuts rounded to a grid.
 ghost use Rattle.std.specs.Prelude.{◌≡◌, ◌<◌, ◌↔◌, pos, IfOk, IsTrue, MatchOption};
-ghost use Rattle.gj_rational.specs.Rational.{whole, rational, ◌-ℚ◌, ◌*ℚ◌};
+ghost use Rattle.gj_problem.specs.Rational.{whole, rational, ◌-ℚ◌, ◌*ℚ◌};
 ghost use Rattle.gj_problem.specs.Problems.{Holds};
 ghost use Rattle.gj_problem.specs.RoundedCuts.{IsGridValue, IsBelowOnGrid, lower_of, upper_of};
 ghost use Rattle.gj_problem.specs.RoundedCuts.{IsMoved, IsFreeEntry, IsRoundedOf, RoundedHolds};

@@ -4,7 +4,7 @@ ghost use Rattle.gj_frac.specs.Fraction.{SameValue, fraction_of, quotient_of, de
 ghost use Rattle.gj_frac.specs.Fits.{FitsQuotient};
 ghost use Rattle.gj_lemmas.specs.Divisors.{IsLcm};
 ghost use Rattle.gj_shape.specs.Given.{IsLeastCommonDenominator};
-ghost use Rattle.gj_rational.specs.Rational.{whole, rational};
+ghost use Rattle.gj_problem.specs.Rational.{whole, rational};
 ghost use Rattle.gj_problem.specs.Aggregates.{IsScale, signed};
 
 use crate::problem::{Entry, Sense};

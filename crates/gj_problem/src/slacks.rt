@@ -1,6 +1,6 @@
 //! Sums of constraints, and their slacks.
 ghost use Rattle.std.specs.Prelude.{◌≡◌, ◌↔◌, List, IfOk, IsTrue, All, length};
-ghost use Rattle.gj_rational.specs.Rational.{Rational, rational, ◌+ℚ◌, ◌*ℚ◌, ◌-ℚ◌};
+ghost use Rattle.gj_problem.specs.Rational.{Rational, rational, ◌+ℚ◌, ◌*ℚ◌, ◌-ℚ◌};
 ghost use Rattle.gj_problem.specs.Problems.{IsWholeColumn, sum_at, surplus_at};
 ghost use Rattle.gj_problem.specs.Rows.{dot};
 ghost use Rattle.gj_problem.specs.Aggregates.{AreMadeOf, IsAggregate, Weighted, weighted};

@@ -1,7 +1,7 @@
 //! Sums over all columns, to which multiples of inequalities are added.
 ghost use Rattle.std.specs.Prelude.{◌≡◌, ◌<◌, ◌^◌, ◌⊎◌, ℕ, pos, List, IfOk, IfSome, IsNone, OnErr};
 ghost use Rattle.std.specs.Prelude.{length};
-ghost use Rattle.gj_rational.specs.Rational.{Rational, whole, rational, ◌+ℚ◌, ◌*ℚ◌, ◌-ℚ◌};
+ghost use Rattle.gj_problem.specs.Rational.{Rational, whole, rational, ◌+ℚ◌, ◌*ℚ◌, ◌-ℚ◌};
 ghost use Rattle.gj_problem.specs.Problems.{value_at, sum_at, surplus_at};
 ghost use Rattle.gj_problem.specs.Rows.{dot};
 ghost use Rattle.gj_problem.specs.Steps.{IsWideAt, IsWideEntry, IsWideWithin};

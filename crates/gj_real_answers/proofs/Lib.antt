@@ -1,1 +1,3 @@
+pub mod Claims
+pub mod MixedCuts
 pub mod RealReplies

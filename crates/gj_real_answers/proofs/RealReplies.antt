@@ -17,9 +17,9 @@ use Rattle.gj_function_text.proofs.LinesOfFunction.{lines_are_text}
 use Rattle.gj_proof.specs.ProofText.{IsBoundedRule}
 use Rattle.gj_proof.specs.declared.cut.CutRule.{CutRule}
 use Rattle.gj_proof.specs.declared.cut.CutRule.TheVariants.{Gmic, Table}
-use Rattle.gj_listings.specs.MixedLines.{AreMixedCutsOf, IsMixedCutBy, IsMixedLineFor, IsNamedTerm, MakesMixedCuts, NamesMixedCut}
-use Rattle.gj_listings.specs.declared.mixed_lines.MixedLine.{MixedLine}
-use Rattle.gj_listings.specs.Columns.{continuous_columns}
+use Rattle.gj_cut_text.specs.MixedLines.{AreMixedCutsOf, IsMixedCutBy, IsMixedLineFor, IsNamedTerm, MakesMixedCuts, NamesMixedCut}
+use Rattle.gj_cut_text.specs.declared.mixed_lines.MixedLine.{MixedLine}
+use Rattle.gj_cut_text.specs.Columns.{continuous_columns}
 use Rattle.gj_words.specs.declared.requests.Command.{Command}
 use Rattle.gj_words.specs.declared.requests.Command.TheVariants.{Minimal, Extreme, Cut, Show, Check, Faces, Demo, Mixed, Fill, Group, Times, Mirror, Restrict}
 use Rattle.gj_top.specs.declared.reply.End.TheVariants.{Done}
@@ -36,9 +36,9 @@ use Rattle.gj_top.proofs.TextLaws.{function_is_bounded, json_is_bounded}
 use Rattle.gj_fields.specs.Fields.{OrderedField, HasFloor}
 use Rattle.gj_reals.proofs.OnlyExtremeAtReals.{extreme_from_reals}
 use Rattle.gj_real_cuts.specs.RealRows.{RealCutHolds}
-use Rattle.gj_real_claims.specs.RealMeaning.{RealHoldsFor}
-use Rattle.gj_real_claims.proofs.Claims.{minimal_at_reals, minimal_from_reals, extreme_at_reals, claim_at_reals}
-use Rattle.gj_real_claims.proofs.MixedCuts.{cut_by_function, cut_by_gmic}
+use Rattle.gj_real_answers.specs.RealMeaning.{RealHoldsFor}
+use Rattle.gj_real_answers.proofs.Claims.{minimal_at_reals, minimal_from_reals, extreme_at_reals, claim_at_reals}
+use Rattle.gj_real_answers.proofs.MixedCuts.{cut_by_function, cut_by_gmic}
 use Rattle.gj_real_answers.specs.RealAnswers.{IsRealVerdict, IsRealExtremality, RealLineHolds, RealMixedLineHolds, AreRealMixedCuts, real_headline, IsTrueRealRun}
 
 -- a function of a rule that is read is within the limits

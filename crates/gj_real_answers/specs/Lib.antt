@@ -1,1 +1,2 @@
+pub mod RealMeaning
 pub mod RealAnswers

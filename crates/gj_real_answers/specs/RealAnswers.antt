@@ -11,8 +11,8 @@ use Rattle.gj_proof.specs.declared.cut.CutRule.{CutRule}
 use Rattle.gj_proof.specs.declared.cut.CutLine.{CutLine}
 use Rattle.gj_proof.specs.declared.cut.CutLine.TheVariants as cuts
 use Rattle.gj_proof.specs.declared.cut.CutTerm.{CutTerm}
-use Rattle.gj_listings.specs.MixedLines.{AreMixedCutsOf}
-use Rattle.gj_listings.specs.declared.mixed_lines.MixedLine.{MixedLine}
+use Rattle.gj_cut_text.specs.MixedLines.{AreMixedCutsOf}
+use Rattle.gj_cut_text.specs.declared.mixed_lines.MixedLine.{MixedLine}
 use Rattle.gj_words.specs.declared.requests.Command.{Command}
 use Rattle.gj_words.specs.declared.requests.Command.TheVariants.{Minimal, Extreme, Cut, Show, Check, Faces, Demo, Mixed, Fill, Group, Times, Mirror, Restrict}
 use Rattle.gj_words.specs.declared.requests.Request.{Request}
@@ -24,7 +24,7 @@ use Rattle.gj_top.specs.Check.{accepted_line}
 use Rattle.gj_top.specs.declared.cut_input.CutInput.{CutInput}
 use Rattle.gj_top.specs.Report.{IsReportOf}
 use Rattle.gj_fields.specs.Fields.{OrderedField, HasFloor}
-use Rattle.gj_real_claims.specs.RealMeaning.{IsRealMinimal, IsRealExtreme, RealClaimHolds}
+use Rattle.gj_real_answers.specs.RealMeaning.{IsRealMinimal, IsRealExtreme, RealClaimHolds}
 use Rattle.gj_real_cuts.specs.RealRows.{RealCutHolds}
 
 -- the text calls f minimal, and f is minimal among the valid functions; or not minimal, and it is

@@ -5,7 +5,7 @@ use Rattle.std.proofs.lemmas.List.Elements.{All-nil, All-cons, All-head, All-tai
 use Rattle.gj_frac.specs.declared.Frac.{Frac}
 use Rattle.gj_fields.specs.Fields.{OrderedField, AtMost}
 use Rattle.gj_real_cuts.specs.RealRows.{number_of}
-use Rattle.gj_rational.specs.Rational.{Rational, rational, ◌*ℚ◌, ◌≤ℚ◌}
+use Rattle.gj_problem.specs.Rational.{Rational, rational, ◌*ℚ◌, ◌≤ℚ◌}
 use Rattle.gj_problem.specs.declared.problem.Column.{Column}
 use Rattle.gj_problem.specs.declared.problem.Constraint.{Constraint}
 use Rattle.gj_problem.specs.declared.problem.Entry.{Entry}

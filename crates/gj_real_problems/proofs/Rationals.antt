@@ -7,10 +7,10 @@ use Rattle.gj_lemmas.proofs.Ring.{by_ring, ring}
 use Rattle.gj_fields.specs.Fields.{OrderedField}
 use Rattle.gj_fields.proofs.Fractions.{le_yes, yes_le}
 use Rattle.gj_fields.proofs.Order.{either}
-use Rattle.gj_rational.specs.Rational.{Rational, reduced, over, whole, ◌+ℚ◌, ◌*ℚ◌, neg_ℚ, ◌-ℚ◌, ◌≤ℚ◌}
-use Rattle.gj_rational.proofs.RationalLaws.{equal_q, product_is, add_assoc_q, add_comm_q, mul_assoc_q, mul_comm_q, mul_add_q, whole_injective}
-use Rattle.gj_rational.proofs.RationalOrder.{IsNonnegativeQ, nonnegative_add, nonnegative_mul, difference_nonnegative, at_most_from_difference}
-use Rattle.gj_rational.proofs.RationalRing.{by_ring_q, ring_q}
+use Rattle.gj_problem.specs.Rational.{Rational, reduced, over, whole, ◌+ℚ◌, ◌*ℚ◌, neg_ℚ, ◌-ℚ◌, ◌≤ℚ◌}
+use Rattle.gj_problem.proofs.RationalLaws.{equal_q, product_is, add_assoc_q, add_comm_q, mul_assoc_q, mul_comm_q, mul_add_q, whole_injective}
+use Rattle.gj_problem.proofs.RationalOrder.{IsNonnegativeQ, nonnegative_add, nonnegative_mul, difference_nonnegative, at_most_from_difference}
+use Rattle.gj_problem.proofs.RationalRing.{by_ring_q, ring_q}
 
 -- ---- order
 

@@ -11,8 +11,8 @@ use Rattle.gj_fields.proofs.Order.{either, le_of_eq, le_of_not, times_le, by_one
 use Rattle.gj_fields.proofs.Wholes.{whole_plus}
 use Rattle.gj_reals.proofs.AtReals.{inverse_low}
 use Rattle.gj_real_cuts.specs.RealRows.{number_of}
-use Rattle.gj_rational.specs.Rational as q
-use Rattle.gj_rational.specs.Rational.{Rational, rational, ◌≤ℚ◌, IsWholeNumber}
+use Rattle.gj_problem.specs.Rational as q
+use Rattle.gj_problem.specs.Rational.{Rational, rational, ◌≤ℚ◌, IsWholeNumber}
 use Rattle.gj_problem.specs.declared.problem.Column.{Column}
 use Rattle.gj_problem.specs.declared.problem.Constraint.{Constraint}
 use Rattle.gj_problem.specs.declared.problem.Entry.{Entry}

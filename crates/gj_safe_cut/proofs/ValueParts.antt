@@ -5,8 +5,8 @@ use Rattle.gj_frac.specs.declared.Frac.{Frac}
 use Rattle.gj_frac.specs.Fraction.{IsRatio, LessValue, SameValue, fraction_of, quotient_of, numerator, denominator}
 use Rattle.gj_frac.proofs.Floors.{complement_lowest}
 use Rattle.gj_frac.proofs.SameValues.{parts_from_is}
-use Rattle.gj_rational.specs.Rational.{Rational}
-use Rattle.gj_rational.proofs.RationalLaws.{whole_top, whole_bottom}
+use Rattle.gj_problem.specs.Rational.{Rational}
+use Rattle.gj_problem.proofs.RationalLaws.{whole_top, whole_bottom}
 use Rattle.gj_problem.proofs.AddedSums.{whole_ratio}
 use Rattle.gj_rule.proofs.ClosedForm.{IsRestOf, one_minus_top, one_times}
 use Rattle.gj_theory.specs.Cuts.{IsGmicValue}

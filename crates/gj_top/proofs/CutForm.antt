@@ -15,8 +15,8 @@ use Rattle.gj_proof.specs.declared.claim.Claim.TheVariants as claim
 use Rattle.gj_proof.specs.declared.cut.CutLine.{CutLine}
 use Rattle.gj_proof.specs.declared.cut.CutRule.{CutRule}
 use Rattle.gj_proof.specs.declared.cut.CutRule.TheVariants.{Gmic, Table}
-use Rattle.gj_claims.specs.CutLines.{IsLineFor}
-use Rattle.gj_claims.proofs.CutClaims.{cuts_are_bounded}
+use Rattle.gj_cut_text.specs.CutLines.{IsLineFor}
+use Rattle.gj_cut_text.proofs.CutClaims.{cuts_are_bounded}
 use Rattle.gj_top.specs.Cut.{BeginsWithRule, CutInput, SpellsCutInput, RefusesCutInput}
 use Rattle.gj_top.specs.Cut.RefusesCutInput.{of_rule, of_function, of_tableau}
 use Rattle.gj_top.proofs.InputLines.{rule_of_lines}

@@ -9,7 +9,7 @@ use Rattle.gj_top.specs.declared.status.Status.{Status}
 use Rattle.gj_top.specs.Answer.{IsAnswerTo}
 use Rattle.gj_top.specs.Command.{task_with, task_for}
 use Rattle.gj_top.specs.Extreme.{IsExtremality, IsTrueExtremality}
-use Rattle.gj_listings.specs.FacesText.{IsFacesText}
+use Rattle.gj_verdict_text.specs.FacesText.{IsFacesText}
 use Rattle.gj_top.specs.Continuity.{IsContinuousReply}
 use Rattle.gj_top.specs.Forms.{function_task}
 use Rattle.gj_top.specs.Task.{EndsDone}

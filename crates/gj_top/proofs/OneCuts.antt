@@ -31,8 +31,8 @@ use Rattle.gj_proof.specs.declared.cut.CutRule.TheVariants.{Gmic, Table}
 use Rattle.gj_proof.specs.declared.cut.CutTerm.{CutTerm}
 use Rattle.gj_proof.specs.declared.cut.SkipReason.{SkipReason}
 use Rattle.gj_proof.specs.declared.cut.SkipReason.TheVariants.{Integral, Other}
-use Rattle.gj_claims.specs.CutLines.{IsLineFor, IsTermFor}
-use Rattle.gj_claims.specs.CutRules.{MakesCuts}
+use Rattle.gj_cut_text.specs.CutLines.{IsLineFor, IsTermFor}
+use Rattle.gj_cut_text.specs.CutRules.{MakesCuts}
 use Rattle.gj_top.specs.declared.reply.End.{End}
 use Rattle.gj_top.specs.declared.reply.End.TheVariants as end
 use Rattle.gj_refusals.specs.Functions.{NamesViolation}

@@ -36,7 +36,7 @@ use Rattle.gj_demo.specs.Demo.{IsDemo, demo_number}
 use Rattle.gj_demo.specs.Summary.{IsSummary, HasSummary, lines_with}
 use Rattle.gj_top.specs.declared.reply.End.TheVariants as end
 use Rattle.gj_top.specs.Demo.{demo}
-use Rattle.gj_listings.specs.FacesText.{IsFacesText, uncovered_line}
+use Rattle.gj_verdict_text.specs.FacesText.{IsFacesText, uncovered_line}
 use Rattle.gj_top.specs.Fill.{IsFillText, NamesFirstPair, IsFillReply}
 use Rattle.gj_top.proofs.Determined.{AnswersOne, IsDetermined, one_done}
 use Rattle.gj_transform.proofs.OneTransform.{over_both}

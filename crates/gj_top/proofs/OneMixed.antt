@@ -20,9 +20,9 @@ use Rattle.gj_mixed.specs.MixedCuts.{whole_entries, continuous_entries, IsWeight
 use Rattle.gj_mixed.specs.Slopes.{IsWeight, AreGmicSlopes}
 use Rattle.gj_mixed.specs.declared.cut.MixedCut.{MixedCut}
 use Rattle.gj_mixed.specs.declared.cut.MixedCut.TheVariants as mixed_cut
-use Rattle.gj_listings.specs.Columns.{continuous_columns}
-use Rattle.gj_listings.specs.MixedLines.{IsNamedTerm, IsMixedCutBy, NamesMixedCut, IsMixedLineFor, AreMixedCutsOf, MakesMixedCuts, mixed_row_text}
-use Rattle.gj_listings.specs.declared.mixed_lines.MixedLine.{MixedLine}
+use Rattle.gj_cut_text.specs.Columns.{continuous_columns}
+use Rattle.gj_cut_text.specs.MixedLines.{IsNamedTerm, IsMixedCutBy, NamesMixedCut, IsMixedLineFor, AreMixedCutsOf, MakesMixedCuts, mixed_row_text}
+use Rattle.gj_cut_text.specs.declared.mixed_lines.MixedLine.{MixedLine}
 use Rattle.gj_check.proofs.FractionalParts.{one_part, part_inside, one_minus_some, one_gmic_value}
 use Rattle.gj_check.proofs.ValuesOfCuts.{one_value}
 use Rattle.gj_proof.specs.ProofText.{IsBoundedRule, AreSubjectLines, subject_of_rule}

@@ -13,7 +13,7 @@ use Rattle.gj_extreme.proofs.OneViolation.{one_violation}
 use Rattle.gj_group.specs.Decision.{greatest_group_order, SaysOfTable, AreGroupHalves, IsFound}
 use Rattle.gj_group.specs.declared.decision.GroupAnswer.{GroupAnswer}
 use Rattle.gj_group.specs.declared.decision.GroupAnswer.TheVariants.{NotMinimal, Extreme, NotExtreme}
-use Rattle.gj_listings.specs.GroupText.{verdict_lines}
+use Rattle.gj_verdict_text.specs.GroupText.{verdict_lines}
 use Rattle.gj_top.specs.declared.reply.End.TheVariants as end
 use Rattle.gj_top.specs.Group.{IsGroupVerdict, IsGroupReply}
 use Rattle.gj_top.proofs.Determined.{AnswersOne}

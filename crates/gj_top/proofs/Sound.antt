@@ -15,7 +15,7 @@ use Rattle.gj_top.specs.Minimal.{IsVerdict, IsTrueVerdict}
 use Rattle.gj_top.specs.Extreme.{IsExtremality, IsTrueExtremality, extreme}
 use Rattle.gj_top.specs.Show.{IsShownText, show}
 use Rattle.gj_top.specs.Check.{check}
-use Rattle.gj_listings.specs.FacesText.{IsFacesText}
+use Rattle.gj_verdict_text.specs.FacesText.{IsFacesText}
 use Rattle.gj_top.specs.Continuity.{IsContinuousReply}
 use Rattle.gj_top.specs.Cut.{cut}
 use Rattle.gj_top.specs.Mixed.{mixed}

@@ -4,7 +4,7 @@ use Rattle.gj_shape.specs.FunctionData.{FunctionData}
 use Rattle.gj_proof.specs.declared.claim.Claim.{Claim}
 use Rattle.gj_proof.specs.declared.claim.Claim.TheVariants.{Minimal, NotMinimal}
 use Rattle.gj_proof.specs.ProofText.{IsProofText}
-use Rattle.gj_claims.specs.MinimalityClaim.{IsMinimalityClaim}
+use Rattle.gj_verdict_text.specs.MinimalityClaim.{IsMinimalityClaim}
 use Rattle.gj_top.specs.Minimal.{IsMinimalText, IsNotMinimalText, IsVerdict}
 
 pub verdict_of_claim : (f : FunctionData) (c : Claim) (text : List ℕ) → IsMinimalityClaim f c → IsProofText c text → IsVerdict f text

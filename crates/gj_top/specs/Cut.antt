@@ -20,8 +20,8 @@ use Rattle.gj_proof.specs.declared.cut.CutLine.{CutLine}
 use Rattle.gj_proof.specs.declared.cut.CutRule.{CutRule}
 use Rattle.gj_proof.specs.declared.cut.CutRule.TheVariants.{Gmic, Table}
 use Rattle.gj_refusals.specs.Functions.{NamesViolation}
-use Rattle.gj_claims.specs.CutLines.{IsLineFor}
-use Rattle.gj_claims.specs.CutRules.{MakesCuts}
+use Rattle.gj_cut_text.specs.CutLines.{IsLineFor}
+use Rattle.gj_cut_text.specs.CutRules.{MakesCuts}
 pub use Rattle.gj_top.specs.declared.cut_input.CutInput.{CutInput}
 use Rattle.gj_top.specs.declared.reply.End.{End}
 use Rattle.gj_top.specs.declared.reply.End.TheVariants.{Done, NoFunction}

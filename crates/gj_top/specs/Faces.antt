@@ -2,7 +2,7 @@
 -- intervals of its function.
 use Rattle.std.specs.Prelude.{false}
 use Rattle.gj_shape.specs.FunctionData.{IsContinuous}
-use Rattle.gj_listings.specs.FacesText.{IsFacesText}
+use Rattle.gj_verdict_text.specs.FacesText.{IsFacesText}
 use Rattle.gj_top.specs.Promise.{Promise}
 use Rattle.gj_top.specs.Task.{Task, EndsDone}
 use Rattle.gj_top.specs.Forms.{function_promise, function_task}

@@ -6,7 +6,7 @@ use Rattle.gj_shape.specs.Table.{IsMinimalOnGrid}
 use Rattle.gj_function_lines.specs.FunctionLines.{line}
 use Rattle.gj_group.specs.Decision.{greatest_group_order, SaysOfTable, IsFound, IsTooWideGroup}
 use Rattle.gj_group.specs.declared.decision.GroupAnswer.{GroupAnswer}
-use Rattle.gj_listings.specs.GroupText.{IsGroupText}
+use Rattle.gj_verdict_text.specs.GroupText.{IsGroupText}
 use Rattle.gj_top.specs.declared.reply.End.{End}
 use Rattle.gj_top.specs.declared.reply.End.TheVariants.{Done, Wide, OrderLimit}
 use Rattle.gj_top.specs.Promise.{Promise}

@@ -3,7 +3,7 @@
 -- own).
 use Rattle.std.specs.Prelude.{ℕ, List}
 use Rattle.gj_refusals.specs.Functions.{NamesViolation, NamesJump}
-use Rattle.gj_listings.specs.MixedLines.{AreMixedCutsOf, MakesMixedCuts}
+use Rattle.gj_cut_text.specs.MixedLines.{AreMixedCutsOf, MakesMixedCuts}
 use Rattle.gj_top.specs.declared.reply.End.{End}
 use Rattle.gj_top.specs.declared.reply.End.TheVariants.{Done, NotContinuous, NoFunction}
 use Rattle.gj_top.specs.Promise.{Promise}

@@ -6,7 +6,7 @@ ghost use Rattle.gj_top.specs.Cut.{IsCutReply, cut};
 
 use crate::cut_input::{CutInput, cut_input_of};
 use crate::reply::{End, Reply, Unanswered};
-use gj_claims::{cuts_text, violation_of_rule};
+use gj_cut_text::{cuts_text, violation_of_rule};
 use gj_refusals::violation_text;
 use std::alloc::{AllocError, Global};
 

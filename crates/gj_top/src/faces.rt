@@ -5,7 +5,7 @@ ghost use Rattle.gj_top.specs.Faces.{faces};
 use crate::continuity::jump_reply;
 use crate::forms::function_text_of;
 use crate::reply::{End, Reply, Unanswered};
-use gj_listings::faces_text;
+use gj_verdict_text::faces_text;
 use std::alloc::Global;
 
 /// The faces and intervals of the function that the input spells, or its first jump.

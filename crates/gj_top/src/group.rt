@@ -9,8 +9,8 @@ use crate::continuity::jump_reply;
 use crate::forms::function_text_of;
 use crate::reply::{End, Reply, Unanswered};
 use gj_group::{GREATEST_GROUP_ORDER, GroupFault, decide_group};
-use gj_listings::group_text;
 use gj_shape::Shape;
+use gj_verdict_text::group_text;
 use std::alloc::{AllocError, Global};
 
 /// The verdict on the table of the function that the input spells.

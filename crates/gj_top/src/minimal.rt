@@ -5,7 +5,7 @@ ghost use Rattle.gj_top.specs.Minimal.{minimal};
 use crate::forms::function_of;
 use crate::reply::{End, Reply, Unanswered};
 use crate::report::proof_text;
-use gj_claims::minimality_proof;
+use gj_verdict_text::minimality_proof;
 use std::alloc::Global;
 
 /// The verdict on the function that the input spells.

@@ -2,17 +2,16 @@
 //! mixed-integer cut.
 ghost use Rattle.std.specs.Prelude.{◌≡◌, IfOk, IfSome, IfNone};
 ghost use Rattle.gj_row.specs.TableauLimits.{IsTableau};
-ghost use Rattle.gj_listings.specs.MixedLines.{MakesMixedCuts};
+ghost use Rattle.gj_cut_text.specs.MixedLines.{MakesMixedCuts};
 ghost use Rattle.gj_refusals.specs.Functions.{NamesJump};
-ghost use Rattle.gj_claims.specs.CutRules.{PassesTests};
+ghost use Rattle.gj_cut_text.specs.CutRules.{PassesTests};
 ghost use Rattle.gj_top.specs.Task.{IsAnswering};
 ghost use Rattle.gj_top.specs.Mixed.{IsMixedReply, mixed};
 
 use crate::continuity::jump_reply;
 use crate::cut_input::{CutInput, cut_input_of};
 use crate::reply::{End, Reply, Unanswered};
-use gj_claims::violation_of_rule;
-use gj_listings::mixed_text;
+use gj_cut_text::{mixed_text, violation_of_rule};
 use gj_proof::CutRule;
 use gj_refusals::violation_text;
 use gj_row::Tableau;

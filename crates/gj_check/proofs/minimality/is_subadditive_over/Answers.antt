@@ -1,4 +1,4 @@
-use Rattle.gj_lanes.proofs.LaidNumbers.{up_to_scale}
+use Rattle.gj_loops.proofs.LaidNumbers.{up_to_scale}
 use Rattle.gj_theory.proofs.Lanes.{are_bounded}
 use Rattle.gj_check.proofs.minimality.is_subadditive_over.Goals as goal
 

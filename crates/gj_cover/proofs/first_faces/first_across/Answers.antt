@@ -1,5 +1,5 @@
 use Rattle.std.proofs.Common.{◌≡◌, ◌≢◌, ◌<◌, ◌+◌, ◌%◌, ap, sym, ◌∙◌, subst}
-use Rattle.gj_sets.specs.IndexSets.{has}
+use Rattle.gj_loops.specs.IndexSets.{has}
 use Rattle.gj_cover.specs.Table.{IsTightInTable, CoversBy}
 use Rattle.gj_cover.proofs.FirstFaces.{AreSteps, Square, across_none, across_found}
 use Rattle.gj_cover.proofs.Merging.{Either, merged}

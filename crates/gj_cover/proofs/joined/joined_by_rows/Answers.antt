@@ -1,6 +1,6 @@
 use Rattle.std.proofs.Common.{◌&&◌, refl, ap, sym, ◌∙◌, inl, inr}
 use Rattle.std.proofs.lemmas.Bool.{lt-ltb, or_cases, or_left, or_right}
-use Rattle.gj_sets.specs.IndexSets.{has}
+use Rattle.gj_loops.specs.IndexSets.{has}
 use Rattle.gj_cover.specs.Table.{IsTightInTable}
 use Rattle.gj_cover.proofs.Edges.{linked, joined_by_links}
 use Rattle.gj_theory.proofs.CoverPaths.{joined_turned}

@@ -1,6 +1,6 @@
 use Rattle.std.proofs.Common.{refl, ◌+◌, ◌%◌, ◌&&◌, ◌||◌, Bool, ap, ap₂, ◌∙◌, arith}
 use Rattle.std.proofs.Math.Nat.{mod-lt}
-use Rattle.gj_sets.specs.IndexSets.{has}
+use Rattle.gj_loops.specs.IndexSets.{has}
 use Rattle.gj_cover.proofs.LinkSets.{linked_from}
 use Rattle.gj_cover.proofs.Turns.{place_of, turned_place, turned_in, back_in}
 use Rattle.gj_cover.proofs.joined.linked_from.Goals as goal

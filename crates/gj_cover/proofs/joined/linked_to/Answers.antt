@@ -1,6 +1,6 @@
 use Rattle.std.proofs.Common.{◌≡◌, ◌+◌, ◌%◌, ◌&&◌, ◌||◌, Bool, refl, ap, ap₂, sym, ◌∙◌, arith}
 use Rattle.std.proofs.Math.Nat.{mod-lt, mod-eq_of_lt}
-use Rattle.gj_sets.specs.IndexSets.{has}
+use Rattle.gj_loops.specs.IndexSets.{has}
 use Rattle.gj_cover.proofs.LinkSets.{linked_to, sum_next, horizontal_at}
 use Rattle.gj_cover.proofs.Turns.{place_of, turned_place, back_in}
 use Rattle.gj_cover.proofs.joined.linked_to.Goals as goal

@@ -1,7 +1,7 @@
 use Rattle.std.proofs.Common.{◌≡◌, ℕ, ◌+◌, ◌%◌, ◌<◌, ◌&&◌, ◌||◌, ◌-◌, leb, ltb, Bool, false, refl, ap₂, sym, ◌∙◌, subst, arith}
 use Rattle.std.proofs.Math.Nat.{mod-mod, mod_self, mod-eq_of_lt}
 use Rattle.std.proofs.lemmas.Bool.{and_left}
-use Rattle.gj_sets.specs.IndexSets.{has}
+use Rattle.gj_loops.specs.IndexSets.{has}
 use Rattle.gj_cover.specs.Table.{is_tight_in}
 use Rattle.gj_cover.proofs.LinkSets.{linked_from_symmetric}
 use Rattle.gj_cover.proofs.TablePairs.{same_tight, symmetric_tight}

@@ -1,7 +1,7 @@
 use Rattle.std.proofs.Common.{◌≡◌, ℕ, ◌+◌, ◌%◌, ◌<◌, ◌⊎◌, ◌&&◌, Bool, true, refl, ap₂, sym, ◌∙◌, arith}
 use Rattle.std.proofs.Math.Nat.{mod-mod, mod-eq_of_lt}
 use Rattle.gj_faces.proofs.Periods.{same_sum}
-use Rattle.gj_sets.specs.IndexSets.{has}
+use Rattle.gj_loops.specs.IndexSets.{has}
 use Rattle.gj_cover.specs.Links.{Links}
 use Rattle.gj_cover.specs.Table.{IsTightInTable}
 use Rattle.gj_cover.proofs.LinkSets.{linked_to_symmetric, sum_next}

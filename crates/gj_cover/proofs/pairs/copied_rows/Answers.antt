@@ -1,7 +1,7 @@
 use Rattle.std.proofs.Common.{◌≡◌, ◌≤◌, ◌<◌, ◌+◌, ◌↔◌, ◌∷◌, [], List, false, length, IsTrue, ap, sym, ◌∙◌, subst}
 use Rattle.std.proofs.lemmas.List.{length-append}
-use Rattle.gj_sets.specs.IndexSets.{has}
-use Rattle.gj_sets.specs.declared.index_set.IndexSet.{IndexSet}
+use Rattle.gj_loops.specs.IndexSets.{has}
+use Rattle.gj_loops.specs.declared.index_set.IndexSet.{IndexSet}
 use Rattle.gj_shape.specs.Additive.{IsTight}
 use Rattle.gj_cover.specs.SetRows.{in_row}
 use Rattle.gj_cover.proofs.MirroredPairs.{row_more}

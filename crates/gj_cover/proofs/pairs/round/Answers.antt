@@ -1,7 +1,7 @@
 use Rattle.std.proofs.Common.{◌≢◌, Bool, ap, ◌∙◌, sym, refl, arith}
 use Rattle.std.specs.Prelude.{if◌then◌else◌}
 use Rattle.std.proofs.lemmas.Bool.{ne_eqb, eq-eqb}
-use Rattle.gj_sets.specs.IndexSets.{has}
+use Rattle.gj_loops.specs.IndexSets.{has}
 use Rattle.gj_cover.proofs.pairs.round.Goals as goal
 
 pub returns-clause-same : goal.returns-clause-same

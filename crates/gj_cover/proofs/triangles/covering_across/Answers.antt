@@ -3,7 +3,7 @@ use Rattle.std.proofs.Math.Bool.{and-true}
 use Rattle.std.proofs.Math.Nat.{mod-mod, mod-lt, mod-eq_of_lt}
 use Rattle.std.proofs.lemmas.Bool.{and_parts, or_cases, ne_eqb}
 use Rattle.gj_faces.proofs.Periods.{same_sum}
-use Rattle.gj_sets.specs.IndexSets.{has}
+use Rattle.gj_loops.specs.IndexSets.{has}
 use Rattle.gj_cover.proofs.CoveringSets.{in_another}
 use Rattle.gj_cover.proofs.Parts.{add_same}
 use Rattle.gj_cover.proofs.TablePairs.{same_tight}

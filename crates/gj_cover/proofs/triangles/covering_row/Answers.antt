@@ -1,7 +1,7 @@
 use Rattle.std.proofs.Common.{◌≡◌, ◌+◌, ◌%◌, ◌&&◌, ◌||◌, Bool, refl, ap₂, sym, ◌∙◌, arith}
 use Rattle.std.proofs.Math.Nat.{mod-mod, mod-lt}
 use Rattle.std.proofs.lemmas.Bool.{and_parts}
-use Rattle.gj_sets.specs.IndexSets.{has}
+use Rattle.gj_loops.specs.IndexSets.{has}
 use Rattle.gj_cover.proofs.CoveringSets.{in_row}
 use Rattle.gj_cover.proofs.TablePairs.{same_tight}
 use Rattle.gj_cover.proofs.Turns.{in_below, back_in}

@@ -1,5 +1,5 @@
 use Rattle.std.proofs.Common.{IsTrue, arith}
-use Rattle.gj_sets.specs.IndexSets.{has}
+use Rattle.gj_loops.specs.IndexSets.{has}
 use Rattle.gj_faces.proofs.PairRows.{row_more}
 use Rattle.gj_faces.proofs.Readings.{row_of_lanes}
 use Rattle.gj_faces.proofs.lanes.rows_over.Goals as goal

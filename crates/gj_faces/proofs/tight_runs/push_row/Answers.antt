@@ -1,6 +1,6 @@
 use Rattle.std.proofs.Common.{inl, inr, ◌&&◌, not, refl, ap, ◌∙◌, arith}
-use Rattle.gj_sets.specs.IndexSets.{has}
-use Rattle.gj_sets.proofs.Shifts.{in_limit}
+use Rattle.gj_loops.specs.IndexSets.{has}
+use Rattle.gj_loops.proofs.Shifts.{in_limit}
 use Rattle.gj_shape.specs.Additive.{IsTight}
 use Rattle.gj_faces.proofs.RunSteps.{next_run, run_ends, row_done}
 use Rattle.gj_faces.proofs.tight_runs.push_row.Goals as goal

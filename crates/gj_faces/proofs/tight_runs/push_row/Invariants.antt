@@ -1,5 +1,5 @@
 use Rattle.std.proofs.Common.{◌≡◌, ◌⊎◌, ◌-◌, ◌≤◌, false}
-use Rattle.gj_sets.specs.IndexSets.{has}
+use Rattle.gj_loops.specs.IndexSets.{has}
 use Rattle.gj_shape.specs.Additive.{IsTight}
 use Rattle.gj_faces.specs.RunsBefore.{AreRunsBefore}
 use Rattle.gj_faces.proofs.tight_runs.push_row.Given as goal

@@ -2,9 +2,9 @@ use Rattle.std.proofs.Common.{◌≡◌, ◌↔◌, ◌+◌, ◌%◌, ◌<◌, �
 use Rattle.std.specs.Prelude.{◌==◌, if◌then◌else◌}
 use Rattle.std.proofs.Math.Nat.{mod-eq_of_lt}
 use Rattle.std.proofs.lemmas.Bool.{and_left}
-use Rattle.gj_sets.specs.IndexSets.{has}
-use Rattle.gj_sets.specs.declared.index_set.IndexSet.{IndexSet}
-use Rattle.gj_sets.proofs.Counts.{counted_at_most}
+use Rattle.gj_loops.specs.IndexSets.{has}
+use Rattle.gj_loops.specs.declared.index_set.IndexSet.{IndexSet}
+use Rattle.gj_loops.proofs.Counts.{counted_at_most}
 use Rattle.gj_shape.specs.Additive.{IsTight}
 use Rattle.gj_faces.proofs.CountedTriangles.{counted_sets, lower_by_pairs, upper_by_pairs}
 use Rattle.gj_faces.proofs.PairRows.{row_of_index, next_in_row}

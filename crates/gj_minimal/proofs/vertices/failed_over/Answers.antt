@@ -1,7 +1,7 @@
 use Rattle.std.proofs.Common.{below_more, arith}
 use Rattle.gj_minimal.specs.Failures.{PassesVertexRow}
 use Rattle.gj_minimal.proofs.FailedVertices.{vertex_fails}
-use Rattle.gj_lanes.proofs.LaidNumbers.{up_to_scale}
+use Rattle.gj_loops.proofs.LaidNumbers.{up_to_scale}
 use Rattle.gj_theory.proofs.Lanes.{are_bounded}
 use Rattle.gj_minimal.proofs.vertices.failed_over.Goals as goal
 

@@ -1,5 +1,5 @@
 use Rattle.std.proofs.Common.{pos, ◌^◌, sym, subst}
-use Rattle.gj_lanes.specs.Lanes.{AreInRange}
+use Rattle.gj_loops.specs.Lanes.{AreInRange}
 use Rattle.gj_perturb.proofs.FinerSlacks.{value_is_lane}
 use Rattle.gj_perturb.proofs.slacks.two_periods.Goals as goal
 

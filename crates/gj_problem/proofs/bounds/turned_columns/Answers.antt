@@ -1,5 +1,5 @@
 use Rattle.std.proofs.Common.{◌≡◌, ◌+◌, ◌<◌, false, Bool, ℕ, List, [], ◌∷◌, ◌++◌, length, take, drop, get_or, refl, sym, subst, arith}
-use Rattle.gj_rational.specs.Rational.{rational}
+use Rattle.gj_problem.specs.Rational.{rational}
 use Rattle.gj_problem.specs.declared.bounds.Held.{Held}
 use Rattle.gj_problem.specs.Aggregates.{held, IsLeftOut, IsTurned}
 use Rattle.gj_problem.specs.Steps.{AreTurned}

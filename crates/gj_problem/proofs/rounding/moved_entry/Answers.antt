@@ -1,6 +1,6 @@
 use Rattle.std.proofs.Common.{Option, sym, subst, ◌∙◌}
 use Rattle.gj_frac.specs.declared.Frac.{Frac}
-use Rattle.gj_rational.specs.Rational.{rational}
+use Rattle.gj_problem.specs.Rational.{rational}
 use Rattle.gj_problem.proofs.AddedSums.{negation_value}
 use Rattle.gj_problem.specs.RoundedCuts.{upper_of, IsMoved}
 use Rattle.gj_problem.proofs.MovedEntries.{raised_to}

@@ -1,5 +1,5 @@
 use Rattle.std.proofs.Common.{ap, ◌∙◌}
-use Rattle.gj_rational.specs.Rational.{rational, ◌+ℚ◌, ◌*ℚ◌}
+use Rattle.gj_problem.specs.Rational.{rational, ◌+ℚ◌, ◌*ℚ◌}
 use Rattle.gj_problem.proofs.AddedSums.{sum_value, product_value, negation_value}
 use Rattle.gj_problem.proofs.rounding.moved_to.Goals as goal
 

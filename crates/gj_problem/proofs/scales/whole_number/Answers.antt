@@ -2,7 +2,7 @@ use Rattle.std.proofs.Common.{◌≡◌, ℤ, pos, FitsSigned, sym, ap, subst, �
 use Rattle.std.proofs.lemmas.Int.{to_z-of_z}
 use Rattle.std.proofs.lemmas.Option.{MatchOption-at_some}
 use Rattle.gj_frac.specs.Fraction.{IsRatio}
-use Rattle.gj_rational.specs.Rational.{whole, rational}
+use Rattle.gj_problem.specs.Rational.{whole, rational}
 use Rattle.gj_problem.proofs.AddedSums.{ok_if_some, whole_ratio}
 use Rattle.gj_problem.proofs.scales.whole_number.Goals as goal
 use mir.Syntax.{w128}

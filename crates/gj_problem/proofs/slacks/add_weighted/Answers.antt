@@ -1,7 +1,7 @@
 use Rattle.std.proofs.Common.{◌≡◌, ℤ, pos, to_z, of_z, inr, ⊎_elim, List, sym, ap, ◌∙◌}
 use Rattle.gj_frac.specs.Fraction.{numerator}
 use Rattle.gj_frac.proofs.Reduced.{read_part}
-use Rattle.gj_rational.specs.Rational.{Rational, rational, ◌-ℚ◌}
+use Rattle.gj_problem.specs.Rational.{Rational, rational, ◌-ℚ◌}
 use Rattle.gj_problem.specs.declared.problem.Sense.TheVariants.{Equal}
 use Rattle.gj_problem.specs.Problems.{sum_at}
 use Rattle.gj_problem.specs.Rows.{dot}

@@ -1,5 +1,5 @@
 use Rattle.std.proofs.Common.{◌≡◌, ◌↔◌, IsTrue, All, List, sym, ap, ap₂, subst, ◌∙◌}
-use Rattle.gj_rational.specs.Rational.{Rational, whole, rational, ◌*ℚ◌, ◌-ℚ◌}
+use Rattle.gj_problem.specs.Rational.{Rational, whole, rational, ◌*ℚ◌, ◌-ℚ◌}
 use Rattle.gj_problem.specs.declared.problem.Entry.{Entry}
 use Rattle.gj_problem.specs.Problems.{IsWholeColumn, sum_at}
 use Rattle.gj_problem.specs.Aggregates.{IsScale, signed}

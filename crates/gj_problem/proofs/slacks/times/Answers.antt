@@ -1,5 +1,5 @@
 use Rattle.std.proofs.Common.{List, refl, ap, ◌∙◌}
-use Rattle.gj_rational.specs.Rational.{Rational, rational}
+use Rattle.gj_problem.specs.Rational.{Rational, rational}
 use Rattle.gj_problem.specs.Problems.{sum_at}
 use Rattle.gj_problem.specs.declared.problem.Entry.{Entry}
 use Rattle.gj_problem.proofs.OneColumn.{nothing_scaled, entry_scaled, all_scaled}

@@ -1,5 +1,5 @@
 use Rattle.std.proofs.Common.{◌≡◌, List, take}
-use Rattle.gj_rational.specs.Rational.{Rational, rational, ◌*ℚ◌}
+use Rattle.gj_problem.specs.Rational.{Rational, rational, ◌*ℚ◌}
 use Rattle.gj_problem.specs.Problems.{sum_at}
 use Rattle.gj_problem.proofs.slacks.times.Given as goal
 

@@ -1,7 +1,7 @@
 use Rattle.std.proofs.Common.{◌≡◌, inr}
 use Rattle.std.proofs.lemmas.Result.{IfOk-weaker, on_err_weaker}
 use Rattle.gj_frac.specs.Fraction.{SameValue, fraction_of, sum_of}
-use Rattle.gj_rational.specs.Rational.{rational, ◌+ℚ◌, ◌*ℚ◌}
+use Rattle.gj_problem.specs.Rational.{rational, ◌+ℚ◌, ◌*ℚ◌}
 use Rattle.gj_problem.proofs.AddedSums.{multiple_value}
 use Rattle.gj_problem.proofs.sums.with_multiple.Goals as goal
 

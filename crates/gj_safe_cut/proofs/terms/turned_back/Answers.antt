@@ -1,6 +1,6 @@
 use Rattle.std.proofs.Common.{◌≡◌, ◌++◌, List, Option, IfSome, pos, sym, ap, subst, ◌∙◌}
 use Rattle.gj_frac.specs.declared.Frac.{Frac}
-use Rattle.gj_rational.specs.Rational.{Rational, whole, rational, ◌-ℚ◌}
+use Rattle.gj_problem.specs.Rational.{Rational, whole, rational, ◌-ℚ◌}
 use Rattle.gj_problem.specs.declared.problem.Inequality.{Inequality}
 use Rattle.gj_problem.specs.declared.pieces.Piece.{Piece}
 use Rattle.gj_problem.specs.Problems.{surplus_at}

@@ -1,7 +1,7 @@
 use Rattle.std.proofs.Common.{List, ℕ, subst}
 use Rattle.gj_proof.specs.declared.claim.Claim.{Claim}
 use Rattle.gj_proof.specs.ProofText.{IsProofText}
-use Rattle.gj_claims.specs.CutClaim.{IsTextOfCuts}
+use Rattle.gj_cut_text.specs.CutClaim.{IsTextOfCuts}
 use Rattle.gj_top.specs.Cut.{AreCheckedCutsOf, CutInput}
 use Rattle.gj_top.proofs.cut.cuts_or_violation.Goals as goal
 

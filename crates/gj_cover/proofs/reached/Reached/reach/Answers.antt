@@ -1,5 +1,5 @@
 use Rattle.std.proofs.Common.{◌<◌, ◌&&◌, not, eqb, ap, ◌∙◌, arith}
-use Rattle.gj_sets.specs.IndexSets.{has}
+use Rattle.gj_loops.specs.IndexSets.{has}
 use Rattle.gj_cover.specs.Table.{IsTightInTable}
 use Rattle.gj_cover.specs.declared.reached.Reached.{Reached}
 use Rattle.gj_cover.proofs.Classes.{looked_at}

@@ -1,5 +1,5 @@
 use Rattle.std.proofs.Common.{List, length, ap, ◌∙◌, subst}
-use Rattle.gj_sets.specs.declared.index_set.IndexSet.{IndexSet}
+use Rattle.gj_loops.specs.declared.index_set.IndexSet.{IndexSet}
 use Rattle.gj_cover.specs.SetRows.{AreColumns, AreFirsts}
 use Rattle.gj_cover.proofs.Turned.{seconds_are}
 use Rattle.gj_cover.proofs.table.Table.of.Goals as goal

@@ -1,5 +1,5 @@
 use Rattle.std.proofs.Common.{◌&&◌, ap, ◌∙◌}
-use Rattle.gj_sets.specs.IndexSets.{has}
+use Rattle.gj_loops.specs.IndexSets.{has}
 use Rattle.gj_cover.proofs.Turns.{back_place}
 use Rattle.gj_cover.proofs.table.Table.turned_back.Goals as goal
 

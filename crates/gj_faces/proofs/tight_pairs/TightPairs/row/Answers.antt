@@ -1,6 +1,6 @@
 use Rattle.std.proofs.Common.{◌∙◌, ap, sym, arith}
 use Rattle.std.proofs.lemmas.List.{get_or_default}
-use Rattle.gj_sets.specs.IndexSets.{has, no_set}
+use Rattle.gj_loops.specs.IndexSets.{has, no_set}
 use Rattle.gj_faces.proofs.PairRows.{tight_at}
 use Rattle.gj_faces.proofs.tight_pairs.TightPairs.row.Goals as goal
 

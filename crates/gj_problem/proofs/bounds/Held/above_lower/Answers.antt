@@ -1,5 +1,5 @@
 use Rattle.std.proofs.Common.{List, pos, refl}
-use Rattle.gj_rational.specs.Rational.{Rational}
+use Rattle.gj_problem.specs.Rational.{Rational}
 use Rattle.gj_problem.proofs.AddedSums.{whole_ratio}
 use Rattle.gj_problem.proofs.OneColumn.{lower_surplus}
 use Rattle.gj_problem.proofs.bounds.Held.above_lower.Goals as goal

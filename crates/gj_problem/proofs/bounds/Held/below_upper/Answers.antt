@@ -1,5 +1,5 @@
 use Rattle.std.proofs.Common.{List, negsuc}
-use Rattle.gj_rational.specs.Rational.{Rational}
+use Rattle.gj_problem.specs.Rational.{Rational}
 use Rattle.gj_problem.proofs.AddedSums.{whole_ratio, negation_value}
 use Rattle.gj_problem.proofs.OneColumn.{upper_surplus}
 use Rattle.gj_problem.proofs.bounds.Held.below_upper.Goals as goal

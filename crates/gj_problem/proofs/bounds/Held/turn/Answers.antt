@@ -1,5 +1,5 @@
 use Rattle.std.proofs.Common.{◌≡◌, IsTrue, true, inr, Option, None, MatchOption, ap, subst, ◌∙◌}
-use Rattle.gj_rational.specs.Rational.{rational, ◌+ℚ◌, neg_ℚ}
+use Rattle.gj_problem.specs.Rational.{rational, ◌+ℚ◌, neg_ℚ}
 use Rattle.gj_problem.specs.declared.bounds.Held.{Held}
 use Rattle.gj_problem.specs.Aggregates.{IsLeftOut, IsTurned}
 use Rattle.gj_problem.specs.declared.pieces.Piece.{Piece}

@@ -1,6 +1,6 @@
 use Rattle.std.proofs.Common.{◌+◌, List, take, drop, refl, ◌∙◌}
 use Rattle.gj_frac.proofs.Refusals.{on_err}
-use Rattle.gj_rational.specs.Rational.{Rational, rational}
+use Rattle.gj_problem.specs.Rational.{Rational, rational}
 use Rattle.gj_problem.specs.Rows.{dot}
 use Rattle.gj_problem.specs.Steps.{IsWideWithin}
 use Rattle.gj_problem.proofs.Prefixes.{split_at}

@@ -1,2 +1,0 @@
-pub mod CutClaims
-pub mod CutLines

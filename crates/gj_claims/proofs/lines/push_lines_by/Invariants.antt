@@ -1,7 +1,0 @@
-use Rattle.std.proofs.Common.{take}
-use Rattle.gj_proof.specs.declared.cut.CutRule.TheVariants.{Table}
-use Rattle.gj_claims.specs.CutLines.{AppendsCuts}
-use Rattle.gj_claims.proofs.lines.push_lines_by.Given as goal
-
-abbrev pub invariant-loop-row : goal.invariant-loop-row
-invariant-loop-row g l = AppendsCuts (Table l.fn.shape) l.columns (take l.row-index l.rows) l.fn.out.items l.out.items

@@ -1,4 +1,0 @@
-pub mod CutClaim
-pub mod CutLines
-pub mod CutRules
-pub mod MinimalityClaim

@@ -1,0 +1,4 @@
+pub mod CutClaims
+pub mod CutLines
+pub mod MixedRowLines
+pub mod NamedTerms

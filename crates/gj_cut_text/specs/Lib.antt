@@ -1,0 +1,5 @@
+pub mod CutClaim
+pub mod CutLines
+pub mod CutRules
+pub mod Columns
+pub mod MixedLines

@@ -1,2 +1,0 @@
-pub mod EqualSums
-pub mod LaidNumbers

@@ -1,4 +1,0 @@
-pub mod FacesTexts
-pub mod MixedRowLines
-pub mod NamedTerms
-pub mod WrittenPieces

@@ -1,6 +1,0 @@
-use Rattle.std.proofs.Common.{◌≡◌, length}
-use Rattle.gj_listings.specs.FacePieces.{AreEnds}
-use Rattle.gj_listings.proofs.face_lines.ends_below.Given as goal
-
-abbrev pub invariant-loop-column : goal.invariant-loop-column
-invariant-loop-column l = (length l.ends.items ≡ l.column) × AreEnds l.ends.items

@@ -1,3 +1,0 @@
-pub mod RationalLaws
-pub mod RationalRing
-pub mod RationalOrder

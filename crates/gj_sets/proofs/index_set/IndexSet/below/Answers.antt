@@ -1,8 +1,0 @@
-use Rattle.std.proofs.Common.{◌∙◌, arith}
-use Rattle.gj_sets.specs.IndexSets.{has}
-use Rattle.gj_sets.proofs.Bits.{all_but_those_below}
-use Rattle.gj_sets.proofs.index_set.IndexSet.below.Goals as goal
-
-pub returns : goal.returns
-unfolding has
-returns c i = c.down.ensures i ∙ all_but_those_below c.args.n i (omega arith)

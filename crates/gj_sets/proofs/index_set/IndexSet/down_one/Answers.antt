@@ -1,6 +1,0 @@
-use Rattle.gj_sets.specs.IndexSets.{has}
-use Rattle.gj_sets.proofs.index_set.IndexSet.down_one.Goals as goal
-
-pub returns : goal.returns
-unfolding has
-returns c i = c.one_lower.ensures i

@@ -1,7 +1,0 @@
-use Rattle.gj_sets.specs.IndexSets.{has}
-use Rattle.gj_sets.proofs.Shifts.{bit_of-lower}
-use Rattle.gj_sets.proofs.moved.one_lower.Goals as goal
-
-pub returns : goal.returns
-unfolding has
-returns c i = bit_of-lower c.args.words.now i c.requires c.type_inv.words

@@ -1,7 +1,0 @@
-use Rattle.gj_sets.specs.IndexSets.{has}
-use Rattle.gj_sets.proofs.Shifts.{bit_of-window}
-use Rattle.gj_sets.proofs.moved.window.Goals as goal
-
-pub returns : goal.returns
-unfolding has
-returns c i below = bit_of-window c.args.wide.now c.args.s i c.requires c.type_inv.wide below

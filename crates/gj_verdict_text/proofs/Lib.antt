@@ -1,0 +1,2 @@
+pub mod FacesTexts
+pub mod WrittenPieces

@@ -1,0 +1,4 @@
+pub mod FacePieces
+pub mod FacesText
+pub mod GroupText
+pub mod MinimalityClaim
