@@ -10,8 +10,8 @@ ghost use Rattle.gj_proof.specs.declared.cut.CutLine.{CutLine};
 ghost use Rattle.gj_proof.specs.declared.cut.CutRule.TheVariants.{Gmic, Table};
 ghost use Rattle.gj_cut_text.specs.CutLines.{AppendsCuts, HasColumns, NamesCut};
 
+use crate::named::push_cut_row;
 use gj_cut::{RowCut, cut_row, gmic_cut_row};
-use gj_cut_text::push_cut_row;
 use gj_frac::Frac;
 use gj_lex::Name;
 use gj_proof::{CutRule, SkipReason, push_skip_line};

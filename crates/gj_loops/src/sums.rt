@@ -1,6 +1,6 @@
 //! The places at which values add up.
 use crate::index_set::IndexSet;
-use gj_loops::SignedLane;
+use crate::signed::SignedLane;
 
 impl IndexSet {
     ghost use Rattle.std.specs.Prelude.{ℕ, ◌≡◌, ◌↔◌, ◌+◌, ◌+ℤ◌, ◌<◌, ◌≤◌, length, IsTrue};
