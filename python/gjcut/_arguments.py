@@ -39,12 +39,13 @@ def number(given: Number, *place) -> Fraction:
         raise wrong(given, NUMBER, *place)
     try:
         if isinstance(given, numbers.Rational):
-            # The whole numbers of other packages have a greatest one, so none may stay.
-            parts = operator.index(given.numerator), operator.index(given.denominator)
-            return Fraction(*parts)
+            # The whole numbers of other packages can have a greatest one, so none may stay.
+            return Fraction(*map(operator.index, (given.numerator, given.denominator)))
         return Fraction(given)
     except (ValueError, OverflowError, ZeroDivisionError):
         raise ValueError(f"{Place(*place)}: {given!r} is no fraction") from None
+    except TypeError:
+        raise wrong(given, NUMBER, *place) from None
 
 
 def whole(given: int, *place) -> int:
