@@ -10,9 +10,9 @@ ghost use Rattle.gj_function_text.specs.BreaksText.{start_rule, break_rule, end_
 ghost use Rattle.gj_function_text.specs.BreaksText.{next_break, breaks_part};
 ghost use Rattle.gj_function_text.specs.BreaksRead.{refusal_of, end_refusal};
 
+use gj_forms::{PartFault, begins_with_word, field_of, has_words, line_at};
 use gj_frac::Frac;
 use gj_function_lines::break_in;
-use gj_forms::{PartFault, begins_with_word, field_of, has_words, line_at};
 use gj_lex::{Reason, Spelling, fraction_of};
 use gj_shape::{BreakFault, Breaks, GREATEST_ORDER, Shape, ShapeFault};
 use std::alloc::Global;

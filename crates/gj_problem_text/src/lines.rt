@@ -7,8 +7,8 @@ ghost use Rattle.gj_problem.specs.declared.problem.Sense.{Sense};
 ghost use Rattle.gj_problem_text.specs.ProblemLines.{kind_word, sense_word, told_rule};
 ghost use Rattle.gj_problem_text.specs.LinesRead.{line_told};
 
-use gj_frac::Frac;
 use gj_forms::{LineFault, only_word, split_word};
+use gj_frac::Frac;
 use gj_lex::{Reason, Spelling, count_of, fraction_of};
 use gj_problem::Sense;
 use std::alloc::Global;

@@ -12,8 +12,8 @@ ghost use Rattle.gj_proof.specs.ProofText.{IsCoverLineBelow};
 ghost use Rattle.gj_proof.specs.ProofGrammar.{cover_form, form_part, covered_part};
 
 use crate::fields::{count_below, five_fields_of, split_at_byte};
-use gj_function_lines::face_word;
 use gj_forms::{PartFault, behind_text, line_at};
+use gj_function_lines::face_word;
 use gj_lex::{Reason, Spelling, behind_byte, printed_number};
 use gj_shape::{CoverLine, Face, FaceKind};
 use std::alloc::Global;

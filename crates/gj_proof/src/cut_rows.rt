@@ -18,9 +18,12 @@ ghost use Rattle.gj_proof.specs.declared.cut.SkipReason.{SkipReason};
 
 use crate::cut::{CutLine, CutRule, CutTerm, SkipReason};
 use crate::fields::{number_of, split_at_byte, three_fields_of};
+use gj_forms::{
+    LineFault, PartFault, TextLine, begins_with_line, behind_text, line_at, line_with_word,
+    name_of, two_fields_of, words_at,
+};
 use gj_frac::Frac;
 use gj_function_lines::function_at;
-use gj_forms::{LineFault, PartFault, TextLine, begins_with_line, behind_text, line_at, line_with_word, name_of, two_fields_of, words_at};
 use gj_lex::{Name, Reason, Spelling, behind_byte, printed_fraction};
 use gj_shape::List;
 use std::alloc::Global;

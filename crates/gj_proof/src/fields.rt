@@ -9,8 +9,8 @@ ghost use Rattle.gj_lex.specs.NumberText.{fraction_text};
 ghost use Rattle.gj_lex.specs.Words.{word_texts};
 ghost use Rattle.gj_lex.specs.declared.reason.Reason.TheVariants.{Number};
 
-use gj_frac::Frac;
 use gj_forms::{behind_name, only_word, split_word};
+use gj_frac::Frac;
 use gj_lex::{Reason, Spelling, fraction_of, read_count};
 
 /// Fewer digits than these spell a count below 2^32.

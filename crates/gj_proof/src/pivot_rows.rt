@@ -10,7 +10,9 @@ ghost use Rattle.gj_proof.specs.ProofGrammar.{group_part, groups_part};
 
 use crate::fields::count_below;
 use crate::pivot::PivotRow;
-use gj_forms::{PartFault, begins_with_line, begins_with_word, field_of, has_words, line_at, two_fields_of};
+use gj_forms::{
+    PartFault, begins_with_line, begins_with_word, field_of, has_words, line_at, two_fields_of,
+};
 use gj_lex::{Reason, Spelling};
 use gj_shape::{GREATEST_ORDER, List, RowName};
 use std::alloc::Global;
