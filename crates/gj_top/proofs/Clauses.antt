@@ -3,8 +3,8 @@ use Rattle.std.proofs.Common.{◌≡◌, ◌≢◌, ◌⊎◌, inl, inr, ℕ, �
 use Rattle.std.proofs.Common.{None, Some, String, refl, ap, subst, ◌∙◌, arith}
 use Rattle.std.proofs.lemmas.List.{drop_all}
 use Rattle.std.specs.declared.alloc.Global.{Global}
-use Rattle.gj_refusals.specs.InputRead.{input_limit, IsReadWhole}
-use Rattle.gj_refusals.proofs.InputRead.{told_input}
+use Rattle.gj_top.specs.InputRead.{input_limit, IsReadWhole}
+use Rattle.gj_top.proofs.InputRead.{told_input}
 use Rattle.gj_words.specs.declared.requests.Request.{Request}
 use Rattle.gj_top.specs.declared.reply.End.{End}
 use Rattle.gj_top.specs.declared.reply.End.TheVariants as end

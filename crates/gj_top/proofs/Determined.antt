@@ -8,7 +8,7 @@ use Rattle.gj_top.specs.declared.reply.End.TheVariants as end
 use Rattle.gj_top.specs.declared.status.Status.{Status}
 use Rattle.gj_top.specs.Answer.{IsAnswerTo}
 use Rattle.gj_top.specs.Answer.IsAnswerTo.{too_long, refused, replied}
-use Rattle.gj_refusals.specs.Lines.{refused_line}
+use Rattle.gj_top.specs.Lines.{refused_line}
 use Rattle.gj_top.specs.Forms.{NamesFault}
 use Rattle.gj_top.specs.Promise.{Form, Spells}
 use Rattle.gj_top.specs.Reply.{status_of}

@@ -11,9 +11,9 @@ use Rattle.gj_words.specs.declared.requests.Request.{Request}
 use Rattle.gj_top.specs.declared.status.Status.TheVariants.{Input}
 use Rattle.gj_top.specs.Command.{IsNamed, promise_for, task_for}
 use Rattle.gj_top.specs.Promise.{reads}
-use Rattle.gj_refusals.specs.InputRead.{input_limit, IsReadWhole}
-use Rattle.gj_refusals.specs.Lines.{long_line}
-use Rattle.gj_refusals.proofs.InputRead.{read_whole, read_longer}
+use Rattle.gj_top.specs.InputRead.{input_limit, IsReadWhole}
+use Rattle.gj_top.specs.Lines.{long_line}
+use Rattle.gj_top.proofs.InputRead.{read_whole, read_longer}
 use Rattle.gj_top.specs.Answer.{IsAnswerTo, IsAnswer, answer_status, answer_text}
 use Rattle.gj_top.specs.Answer.IsAnswerTo.{too_long}
 use Rattle.gj_top.specs.Answer.IsAnswer.{of_request}

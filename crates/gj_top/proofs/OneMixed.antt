@@ -34,7 +34,7 @@ use Rattle.gj_proof.specs.declared.cut.CutTerm.{CutTerm}
 use Rattle.gj_proof.specs.declared.cut.SkipReason.TheVariants.{Integral, Other}
 use Rattle.gj_top.specs.declared.reply.End.{End}
 use Rattle.gj_top.specs.declared.reply.End.TheVariants as end
-use Rattle.gj_refusals.specs.Functions.{NamesViolation, NamesJump}
+use Rattle.gj_top.specs.Objection.{NamesViolation, NamesJump}
 use Rattle.gj_top.specs.Cut.{CutInput, SpellsCutInput}
 use Rattle.gj_top.specs.Mixed.{IsMixedReply, mixed}
 use Rattle.gj_top.proofs.Determined.{IsDetermined}

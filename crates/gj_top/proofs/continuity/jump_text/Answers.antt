@@ -2,7 +2,7 @@ use Rattle.std.proofs.Common.{◌≡◌, pos, codes, ◌++◌, w64, to_z, of_z, 
 use Rattle.std.proofs.lemmas.Int.{to_z-of_z}
 use Rattle.gj_frac.specs.Fraction.{IsRatio}
 use Rattle.gj_function_lines.specs.FunctionLines.{fraction_line}
-use Rattle.gj_refusals.proofs.functions.jump_text.Goals as goal
+use Rattle.gj_top.proofs.continuity.jump_text.Goals as goal
 
 pub returns : goal.returns
 returns c =
