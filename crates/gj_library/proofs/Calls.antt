@@ -12,19 +12,18 @@ use Rattle.gj_words.specs.declared.requests.Command.{Command}
 use Rattle.gj_words.specs.declared.requests.Command.TheVariants.{Minimal, Extreme, Cut, Check, Show, Faces, Demo, Mixed, Problem, Fill, Group, Times, Mirror, Restrict}
 use Rattle.gj_words.specs.declared.requests.Request.{Request}
 use Rattle.gj_top.specs.declared.status.Status.{Status}
-use Rattle.gj_top.specs.declared.status.Status.TheVariants.{Done, Words, ReadFault, WriteFault, Memory}
+use Rattle.gj_top.specs.declared.status.Status.TheVariants.{WriteFault, Memory}
 use Rattle.gj_top.specs.Answer.{IsAnswer}
 use Rattle.gj_top.specs.Answer.IsAnswer.{no_request, read_fault, of_request}
 use Rattle.gj_top.specs.Causes.{IsTrueRun}
 use Rattle.gj_top.specs.Code.{code_of}
-use Rattle.gj_top.specs.Command.{IsNamed, NameNone, task_for}
+use Rattle.gj_top.specs.Command.{IsNamed, NameNone}
 use Rattle.gj_top.specs.IsRun.{IsRun}
 use Rattle.gj_top.specs.Outcome.{IsOutcome}
 use Rattle.gj_top.specs.Outcome.IsOutcome.{silent, told, cut_off}
 use Rattle.gj_top.specs.Run.{Run}
-use Rattle.gj_top.proofs.Clauses.{no_write_fault}
-use Rattle.gj_top.proofs.Ends.{not_answered}
-use Rattle.gj_top.proofs.EveryRun.{is_run as every_run, true_run}
+use Rattle.gj_top.proofs.Clauses.{no_write_fault, no_memory, headline_clause}
+use Rattle.gj_top.proofs.EveryRun as every
 use Rattle.gj_library.specs.Call.{AreWordsOf, OfWords, IsAnswered, IsCall, IsTooSmall, room_faults, run_over}
 use Rattle.gj_library.specs.Handing.{IsHandedOver}
 use Rattle.gj_library.specs.Handing.IsHandedOver.{whole, part}
@@ -71,13 +70,6 @@ pub steadied : (words : List (String Global)) (Fault Other : Type 0) (left after
 steadied words Fault Other left after s text steady (no_request a) = no_request a
 steadied words Fault Other left after s text steady (read_fault a) = absurd (steady a.failed)
 steadied words Fault Other left after s text steady (of_request a) = of_request a
-
--- an answer is not that there was no memory
-no_memory : (words : List (String Global)) (Fault : Type 0) (left after : Option (List ℕ)) (s : Status) (text : List ℕ) →
-    IsAnswer words Fault left after s text → s ≡ Memory → ⊥
-no_memory words Fault left after s text (no_request a) e = let is = a.status_is in cc
-no_memory words Fault left after s text (read_fault a) e = let is = a.status_is in cc
-no_memory words Fault left after s text (of_request a) e = not_answered (task_for a.request) a.input s Memory text e refl a.answer
 
 -- a sink that has not failed was not answered so
 sound_sink : (s : Status) (before after : ℕ) → before ≡ 0 → after ≡ 0 → (s ≡ WriteFault → HasFailed before after) → s ≡ WriteFault → ⊥
@@ -147,7 +139,7 @@ module _ (bytes input : List ℕ) (s : Status) (text : List ℕ) (a : IsAnswered
     left = a.left;
     status = s;
     code_is = own;
-    is_run = every_run (run_over a.words input a.left room front s) (told (record { text = text; answer = in_memory; gain = ap Some is }))
+    is_run = every.is_run (run_over a.words input a.left room front s) (told (record { text = text; answer = in_memory; gain = ap Some is }))
         (λ e. absurd (no_fault e)) (omega arith) (omega arith);
   }
   called room front code (part small is five) = record {
@@ -156,7 +148,7 @@ module _ (bytes input : List ℕ) (s : Status) (text : List ℕ) (a : IsAnswered
     left = a.left;
     status = WriteFault;
     code_is = five;
-    is_run = every_run (run_over a.words input a.left room front WriteFault)
+    is_run = every.is_run (run_over a.words input a.left room front WriteFault)
         (cut_off (record { status_is = refl; status = s; text = text; answer = in_memory; unsure = small; gain = (room, small, ap Some is) }))
         (λ e. inl (omega arith)) (omega arith) (omega arith);
   }
@@ -227,7 +219,7 @@ module _ (bytes input : List ℕ) (room : ℕ) (text : List ℕ) (code : ℕ) (c
   headline_of e = (
     c.words,
     c.are_words,
-    true_run (run_over c.words input c.left room text c.status) c.is_run.outcome (status_is c.status 0 (sym c.code_is ∙ e)) input
+    headline_clause (run_over c.words input c.left room text c.status) c.is_run.outcome (status_is c.status 0 (sym c.code_is ∙ e)) input
         (λ r named reads. refl),
   )
 

@@ -62,7 +62,7 @@ moved c true own input left after s text e given whole a =
     subst (λ (i : List ℕ). IsAnswerTo (task_for c) i s text) (told_input input own left after (given refl) whole) a
 moved c false own input left after s text e given whole a = unread_answer c own input s text e a
 
-answer_to_input : (words : List (String Global)) (left after : Option (List ℕ)) (s : Status) (text input : List ℕ) → IsInput words left input →
+pub answer_to_input : (words : List (String Global)) (left after : Option (List ℕ)) (s : Status) (text input : List ℕ) → IsInput words left input →
     (a : IsRequestAnswer words left after s text) → IsAnswerTo (task_for a.request) input s text
 answer_to_input words left after s text input given a =
     moved a.request (reads (promise_for a.request).form) a.input input left after s text refl (given a.request a.named) a.whole a.answer
