@@ -161,6 +161,13 @@ module _ (bytes input : List ℕ) (s : Status) (text : List ℕ) (a : IsAnswered
 
 -- ---- the answer, or none, and what was handed over of it
 
+pub within_of : (room : ℕ) (front : List ℕ) (written code : ℕ) (r : Result Answer AllocError) →
+    IfOk r (λ a. IsHandedOver a.status a.text.items room front code) → IfOk r (λ a. written ≡ length a.text.items) →
+    IfErr r (λ e. (code ≡ 6) × (written ≡ 0)) → code ≢ 5 → written ≤ room
+within_of room front written code (Ok a) (whole fits is own) all none other = omega arith
+within_of room front written code (Ok a) (part small is five) all none other = absurd (other five)
+within_of room front written code (Err e) put all none other = let zero = none.1 in omega arith
+
 module _ (bytes input : List ℕ) (room : ℕ) (front : List ℕ) (written code : ℕ) where
   -- there was no memory, or the call is what was handed over
   pub call_of : (r : Result Answer AllocError) → IfOk r (λ a. IsAnswered bytes input a.status a.text.items) →
@@ -175,12 +182,6 @@ module _ (bytes input : List ℕ) (room : ℕ) (front : List ℕ) (written code 
       absurd (no_memory_code bytes input a.status a.text.items answered (sym own ∙ six))
   memory_of (Ok a) answered (part small is five) none six = absurd (let both : 5 ≡ 6 = sym five ∙ six in cc)
   memory_of (Err e) answered put none six = none.1
-
-  pub within_of : (r : Result Answer AllocError) → IfOk r (λ a. IsHandedOver a.status a.text.items room front code) →
-      IfOk r (λ a. written ≡ length a.text.items) → IfErr r (λ e. (code ≡ 6) × (written ≡ 0)) → code ≢ 5 → written ≤ room
-  within_of (Ok a) (whole fits is own) all none other = omega arith
-  within_of (Ok a) (part small is five) all none other = absurd (other five)
-  within_of (Err e) put all none other = let zero = none.1 in omega arith
 
   -- without room the output is the front of an answer
   pub room_of : (output : List ℕ) (r : Result Answer AllocError) → IfOk r (λ a. IsAnswered bytes input a.status a.text.items) →

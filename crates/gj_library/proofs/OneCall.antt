@@ -26,6 +26,9 @@ module _ (bytes input : List ℕ) (v w : List (String Global)) (v_are : AreWords
   renamed : (r : Request) → IsNamed v r → IsNamed w r
   renamed r named = subst (λ (words : List (List ℕ)). SpellRequest words r) (same_words bytes v w v_are w_are) named
 
+  named_back : (r : Request) → IsNamed w r → IsNamed v r
+  named_back r named = subst (λ (words : List (List ℕ)). SpellRequest words r) (same_words bytes w v w_are v_are) named
+
   module _ (left after : Option (List ℕ)) (s t : Status) (x y : List ℕ) where
     -- both answers are to one request over the input
     abbrev Both : Type 0
@@ -44,8 +47,7 @@ module _ (bytes input : List ℕ) (v w : List (String Global)) (v_are : AreWords
     pub status_of_both : IsAnswer v ⊥ (Some input) left s x → IsAnswer w ⊥ (Some input) after t y → s ≡ t
     status_of_both (no_request a) (no_request b) = a.status_is ∙ sym b.status_is
     status_of_both (no_request a) (read_fault b) = absurd b.failed
-    status_of_both (no_request a) (of_request b) = absurd (a.unnamed b.request (subst (λ (words : List (List ℕ)). SpellRequest words b.request)
-    (same_words bytes w v w_are v_are) b.named))
+    status_of_both (no_request a) (of_request b) = absurd (a.unnamed b.request (named_back b.request b.named))
     status_of_both (read_fault a) b = absurd a.failed
     status_of_both (of_request a) (no_request b) = absurd (b.unnamed a.request (renamed a.request a.named))
     status_of_both (of_request a) (read_fault b) = absurd b.failed
@@ -56,8 +58,7 @@ module _ (bytes input : List ℕ) (v w : List (String Global)) (v_are : AreWords
     pub text_of_both : HasOneText bytes s → IsAnswer v ⊥ (Some input) left s x → IsAnswer w ⊥ (Some input) after t y → x ≡ y
     text_of_both one (no_request a) (no_request b) = a.spelled ∙ sym b.spelled
     text_of_both one (no_request a) (read_fault b) = absurd b.failed
-    text_of_both one (no_request a) (of_request b) = absurd (a.unnamed b.request (subst (λ (words : List (List ℕ)). SpellRequest words b.request)
-    (same_words bytes w v w_are v_are) b.named))
+    text_of_both one (no_request a) (of_request b) = absurd (a.unnamed b.request (named_back b.request b.named))
     text_of_both one (read_fault a) b = absurd a.failed
     text_of_both one (of_request a) (no_request b) = absurd (b.unnamed a.request (renamed a.request a.named))
     text_of_both one (of_request a) (read_fault b) = absurd b.failed

@@ -1,7 +1,11 @@
 -- What a call with the word `problem` says.
-use Rattle.std.proofs.Common.{◌≡◌, ◌≢◌, ◌⊎◌, inl, inr, ℕ, ◌<◌, ◌≤◌, true, false, List, length, Some, String, refl, sym, ap, subst, ◌∙◌, arith}
+use Rattle.std.proofs.Common.{◌≡◌, ◌≢◌, ◌⊎◌, inl, inr, ℕ, ◌<◌, ◌≤◌, Bool, true, false, cond, List, [], ◌∷◌, All, length, Some, String, refl, sym, ap, subst, ◌∙◌, arith}
+use Rattle.std.specs.Prelude.{nat_lt}
+use Rattle.std.proofs.lemmas.Bool.{ltb-true}
 use Rattle.std.specs.declared.alloc.Global.{Global}
-use Rattle.std.proofs.lemmas.Str.{IsUtf8-from_is_utf8}
+use Rattle.std.proofs.lemmas.List.Elements.{All-nil, All-cons}
+use Rattle.std.proofs.lemmas.Str.{IsUtf8-from_ascii}
+use Rattle.std.proofs.lemmas.Str.Ascii.{IsAscii-from_all}
 use Rattle.gj_port.specs.Runs.{IsSourceFault}
 use Rattle.gj_words.specs.declared.requests.Command.TheVariants.{Problem}
 use Rattle.gj_words.specs.declared.requests.Request.{Request}
@@ -31,10 +35,23 @@ use Rattle.gj_library.proofs.Codes.{status_at, back, status_is}
 abbrev request : Request
 request = record { command = Problem; json = false }
 
--- the word names the request
+-- the word is text
+abbrev are_small : List ℕ → Bool
+are_small [] = true
+are_small (b ∷ bytes) = cond (nat_lt b 128) (are_small bytes) false
+
+small : (bytes : List ℕ) → are_small bytes ≡ true → All (λ b. b < 128) bytes
+small [] h = All-nil (λ b. b < 128)
+small (b ∷ bytes) h = go (nat_lt b 128) refl h
+  where
+    go : (less : Bool) → nat_lt b 128 ≡ less → cond less (are_small bytes) false ≡ true → All (λ b. b < 128) (b ∷ bytes)
+    go true is rest = All-cons (λ b. b < 128) b bytes (ltb-true b 128 is) (small bytes rest)
+    go false is rest = absurd (cc)
+
+-- and it names the request
 named_problem : (words : List (String Global)) → AreWordsOf problem_word words → IsNamed words request
 named_problem words (inl are) = record { in_bounds = tt; allowed = λ flag. absurd (let no : false ≡ true = flag in cc); placed = are.1 }
-named_problem words (inr are) = absurd (are.0 (IsUtf8-from_is_utf8 problem_word refl))
+named_problem words (inr are) = absurd (are.0 (IsUtf8-from_ascii problem_word (IsAscii-from_all problem_word (small problem_word refl))))
 
 -- no end has one of these codes
 end_code : (e : End) → (code_of (status_of e) ≢ 3) × (code_of (status_of e) ≢ 5) × (code_of (status_of e) ≢ 6)

@@ -38,4 +38,4 @@ returns-clause-memory c = memory_of _ _ _ _ _ _ c.answer_to.result c.answer_to.e
 
 pub returns-clause-within : goal.returns-clause-within
 returns-clause-within c =
-    within_of _ _ _ _ _ _ c.answer_to.result c.hand_over.ensures.answer c.hand_over.ensures.whole c.hand_over.ensures.none
+    within_of _ _ _ _ c.answer_to.result c.hand_over.ensures.answer c.hand_over.ensures.whole c.hand_over.ensures.none
