@@ -18,6 +18,7 @@ use Rattle.gj_top.specs.Causes.{IsGoodInput, IsBadInput, IsDoneRun, ReadNothing,
 use Rattle.gj_top.specs.Run.{Run, SourceFailed, SinkFailed, IsGiven, OfWritten}
 use Rattle.gj_top.specs.Outcome.{IsOutcome, IsUnsure}
 
+-- a field for each clause
 pub record IsRun (run : Run) : Type 0 where
   -- with Done, what was written is the reply of the request to what the input spells, every byte
   pub reply : run.status ≡ Done → (input : List ℕ) → IsGiven run input → OfWritten run (IsDoneRun run.words input)
