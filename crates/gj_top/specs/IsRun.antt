@@ -18,10 +18,9 @@ use Rattle.gj_top.specs.Causes.{IsGoodInput, IsBadInput, IsDoneRun, ReadNothing,
 use Rattle.gj_top.specs.Run.{Run, SourceFailed, SinkFailed, IsGiven, OfWritten}
 use Rattle.gj_top.specs.Outcome.{IsOutcome, IsUnsure}
 
+-- a field for each clause
 pub record IsRun (run : Run) : Type 0 where
-  -- ---- what is written
-
-  -- what was written with Done is the reply of the request to what the input spells, every byte
+  -- with Done, what was written is the reply of the request to what the input spells, every byte
   pub reply : run.status ≡ Done → (input : List ℕ) → IsGiven run input → OfWritten run (IsDoneRun run.words input)
   -- the answer was written, all of it, or as far as the sink took it, or nothing for want of memory
   pub outcome : IsOutcome run
@@ -29,9 +28,6 @@ pub record IsRun (run : Run) : Type 0 where
   pub memory : run.status ≡ Memory → run.written_after ≡ run.written
   pub fault_told : run.status ≡ ReadFault → Gains run.written run.written_after fault_line
   pub words_told : run.status ≡ Words → Gains run.written run.written_after words_line
-
-  -- ---- why a run ends so
-
   -- the words alone decide whether they name a request, and then which statuses there can be
   pub words : run.status ≡ Words → NameNone run.words
   pub command : NameNone run.words → (run.status ≡ Words) ⊎ (run.status ≡ WriteFault) ⊎ (run.status ≡ Memory)
@@ -44,19 +40,13 @@ pub record IsRun (run : Run) : Type 0 where
       (run.status ≡ Memory) ⊎ IsStatusOfReply (task_for r) input run.status
   pub refused : (r : Request) (input : List ℕ) → IsNamed run.words r → IsBadInput (task_for r) run.left input →
       (SourceFailed run → ⊥) → (SinkFailed run → ⊥) → (run.status ≡ Memory) ⊎ (run.status ≡ Input)
-
-  -- ---- what is read
-
-  -- nothing for words that read nothing
+  -- words that read nothing leave the source as it was
   pub unread : ReadNothing run.words → run.left_after ≡ run.left
-  -- an input within the limit to its end, whether or not the sink took the answer, unless there was
-  -- no memory or the source failed
+  -- an input within the limit is read to its end, whether or not the sink took the answer, unless
+  -- there was no memory or the source failed
   pub input : IfSome run.left (λ told. (r : Request) → IsNamed run.words r → IsTrue (reads (promise_for r).form) → length told ≤ input_limit →
       run.status ≢ Memory → run.status ≢ ReadFault → (run.status ≡ WriteFault → SourceFailed run → ⊥) → run.left_after ≡ Some [])
-
-  -- ---- faults
-
-  -- one of the source is answered only if there was one
+  -- a fault of the source is answered only if there was one
   pub read_fault : run.status ≡ ReadFault → SourceFailed run
   pub steady : IsTrue run.steady → run.status ≢ ReadFault
   pub read_count : run.read_faults ≤ run.read_faults_after
@@ -64,17 +54,15 @@ pub record IsRun (run : Run) : Type 0 where
   pub write_fault : run.status ≡ WriteFault → SinkFailed run
   pub sure : run.status ≡ WriteFault → IsUnsure run
   pub write_count : run.write_faults ≤ run.write_faults_after
-
-  -- ---- what `extreme` says of a function f
-
-  -- never Wide, if f has an uncovered interval or at most four components
+  -- `extreme` never ends with Wide on a function that has an uncovered interval, or at most four
+  -- components
   pub narrow : (input : List ℕ) (json : Bool) (f : FunctionData) → IsGiven run input → AskIfExtreme json run.words input f →
       HasUncoveredInterval f ⊎ HasAtMostComponents 4 f → run.status ≢ Wide
-  -- f is called extreme exactly if it is continuous and its table of order 4 q is extreme
+  -- and it calls a function extreme exactly if it is continuous and its table of order 4 q is extreme
   pub order_4q : run.status ≡ Done → (input : List ℕ) (json : Bool) (f : FunctionData) → IsGiven run input → AskIfExtreme json run.words input f →
       OfWritten run (IsDecisive json f)
-  -- if f is minimal and has two slopes, neither Wide nor NotContinuous, and with Done it is called
-  -- extreme
+  -- of a minimal function with two slopes it tells neither that a number is too wide nor that the
+  -- function jumps, and with Done it calls it extreme
   pub two_slopes : (input : List ℕ) (json : Bool) (f : FunctionData) → IsGiven run input → AskIfExtreme json run.words input f →
       IsMinimal f → HasTwoSlopes f → (run.status ≢ Wide) × (run.status ≢ NotContinuous)
   pub called_extreme : run.status ≡ Done → (input : List ℕ) (json : Bool) (f : FunctionData) → IsGiven run input →

@@ -85,18 +85,18 @@ pub fn run<S: Source, K: Sink>(
     // And what was written is the answer, each status has its cause, an input in its form is
     // answered, and another is refused.
     ensures is_run { IsRun (record {
-        words = words.now;
-        steady = S.steady source.old;
-        left = S.left source.old;
-        left_after = S.left source.new;
-        read_faults = S.faults source.old;
-        read_faults_after = S.faults source.new;
-        sure = K.sure sink.old;
-        written = K.written sink.old;
-        written_after = K.written sink.new;
-        write_faults = K.faults sink.old;
-        write_faults_after = K.faults sink.new;
-        status = result;
+      words = words.now;
+      steady = S.steady source.old;
+      left = S.left source.old;
+      left_after = S.left source.new;
+      read_faults = S.faults source.old;
+      read_faults_after = S.faults source.new;
+      sure = K.sure sink.old;
+      written = K.written sink.old;
+      written_after = K.written sink.new;
+      write_faults = K.faults sink.old;
+      write_faults_after = K.faults sink.new;
+      status = result;
     }) }
 {
     let Ok(answer) = answer_to(alloc, words, source) else {

@@ -165,10 +165,10 @@ const CUTS: &[u8] = b"gj-safe 1\nrule gmic\ncut -6\nterm x -2\nskip integral\nen
 /// Whether a run of `problem` ends so, and writes so much, over a source in steps of 7 and a sink in
 /// steps of 10, of which the calls with these numbers fail.
 fn ends(alloc: Global, read: u64, write: u64, ended: Status, written: &[u8]) -> Option<bool> {
-    let words = [String::from_str(alloc, "problem").ok()?];
+    let words = vec![in alloc; String::from_str(alloc, "problem").ok()?].ok()?;
     let mut source = MemSource::with_step(alloc, PROBLEM, 7, &[read]).ok()?;
     let mut sink = MemSink::with_step(alloc, 100, 10, &[write]).ok()?;
-    let status = run(alloc, &words, &mut source, &mut sink);
+    let status = run(alloc, words.as_slice(), &mut source, &mut sink);
     Some(status == ended && sink.taken() == written)
 }
 

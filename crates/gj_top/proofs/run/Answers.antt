@@ -1,7 +1,8 @@
-use Rattle.std.proofs.Common.{◌≤◌, refl, sym, subst, arith}
+use Rattle.std.proofs.Common.{ℕ, ◌<◌, ◌≤◌, refl, sym, subst, arith}
+use Rattle.std.proofs.lemmas.Bool.{cases_lt}
 use Rattle.gj_port.specs.Runs.{Gains}
 use Rattle.gj_top.specs.declared.status.Status.{Status}
-use Rattle.gj_top.specs.Answer.{answer_text}
+use Rattle.gj_top.specs.Answer.{answer_status, answer_text}
 use Rattle.gj_top.specs.Outcome.{IsOutcome}
 use Rattle.gj_top.specs.Outcome.IsOutcome.{silent, told, cut_off}
 use Rattle.gj_top.specs.Run.{Run, IsAnswerOf}
@@ -47,3 +48,26 @@ pub returns-in-Ok-write_all-clause-is_run : goal.returns-in-Ok-write_all-clause-
 returns-in-Ok-write_all-clause-is_run g c =
     is_run (run g c c.status.result) (outcome g c) (λ e. absurd (no_write_fault _ _ _ _ _ _ (answer g c) e)) c.in-Ok.ensures.count
     c.in-Ok-write_all.ensures.count
+
+-- ---- without memory, and if the sink failed
+
+pub returns-in_default-clause-is_run : goal.returns-in_default-clause-is_run
+returns-in_default-clause-is_run g c =
+    is_run _ (silent (record { status_is = refl; unanswered = c.in_default.ensures.memory; unwritten = refl })) (λ e. absurd (cc))
+    c.in_default.ensures.count (omega arith)
+
+less : (n m : ℕ) → (n ≤ m → ⊥) → m < n
+less n m not = elim (cases_lt m n) [
+  | inl is ↦ is
+  | inr more ↦ absurd (not (omega arith))
+]
+
+pub returns-clause-is_run : goal.returns-clause-is_run
+returns-clause-is_run g c = is_run _ (cut_off (record {
+  status_is = refl;
+  status = answer_status c.in-Ok.answer;
+  text = answer_text c.in-Ok.answer;
+  answer = c.in-Ok.ensures.answer;
+  unsure = less _ _ (rw c.text.ensures at c.in-Err.ensures.sure_takes);
+  gain = (rw c.text.ensures at c.in-Err.ensures.told);
+})) (λ e. c.in-Err.ensures.cause) c.in-Ok.ensures.count c.in-Err.ensures.count
