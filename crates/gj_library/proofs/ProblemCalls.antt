@@ -1,7 +1,7 @@
 -- What a call with the word `problem` says.
-use Rattle.std.proofs.Common.{◌≡◌, ◌≢◌, ◌⊎◌, inl, inr, ℕ, ◌<◌, ◌≤◌, Bool, true, false, cond, List, [], ◌∷◌, All, length, Some, String, refl, sym, ap, subst, ◌∙◌, arith}
+use Rattle.std.proofs.Common.{◌≡◌, ◌≢◌, ◌⊎◌, inl, inr, ℕ, ◌<◌, ◌≤◌, Bool, true, false, ◌&&◌, List, [], ◌∷◌, All, length, Some, String, refl, sym, ap, subst, ◌∙◌, arith}
 use Rattle.std.specs.Prelude.{nat_lt}
-use Rattle.std.proofs.lemmas.Bool.{ltb-true}
+use Rattle.std.proofs.lemmas.Bool.{ltb-true, and_parts}
 use Rattle.std.specs.declared.alloc.Global.{Global}
 use Rattle.std.proofs.lemmas.List.Elements.{All-nil, All-cons}
 use Rattle.std.proofs.lemmas.Str.{IsUtf8-from_ascii}
@@ -38,15 +38,13 @@ request = record { command = Problem; json = false }
 -- the word is text
 abbrev are_small : List ℕ → Bool
 are_small [] = true
-are_small (b ∷ bytes) = cond (nat_lt b 128) (are_small bytes) false
+are_small (b ∷ bytes) = nat_lt b 128 && are_small bytes
 
 small : (bytes : List ℕ) → are_small bytes ≡ true → All (λ b. b < 128) bytes
 small [] h = All-nil (λ b. b < 128)
-small (b ∷ bytes) h = go (nat_lt b 128) refl h
-  where
-    go : (less : Bool) → nat_lt b 128 ≡ less → cond less (are_small bytes) false ≡ true → All (λ b. b < 128) (b ∷ bytes)
-    go true is rest = All-cons (λ b. b < 128) b bytes (ltb-true b 128 is) (small bytes rest)
-    go false is rest = absurd (cc)
+small (b ∷ bytes) h =
+    let (less, rest) = and_parts (nat_lt b 128) (are_small bytes) h in
+    All-cons (λ b. b < 128) b bytes (ltb-true b 128 less) (small bytes rest)
 
 -- and it names the request
 named_problem : (words : List (String Global)) → AreWordsOf problem_word words → IsNamed words request
