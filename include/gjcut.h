@@ -1,4 +1,4 @@
-/* The library of gjcut: two calls, over memory. docs/library.md says how to build and link it, and
+/* The library of gjcut: one call, over memory. docs/library.md says how to build and link it, and
  * what is proved of it. */
 #ifndef GJCUT_H
 #define GJCUT_H
@@ -6,6 +6,14 @@
 #include <stddef.h>
 #include <stdint.h>
 #include <string.h>
+
+#if defined(__cplusplus) || (defined(__STDC_VERSION__) && __STDC_VERSION__ >= 199901L)
+#define GJCUT_INLINE static inline
+#elif defined(__GNUC__)
+#define GJCUT_INLINE static __inline__
+#else
+#define GJCUT_INLINE static
+#endif
 
 #ifdef __cplusplus
 extern "C" {
@@ -19,12 +27,14 @@ enum gjcut_status {
     GJCUT_WORDS = 2,           /* the words name no request */
     GJCUT_INPUT = 3,           /* the input is outside its form or a limit */
     GJCUT_NO_ROOM = 5,         /* the output has no room for the answer, which can be any other,
-                                * also a refusal: its front was written. 200 bytes have room for
-                                * every refusal, as reckoned */
+                                * also a refusal: its front was written, and `*written` is the
+                                * length of all of it. 200 bytes have room for every refusal, as
+                                * reckoned */
     GJCUT_NO_MEMORY = 6,       /* there was no memory: nothing was written, and `*written` is 0 */
     GJCUT_WIDE = 7,            /* `extreme`, `group`: a number passed its bound */
-    GJCUT_NOT_CONTINUOUS = 8,  /* the function jumps; of `extreme` and `mixed`: and is minimal */
-    GJCUT_NO_FUNCTION = 9,     /* `cut`, `mixed`, a problem: the function is not minimal */
+    GJCUT_NOT_CONTINUOUS = 8,  /* the function jumps; of `extreme`, `mixed`, `problem`: and is
+                                * minimal */
+    GJCUT_NO_FUNCTION = 9,     /* `cut`, `mixed`, `problem`: the function is not minimal */
     GJCUT_NOT_SUBADDITIVE = 10, /* `fill`: the function is not subadditive */
     GJCUT_ORDER_LIMIT = 11,    /* `times`: the order would pass 1,000; `group`: it is above 120 */
     GJCUT_BAD_ORDER = 12       /* `restrict`: the function has no restriction of that order */
@@ -33,10 +43,13 @@ enum gjcut_status {
 /* Answers a request over an input, as the program does. `words` are the words of its command line,
  * with one blank between two, as "times 3 1". `input` is what it reads, and the answer is what it
  * writes. The answer is put at the front of `output`, and its length into `*written`, which every
- * call sets. What stands after it in `output` stays as it was. If the answer is longer than
- * `output_length`, the status is GJCUT_NO_ROOM, and the output is full of its front. Then call
- * again with more room: `gjcut_room` says how much is always enough. Nothing is kept from one call
- * to the next, and what a call takes of the heap it gives back before it returns.
+ * call sets. What stands after it in `output` stays as it was.
+ *
+ * If the answer is longer than `output_length`, the status is GJCUT_NO_ROOM, the output is full of
+ * its front, and `*written` is the length of the whole answer, so more than `output_length`. A
+ * second call with the same words and input and an output of that length always suffices. It does
+ * the whole work again: `gjcut_room` says which room to try first. Nothing is kept from one call to
+ * the next, and what a call takes of the heap it gives back before it returns.
  *
  * What a caller owes, since nothing tests it:
  * - `words`, `input` and `output` point to as many bytes as their lengths say, less than 2^63, and
@@ -55,16 +68,6 @@ enum gjcut_status {
 uint8_t gjcut_answer(const uint8_t *words, size_t words_length, const uint8_t *input,
                      size_t input_length, uint8_t *output, size_t output_length, size_t *written);
 
-/* Answers the text of a problem, `gj-problem 1`, with the text of the cuts that it asks for,
- * `gj-safe 1`: each holds at all feasible points of the problem. A function may stand in front of
- * it, and is then the rule. The result is GJCUT_DONE; GJCUT_INPUT if the input is no problem text,
- * and the answer is then the line that refuses it; GJCUT_NO_FUNCTION or GJCUT_NOT_CONTINUOUS if the
- * function makes no cuts, and the answer says why; GJCUT_NO_ROOM or GJCUT_NO_MEMORY. What these
- * two mean, what is put into `output` and `*written`, and what a caller owes is as for
- * `gjcut_answer`. `gjcut_safe_room` says how much room is always enough. */
-uint8_t gjcut_safe_cut(const uint8_t *input, size_t input_length, uint8_t *output,
-                       size_t output_length, size_t *written);
-
 /* A call needs at most so many bytes of stack, by measurement: no example, none of the largest
  * inputs and no JSON, however deep it nests, was seen to use more than 140,000. Give a thread that
  * calls as much, and what your own functions need: 128 KB, the default of musl, is too little. With
@@ -73,7 +76,7 @@ uint8_t gjcut_safe_cut(const uint8_t *input, size_t input_length, uint8_t *outpu
 #define GJCUT_STACK 262144
 
 /* Whether a word stands among the words. */
-static inline int gjcut_has_word(const uint8_t *words, size_t words_length, const char *word) {
+GJCUT_INLINE int gjcut_has_word(const uint8_t *words, size_t words_length, const char *word) {
     size_t length = strlen(word), i;
     for (i = 0; i + length <= words_length; i++) {
         int begins = i == 0 || words[i - 1] == ' ';
@@ -83,13 +86,16 @@ static inline int gjcut_has_word(const uint8_t *words, size_t words_length, cons
     return 0;
 }
 
-/* An output of so many bytes has room for every answer to the words over an input of this length.
- * That a proof of `extreme` has at most 12,000,000 bytes is proved; the other figures are reckoned
- * from the forms and limits of the texts, and tested. Most answers are far shorter: where time
- * counts, try first with 131,072 bytes. */
-static inline size_t gjcut_room(const uint8_t *words, size_t words_length, size_t input_length) {
+/* How many bytes of output to try for the answer to the words over an input of this length. It is
+ * room for every answer, but for `problem`: there for one cut of every problem, and for several of
+ * most. That a proof of `extreme` has at most 12,000,000 bytes is proved; the other figures are
+ * reckoned from the forms and limits of the texts, and tested. Most answers are far shorter: where
+ * time counts, try first with 131,072 bytes, though a second call costs the work again. */
+GJCUT_INLINE size_t gjcut_room(const uint8_t *words, size_t words_length, size_t input_length) {
     /* A function text, in JSON too: 1,000 points of 93 bytes. */
     const size_t function = 100000;
+    /* A longer input is refused. */
+    if (input_length > 16777216) return function;
     if (gjcut_has_word(words, words_length, "extreme"))
         /* In JSON two bytes more for each line. */
         return gjcut_has_word(words, words_length, "--json") ? 15000000 : 12000000;
@@ -104,27 +110,11 @@ static inline size_t gjcut_room(const uint8_t *words, size_t words_length, size_
         if (entries > 100000) entries = 100000;
         return function + 304 * rows + 352 * entries;
     }
+    /* The line of a column takes 18 bytes of the input or more, and its name; in a cut 87, and its
+     * name. A cut has a line for each column, and there is one for each line `sum`. */
+    if (gjcut_has_word(words, words_length, "problem")) return function + 5 * input_length;
     if (gjcut_has_word(words, words_length, "fill")) return 400000; /* 2,000 points of 170 bytes */
     return function;
-}
-
-/* How often a word stands in a text, also as a part of others. */
-static inline size_t gjcut_count(const uint8_t *text, size_t length, const char *word) {
-    size_t word_length = strlen(word), count = 0, i;
-    for (i = 0; i + word_length <= length; i++)
-        count += memcmp(text + i, word, word_length) == 0;
-    return count;
-}
-
-/* An output of so many bytes has room for the answer of `gjcut_safe_cut` to this input, as reckoned
- * from the form of the texts, and tested. */
-static inline size_t gjcut_safe_room(const uint8_t *input, size_t input_length) {
-    /* The lines of a function. For each line `sum` a cut of 85 bytes, and in it for each column 87
-     * and its name. */
-    size_t sums = gjcut_count(input, input_length, "sum");
-    size_t columns = gjcut_count(input, input_length, "column");
-    if (columns > 10000) columns = 10000;
-    return 100000 + sums * (85 + 87 * columns + input_length);
 }
 
 #ifdef __cplusplus

@@ -1,7 +1,7 @@
 /* Calls the library on examples and compares what it says, byte for byte. docs/library.md has a shorter program.
  *
- * library FOLDER..            each example, with a room that is large and with one that is a byte too short, each problem also with each
- *                             smaller one, and calls that no folder has
+ * library FOLDER..            each example, with a room that is large, with one that is a byte too short and then with as much as that call
+ *                             asks for, each problem also with each smaller room, and calls that no folder has
  * library -threads FOLDER..   the examples from four threads at once
  * library -stack FOLDER..     how much stack the calls on the examples, on nested JSON and on large inputs use at most, against GJCUT_STACK
  * library -refuse FOLDER..    the short examples, with each allocation refused in turn
@@ -9,9 +9,8 @@
  *                             of docs/library.md, and that all are given back
  * library -time N FOLDER      N calls on one example, with the time that a call takes and by how much the memory grew
  *
- * An example is a folder with the files words (one a line), input, output and status. One without words is a problem,
- * for gjcut_safe_cut, and all others are for gjcut_answer. The program is linked with --wrap for malloc, realloc and
- * free, so that it sees what a call asks for.
+ * An example is a folder with the files words (one a line), input, output and status. One without words is for the
+ * word problem. The program is linked with --wrap for malloc, realloc and free, so that it sees what a call asks for.
  */
 #include <malloc.h>
 #include <pthread.h>
@@ -104,12 +103,17 @@ static struct text read_file(const char *folder, const char *name) {
     return text;
 }
 
-/* The words stand one a line, and a call takes them with one blank between two. A problem has none. */
+/* The words stand one a line, and a call takes them with one blank between two. */
 static struct text read_words(const char *folder) {
     FILE *file = open_file(folder, "words");
-    if (!file) return (struct text){NULL, 0};
+    struct text words;
+    if (!file) {
+        words = (struct text){memory(7), 7};
+        memcpy(words.bytes, "problem", 7);
+        return words;
+    }
     fclose(file);
-    struct text words = read_file(folder, "words");
+    words = read_file(folder, "words");
     if (words.length) words.length--;
     for (size_t i = 0; i < words.length; i++)
         if (words.bytes[i] == '\n') words.bytes[i] = ' ';
@@ -130,45 +134,48 @@ static void free_example(struct example example) {
     free(example.output.bytes);
 }
 
-/* The call of the library: without words it is that for problems. */
 static int call(struct text words, struct text input, struct text output, size_t *written) {
-    if (!words.bytes) return gjcut_safe_cut(input.bytes, input.length, output.bytes, output.length, written);
     return gjcut_answer(words.bytes, words.length, input.bytes, input.length, output.bytes, output.length, written);
 }
 
-/* The room that the header says is always enough. */
-static size_t room_for(const struct example *example) {
-    if (!example->words.bytes) return gjcut_safe_room(example->input.bytes, example->input.length);
-    return gjcut_room(example->words.bytes, example->words.length, example->input.length);
-}
+static int is_for_problems(struct text words) { return gjcut_has_word(words.bytes, words.length, "problem"); }
 
-/* Whether a call with this room ends with the status, writes these bytes, and leaves those behind them as they were. */
-static int answers(const struct example *example, size_t room, int status, size_t length) {
+/* Whether a call with this room ends with the status, or for want of room with that, tells the length of the whole
+ * answer, writes as much of it as there is room for, and leaves the bytes behind that as they were. */
+static int answers(const struct example *example, size_t room) {
+    size_t length = example->output.length, front = room < length ? room : length, written = (size_t)-1;
     uint8_t *output = memory(room + BEHIND);
-    size_t written = (size_t)-1;
     memset(output, MARK, room + BEHIND);
     int ended = call(example->words, example->input, (struct text){output, room}, &written);
-    int good = ended == status && written == length && !memcmp(output, example->output.bytes, length);
-    for (size_t i = length; good && i < room + BEHIND; i++) good = output[i] == MARK;
-    if (!good) printf("library: %s with %zu bytes of room ended with %d and wrote %zu bytes\n", example->name, room, ended, written);
+    int good = ended == (room < length ? GJCUT_NO_ROOM : example->status) && written == length;
+    good = good && !memcmp(output, example->output.bytes, front);
+    for (size_t i = front; good && i < room + BEHIND; i++) good = output[i] == MARK;
+    if (!good) printf("library: %s with %zu bytes of room ended with %d and told %zu bytes\n", example->name, room, ended, written);
     free(output);
     return good;
 }
 
+/* Whether a call without room asks for the room that a second call then fills. */
+static int answers_at_second(const struct example *example) {
+    uint8_t none;
+    size_t asked = 0;
+    int ended = call(example->words, example->input, (struct text){&none, 0}, &asked);
+    return ended == (asked ? GJCUT_NO_ROOM : example->status) && asked == example->output.length && answers(example, asked);
+}
+
 static int is_answered(const struct example *example) {
-    size_t length = example->output.length, least = example->words.bytes && length ? length - 1 : 0;
-    int good = answers(example, length + 1000, example->status, length) && answers(example, length, example->status, length);
-    for (size_t room = least; good && room < length; room++) good = answers(example, room, GJCUT_NO_ROOM, room);
-    if (good && length > room_for(example)) {
-        printf("library: %s has an answer of %zu bytes, and the header says %zu\n", example->name, length, room_for(example));
+    size_t length = example->output.length, reckoned = gjcut_room(example->words.bytes, example->words.length, example->input.length);
+    size_t least = is_for_problems(example->words) || !length ? 0 : length - 1;
+    int good = answers(example, length + 1000) && answers_at_second(example);
+    for (size_t room = least; good && room < length; room++) good = answers(example, room);
+    if (good && length > reckoned) {
+        printf("library: %s has an answer of %zu bytes, and the header says %zu\n", example->name, length, reckoned);
         return 0;
     }
     return good;
 }
 
-static struct text text_of(const char *bytes) {
-    return (struct text){(uint8_t *)bytes, bytes ? strlen(bytes) : 0};
-}
+static struct text text_of(const char *bytes) { return (struct text){(uint8_t *)bytes, strlen(bytes)}; }
 
 /* Calls that no example has: the whole words, the length of an input of bytes that are 0, the status and the answer. */
 static int others(void) {
@@ -187,15 +194,15 @@ static int others(void) {
         {"show", 0, GJCUT_INPUT, "refused line 1 form\n"},
         {"minimal", 16777216, GJCUT_INPUT, "refused line 1 form\n"},
         {"minimal", 16777217, GJCUT_INPUT, "refused long\n"},
-        {NULL, 0, GJCUT_INPUT, "refused line 1 form\n"},
-        {NULL, 16777217, GJCUT_INPUT, "refused line 1 form\n"},
+        {"problem", 0, GJCUT_INPUT, "refused line 1 form\n"},
+        {"problem", 16777216, GJCUT_INPUT, "refused line 1 form\n"},
+        {"problem", 16777217, GJCUT_INPUT, "refused long\n"},
     };
     int good = 1;
     for (size_t i = 0; i < sizeof calls / sizeof *calls; i++) {
         struct text zeros = {memory(calls[i].zeros), calls[i].zeros};
         memset(zeros.bytes, 0, zeros.length);
-        const char *name = calls[i].words ? calls[i].words : "a problem";
-        struct example example = {name, text_of(calls[i].words), zeros, text_of(calls[i].output), calls[i].status};
+        struct example example = {calls[i].words, text_of(calls[i].words), zeros, text_of(calls[i].output), calls[i].status};
         good = is_answered(&example) && good;
         free(zeros.bytes);
     }
@@ -265,17 +272,17 @@ static struct text repeated(const char *front, const char *line, int times, cons
     return text;
 }
 
-/* A dense problem, of whole and continuous columns in turn, each name filled up to a width, with multipliers over
- * these parts. */
-static struct text problem(int constraints, int columns, int width, int sums, int parts) {
+/* A dense problem, of whole and continuous columns in turn, with names that begin so and are filled up to a width, and
+ * with multipliers over these parts. */
+static struct text problem_of(const char *name, int constraints, int columns, int width, int sums, int parts) {
     size_t lines = (size_t)(constraints + 1) * (size_t)columns;
-    struct text text = {memory(lines * (size_t)(width + 40) + (size_t)(constraints * 40 + sums * (constraints * 12 + 8) + 64)), 0};
+    struct text text = {memory(lines * (strlen(name) + (size_t)width + 40) + (size_t)(constraints * 40 + sums * (constraints * 12 + 8) + 64)), 0};
     char *at = (char *)text.bytes;
     at += sprintf(at, "gj-problem 1\nrule gmic\n");
-    for (int j = 0; j < columns; j++) at += sprintf(at, "column x%0*d %s 0 -\n", width, j, j % 2 ? "continuous" : "whole");
+    for (int j = 0; j < columns; j++) at += sprintf(at, "column %s%0*d %s 0 -\n", name, width, j, j % 2 ? "continuous" : "whole");
     for (int i = 0; i < constraints; i++) {
         at += sprintf(at, "constraint c <= %d\n", 1000 + i);
-        for (int j = 0; j < columns; j++) at += sprintf(at, "entry x%0*d %d\n", width, j, (7 * i + 11 * j) % 1000 - 300);
+        for (int j = 0; j < columns; j++) at += sprintf(at, "entry %s%0*d %d\n", name, width, j, (7 * i + 11 * j) % 1000 - 300);
     }
     for (int i = 0; i < sums; i++) {
         at += sprintf(at, "sum");
@@ -290,6 +297,28 @@ static struct text problem(int constraints, int columns, int width, int sums, in
     return text;
 }
 
+static struct text problem(int constraints, int columns, int width, int sums, int parts) {
+    return problem_of("x", constraints, columns, width, sums, parts);
+}
+
+/* Many cuts of columns whose names begin as the line sum: the room that the header says is no multiple of them, and a
+ * second call has as much as the first asked for. */
+static int many_cuts(void) {
+    struct text words = text_of("problem"), input = problem_of("sum", 20, 300, 1, 100, 7);
+    size_t room = gjcut_room(words.bytes, words.length, input.length), asked, written;
+    struct text front = {memory(room), room};
+    int good = room < 10 * input.length + 100000 && call(words, input, front, &asked) == GJCUT_NO_ROOM && asked > room;
+    if (good) {
+        struct text whole = {memory(asked), asked};
+        good = call(words, input, whole, &written) == GJCUT_DONE && written == asked && !memcmp(front.bytes, whole.bytes, room);
+        free(whole.bytes);
+    }
+    if (!good) printf("library: many cuts in %zu bytes of room, and then as much as is asked for\n", room);
+    free(front.bytes);
+    free(input.bytes);
+    return good;
+}
+
 static int stack_is_enough(const struct example *examples, int count) {
     static uint8_t output[1 << 16];
     struct text room = {output, sizeof output};
@@ -302,8 +331,8 @@ static int stack_is_enough(const struct example *examples, int count) {
         {"extreme", repeated("gj-function 1\norder 996\nf 499/996\n", "point 0\npoint 2/3\npoint 1/3\npoint 1\npoint 1/3\npoint 2/3\n", 166, "end\n")},
         {"faces", repeated("gj-function 2\nf 1/1000\npoint 0 0\nend\n", "", 0, "")},
         {"mixed", repeated("gj-rule 1\ngmic\nend\nbasic,rhs,c:z\nx,1/2,", "1", 9, "\n")},
-        {NULL, problem(100, 1000, 6, 5, 7)},
-        {NULL, problem(10, 10000, 6, 1, 7)},
+        {"problem", problem(100, 1000, 6, 5, 7)},
+        {"problem", problem(10, 10000, 6, 1, 7)},
     };
     size_t base = stack_of(NULL), most = 0;
     for (int i = 0; i < count; i++) {
@@ -374,7 +403,7 @@ static struct text tableau(int rows, int columns, int width) {
 
 /* How many bytes a call holds at most for each byte of its input. In JSON and in a line `sum` two bytes can be a number. */
 static size_t held_a_byte(struct text words) {
-    if (!words.bytes) return 40;
+    if (is_for_problems(words)) return 40;
     return gjcut_has_word(words.bytes, words.length, "--json") ? 30 : 6;
 }
 
@@ -407,17 +436,16 @@ static int heap_is_enough(const struct example *examples, int count) {
         {"group", repeated("gj-function 1\nfamily gmic 59/120\nend\n", "", 0, "")},
         {"minimal", repeated("", "\n", 16777216, "")},
         {"extreme --json", repeated("{\"value\":[", "1,", 8000000, "1]}")},
-        {NULL, problem(100, 1000, 6, 5, 7)},
-        {NULL, problem(10, 10000, 6, 10, 7)},
-        {NULL, problem(10, 10000, 250, 10, 7)},
-        {NULL, problem(8200, 0, 6, 100, 1)},
-        {NULL, repeated("gj-problem 1\nrule gmic\n", "\n", 16777216, "end\n")},
+        {"problem", problem(100, 1000, 6, 5, 7)},
+        {"problem", problem(10, 10000, 6, 10, 7)},
+        {"problem", problem(10, 10000, 250, 10, 7)},
+        {"problem", problem(8200, 0, 6, 100, 1)},
+        {"problem", repeated("gj-problem 1\nrule gmic\n", "\n", 16777000, "end\n")},
     };
     int good = 1;
     for (int i = 0; i < count; i++) good = holds_at_most(examples[i].name, examples[i].words, examples[i].input, output) && good;
     for (size_t i = 0; i < sizeof large / sizeof *large; i++) {
-        const char *name = large[i].words ? large[i].words : "a problem";
-        good = holds_at_most(name, text_of(large[i].words), large[i].input, output) && good;
+        good = holds_at_most(large[i].words, text_of(large[i].words), large[i].input, output) && good;
         free(large[i].input.bytes);
     }
     free(output.bytes);
@@ -479,7 +507,7 @@ int main(int count, char **words) {
         good = from_threads(examples, count - first);
     else {
         for (int i = 0; i < count - first; i++) good = is_answered(&examples[i]) && good;
-        good = others() && good;
+        good = others() && many_cuts() && good;
     }
     for (int i = 0; i < count - first; i++) free_example(examples[i]);
     free(examples);

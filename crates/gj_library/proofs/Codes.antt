@@ -12,7 +12,7 @@ status_at n =
     (cond (n == 6) Memory (cond (n == 7) Wide (cond (n == 8) NotContinuous (cond (n == 9) NoFunction (cond (n == 10) NotSubadditive
     (cond (n == 11) OrderLimit BadOrder)))))))))))
 
-back : (s : Status) → status_at (code_of s) ≡ s
+pub back : (s : Status) → status_at (code_of s) ≡ s
 back Done = refl
 back Rejected = refl
 back Words = refl

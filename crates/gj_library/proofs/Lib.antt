@@ -1,4 +1,5 @@
 pub mod Codes
 pub mod WordsSoFar
 pub mod Calls
-pub mod SafeCalls
+pub mod OneCall
+pub mod ProblemCalls

@@ -1,3 +1,3 @@
 pub mod Call
 pub mod Handing
-pub mod SafeCall
+pub mod ProblemCall

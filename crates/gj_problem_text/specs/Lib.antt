@@ -8,4 +8,4 @@ pub mod Cuts
 pub mod CutText
 pub mod AnswersMade
 pub mod SafeInputs
-pub mod SafeReplies
+pub mod CutRules

@@ -9,7 +9,7 @@ ghost use Rattle.gj_problem_text.specs.CutText.{cut_lines};
 ghost use Rattle.gj_problem_text.specs.Cuts.{IsRoundedTo, IsOnGridOf, IsCutBy, IsAnswer};
 ghost use Rattle.gj_problem_text.specs.Cuts.{AreAnswers, none_turned};
 ghost use Rattle.gj_problem_text.specs.Ready.{HasMultipliers, IsReady};
-ghost use Rattle.gj_problem_text.specs.SafeReplies.{MakesSafeCuts};
+ghost use Rattle.gj_problem_text.specs.CutRules.{MakesSafeCuts};
 
 use crate::function_cuts::function_cut;
 use crate::print::push_cut;

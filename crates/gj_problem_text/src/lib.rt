@@ -1,7 +1,7 @@
 //! The text of a problem with multipliers, read, and the text of its cuts, printed.
 //!
-//! [`safe_reply`] makes mixed-integer cuts, or cuts by a function, whose text stands in front of
-//! that of the problem.
+//! [`cuts_text`] makes mixed-integer cuts, or cuts by a function, whose text stands in front of that
+//! of the problem.
 #![tactic(auto)]
 
 mod answers;
@@ -13,7 +13,6 @@ mod lines;
 mod places;
 mod print;
 mod read;
-mod reply;
 mod steps;
 mod task;
 mod text;
@@ -22,5 +21,5 @@ pub use faults::ProblemFault;
 pub use input::{SafeInput, read_safe_input};
 pub use laws::{one_problem_text, one_safe_input};
 pub use read::read_problem;
-pub use reply::{SafeReply, safe_reply};
 pub use task::{Request, Task};
+pub use text::cuts_text;

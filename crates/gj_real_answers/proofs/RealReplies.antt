@@ -20,14 +20,16 @@ use Rattle.gj_proof.specs.declared.cut.CutRule.TheVariants.{Gmic, Table}
 use Rattle.gj_cut_text.specs.MixedLines.{AreMixedCutsOf, IsMixedCutBy, IsMixedLineFor, IsNamedTerm, MakesMixedCuts, NamesMixedCut}
 use Rattle.gj_cut_text.specs.declared.mixed_lines.MixedLine.{MixedLine}
 use Rattle.gj_cut_text.specs.Columns.{continuous_columns}
+use Rattle.gj_problem_text.specs.declared.input.SafeInput.{SafeInput}
 use Rattle.gj_words.specs.declared.requests.Command.{Command}
-use Rattle.gj_words.specs.declared.requests.Command.TheVariants.{Minimal, Extreme, Cut, Show, Check, Faces, Demo, Mixed, Fill, Group, Times, Mirror, Restrict}
+use Rattle.gj_words.specs.declared.requests.Command.TheVariants.{Minimal, Extreme, Cut, Show, Check, Faces, Demo, Mixed, Problem, Fill, Group, Times, Mirror, Restrict}
 use Rattle.gj_top.specs.declared.reply.End.TheVariants.{Done}
 use Rattle.gj_top.specs.Promise.{Spells}
 use Rattle.gj_top.specs.Command.{promise_with, work_with}
 use Rattle.gj_top.specs.Causes.{IsDoneRun}
 use Rattle.gj_top.specs.Minimal.{IsTrueVerdict}
 use Rattle.gj_top.specs.Extreme.{IsTrueExtremality}
+use Rattle.gj_top.specs.Problem.{AreProblemCuts}
 use Rattle.gj_top.specs.declared.cut_input.CutInput.{CutInput}
 use Rattle.gj_top.specs.Cut.{SpellsCutInput, HasLinesOfRule}
 use Rattle.gj_top.proofs.OneReport.{reported}
@@ -37,9 +39,10 @@ use Rattle.gj_fields.specs.Fields.{OrderedField, HasFloor}
 use Rattle.gj_reals.proofs.OnlyExtremeAtReals.{extreme_from_reals}
 use Rattle.gj_real_cuts.specs.RealRows.{RealCutHolds}
 use Rattle.gj_real_answers.specs.RealMeaning.{RealHoldsFor}
+use Rattle.gj_real_problems.proofs.Cuts.{cuts_transferred}
 use Rattle.gj_real_answers.proofs.Claims.{minimal_at_reals, minimal_from_reals, extreme_at_reals, claim_at_reals}
 use Rattle.gj_real_answers.proofs.MixedCuts.{cut_by_function, cut_by_gmic}
-use Rattle.gj_real_answers.specs.RealAnswers.{IsRealVerdict, IsRealExtremality, RealLineHolds, RealMixedLineHolds, AreRealMixedCuts, real_headline, IsTrueRealRun}
+use Rattle.gj_real_answers.specs.RealAnswers.{IsRealVerdict, IsRealExtremality, RealLineHolds, RealMixedLineHolds, AreRealMixedCuts, AreRealProblemCuts, real_headline, IsTrueRealRun}
 
 -- a function of a rule that is read is within the limits
 rule_is_bounded : (r : CutRule) (text rest : List ℕ) → HasLinesOfRule text r rest → IsBoundedRule r
@@ -130,6 +133,13 @@ module _ {R : Type 0} (K : OrderedField R) (floors : HasFloor K) where
         (rule_is_bounded input.rule source spelled.rest spelled.rule) makes cuts.lines_are;
   }
 
+  pub problem_cuts : (asked : SafeInput) (text : List ℕ) → AreProblemCuts asked text →
+      AreRealProblemCuts K asked text
+  problem_cuts asked text cuts = record {
+    cuts = cuts;
+    hold = cuts_transferred K floors asked.task.problem cuts.cuts cuts.hold;
+  }
+
   real_reply : (command : Command) (json : Bool) (thing : (promise_with command json).Thing)
       (input text : List ℕ) → Spells (promise_with command json).form input thing →
       (work_with command json).replies thing Done text →
@@ -149,6 +159,7 @@ module _ {R : Type 0} (K : OrderedField R) (floors : HasFloor K) where
       (claim_at_reals K floors c spelled.bounded h.0, h.1)
   real_reply Mixed json thing input text spelled replied h =
       mixed_cuts thing input text spelled replied.0 h
+  real_reply Problem json asked input text spelled replied h = problem_cuts asked text h
   real_reply Show true thing input text spelled replied h = h
   real_reply Show false thing input text spelled replied h = h
   real_reply Faces json thing input text spelled replied h = h

@@ -13,8 +13,9 @@ use Rattle.gj_proof.specs.declared.cut.CutLine.TheVariants as cuts
 use Rattle.gj_proof.specs.declared.cut.CutTerm.{CutTerm}
 use Rattle.gj_cut_text.specs.MixedLines.{AreMixedCutsOf}
 use Rattle.gj_cut_text.specs.declared.mixed_lines.MixedLine.{MixedLine}
+use Rattle.gj_problem_text.specs.declared.input.SafeInput.{SafeInput}
 use Rattle.gj_words.specs.declared.requests.Command.{Command}
-use Rattle.gj_words.specs.declared.requests.Command.TheVariants.{Minimal, Extreme, Cut, Show, Check, Faces, Demo, Mixed, Fill, Group, Times, Mirror, Restrict}
+use Rattle.gj_words.specs.declared.requests.Command.TheVariants.{Minimal, Extreme, Cut, Show, Check, Faces, Demo, Mixed, Problem, Fill, Group, Times, Mirror, Restrict}
 use Rattle.gj_words.specs.declared.requests.Request.{Request}
 use Rattle.gj_top.specs.Promise.{Spells}
 use Rattle.gj_top.specs.Command.{IsNamed, promise_with, promise_for}
@@ -22,10 +23,12 @@ use Rattle.gj_top.specs.Minimal.{IsMinimalText, IsNotMinimalText}
 use Rattle.gj_top.specs.Extreme.{IsExtremeText, IsNotExtremeText}
 use Rattle.gj_top.specs.Check.{accepted_line}
 use Rattle.gj_top.specs.declared.cut_input.CutInput.{CutInput}
+use Rattle.gj_top.specs.Problem.{AreProblemCuts}
 use Rattle.gj_top.specs.Report.{IsReportOf}
 use Rattle.gj_fields.specs.Fields.{OrderedField, HasFloor}
 use Rattle.gj_real_answers.specs.RealMeaning.{IsRealMinimal, IsRealExtreme, RealClaimHolds}
 use Rattle.gj_real_cuts.specs.RealRows.{RealCutHolds}
+use Rattle.gj_real_problems.specs.RealProblems.{RealSafeCutHolds}
 
 -- the text calls f minimal, and f is minimal among the valid functions; or not minimal, and it is
 -- not
@@ -66,6 +69,12 @@ pub record AreRealMixedCuts {R : Type 0} (K : OrderedField R) («rule» : CutRul
   pub cuts : AreMixedCutsOf «rule» tableau text
   pub hold : All (RealMixedLineHolds K) cuts.lines
 
+-- the text has cuts of the problem, and each holds at all feasible points of real numbers
+pub record AreRealProblemCuts {R : Type 0} (K : OrderedField R) (asked : SafeInput) (text : List ℕ) :
+    Type 0 where
+  pub cuts : AreProblemCuts asked text
+  pub hold : All (RealSafeCutHolds K asked.task.problem) cuts.cuts
+
 -- what is promised of a text, over the field; where no real number enters, as for cuts of whole
 -- columns, it is what is promised
 abbrev pub real_headline : {R : Type 0} (K : OrderedField R) → HasFloor K →
@@ -77,6 +86,7 @@ real_headline K floors Extreme false = IsRealExtremality K floors
 real_headline K floors Check json = IsRealAcceptance K floors
 real_headline K floors Mixed json =
     λ (input : CutInput) text. AreRealMixedCuts K input.rule input.tableau text
+real_headline K floors Problem json = AreRealProblemCuts K
 real_headline K floors Show true = (promise_with Show true).headline
 real_headline K floors Show false = (promise_with Show false).headline
 real_headline K floors Faces json = (promise_with Faces json).headline

@@ -15,8 +15,10 @@ ghost use Rattle.gj_mixed.specs.declared.cut.MixedCut.{MixedCut};
 ghost use Rattle.gj_proof.specs.Meaning.{ClaimHolds};
 ghost use Rattle.gj_proof.specs.ProofText.{IsBounded};
 ghost use Rattle.gj_proof.specs.declared.claim.Claim.{Claim};
+ghost use Rattle.gj_problem_text.specs.declared.input.SafeInput.{SafeInput};
 ghost use Rattle.gj_top.specs.Causes.{IsDoneRun};
-ghost use Rattle.gj_real_answers.specs.RealAnswers.{IsTrueRealRun};
+ghost use Rattle.gj_top.specs.Problem.{AreProblemCuts};
+ghost use Rattle.gj_real_answers.specs.RealAnswers.{AreRealProblemCuts, IsTrueRealRun};
 ghost use Rattle.gj_real_answers.specs.RealMeaning.{RealClaimHolds, RealHoldsFor};
 
 use gj_fields::reals::Reals;
@@ -24,13 +26,15 @@ use gj_fields::reals::Reals;
 /// A claim that holds says so of all real numbers. A function that is called minimal is minimal
 /// among the valid functions of real numbers, and one that is called not minimal is not. One that
 /// is called extreme is minimal, and no average of two different valid functions. One that is
-/// called not extreme is minimal, and not extreme.
+/// called not extreme is minimal, and not extreme. The function of the claim is asked to be within
+/// the limits of functions (`IsWithinBounds` in `IsBounded`), as that of each text is.
 pub fn claims_hold_over_reals<K: Reals>()
     ensures { (c : Claim) → IsBounded c → ClaimHolds c → RealClaimHolds K.field K.floors c }
 {}
 
 /// The mixed cut of a row, by a continuous minimal function or the mixed-integer cut, holds at all
-/// whole and real amounts.
+/// whole and real amounts. The function is asked to be within the limits of functions; of the row
+/// no limit is asked.
 pub fn mixed_cuts_hold_over_reals<K: Reals>()
     ensures by_function { (f : FunctionData) (up down : Frac) (continuous : List Bool) (row : Row)
         (cut : MixedCut) →
@@ -40,11 +44,19 @@ pub fn mixed_cuts_hold_over_reals<K: Reals>()
         IsGmicMixedCutOf continuous row cut → RealHoldsFor K.field row cut }
 {}
 
+/// The cuts that `problem` writes with Done, by its headline, hold at all feasible points of real
+/// numbers. No limit is asked of the problem.
+pub fn problem_cuts_hold_over_reals<K: Reals>()
+    ensures { (asked : SafeInput) (text : List ℕ) → AreProblemCuts asked text →
+        AreRealProblemCuts K.field asked text }
+{}
+
 /// A run that ends with Done, of which the clause `reply` of `run` says `IsDoneRun`, tells the
 /// truth of all real numbers. What it calls minimal is minimal among all valid functions. What it
 /// calls extreme is minimal, and no average of two different valid functions. What it calls not
 /// minimal, or not extreme, is not. So it is with the claims that it accepts. Each mixed cut that
-/// it writes holds at all whole and real amounts.
+/// it writes holds at all whole and real amounts, and each cut of a problem at all feasible points
+/// of real numbers. No limit is asked: a function that is read is within the limits.
 pub fn runs_are_true_over_reals<K: Reals>()
     ensures { (words : List (String Global)) (input before : List ℕ) (written : Option (List ℕ)) →
         IsDoneRun words input before written →

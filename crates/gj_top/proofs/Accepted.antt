@@ -17,7 +17,7 @@ use Rattle.gj_top.specs.Check.{IsJudgement, check}
 use Rattle.gj_top.specs.Cut.{cut}
 use Rattle.gj_top.specs.Extreme.{extreme}
 use Rattle.gj_top.specs.Written.{IsWrittenProof}
-use Rattle.gj_refusals.specs.InputRead.{input_limit}
+use Rattle.gj_top.specs.InputRead.{input_limit}
 use Rattle.gj_top.specs.Answer.{IsAnswerTo}
 use Rattle.gj_top.specs.Answer.IsAnswerTo.{too_long, refused, replied}
 use Rattle.gj_check.proofs.DemandsOfClaims.{no_failure}

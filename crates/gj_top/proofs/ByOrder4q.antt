@@ -1,21 +1,20 @@
 -- What `extreme` writes with Done calls a function extreme exactly if it is continuous and its
 -- table of order 4 q is extreme.
 use Rattle.std.proofs.Common.{◌≡◌, ◌↔◌, ℕ, Bool, List, String, Option, subst}
-use Rattle.std.specs.Prelude.{IfSome}
 use Rattle.std.specs.declared.alloc.Global.{Global}
 use Rattle.gj_words.specs.declared.requests.Request.{Request}
 use Rattle.gj_shape.specs.FunctionData.{FunctionData}
 use Rattle.gj_top.specs.declared.reply.End.TheVariants as end
-use Rattle.gj_top.specs.declared.status.Status.{Status}
 use Rattle.gj_top.specs.declared.status.Status.TheVariants.{Done}
 use Rattle.gj_top.specs.Asked.{AskIfExtreme}
-use Rattle.gj_top.specs.Causes.{IsInput, IsDoneRun}
+use Rattle.gj_top.specs.Causes.{IsDoneRun}
 use Rattle.gj_top.specs.Command.{task_for}
 use Rattle.gj_top.specs.Decisive.{CallsExtreme, IsExtremeByOrder4q, IsDecisive}
 use Rattle.gj_top.specs.Extreme.{IsDecisionText, IsExtremeText, extreme}
 use Rattle.gj_top.specs.Forms.{SpellsFunction}
 use Rattle.gj_top.specs.Outcome.{IsOutcome}
 use Rattle.gj_top.specs.Report.{Tells}
+use Rattle.gj_top.specs.Run.{Run, IsGiven, OfWritten}
 use Rattle.gj_top.specs.Task.{IsReply}
 use Rattle.gj_top.proofs.Clauses.{reply_clause, weaker}
 use Rattle.gj_top.proofs.Commands.{one_named}
@@ -42,10 +41,8 @@ decisive json words input before written f asked d = record {
       (subst (λ (r : Request). IsReply (task_for r) input end.Done d.text) (one_named words d.request _ d.named asked.named) d.reply);
 }
 
-pub order_4q_clause : (words : List (String Global)) (Fault : Type 0) (left left' written written' : Option (List ℕ)) (sure : ℕ) (r : Status) →
-    IsOutcome words Fault left left' written written' sure r → r ≡ Done → (input : List ℕ) (json : Bool) (f : FunctionData) →
-    IsInput words left input → AskIfExtreme json words input f → IfSome written (λ before. IsDecisive json f before written')
-order_4q_clause words Fault left left' written written' sure r o done input json f given asked =
-    weaker written (λ before. IsDoneRun words input before written') (λ before. IsDecisive json f before written')
-    (λ before. decisive json words input before written' f asked)
-    (reply_clause words Fault left left' written written' sure r o done input given)
+pub order_4q_clause : (run : Run) → IsOutcome run → run.status ≡ Done → (input : List ℕ) (json : Bool) (f : FunctionData) → IsGiven run input →
+    AskIfExtreme json run.words input f → OfWritten run (IsDecisive json f)
+order_4q_clause run o done input json f given asked =
+    weaker run.written (λ before. IsDoneRun run.words input before run.written_after) (λ before. IsDecisive json f before run.written_after)
+    (λ before. decisive json run.words input before run.written_after f asked) (reply_clause run o done input given)

@@ -1,29 +1,32 @@
 -- What follows from the outcome of a run.
-use Rattle.std.proofs.Common.{◌≡◌, ◌≢◌, ◌⊎◌, inl, inr, ℕ, ◌+◌, ◌≤◌, Bool, true, false, List, [], ◌++◌, length, IsTrue, IfSome, Option}
-use Rattle.std.proofs.Common.{None, Some, String, refl, ap, subst, ◌∙◌, arith}
+use Rattle.std.proofs.Common.{◌≡◌, ◌≢◌, ◌⊎◌, inl, inr, ℕ, ◌+◌, ◌<◌, ◌≤◌, Bool, true, false, List, [], ◌++◌, length, IsTrue, IfSome, Option}
+use Rattle.std.proofs.Common.{None, Some, String, refl, sym, ap, subst, ◌∙◌, arith}
 use Rattle.std.proofs.lemmas.List.{drop_all}
 use Rattle.std.specs.declared.alloc.Global.{Global}
-use Rattle.gj_refusals.specs.InputRead.{input_limit, IsReadWhole}
-use Rattle.gj_refusals.proofs.InputRead.{told_input}
+use Rattle.gj_port.specs.Runs.{IsSourceFault, Gains}
 use Rattle.gj_words.specs.declared.requests.Request.{Request}
 use Rattle.gj_top.specs.declared.reply.End.{End}
 use Rattle.gj_top.specs.declared.reply.End.TheVariants as end
 use Rattle.gj_top.specs.declared.status.Status.{Status}
-use Rattle.gj_top.specs.declared.status.Status.TheVariants.{Done, Input, ReadFault, WriteFault, Memory}
-use Rattle.gj_top.specs.Command.{IsNamed, promise_for, task_for}
+use Rattle.gj_top.specs.declared.status.Status.TheVariants.{Done, Words, Input, ReadFault, WriteFault, Memory}
+use Rattle.gj_top.specs.InputRead.{input_limit, IsReadWhole}
+use Rattle.gj_top.specs.Lines.{words_line, fault_line}
+use Rattle.gj_top.specs.Command.{IsNamed, NameNone, promise_for, task_for}
 use Rattle.gj_top.specs.Promise.{Form, reads, Spells}
 use Rattle.gj_top.specs.Promise.Form.{reading, reading_nothing}
+use Rattle.gj_top.specs.Reply.{status_of}
 use Rattle.gj_top.specs.Task.{Task, IsInForm, IsReply}
 use Rattle.gj_top.specs.Answer.{IsAnswerTo, IsRequestAnswer, IsAnswer, IsUnanswered, IsWithinLimit}
 use Rattle.gj_top.specs.Answer.IsAnswerTo.{too_long, refused, replied}
 use Rattle.gj_top.specs.Answer.IsUnanswered.{unread, so_far}
 use Rattle.gj_top.specs.Answer.IsAnswer.{no_request, read_fault, of_request}
-use Rattle.gj_top.specs.Outcome.{IsOutcome}
+use Rattle.gj_top.specs.Causes.{IsTrueRun, IsDoneRun, IsInput, IsGoodInput, IsBadInput, ReadNothing, IsStatusOf, IsCause, IsStatusOfReply}
+use Rattle.gj_top.specs.Run.{Run, SourceFailed, SinkFailed, IsGiven, OfWritten, IsAnswerOf}
+use Rattle.gj_top.specs.Outcome.{IsOutcome, IsUnsure}
 use Rattle.gj_top.specs.Outcome.IsOutcome.{silent, told, cut_off}
-use Rattle.gj_top.specs.Causes.{IsTrueRun, IsDoneRun, IsInput, IsGoodInput, ReadNothing, IsStatusOf, IsCause, IsStatusOfReply}
 use Rattle.gj_top.proofs.Commands.{one_named}
 use Rattle.gj_top.proofs.Ends.{one_end, no_end, not_answered}
-use Rattle.gj_top.specs.Reply.{status_of}
+use Rattle.gj_top.proofs.InputRead.{told_input}
 use Rattle.gj_top.proofs.Sound.{sound}
 
 -- ---- forms that read nothing
@@ -59,7 +62,7 @@ moved c true own input left after s text e given whole a =
     subst (λ (i : List ℕ). IsAnswerTo (task_for c) i s text) (told_input input own left after (given refl) whole) a
 moved c false own input left after s text e given whole a = unread_answer c own input s text e a
 
-answer_to_input : (words : List (String Global)) (left after : Option (List ℕ)) (s : Status) (text input : List ℕ) → IsInput words left input →
+pub answer_to_input : (words : List (String Global)) (left after : Option (List ℕ)) (s : Status) (text input : List ℕ) → IsInput words left input →
     (a : IsRequestAnswer words left after s text) → IsAnswerTo (task_for a.request) input s text
 answer_to_input words left after s text input given a =
     moved a.request (reads (promise_for a.request).form) a.input input left after s text refl (given a.request a.named) a.whole a.answer
@@ -99,6 +102,16 @@ status_in_form c input text s form within (too_long a) = let short = within a.re
 status_in_form c input text s form within (refused a) = absurd ((sound c).form input text form.0 form.1 a.refused)
 status_in_form c input text s form within (replied a) = (a.end, a.status_is, text, a.reply)
 
+-- over one that is too long or outside the form it is a refusal
+status_of_bad : (c : Request) (left : Option (List ℕ)) (input text : List ℕ) (s : Status) → IsBadInput (task_for c) left input →
+    IsAnswerTo (task_for c) input s text → s ≡ Input
+status_of_bad c left input text s bad (too_long a) = a.status_is
+status_of_bad c left input text s bad (refused a) = a.status_is
+status_of_bad c left input text s bad (replied a) = elim bad.bad [
+  | inl long ↦ let short = a.within bad.read in absurd (omega arith)
+  | inr line ↦ absurd ((sound c).form input line.0 a.reply.thing a.reply.spelled line.1)
+]
+
 -- an answer is no failure of the sink
 pub no_write_fault : (words : List (String Global)) (Fault : Type 0) (left after : Option (List ℕ)) (s : Status) (text : List ℕ) →
     IsAnswer words Fault left after s text → s ≡ WriteFault → ⊥
@@ -114,21 +127,36 @@ failed_source words Fault left after s text (read_fault a) e = a.failed
 failed_source words Fault left after s text (of_request a) e =
     absurd (not_answered (task_for a.request) a.input s ReadFault text e refl a.answer)
 
--- ---- the clauses
+-- nor is it that there was no memory
+pub no_memory : (words : List (String Global)) (Fault : Type 0) (left after : Option (List ℕ)) (s : Status) (text : List ℕ) →
+    IsAnswer words Fault left after s text → s ≡ Memory → ⊥
+no_memory words Fault left after s text (no_request a) e = let is = a.status_is in cc
+no_memory words Fault left after s text (read_fault a) e = let is = a.status_is in cc
+no_memory words Fault left after s text (of_request a) e = not_answered (task_for a.request) a.input s Memory text e refl a.answer
 
-pub ends_clause : (words : List (String Global)) (Fault : Type 0) (left left' written written' : Option (List ℕ)) (sure : ℕ) (r : Status) →
-    IsOutcome words Fault left left' written written' sure r → (c : Request) → IsNamed words c → IsStatusOf (task_for c) r
-ends_clause words Fault left left' written written' sure r (silent o) c n = inl o.status_is
-ends_clause words Fault left left' written written' sure r (cut_off o) c n = inr (inl o.status_is)
-ends_clause words Fault left left' written written' sure r (told o) c n = elim o.answer [
-  | no_request a ↦ absurd (a.unnamed c n)
-  | read_fault a ↦ inr (inr (inl (
-    subst (λ (d : Request). IsTrue (reads (promise_for d).form)) (one_named words a.request c a.named n) a.read,
-    inl a.status_is,
-  )))
-  | of_request a ↦ subst (λ (d : Request). IsStatusOf (task_for d) r) (one_named words a.request c a.named n)
-      (status_of_answer a.request a.input o.text r a.answer)
-]
+-- the lines of the answers to no input
+fault_text : (words : List (String Global)) (Fault : Type 0) (left after : Option (List ℕ)) (s : Status) (text : List ℕ) →
+    IsAnswer words Fault left after s text → s ≡ ReadFault → text ≡ fault_line
+fault_text words Fault left after s text (no_request a) e = absurd (let is = a.status_is in cc)
+fault_text words Fault left after s text (read_fault a) e = a.spelled
+fault_text words Fault left after s text (of_request a) e =
+    absurd (not_answered (task_for a.request) a.input s ReadFault text e refl a.answer)
+
+words_answer : (words : List (String Global)) (Fault : Type 0) (left after : Option (List ℕ)) (s : Status) (text : List ℕ) →
+    IsAnswer words Fault left after s text → s ≡ Words → NameNone words × (text ≡ words_line)
+words_answer words Fault left after s text (no_request a) e = (a.unnamed, a.spelled)
+words_answer words Fault left after s text (read_fault a) e = absurd (let is = a.status_is in cc)
+words_answer words Fault left after s text (of_request a) e =
+    absurd (not_answered (task_for a.request) a.input s Words text e refl a.answer)
+
+-- words that name no request have one answer
+unnamed_answer : (words : List (String Global)) (Fault : Type 0) (left after : Option (List ℕ)) (s : Status) (text : List ℕ) →
+    IsAnswer words Fault left after s text → NameNone words → s ≡ Words
+unnamed_answer words Fault left after s text (no_request a) none = a.status_is
+unnamed_answer words Fault left after s text (read_fault a) none = absurd (none a.request a.named)
+unnamed_answer words Fault left after s text (of_request a) none = absurd (none a.request a.named)
+
+-- ---- what is read
 
 -- a request of words that read nothing reads nothing
 reads_not : (words : List (String Global)) (c : Request) → IsNamed words c → ReadNothing words → reads (promise_for c).form ≡ false
@@ -136,7 +164,7 @@ reads_not words c m (inl none) = absurd (none c m)
 reads_not words c m (inr n) = subst (λ (d : Request). reads (promise_for d).form ≡ false) (one_named words n.0 c n.1 m) n.2
 
 -- so an answer to them leaves the source as it was, and so does none
-pub unread_by_answer : (words : List (String Global)) (Fault : Type 0) (left left' : Option (List ℕ)) (s : Status) (text : List ℕ) →
+unread_by_answer : (words : List (String Global)) (Fault : Type 0) (left left' : Option (List ℕ)) (s : Status) (text : List ℕ) →
     IsAnswer words Fault left left' s text → ReadNothing words → left' ≡ left
 unread_by_answer words Fault left left' s text (no_request a) nothing = a.unread
 unread_by_answer words Fault left left' s text (read_fault a) nothing =
@@ -144,87 +172,11 @@ unread_by_answer words Fault left left' s text (read_fault a) nothing =
 unread_by_answer words Fault left left' s text (of_request a) nothing =
     subst (λ (b : Bool). IsReadWhole b a.input left left') (reads_not words a.request a.named nothing) a.whole
 
-pub unread_unanswered : (words : List (String Global)) (left left' : Option (List ℕ)) → IsUnanswered words left left' → ReadNothing words →
+unread_unanswered : (words : List (String Global)) (left left' : Option (List ℕ)) → IsUnanswered words left left' → ReadNothing words →
     left' ≡ left
 unread_unanswered words left left' (unread same) nothing = same
 unread_unanswered words left left' (so_far u) nothing =
     absurd (not_both (reads (promise_for u.request).form) (reads_not words u.request u.named nothing) u.read)
-
--- ---- the clauses over an input
-
--- what holds of a value follows from a stronger fact
-pub weaker : {A : Type 0} (o : Option A) (P Q : A → Type 0) → ((x : A) → P x → Q x) → IfSome o P → IfSome o Q
-weaker None P Q f h = tt
-weaker (Some x) P Q f h = f x h
-
-module _ (words : List (String Global)) (Fault : Type 0) (left left' written written' : Option (List ℕ)) (sure : ℕ) (r : Status) where
-  pub cause_clause : IsOutcome words Fault left left' written written' sure r → (input : List ℕ) → IsInput words left input → IsCause words input r
-  cause_clause (silent o) input t = inl o.status_is
-  cause_clause (cut_off o) input t = inr (inr (inl o.status_is))
-  cause_clause (told o) input t = elim o.answer [
-    | no_request a ↦ inr (inr (inr (inl (a.status_is, a.unnamed))))
-    | read_fault a ↦ inr (inl a.status_is)
-    | of_request a ↦ inr (inr (inr (inr (a.request, a.named, o.text, answer_to_input words left left' r o.text input t a))))
-  ]
-
-  pub reply_clause : IsOutcome words Fault left left' written written' sure r → r ≡ Done → (input : List ℕ) → IsInput words left input →
-      IfSome written (λ before. IsDoneRun words input before written')
-  reply_clause (silent o) e input t = absurd (let is = o.status_is in cc)
-  reply_clause (cut_off o) e input t = absurd (let is = o.status_is in cc)
-  reply_clause (told o) e input t = elim o.answer [
-    | no_request a ↦ absurd (let is = a.status_is in cc)
-    | read_fault a ↦ absurd (let is = a.status_is in cc)
-    | of_request a ↦
-        let answer = answer_to_input words left left' r o.text input t a in
-        let reply = ended_reply (task_for a.request) input o.text r end.Done e answer in
-        weaker written (λ before. written' ≡ Some (before ++ o.text)) (λ before. IsDoneRun words input before written') (λ before gain. record {
-          request = a.request;
-          named = a.named;
-          text = o.text;
-          reply = reply;
-          gain = gain;
-        }) o.gain
-  ]
-
-  -- a reply keeps what its request promises
-  true_run : (input before : List ℕ) → IsDoneRun words input before written' → IsTrueRun words input before written'
-  true_run input before done = record {
-    request = done.request;
-    named = done.named;
-    text = done.text;
-    true_reply = record {
-      thing = done.reply.thing;
-      spelled = done.reply.spelled;
-      holds = (sound done.request).work _ done.reply.thing done.text done.reply.spelled done.reply.replied;
-    };
-    gain = done.gain;
-  }
-
-  pub headline_clause : IsOutcome words Fault left left' written written' sure r → r ≡ Done → (input : List ℕ) → IsInput words left input →
-      IfSome written (λ before. IsTrueRun words input before written')
-  headline_clause o e input t =
-      weaker written (λ before. IsDoneRun words input before written') (λ before. IsTrueRun words input before written') (true_run input)
-      (reply_clause o e input t)
-
-  pub complete_clause : (Unread Unwritten : Type 0) → IsOutcome words Fault left left' written written' sure r → (Fault → Unread) →
-      (r ≡ WriteFault → Unwritten) → (c : Request) (input : List ℕ) → IsNamed words c → IsGoodInput (task_for c) left input →
-      (IsTrue (reads (promise_for c).form) → Unread → ⊥) → (Unwritten → ⊥) → (r ≡ Memory) ⊎ IsStatusOfReply (task_for c) input r
-  complete_clause Unread Unwritten (silent o) f g c input n i x y = inl o.status_is
-  complete_clause Unread Unwritten (cut_off o) f g c input n i x y = absurd (y (g o.status_is))
-  complete_clause Unread Unwritten (told o) f g c input n i x y = elim o.answer [
-    | no_request a ↦ absurd (a.unnamed c n)
-    | read_fault a ↦
-        let read = subst (λ (d : Request). IsTrue (reads (promise_for d).form)) (one_named words a.request c a.named n) a.read in
-        absurd (x read (f a.failed))
-    | of_request a ↦
-        let told_input : IsInput words left input = λ d m read.
-        i.told (subst (λ (e : Request). IsTrue (reads (promise_for e).form)) (one_named words d c m n) read) in
-        let answer = answer_to_input words left left' r o.text input told_input a in
-        inr (status_in_form c input o.text r i.form i.within
-        (subst (λ (d : Request). IsAnswerTo (task_for d) input r o.text) (one_named words a.request c a.named n) answer))
-  ]
-
--- ---- the input is read to its end
 
 module _ (words : List (String Global)) (Fault : Type 0) (input : List ℕ) (left' : Option (List ℕ)) where
   -- an input within the limit that was read whole was read to its end
@@ -242,11 +194,182 @@ module _ (words : List (String Global)) (Fault : Type 0) (input : List ℕ) (lef
       read_to_end (reads (promise_for a.request).form) a.input
       (subst (λ (d : Request). IsTrue (reads (promise_for d).form)) (one_named words c a.request n a.named) read) within a.whole
 
-pub input_clause : (words : List (String Global)) (Fault : Type 0) (left left' : Option (List ℕ)) (s r : Status) (text : List ℕ) (Unread : Type 0) →
+read_answer : (words : List (String Global)) (Fault : Type 0) (left left' : Option (List ℕ)) (s r : Status) (text : List ℕ) (Unread : Type 0) →
     IsAnswer words Fault left left' s text → (s ≡ ReadFault → Fault → (r ≡ ReadFault) ⊎ ((r ≡ WriteFault) × Unread)) →
     IfSome left (λ input. (c : Request) → IsNamed words c → IsTrue (reads (promise_for c).form) → length input ≤ input_limit →
     r ≢ Memory → r ≢ ReadFault → (r ≡ WriteFault → Unread → ⊥) → left' ≡ Some [])
-input_clause words Fault None left' s r text Unread a fault = tt
-input_clause words Fault (Some input) left' s r text Unread a fault = λ c n read within m f w.
+read_answer words Fault None left' s r text Unread a fault = tt
+read_answer words Fault (Some input) left' s r text Unread a fault = λ c n read within m f w.
     end_at words Fault input left' s text a
     (λ e failed. elim (fault e failed) [ inl q ↦ f q | inr q ↦ w q.0 q.1 ]) c n read within
+
+-- what holds of a value follows from a stronger fact, or from none
+pub weaker : {A : Type 0} (o : Option A) (P Q : A → Type 0) → ((x : A) → P x → Q x) → IfSome o P → IfSome o Q
+weaker None P Q f h = tt
+weaker (Some x) P Q f h = f x h
+
+always : {A : Type 0} (o : Option A) (P : A → Type 0) → ((x : A) → P x) → IfSome o P
+always None P f = tt
+always (Some x) P f = f x
+
+-- a reply keeps what its request promises
+true_done : (words : List (String Global)) (input before : List ℕ) (written : Option (List ℕ)) → IsDoneRun words input before written →
+    IsTrueRun words input before written
+true_done words input before written done = record {
+  request = done.request;
+  named = done.named;
+  text = done.text;
+  true_reply = record {
+    thing = done.reply.thing;
+    spelled = done.reply.spelled;
+    holds = (sound done.request).work _ done.reply.thing done.text done.reply.spelled done.reply.replied;
+  };
+  gain = done.gain;
+}
+
+-- ---- the clauses
+
+module _ (run : Run) where
+  -- the source failed, so that it was answered
+  abbrev Fault : Type 0
+  Fault = IsSourceFault run.steady run.read_faults run.read_faults_after
+
+  pub ends_clause : IsOutcome run → (c : Request) → IsNamed run.words c → IsStatusOf (task_for c) run.status
+  ends_clause (silent o) c n = inl o.status_is
+  ends_clause (cut_off o) c n = inr (inl o.status_is)
+  ends_clause (told o) c n = elim o.answer [
+    | no_request a ↦ absurd (a.unnamed c n)
+    | read_fault a ↦ inr (inr (inl (
+      subst (λ (d : Request). IsTrue (reads (promise_for d).form)) (one_named run.words a.request c a.named n) a.read,
+      inl a.status_is,
+    )))
+    | of_request a ↦ subst (λ (d : Request). IsStatusOf (task_for d) run.status) (one_named run.words a.request c a.named n)
+        (status_of_answer a.request a.input o.text run.status a.answer)
+  ]
+
+  pub cause_clause : IsOutcome run → (input : List ℕ) → IsGiven run input → IsCause run.words input run.status
+  cause_clause (silent o) input t = inl o.status_is
+  cause_clause (cut_off o) input t = inr (inr (inl o.status_is))
+  cause_clause (told o) input t = elim o.answer [
+    | no_request a ↦ inr (inr (inr (inl (a.status_is, a.unnamed))))
+    | read_fault a ↦ inr (inl a.status_is)
+    | of_request a ↦ inr (inr (inr (inr (
+      a.request,
+      a.named,
+      o.text,
+      answer_to_input run.words run.left run.left_after run.status o.text input t a,
+    ))))
+  ]
+
+  pub reply_clause : IsOutcome run → run.status ≡ Done → (input : List ℕ) → IsGiven run input → OfWritten run (IsDoneRun run.words input)
+  reply_clause (silent o) e input t = absurd (let is = o.status_is in cc)
+  reply_clause (cut_off o) e input t = absurd (let is = o.status_is in cc)
+  reply_clause (told o) e input t = elim o.answer [
+    | no_request a ↦ absurd (let is = a.status_is in cc)
+    | read_fault a ↦ absurd (let is = a.status_is in cc)
+    | of_request a ↦
+        let answer = answer_to_input run.words run.left run.left_after run.status o.text input t a in
+        let reply = ended_reply (task_for a.request) input o.text run.status end.Done e answer in
+        weaker run.written (λ before. run.written_after ≡ Some (before ++ o.text)) (λ before. IsDoneRun run.words input before run.written_after)
+        (λ before gain. record {
+          request = a.request;
+          named = a.named;
+          text = o.text;
+          reply = reply;
+          gain = gain;
+        }) o.gain
+  ]
+
+  pub headline_clause : IsOutcome run → run.status ≡ Done → (input : List ℕ) → IsGiven run input → OfWritten run (IsTrueRun run.words input)
+  headline_clause o e input t =
+      weaker run.written (λ before. IsDoneRun run.words input before run.written_after) (λ before. IsTrueRun run.words input before run.written_after)
+      (λ before. true_done run.words input before run.written_after) (reply_clause o e input t)
+
+  pub memory_clause : IsOutcome run → run.status ≡ Memory → run.written_after ≡ run.written
+  memory_clause (silent o) e = o.unwritten
+  memory_clause (told o) e = absurd (no_memory run.words Fault run.left run.left_after run.status o.text o.answer e)
+  memory_clause (cut_off o) e = absurd (let is = o.status_is in cc)
+
+  pub fault_clause : IsOutcome run → run.status ≡ ReadFault → Gains run.written run.written_after fault_line
+  fault_clause (silent o) e = absurd (let is = o.status_is in cc)
+  fault_clause (told o) e =
+      subst (Gains run.written run.written_after) (fault_text run.words Fault run.left run.left_after run.status o.text o.answer e) o.gain
+  fault_clause (cut_off o) e = absurd (let is = o.status_is in cc)
+
+  pub words_told_clause : IsOutcome run → run.status ≡ Words → Gains run.written run.written_after words_line
+  words_told_clause (silent o) e = absurd (let is = o.status_is in cc)
+  words_told_clause (told o) e =
+      subst (Gains run.written run.written_after) (words_answer run.words Fault run.left run.left_after run.status o.text o.answer e).1 o.gain
+  words_told_clause (cut_off o) e = absurd (let is = o.status_is in cc)
+
+  pub words_clause : IsOutcome run → run.status ≡ Words → NameNone run.words
+  words_clause (silent o) e = absurd (let is = o.status_is in cc)
+  words_clause (told o) e = (words_answer run.words Fault run.left run.left_after run.status o.text o.answer e).0
+  words_clause (cut_off o) e = absurd (let is = o.status_is in cc)
+
+  pub command_clause : IsOutcome run → NameNone run.words → (run.status ≡ Words) ⊎ (run.status ≡ WriteFault) ⊎ (run.status ≡ Memory)
+  command_clause (silent o) none = inr (inr o.status_is)
+  command_clause (told o) none = inl (unnamed_answer run.words Fault run.left run.left_after run.status o.text o.answer none)
+  command_clause (cut_off o) none = inr (inl o.status_is)
+
+  pub unread_clause : IsOutcome run → ReadNothing run.words → run.left_after ≡ run.left
+  unread_clause (silent o) = unread_unanswered run.words run.left run.left_after o.unanswered
+  unread_clause (told o) = unread_by_answer run.words Fault run.left run.left_after run.status o.text o.answer
+  unread_clause (cut_off o) = unread_by_answer run.words Fault run.left run.left_after o.status o.text o.answer
+
+  pub input_clause : IsOutcome run → IfSome run.left (λ input. (c : Request) → IsNamed run.words c → IsTrue (reads (promise_for c).form) →
+      length input ≤ input_limit → run.status ≢ Memory → run.status ≢ ReadFault → (run.status ≡ WriteFault → SourceFailed run → ⊥) →
+      run.left_after ≡ Some [])
+  input_clause (silent o) = always run.left _ (λ input c n read within memory. absurd (memory o.status_is))
+  input_clause (told o) =
+      read_answer run.words Fault run.left run.left_after run.status run.status o.text (SourceFailed run) o.answer (λ e failed. inl e)
+  input_clause (cut_off o) =
+      read_answer run.words Fault run.left run.left_after o.status run.status o.text (SourceFailed run) o.answer
+      (λ e failed. inr (o.status_is, failed.0))
+
+  source_failed : IsOutcome run → run.status ≡ ReadFault → Fault
+  source_failed (silent o) e = absurd (let is = o.status_is in cc)
+  source_failed (told o) e = failed_source run.words Fault run.left run.left_after run.status o.text o.answer e
+  source_failed (cut_off o) e = absurd (let is = o.status_is in cc)
+
+  pub read_fault_clause : IsOutcome run → run.status ≡ ReadFault → SourceFailed run
+  read_fault_clause o e = (source_failed o e).0
+
+  pub steady_clause : IsOutcome run → IsTrue run.steady → run.status ≢ ReadFault
+  steady_clause o steady e = (source_failed o e).1 steady
+
+  pub sure_clause : IsOutcome run → run.status ≡ WriteFault → IsUnsure run
+  sure_clause (silent o) e = absurd (let is = o.status_is in cc)
+  sure_clause (told o) e = absurd (no_write_fault run.words Fault run.left run.left_after run.status o.text o.answer e)
+  sure_clause (cut_off o) e = (o.status, o.text, o.answer, o.unsure)
+
+  pub complete_clause : IsOutcome run → (run.status ≡ WriteFault → SinkFailed run) → (c : Request) (input : List ℕ) → IsNamed run.words c →
+      IsGoodInput (task_for c) run.left input → (IsTrue (reads (promise_for c).form) → SourceFailed run → ⊥) → (SinkFailed run → ⊥) →
+      (run.status ≡ Memory) ⊎ IsStatusOfReply (task_for c) input run.status
+  complete_clause (silent o) f c input n i x y = inl o.status_is
+  complete_clause (cut_off o) f c input n i x y = absurd (y (f o.status_is))
+  complete_clause (told o) f c input n i x y = elim o.answer [
+    | no_request a ↦ absurd (a.unnamed c n)
+    | read_fault a ↦
+        let read = subst (λ (d : Request). IsTrue (reads (promise_for d).form)) (one_named run.words a.request c a.named n) a.read in
+        absurd (x read a.failed.0)
+    | of_request a ↦
+        let told_input : IsGiven run input = λ d m read.
+        i.told (subst (λ (e : Request). IsTrue (reads (promise_for e).form)) (one_named run.words d c m n) read) in
+        let answer = answer_to_input run.words run.left run.left_after run.status o.text input told_input a in
+        inr (status_in_form c input o.text run.status i.form i.within
+        (subst (λ (d : Request). IsAnswerTo (task_for d) input run.status o.text) (one_named run.words a.request c a.named n) answer))
+  ]
+
+  pub refused_clause : IsOutcome run → (run.status ≡ WriteFault → SinkFailed run) → (c : Request) (input : List ℕ) → IsNamed run.words c →
+      IsBadInput (task_for c) run.left input → (SourceFailed run → ⊥) → (SinkFailed run → ⊥) → (run.status ≡ Memory) ⊎ (run.status ≡ Input)
+  refused_clause (silent o) f c input n bad x y = inl o.status_is
+  refused_clause (cut_off o) f c input n bad x y = absurd (y (f o.status_is))
+  refused_clause (told o) f c input n bad x y = elim o.answer [
+    | no_request a ↦ absurd (a.unnamed c n)
+    | read_fault a ↦ absurd (x a.failed.0)
+    | of_request a ↦
+        let answer = answer_to_input run.words run.left run.left_after run.status o.text input (λ d m read. bad.told) a in
+        inr (status_of_bad c run.left input o.text run.status bad
+        (subst (λ (d : Request). IsAnswerTo (task_for d) input run.status o.text) (one_named run.words a.request c a.named n) answer))
+  ]

@@ -5,6 +5,7 @@ pub mod Commands
 pub mod CutForm
 pub mod Determined
 pub mod Ends
+pub mod EveryRun
 pub mod Extremality
 pub mod InputLines
 pub mod InputRead
@@ -15,10 +16,13 @@ pub mod OneCuts
 pub mod OneListing
 pub mod OneMade
 pub mod OneMixed
+pub mod OneObjection
+pub mod OneProblem
 pub mod OneReport
 pub mod OneReported
 pub mod OneTable
 pub mod OneVerdict
+pub mod ProblemCuts
 pub mod ProofBytes
 pub mod Refusals
 pub mod Shown

@@ -1,11 +1,13 @@
--- The task of each request is determined, so that it gives one answer to an input.
-use Rattle.std.proofs.Common.{◌≡◌, ℕ, Bool, false, List}
+-- The task of each request gives one answer to an input; only the text of the cuts of a problem may
+-- differ.
+use Rattle.std.proofs.Common.{◌≡◌, ◌≢◌, ◌⊎◌, inl, inr, ℕ, Bool, false, List, refl}
 use Rattle.gj_shape.specs.FunctionData.{FunctionData, IsContinuous}
 use Rattle.gj_words.specs.declared.requests.Command.{Command}
-use Rattle.gj_words.specs.declared.requests.Command.TheVariants.{Minimal, Extreme, Cut, Check, Show, Faces, Demo, Mixed, Fill, Group, Times, Mirror, Restrict}
+use Rattle.gj_words.specs.declared.requests.Command.TheVariants.{Minimal, Extreme, Cut, Check, Show, Faces, Demo, Mixed, Problem, Fill, Group, Times, Mirror, Restrict}
 use Rattle.gj_words.specs.declared.requests.Request.{Request}
 use Rattle.gj_top.specs.declared.reply.End.{End}
 use Rattle.gj_top.specs.declared.status.Status.{Status}
+use Rattle.gj_top.specs.declared.status.Status.TheVariants.{Done}
 use Rattle.gj_top.specs.Answer.{IsAnswerTo}
 use Rattle.gj_top.specs.Command.{task_with, task_for}
 use Rattle.gj_top.specs.Extreme.{IsExtremality, IsTrueExtremality}
@@ -19,44 +21,61 @@ use Rattle.gj_top.specs.Minimal.{IsVerdict, IsTrueVerdict}
 use Rattle.gj_top.specs.Report.{Tells, IsToldReply, proof_task}
 use Rattle.gj_top.specs.Show.{IsShownText}
 use Rattle.gj_top.specs.Transform.{IsTimesText, IsTimesReply, IsMirrorText, IsRestrictionText, IsRestrictionReply}
-use Rattle.gj_top.proofs.Determined.{AnswersOne, IsDetermined, one_answer_of, one_done}
+use Rattle.gj_top.proofs.Determined.{AnswersOne, IsSettled, settled, one_answer_of, one_done}
 use Rattle.gj_top.proofs.OneCuts.{cut_is_determined}
 use Rattle.gj_top.proofs.OneListing.{one_faces_text, one_fill_reply, demo_is_determined}
 use Rattle.gj_top.proofs.OneMade.{one_times_reply, one_mirror_text, one_restriction_reply}
 use Rattle.gj_top.proofs.OneMixed.{mixed_is_determined}
+use Rattle.gj_top.proofs.OneProblem.{problem_is_settled}
 use Rattle.gj_top.proofs.OneReported.{one_shown, one_told_reply}
 use Rattle.gj_top.proofs.OneTable.{one_group_reply}
-use Rattle.gj_top.proofs.OneVerdict.{of_functions, one_continuous, one_verdict, one_extremality, check_is_determined}
+use Rattle.gj_top.proofs.OneVerdict.{of_functions as determined, one_continuous, one_verdict, one_extremality, check_is_determined}
 use Rattle.gj_top.proofs.Sound.{sound}
 
-of_proofs : (json : Bool) (headline : FunctionData → List ℕ → Type 0) (replies : FunctionData → End → List ℕ → Type 0) → AnswersOne replies →
-    IsDetermined (proof_task json headline replies)
+-- the texts of a command are determined
+abbrev pub IsExact : Command → Type 0
+IsExact c = c ≢ Problem
+
+of_functions : {Exact : Type 0} (json : Bool) (headline : FunctionData → List ℕ → Type 0) (replies : FunctionData → End → List ℕ → Type 0) →
+    AnswersOne replies → IsSettled (function_task json headline replies) Exact
+of_functions json headline replies one = settled (determined json headline replies one)
+
+of_proofs : {Exact : Type 0} (json : Bool) (headline : FunctionData → List ℕ → Type 0) (replies : FunctionData → End → List ℕ → Type 0) →
+    AnswersOne replies → IsSettled (proof_task json headline replies) Exact
 of_proofs json headline replies one =
     of_functions json (λ f. Tells json (headline f)) (IsToldReply json replies) (one_told_reply json replies one)
 
-of_continuous : (headline : FunctionData → List ℕ → Type 0) (replies : FunctionData → End → List ℕ → Type 0) → AnswersOne replies →
-    IsDetermined (function_task false headline (IsContinuousReply replies))
+of_continuous : {Exact : Type 0} (headline : FunctionData → List ℕ → Type 0) (replies : FunctionData → End → List ℕ → Type 0) →
+    AnswersOne replies → IsSettled (function_task false headline (IsContinuousReply replies)) Exact
 of_continuous headline replies one = of_functions false headline (IsContinuousReply replies) (one_continuous replies one)
 
-is_determined : (c : Command) (json : Bool) → IsDetermined (task_with c json)
-is_determined Minimal json =
+is_settled : (c : Command) (json : Bool) → IsSettled (task_with c json) (IsExact c)
+is_settled Minimal json =
     of_proofs json IsTrueVerdict (EndsDone IsVerdict) (λ f l. one_done IsVerdict f (λ x y. one_verdict f x y l))
-is_determined Extreme json = of_proofs json IsTrueExtremality IsExtremality one_extremality
-is_determined Show json =
+is_settled Extreme json = of_proofs json IsTrueExtremality IsExtremality one_extremality
+is_settled Show json =
     of_functions json (IsShownText json) (EndsDone (IsShownText json)) (λ f l. one_done (IsShownText json) f (λ x y. one_shown json f x y l))
-is_determined Check json = check_is_determined
-is_determined Faces json =
+is_settled Check json = settled check_is_determined
+is_settled Faces json =
     of_continuous (λ f text. IsContinuous f) (EndsDone IsFacesText) (λ f l. one_done IsFacesText f (one_faces_text f))
-is_determined Cut json = cut_is_determined
-is_determined (Demo n) json = demo_is_determined n
-is_determined Mixed json = mixed_is_determined
-is_determined Fill json = of_continuous IsFillText IsFillReply one_fill_reply
-is_determined Group json = of_continuous IsTrueGroupText IsGroupReply one_group_reply
-is_determined (Times n j) json = of_functions false (IsTimesText n j) (IsTimesReply n j) (one_times_reply n j)
-is_determined Mirror json =
+is_settled Cut json = settled cut_is_determined
+is_settled (Demo n) json = settled (demo_is_determined n)
+is_settled Mixed json = settled mixed_is_determined
+is_settled Problem json = problem_is_settled (IsExact Problem) (λ exact. exact refl)
+is_settled Fill json = of_continuous IsFillText IsFillReply one_fill_reply
+is_settled Group json = of_continuous IsTrueGroupText IsGroupReply one_group_reply
+is_settled (Times n j) json = of_functions false (IsTimesText n j) (IsTimesReply n j) (one_times_reply n j)
+is_settled Mirror json =
     of_functions false IsMirrorText (EndsDone IsMirrorText) (λ f l. one_done IsMirrorText f (λ x y. one_mirror_text f x y l))
-is_determined (Restrict d) json = of_continuous (IsRestrictionText d) (IsRestrictionReply d) (one_restriction_reply d)
+is_settled (Restrict d) json = of_continuous (IsRestrictionText d) (IsRestrictionReply d) (one_restriction_reply d)
 
-pub one_answer : (r : Request) (input : List ℕ) (s t : Status) (x y : List ℕ) →
-    IsAnswerTo (task_for r) input s x → IsAnswerTo (task_for r) input t y → (s ≡ t) × (x ≡ y)
-one_answer r input s t x y a b = one_answer_of (task_for r) input s t x y (sound r) (is_determined r.command r.json) a b
+module _ (r : Request) (input : List ℕ) (s t : Status) (x y : List ℕ) where
+  one_answer : IsAnswerTo (task_for r) input s x → IsAnswerTo (task_for r) input t y → (s ≡ t) × ((s ≡ Done → IsExact r.command) → x ≡ y)
+  one_answer = one_answer_of (task_for r) (IsExact r.command) input s t x y (sound r) (is_settled r.command r.json)
+
+  pub one_status : IsAnswerTo (task_for r) input s x → IsAnswerTo (task_for r) input t y → s ≡ t
+  one_status a b = (one_answer a b).0
+
+  pub one_text : (r.command ≢ Problem) ⊎ (s ≢ Done) → IsAnswerTo (task_for r) input s x → IsAnswerTo (task_for r) input t y → x ≡ y
+  one_text (inl exact) a b = (one_answer a b).1 (λ done. exact)
+  one_text (inr other) a b = (one_answer a b).1 (λ done. absurd (other done))

@@ -35,7 +35,7 @@ use Rattle.gj_cut_text.specs.CutLines.{IsLineFor, IsTermFor}
 use Rattle.gj_cut_text.specs.CutRules.{MakesCuts}
 use Rattle.gj_top.specs.declared.reply.End.{End}
 use Rattle.gj_top.specs.declared.reply.End.TheVariants as end
-use Rattle.gj_refusals.specs.Functions.{NamesViolation}
+use Rattle.gj_top.specs.Objection.{NamesViolation}
 use Rattle.gj_top.specs.Cut.{CutInput, cut_input, BeginsWithRule, SpellsCutInput, RefusesCutInput, NamesRefusedRecord, refused_record_line, AreCutsOf, IsCutReply, cut}
 use Rattle.gj_top.specs.Cut.RefusesCutInput.{of_rule, of_function, of_tableau}
 use Rattle.gj_top.proofs.CutForm.{one_rest, rule_is_bounded, lines_are_bounded, no_rule_fault, no_function_fault}

@@ -34,13 +34,12 @@ use Rattle.gj_proof.specs.declared.cut.CutTerm.{CutTerm}
 use Rattle.gj_proof.specs.declared.cut.SkipReason.TheVariants.{Integral, Other}
 use Rattle.gj_top.specs.declared.reply.End.{End}
 use Rattle.gj_top.specs.declared.reply.End.TheVariants as end
-use Rattle.gj_refusals.specs.Functions.{NamesViolation, NamesJump}
 use Rattle.gj_top.specs.Cut.{CutInput, SpellsCutInput}
 use Rattle.gj_top.specs.Mixed.{IsMixedReply, mixed}
 use Rattle.gj_top.proofs.Determined.{IsDetermined}
 use Rattle.gj_row.proofs.OneTableau.{one_each}
-use Rattle.gj_top.proofs.OneCuts.{one_cut_spelled, one_cut_refusal, by_rule_bounds, one_violation_text, no_violation, same_cut_term}
-use Rattle.gj_top.proofs.OneVerdict.{one_jump_text, no_jump_named}
+use Rattle.gj_top.proofs.OneCuts.{one_cut_spelled, one_cut_refusal, by_rule_bounds, same_cut_term}
+use Rattle.gj_top.proofs.OneObjection.{no_objection, one_objection}
 
 -- ---- weights and values of mixed cuts
 
@@ -205,37 +204,12 @@ one_mixed_text r t x y l h k =
 
 -- ---- replies
 
-mixed_no_violation : (r : CutRule) (x : List ℕ) → IsBoundedRule r → MakesMixedCuts r → NamesViolation r x → ⊥
-mixed_no_violation Gmic x l h k = k
-mixed_no_violation (Table f) x l h k = no_violation f x l h.0 k
-
-mixed_no_jump : (r : CutRule) (x : List ℕ) → MakesMixedCuts r → NamesJump r x → ⊥
-mixed_no_jump Gmic x h k = k
-mixed_no_jump (Table f) x h k = no_jump_named f x h.1 k.1
-
-jump_no_violation : (r : CutRule) (x y : List ℕ) → IsBoundedRule r → NamesJump r x → NamesViolation r y → ⊥
-jump_no_violation Gmic x y l h k = k
-jump_no_violation (Table f) x y l h k = no_violation f y l h.0 k
-
-one_jump_of_rule : (r : CutRule) (x y : List ℕ) → IsBoundedRule r → NamesJump r x → NamesJump r y → x ≡ y
-one_jump_of_rule Gmic x y l h k = absurd h
-one_jump_of_rule (Table f) x y l h k = one_jump_text f x y l h.1 k.1
-
 one_mixed_reply : (input : List ℕ) (thing : CutInput) → SpellsCutInput input thing → IsBoundedRule thing.rule → (e d : End) (x y : List ℕ) →
     IsMixedReply thing e x → IsMixedReply thing d y → (e ≡ d) × (x ≡ y)
 one_mixed_reply input thing spelled l end.Done end.Done x y h k = (refl, one_mixed_text thing.rule thing.tableau x y l h.1 k.1)
-one_mixed_reply input thing spelled l end.Done end.NoFunction x y h k = absurd (mixed_no_violation thing.rule y l h.0 k)
-one_mixed_reply input thing spelled l end.Done end.NotContinuous x y h k = absurd (mixed_no_jump thing.rule y h.0 k)
-one_mixed_reply input thing spelled l end.NoFunction end.Done x y h k = absurd (mixed_no_violation thing.rule x l k.0 h)
-one_mixed_reply input thing spelled l end.NoFunction end.NoFunction x y h k = (refl, one_violation_text thing.rule x y l h k)
-one_mixed_reply input thing spelled l end.NoFunction end.NotContinuous x y h k = absurd (jump_no_violation thing.rule y x l k h)
-one_mixed_reply input thing spelled l end.NotContinuous end.Done x y h k = absurd (mixed_no_jump thing.rule x k.0 h)
-one_mixed_reply input thing spelled l end.NotContinuous end.NoFunction x y h k = absurd (jump_no_violation thing.rule x y l h k)
-one_mixed_reply input thing spelled l end.NotContinuous end.NotContinuous x y h k = (refl, one_jump_of_rule thing.rule x y l h k)
-one_mixed_reply input thing spelled l end.Done d x y h k = absurd k
-one_mixed_reply input thing spelled l end.NoFunction d x y h k = absurd k
-one_mixed_reply input thing spelled l end.NotContinuous d x y h k = absurd k
-one_mixed_reply input thing spelled l e d x y h k = absurd h
+one_mixed_reply input thing spelled l end.Done d x y h k = absurd (no_objection thing.rule d y l h.0 k)
+one_mixed_reply input thing spelled l e end.Done x y h k = absurd (no_objection thing.rule e x l k.0 h)
+one_mixed_reply input thing spelled l e d x y h k = one_objection thing.rule e d x y l h k
 
 pub mixed_is_determined : IsDetermined mixed
 mixed_is_determined = record {

@@ -25,8 +25,7 @@ use Rattle.gj_extreme.proofs.OneViolation.{one_violation}
 use Rattle.gj_extreme.proofs.TwoSlopeDecisions.{continuous_no_jump}
 use Rattle.gj_top.specs.declared.reply.End.{End}
 use Rattle.gj_top.specs.declared.reply.End.TheVariants as end
-use Rattle.gj_refusals.specs.Functions.{NamesFirstJump}
-use Rattle.gj_top.specs.Continuity.{IsContinuousReply}
+use Rattle.gj_top.specs.Continuity.{NamesFirstJump, IsContinuousReply}
 use Rattle.gj_top.specs.Check.{IsJudgement, IsRejected, check}
 use Rattle.gj_top.specs.Extreme.{IsDecisionText, IsExtremality, IsJumpText, IsWideText}
 use Rattle.gj_top.specs.Forms.{proof_form, RefusesFunction, RefusesProofText, json_refused_line, function_task}

@@ -1,7 +1,7 @@
 -- An input that is refused for the first line at fault.
 use Rattle.std.proofs.Common.{ℕ, List}
 use Rattle.gj_lex.specs.declared.reason.Reason.{Reason}
-use Rattle.gj_refusals.specs.Lines.{refused_line}
+use Rattle.gj_top.specs.Lines.{refused_line}
 use Rattle.gj_top.specs.declared.reply.Unanswered.{Unanswered}
 use Rattle.gj_top.specs.declared.reply.Unanswered.TheVariants.{Refused, Memory}
 use Rattle.gj_top.specs.Forms.{NamesFault}

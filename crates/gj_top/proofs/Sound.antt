@@ -3,7 +3,7 @@
 use Rattle.std.proofs.Common.{inl, inr, ℕ, Bool, true, false, List, IsTrue, refl}
 use Rattle.gj_shape.specs.FunctionData.{FunctionData, IsWithinBounds, IsContinuous}
 use Rattle.gj_words.specs.declared.requests.Command.{Command}
-use Rattle.gj_words.specs.declared.requests.Command.TheVariants.{Minimal, Extreme, Cut, Check, Show, Faces, Demo, Mixed, Fill, Group, Times, Mirror, Restrict}
+use Rattle.gj_words.specs.declared.requests.Command.TheVariants.{Minimal, Extreme, Cut, Check, Show, Faces, Demo, Mixed, Problem, Fill, Group, Times, Mirror, Restrict}
 use Rattle.gj_words.specs.declared.requests.Request.{Request}
 use Rattle.gj_top.specs.declared.reply.End.{End}
 use Rattle.gj_top.specs.declared.reply.End.TheVariants.{Done}
@@ -19,6 +19,7 @@ use Rattle.gj_verdict_text.specs.FacesText.{IsFacesText}
 use Rattle.gj_top.specs.Continuity.{IsContinuousReply}
 use Rattle.gj_top.specs.Cut.{cut}
 use Rattle.gj_top.specs.Mixed.{mixed}
+use Rattle.gj_top.specs.Problem.{problem}
 use Rattle.gj_top.specs.Fill.{IsFillText, IsFillReply}
 use Rattle.gj_top.specs.Group.{IsGroupVerdict, IsTrueGroupText, IsGroupReply}
 use Rattle.gj_top.specs.Transform.{IsTimesText, IsTimesReply, IsMirrorText, IsRestrictionText, IsRestrictionReply}
@@ -33,6 +34,8 @@ use Rattle.gj_top.proofs.CutForm.{cut_input_refuses_only_others}
 use Rattle.gj_top.specs.Command.{task_with, task_for}
 use Rattle.gj_top.proofs.Extremality.{extremality_true}
 use Rattle.gj_top.proofs.OneReport.{told}
+use Rattle.gj_problem_text.proofs.InputParts.{no_fault}
+use Rattle.gj_top.proofs.ProblemCuts.{true_cuts}
 use Rattle.gj_theory.proofs.Violations.{violation_denies}
 use Rattle.gj_top.proofs.TextLaws.{spelled_is_bounded, function_text_has_no_fault, proof_text_has_no_fault}
 
@@ -109,6 +112,13 @@ mixed_sound = record {
   work = λ input thing text spelled made. made.1;
 }
 
+problem_sound : IsSound problem
+problem_sound = record {
+  form = λ input text asked spelled refused. no_fault input asked refused.at_line refused.reason spelled refused.first;
+  refusals = λ input text refused. refl;
+  work = λ input asked text spelled made. true_cuts asked text made.1;
+}
+
 group_true : (f : FunctionData) (text : List ℕ) → IsContinuous f → IsGroupVerdict f text → IsTrueGroupText f text
 group_true f text continuous decided =
     record { continuous = continuous; answer = decided.answer; says = decided.says; spelled = decided.spelled }
@@ -145,6 +155,7 @@ sound_with Show json = show_sound json
 sound_with Faces json = of_continuous (λ f text. IsContinuous f) (EndsDone IsFacesText) (λ f text continuous listed. continuous)
 sound_with (Demo n) json = demo_sound n
 sound_with Mixed json = mixed_sound
+sound_with Problem json = problem_sound
 sound_with Fill json = of_continuous IsFillText IsFillReply (λ f text continuous filled. filled)
 sound_with Group json = of_continuous IsTrueGroupText IsGroupReply group_true
 sound_with (Times n j) json = of_functions false (IsTimesText n j) (IsTimesReply n j) (λ f text within shown. shown)

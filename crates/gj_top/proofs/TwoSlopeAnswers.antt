@@ -1,6 +1,5 @@
 -- A minimal function with two slopes is called extreme.
 use Rattle.std.proofs.Common.{◌≡◌, ◌≢◌, ℕ, Bool, List, String, Option, refl, subst}
-use Rattle.std.specs.Prelude.{IfSome}
 use Rattle.std.specs.declared.alloc.Global.{Global}
 use Rattle.gj_words.specs.declared.requests.Request.{Request}
 use Rattle.gj_shape.specs.FunctionData.{FunctionData, IsWithinBounds}
@@ -15,7 +14,7 @@ use Rattle.gj_top.specs.declared.reply.End.TheVariants as end
 use Rattle.gj_top.specs.declared.status.Status.{Status}
 use Rattle.gj_top.specs.declared.status.Status.TheVariants.{Done, Wide, NotContinuous}
 use Rattle.gj_top.specs.Asked.{AskIfExtreme}
-use Rattle.gj_top.specs.Causes.{IsInput, IsCause, IsDoneRun}
+use Rattle.gj_top.specs.Causes.{IsCause, IsDoneRun}
 use Rattle.gj_top.specs.Command.{task_for}
 use Rattle.gj_top.specs.Decisive.{CallsExtreme, IsCalledExtreme}
 use Rattle.gj_top.specs.Extreme.{IsExtremality, IsExtremeText, extreme}
@@ -23,6 +22,7 @@ use Rattle.gj_top.specs.Forms.{SpellsFunction}
 use Rattle.gj_top.specs.Outcome.{IsOutcome}
 use Rattle.gj_top.specs.Reply.{status_of}
 use Rattle.gj_top.specs.Report.{IsToldReply}
+use Rattle.gj_top.specs.Run.{Run, IsGiven, OfWritten}
 use Rattle.gj_top.specs.Task.{IsReply}
 use Rattle.gj_top.proofs.Clauses.{cause_clause, caused_reply, reply_clause, weaker}
 use Rattle.gj_top.proofs.Commands.{one_named}
@@ -81,17 +81,13 @@ module _ (words : List (String Global)) (input : List ℕ) (json : Bool) (f : Fu
         (subst (λ (q : Request). IsReply (task_for q) input end.Done d.text) (one_named words d.request _ d.named asked.named) d.reply)).1;
   }
 
-pub two_slopes_clause : (words : List (String Global)) (Fault : Type 0) (left left' written written' : Option (List ℕ)) (sure : ℕ) (r : Status) →
-    IsOutcome words Fault left left' written written' sure r → (input : List ℕ) (json : Bool) (f : FunctionData) → IsInput words left input →
-    AskIfExtreme json words input f → IsMinimal f → HasTwoSlopes f → (r ≢ Wide) × (r ≢ NotContinuous)
-two_slopes_clause words Fault left left' written written' sure r o input json f given asked minimal two =
-    caused words input json f asked minimal two r (cause_clause words Fault left left' written written' sure r o input given)
+pub two_slopes_clause : (run : Run) → IsOutcome run → (input : List ℕ) (json : Bool) (f : FunctionData) → IsGiven run input →
+    AskIfExtreme json run.words input f → IsMinimal f → HasTwoSlopes f → (run.status ≢ Wide) × (run.status ≢ NotContinuous)
+two_slopes_clause run o input json f given asked minimal two =
+    caused run.words input json f asked minimal two run.status (cause_clause run o input given)
 
-pub called_extreme_clause : (words : List (String Global)) (Fault : Type 0) (left left' written written' : Option (List ℕ)) (sure : ℕ)
-    (r : Status) → IsOutcome words Fault left left' written written' sure r → r ≡ Done → (input : List ℕ) (json : Bool) (f : FunctionData) →
-    IsInput words left input → AskIfExtreme json words input f → IsMinimal f → HasTwoSlopes f →
-    IfSome written (λ before. IsCalledExtreme json f before written')
-called_extreme_clause words Fault left left' written written' sure r o done input json f given asked minimal two =
-    weaker written (λ before. IsDoneRun words input before written') (λ before. IsCalledExtreme json f before written')
-    (λ before. called words input json f asked minimal two before written')
-    (reply_clause words Fault left left' written written' sure r o done input given)
+pub called_extreme_clause : (run : Run) → IsOutcome run → run.status ≡ Done → (input : List ℕ) (json : Bool) (f : FunctionData) →
+    IsGiven run input → AskIfExtreme json run.words input f → IsMinimal f → HasTwoSlopes f → OfWritten run (IsCalledExtreme json f)
+called_extreme_clause run o done input json f given asked minimal two =
+    weaker run.written (λ before. IsDoneRun run.words input before run.written_after) (λ before. IsCalledExtreme json f before run.written_after)
+    (λ before. called run.words input json f asked minimal two before run.written_after) (reply_clause run o done input given)

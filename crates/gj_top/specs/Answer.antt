@@ -1,8 +1,8 @@
 -- The answer of the program: its status and its text, and what it read for them (own).
 use Rattle.std.specs.Prelude.{ℕ, ◌≡◌, ◌<◌, ◌≤◌, List, length, IsTrue, Option, String}
 use Rattle.std.specs.declared.alloc.Global.{Global}
-use Rattle.gj_refusals.specs.InputRead.{input_limit, IsReadWhole, IsReadInPart}
-use Rattle.gj_refusals.specs.Lines.{words_line, fault_line, long_line}
+use Rattle.gj_top.specs.InputRead.{input_limit, IsReadWhole, IsReadInPart}
+use Rattle.gj_top.specs.Lines.{words_line, fault_line, long_line}
 use Rattle.gj_words.specs.declared.requests.Request.{Request}
 use Rattle.gj_top.specs.declared.answer.Answer.{Answer}
 use Rattle.gj_top.specs.declared.answer.Answer.TheVariants as answer

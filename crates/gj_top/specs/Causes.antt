@@ -1,5 +1,5 @@
 -- What the status of a run says of its words and its input (own).
-use Rattle.std.specs.Prelude.{ℕ, ◌≡◌, ◌⊎◌, false, List, ◌++◌, IsTrue, Option, Some, String}
+use Rattle.std.specs.Prelude.{ℕ, ◌≡◌, ◌⊎◌, ◌<◌, false, List, ◌++◌, length, IsTrue, Option, Some, String}
 use Rattle.std.specs.declared.alloc.Global.{Global}
 use Rattle.gj_words.specs.declared.requests.Request.{Request}
 use Rattle.gj_top.specs.declared.reply.End.{End}
@@ -8,6 +8,7 @@ use Rattle.gj_top.specs.declared.status.Status.{Status}
 use Rattle.gj_top.specs.declared.status.Status.TheVariants.{Words, Input, ReadFault, WriteFault, Memory}
 use Rattle.gj_top.specs.Command.{IsNamed, NameNone, promise_for, task_for}
 use Rattle.gj_top.specs.Reply.{status_of}
+use Rattle.gj_top.specs.InputRead.{input_limit}
 use Rattle.gj_top.specs.Promise.{reads, IsTrueReply}
 use Rattle.gj_top.specs.Task.{Task, IsInForm, IsReply, HasEnd}
 use Rattle.gj_top.specs.Answer.{IsAnswerTo, IsWithinLimit}
@@ -63,6 +64,12 @@ pub record IsGoodInput (task : Task) (left : Option (List ℕ)) (input : List �
   pub told : IsTrue (reads task.promise.form) → left ≡ Some input
   pub within : IsWithinLimit task input
   pub form : IsInForm task input
+
+-- an input that the source told to a task that reads one, and that is too long or outside its form
+pub record IsBadInput (task : Task) (left : Option (List ℕ)) (input : List ℕ) : Type 0 where
+  pub read : IsTrue (reads task.promise.form)
+  pub told : left ≡ Some input
+  pub bad : (input_limit < length input) ⊎ ((text : List ℕ) × task.work.refuses input text)
 
 -- the input spells a thing, and the status is that of its reply
 abbrev pub IsStatusOfReply : Task → List ℕ → Status → Type 0

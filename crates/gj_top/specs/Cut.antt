@@ -19,7 +19,7 @@ use Rattle.gj_proof.specs.declared.claim.Claim.TheVariants as claim
 use Rattle.gj_proof.specs.declared.cut.CutLine.{CutLine}
 use Rattle.gj_proof.specs.declared.cut.CutRule.{CutRule}
 use Rattle.gj_proof.specs.declared.cut.CutRule.TheVariants.{Gmic, Table}
-use Rattle.gj_refusals.specs.Functions.{NamesViolation}
+use Rattle.gj_top.specs.Objection.{NamesViolation}
 use Rattle.gj_cut_text.specs.CutLines.{IsLineFor}
 use Rattle.gj_cut_text.specs.CutRules.{MakesCuts}
 pub use Rattle.gj_top.specs.declared.cut_input.CutInput.{CutInput}

@@ -16,7 +16,7 @@ use Rattle.gj_proof.specs.declared.numbers.Numbers.{Numbers}
 use Rattle.gj_proof.specs.ProofText.{IsProofText, extreme_claim}
 use Rattle.gj_proof.specs.Meaning.{ClaimHolds, ShowHalves}
 use Rattle.gj_proof.specs.Rules.{MeetsRules}
-use Rattle.gj_refusals.specs.Functions.{NamesFirstJump}
+use Rattle.gj_top.specs.Continuity.{NamesFirstJump}
 use Rattle.gj_extreme.specs.Decision.{IsDecided, IsTooWide}
 use Rattle.gj_top.specs.declared.reply.End.{End}
 use Rattle.gj_top.specs.declared.reply.End.TheVariants.{Done, Wide, NotContinuous}

@@ -13,7 +13,7 @@ use Rattle.gj_proof.specs.declared.claim.Claim.{Claim}
 use Rattle.gj_json.specs.JsonFunction.{IsJsonFunction}
 use Rattle.gj_json.specs.FirstReason.{HasFirstReason, reason_word as json_reason_word}
 use Rattle.gj_json.specs.declared.faults.JsonReason.{JsonReason}
-use Rattle.gj_refusals.specs.Lines.{refused_line}
+use Rattle.gj_top.specs.Lines.{refused_line}
 use Rattle.gj_top.specs.declared.reply.End.{End}
 use Rattle.gj_top.specs.Promise.{Form, Promise}
 use Rattle.gj_top.specs.Promise.Form.{reading}

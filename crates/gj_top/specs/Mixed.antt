@@ -2,21 +2,18 @@
 -- continuous, are answered with the mixed cuts of its rows (Gomory and Johnson 1972; the form is
 -- own).
 use Rattle.std.specs.Prelude.{ℕ, List}
-use Rattle.gj_refusals.specs.Functions.{NamesViolation, NamesJump}
 use Rattle.gj_cut_text.specs.MixedLines.{AreMixedCutsOf, MakesMixedCuts}
 use Rattle.gj_top.specs.declared.reply.End.{End}
-use Rattle.gj_top.specs.declared.reply.End.TheVariants.{Done, NotContinuous, NoFunction}
+use Rattle.gj_top.specs.declared.reply.End.TheVariants.{Done}
 use Rattle.gj_top.specs.Promise.{Promise}
 use Rattle.gj_top.specs.Task.{Task}
+use Rattle.gj_top.specs.Objection.{IsObjection}
 use Rattle.gj_top.specs.Cut.{CutInput, cut_input, RefusesCutInput}
 
--- the mixed cuts of the rows, if the rule makes such cuts; of a function that is not minimal the
--- first violation is named, and of a minimal one that jumps the first jump
+-- the mixed cuts of the rows, if the rule makes such cuts, and else why it does not
 abbrev pub IsMixedReply : CutInput → End → List ℕ → Type 0
 IsMixedReply input Done text = MakesMixedCuts input.rule × AreMixedCutsOf input.rule input.tableau text
-IsMixedReply input NoFunction text = NamesViolation input.rule text
-IsMixedReply input NotContinuous text = NamesJump input.rule text
-IsMixedReply input end text = ⊥
+IsMixedReply input end text = IsObjection input.rule end text
 
 -- the headline: the rows that are written are those of the tableau, and each cut holds at every
 -- solution of its row

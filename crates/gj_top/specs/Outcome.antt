@@ -1,42 +1,39 @@
--- What a run did: which answer it had, and what the sink, if it tells its bytes, has taken of it
--- (own).
-use Rattle.std.specs.Prelude.{ℕ, ◌≡◌, ◌<◌, List, length, Option, String}
-use Rattle.std.specs.declared.alloc.Global.{Global}
+-- What came of a run: which answer it had, and what the sink, if it tells its bytes, has taken of
+-- it (own).
+use Rattle.std.specs.Prelude.{ℕ, ◌≡◌, ◌<◌, List, length}
 use Rattle.gj_port.specs.Runs.{Gains, GainsFront}
 use Rattle.gj_top.specs.declared.status.Status.{Status}
 use Rattle.gj_top.specs.declared.status.Status.TheVariants.{WriteFault, Memory}
-use Rattle.gj_top.specs.Answer.{IsAnswer, IsUnanswered}
+use Rattle.gj_top.specs.Answer.{IsUnanswered}
+use Rattle.gj_top.specs.Run.{Run, IsAnswerOf}
 
 -- there was no memory for an answer, and nothing was written
-pub record IsSilent (words : List (String Global)) (left left' written written' : Option (List ℕ)) (result : Status) : Type 0 where
-  pub status_is : result ≡ Memory
-  pub unanswered : IsUnanswered words left left'
-  pub unwritten : written' ≡ written
+pub record IsSilent (run : Run) : Type 0 where
+  pub status_is : run.status ≡ Memory
+  pub unanswered : IsUnanswered run.words run.left run.left_after
+  pub unwritten : run.written_after ≡ run.written
 
 -- the answer was written, and the status is its status
-pub record IsTold (words : List (String Global)) (Fault : Type 0) (left left' written written' : Option (List ℕ)) (result : Status) : Type 0 where
+pub record IsTold (run : Run) : Type 0 where
   pub text : List ℕ
-  pub answer : IsAnswer words Fault left left' result text
-  pub gain : Gains written written' text
+  pub answer : IsAnswerOf run run.status text
+  pub gain : Gains run.written run.written_after text
 
 -- the sink, which was not sure of the whole text of the answer, failed and took a front of it
-pub record IsCutOff (words : List (String Global)) (Fault : Type 0) (left left' written written' : Option (List ℕ)) (sure : ℕ)
-    (result : Status) : Type 0 where
-  pub status_is : result ≡ WriteFault
+pub record IsCutOff (run : Run) : Type 0 where
+  pub status_is : run.status ≡ WriteFault
   pub status : Status
   pub text : List ℕ
-  pub answer : IsAnswer words Fault left left' status text
-  pub unsure : sure < length text
-  pub gain : GainsFront written written' text
+  pub answer : IsAnswerOf run status text
+  pub unsure : run.sure < length text
+  pub gain : GainsFront run.written run.written_after text
 
--- one of these, if `Fault` says that the source failed
-pub data IsOutcome (words : List (String Global)) (Fault : Type 0) (left left' written written' : Option (List ℕ)) (sure : ℕ)
-    (result : Status) : Type 0 where
-  silent : IsSilent words left left' written written' result → IsOutcome words Fault left left' written written' sure result
-  told : IsTold words Fault left left' written written' result → IsOutcome words Fault left left' written written' sure result
-  cut_off : IsCutOff words Fault left left' written written' sure result → IsOutcome words Fault left left' written written' sure result
+-- one of these
+pub data IsOutcome (run : Run) : Type 0 where
+  silent : IsSilent run → IsOutcome run
+  told : IsTold run → IsOutcome run
+  cut_off : IsCutOff run → IsOutcome run
 
 -- the sink was not sure of the whole text of an answer that the run can have had
-abbrev pub IsUnsure : List (String Global) → Type 0 → Option (List ℕ) → Option (List ℕ) → ℕ → Type 0
-IsUnsure words Fault left left' sure =
-    (status : Status) × (text : List ℕ) × IsAnswer words Fault left left' status text × (sure < length text)
+abbrev pub IsUnsure : Run → Type 0
+IsUnsure run = (status : Status) × (text : List ℕ) × IsAnswerOf run status text × (run.sure < length text)

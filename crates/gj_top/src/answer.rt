@@ -1,7 +1,7 @@
 //! The answer to words and an input, before it is written.
 ghost use Rattle.std.specs.Prelude.{◌≡◌, ◌≤◌, length, IfOk, OnErr};
 ghost use Rattle.gj_port.specs.Runs.{IsSourceFault};
-ghost use Rattle.gj_refusals.specs.InputRead.{input_limit};
+ghost use Rattle.gj_top.specs.InputRead.{input_limit};
 ghost use Rattle.gj_words.specs.Grammar.{IsInBounds};
 ghost use Rattle.gj_top.specs.Command.{task_for};
 ghost use Rattle.gj_top.specs.Answer.{IsAnswer, IsAnswerTo, IsUnanswered, answer_status};
@@ -11,9 +11,11 @@ use crate::command::{reads_input, reply_to, request_of};
 use crate::reply::{Reply, Unanswered};
 use crate::status::Status;
 use gj_port::{ReadError, Source, read_all};
-use gj_refusals::INPUT_LIMIT;
 use gj_words::Request;
 use std::alloc::{AllocError, Global};
+
+/// The most bytes that are read of an input.
+const INPUT_LIMIT: usize = 16_777_216;
 
 /// What a run writes: a reply, or the line that says why there is none. The three lines that the
 /// program always has take no memory.

@@ -5,11 +5,10 @@ ghost use Rattle.gj_top.specs.Task.{IsAnswering};
 ghost use Rattle.gj_top.specs.Check.{IsJudgement, check};
 
 use crate::forms::proof_of;
-use crate::lines::worded_line;
+use crate::lines::{numbered_line, worded_line};
 use crate::reply::{End, Reply, Unanswered};
 use gj_check::{CheckFault, check};
 use gj_proof::Proof;
-use gj_refusals::numbered_line;
 use std::alloc::{AllocError, Global};
 
 /// What the checker says of the proof that the input spells.

@@ -6,7 +6,9 @@ ghost use Rattle.gj_top.specs.Promise.{reads};
 ghost use Rattle.gj_top.specs.Task.{IsAnswering};
 
 use crate::reply::{Reply, Unanswered};
-use crate::{check, cut, demo, extreme, faces, fill, group, minimal, mixed, show, transform};
+use crate::{
+    check, cut, demo, extreme, faces, fill, group, minimal, mixed, problem, show, transform,
+};
 use gj_words::{Command, Request, WordFault, read_words};
 use std::alloc::{AllocError, Global};
 
@@ -45,6 +47,7 @@ pub(crate) fn reply_to(alloc: Global, request: Request, input: &[u8]) -> Result<
         Command::Cut => cut::reply(alloc, input),
         Command::Demo(n) => demo::reply(alloc, n),
         Command::Mixed => mixed::reply(alloc, input),
+        Command::Problem => problem::reply(alloc, input),
         Command::Fill => fill::reply(alloc, input),
         Command::Group => group::reply(alloc, input),
         Command::Times(n, j) => transform::times_reply(alloc, input, n, j),

@@ -5,9 +5,9 @@ ghost use Rattle.gj_top.specs.Task.{IsAnswering};
 ghost use Rattle.gj_top.specs.Cut.{IsCutReply, cut};
 
 use crate::cut_input::{CutInput, cut_input_of};
+use crate::objection::violation_text;
 use crate::reply::{End, Reply, Unanswered};
 use gj_cut_text::{cuts_text, violation_of_rule};
-use gj_refusals::violation_text;
 use std::alloc::{AllocError, Global};
 
 /// The cuts of the rows of the tableau behind the function or the rule that the input begins with,

@@ -6,10 +6,10 @@ ghost use Rattle.gj_top.specs.Task.{IsReadingOf, IsTaskRefusal};
 ghost use Rattle.gj_top.specs.Cut.{SpellsCutInput, BeginsWithRule, RefusesCutInput};
 
 use crate::forms::refused;
+use crate::lines::numbered_line;
 use crate::reply::Unanswered;
 use gj_function_text::{TextFault, begins_as_rule, read_function, read_rule};
 use gj_proof::CutRule;
-use gj_refusals::numbered_line;
 use gj_row::{RowFault, Tableau};
 use std::alloc::Global;
 

@@ -4,11 +4,11 @@ ghost use Rattle.gj_top.specs.Task.{IsAnswering};
 ghost use Rattle.gj_top.specs.Report.{IsToldReply};
 ghost use Rattle.gj_top.specs.Extreme.{IsExtremality, extreme};
 
+use crate::continuity::jump_text;
 use crate::forms::function_of;
 use crate::reply::{End, Reply, Unanswered};
 use crate::report::proof_text;
 use gj_extreme::{DecideFault, decide};
-use gj_refusals::jump_text;
 use gj_shape::Shape;
 use std::alloc::{AllocError, Global};
 

@@ -1,18 +1,17 @@
 //! The forms of input: each is read whole, or refused with the line that says why.
 ghost use Rattle.gj_top.specs.Task.{IsReadingOf, IsRefusedWith};
 ghost use Rattle.gj_json.specs.JsonFunction.{IsJsonFunction};
-ghost use Rattle.gj_refusals.specs.Lines.{refused_line};
+ghost use Rattle.gj_top.specs.Lines.{refused_line};
 ghost use Rattle.gj_top.specs.Forms.{IsFunctionInput, SpellsFunction, IsProofOf};
 ghost use Rattle.gj_top.specs.Forms.{RefusesFunctionText, RefusesJson, RefusesFunction};
 ghost use Rattle.gj_top.specs.Forms.{RefusesProofText};
 
-use crate::lines::worded_line;
+use crate::lines::{refusal, worded_line};
 use crate::reply::Unanswered;
 use gj_function_text::{TextFault, read_whole_function};
 use gj_json::{JsonFault, read_json};
 use gj_lex::Reason;
 use gj_proof::{Proof, ProofFault, read_proof};
-use gj_refusals::refusal;
 use gj_shape::Shape;
 use std::alloc::Global;
 

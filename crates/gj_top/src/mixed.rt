@@ -1,19 +1,15 @@
 //! The command `mixed`: the mixed cuts of the rows of a tableau, by a function or by the
 //! mixed-integer cut.
-ghost use Rattle.std.specs.Prelude.{◌≡◌, IfOk, IfSome, IfNone};
+ghost use Rattle.std.specs.Prelude.{IfOk};
 ghost use Rattle.gj_row.specs.TableauLimits.{IsTableau};
-ghost use Rattle.gj_cut_text.specs.MixedLines.{MakesMixedCuts};
-ghost use Rattle.gj_refusals.specs.Functions.{NamesJump};
-ghost use Rattle.gj_cut_text.specs.CutRules.{PassesTests};
 ghost use Rattle.gj_top.specs.Task.{IsAnswering};
 ghost use Rattle.gj_top.specs.Mixed.{IsMixedReply, mixed};
 
-use crate::continuity::jump_reply;
 use crate::cut_input::{CutInput, cut_input_of};
+use crate::objection::objection_to;
 use crate::reply::{End, Reply, Unanswered};
-use gj_cut_text::{mixed_text, violation_of_rule};
+use gj_cut_text::mixed_text;
 use gj_proof::CutRule;
-use gj_refusals::violation_text;
 use gj_row::Tableau;
 use std::alloc::{AllocError, Global};
 
@@ -33,31 +29,11 @@ pub fn mixed_reply(alloc: Global, rule: &CutRule, tableau: &Tableau) -> Result<R
     ensures { IfOk result (λ reply. IsMixedReply
         (record { «rule» = rule.now; tableau = tableau.now }) reply.end reply.text.items) }
 {
-    if let Some(violation) = violation_of_rule(rule) {
-        return Ok(Reply {
-            end: End::NoFunction,
-            text: violation_text(alloc, violation)?,
-        });
-    }
-    if let Some(jump) = jump_of(alloc, rule)? {
-        return Ok(jump);
+    if let Some(objection) = objection_to(alloc, rule)? {
+        return Ok(objection);
     }
     Ok(Reply {
         end: End::Done,
         text: mixed_text(alloc, rule, tableau)?,
     })
-}
-
-/// The reply to a rule whose function jumps.
-fn jump_of(alloc: Global, rule: &CutRule) -> Result<Option<Reply>, AllocError>
-    requires tests { PassesTests rule.now }
-    ensures end { IfOk result (λ found. IfSome found (λ reply. reply.end ≡ End.NotContinuous)) }
-    ensures jump { IfOk result (λ found. IfSome found
-        (λ reply. NamesJump rule.now reply.text.items)) }
-    ensures none { IfOk result (λ found. IfNone found (MakesMixedCuts rule.now)) }
-{
-    match rule {
-        CutRule::Gmic => Ok(None),
-        CutRule::Table(shape) => jump_reply(alloc, shape),
-    }
 }

@@ -6,9 +6,9 @@ ghost use Rattle.gj_top.specs.Code.{code_of};
 /// failed.
 ///
 /// `Rejected` comes with the command `check` alone, `Wide` with `extreme` and `group`,
-/// `NotContinuous` with `extreme`, `faces`, `mixed`, `fill`, `group` and `restrict`,
-/// `NoFunction` with `cut` and `mixed`, `NotSubadditive` with `fill`, `OrderLimit` with `times` and
-/// `group`, and `BadOrder` with `restrict`.
+/// `NotContinuous` with `extreme`, `faces`, `mixed`, `problem`, `fill`, `group` and `restrict`,
+/// `NoFunction` with `cut`, `mixed` and `problem`, `NotSubadditive` with `fill`, `OrderLimit` with
+/// `times` and `group`, and `BadOrder` with `restrict`.
 #[derive(Clone, Copy, Debug, PartialEq, Eq)]
 pub enum Status {
     /// The answer was written.

@@ -1,11 +1,11 @@
 //! The words of the command line as one grammar.
 //!
 //! A command line is one command word, `minimal`, `extreme`, `cut`, `check`, `show`, `faces`,
-//! `mixed`, `fill`, `group`, `mirror`, `demo`, `restrict` or `times`, and behind `demo` one number
-//! from 1 to 249, behind `restrict` one from 2 to 1,000, and behind `times` two, the first from 1
-//! to 500, the second from 0 on below the first; each in digits, without a leading zero unless it
-//! is `0`. The flag `--json` may stand once, at any place, with `minimal`, `extreme` and `show`.
-//! Every other word that begins with `-` is refused, so `--` and `--help` are.
+//! `mixed`, `problem`, `fill`, `group`, `mirror`, `demo`, `restrict` or `times`, and behind `demo`
+//! one number from 1 to 249, behind `restrict` one from 2 to 1,000, and behind `times` two, the
+//! first from 1 to 500, the second from 0 on below the first; each in digits, without a leading
+//! zero unless it is `0`. The flag `--json` may stand once, at any place, with `minimal`, `extreme`
+//! and `show`. Every other word that begins with `-` is refused, so `--` and `--help` are.
 //!
 //! The grammar stands in `specs/Grammar.antt`, which says what words spell what request, and
 //! `one_request` says that they spell at most one. `read_words` gives that request. One word alone

@@ -134,6 +134,7 @@ fn plain_command(name: &str) -> Option<Command>
         "show" => Some(Command::Show),
         "faces" => Some(Command::Faces),
         "mixed" => Some(Command::Mixed),
+        "problem" => Some(Command::Problem),
         "fill" => Some(Command::Fill),
         "group" => Some(Command::Group),
         "mirror" => Some(Command::Mirror),

@@ -26,6 +26,8 @@ pub enum Command {
     Demo(u32),
     /// Makes a cut of each row of a tableau that has continuous columns.
     Mixed,
+    /// Makes a cut of each row that multipliers make of a mixed-integer program.
+    Problem,
     /// Prints the two-slope fill-in of a function by its breakpoints.
     Fill,
     /// Decides whether the table of a function's own order is extreme.

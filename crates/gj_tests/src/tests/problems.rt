@@ -1,5 +1,5 @@
-//! The cut of a problem by its multipliers, before and after it is rounded, and runs of `gjsafe`
-//! over streams in steps.
+//! The cut of a problem by its multipliers, before and after it is rounded, and runs of
+//! `problem` over streams in steps.
 ghost use Rattle.gj_rule.specs.Kind.{IsKind};
 ghost use Rattle.gj_rule.specs.Kept.{Evaluates};
 ghost use Rattle.gj_mixed.specs.Slopes.{AreSlopesOfKind, IsSlope, Weighs};
@@ -9,9 +9,9 @@ use gj_mixed::{Slopes, SlopesAtZero};
 use gj_port::{MemSink, MemSource};
 use gj_problem::{Column, Constraint, Entry, Inequality, Problem, RoundedCut, Sense, rounded};
 use gj_rule::{Evaluator, Rule, RuleKind, gmic_value};
-use gj_safe::{Status, run};
 use gj_safe_cut::{SafeCut, gmic_safe_cut, safe_cut};
 use gj_shape::List;
+use gj_top::{Status, run};
 use std::alloc::Global;
 
 /// A column that is at least 0.
@@ -162,12 +162,13 @@ const PROBLEM: &[u8] =
 /// Their cuts: x <= 3, and none, since twice the right side is whole.
 const CUTS: &[u8] = b"gj-safe 1\nrule gmic\ncut -6\nterm x -2\nskip integral\nend\n";
 
-/// Whether a run of `gjsafe` ends so, and writes so much, over a source in steps of 7 and a sink in
+/// Whether a run of `problem` ends so, and writes so much, over a source in steps of 7 and a sink in
 /// steps of 10, of which the calls with these numbers fail.
 fn ends(alloc: Global, read: u64, write: u64, ended: Status, written: &[u8]) -> Option<bool> {
+    let words = vec![in alloc; String::from_str(alloc, "problem").ok()?].ok()?;
     let mut source = MemSource::with_step(alloc, PROBLEM, 7, &[read]).ok()?;
     let mut sink = MemSink::with_step(alloc, 100, 10, &[write]).ok()?;
-    let status = run(alloc, &[], &mut source, &mut sink);
+    let status = run(alloc, words.as_slice(), &mut source, &mut sink);
     Some(status == ended && sink.taken() == written)
 }
 

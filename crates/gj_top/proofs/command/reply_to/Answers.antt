@@ -24,6 +24,9 @@ returns-in-Demo c = rw c.in-Demo.is (c.reply-in-Demo.ensures c.args.input.now)
 pub returns-in-Mixed : goal.returns-in-Mixed
 returns-in-Mixed c = rw c.in-Mixed.is c.reply-in-Mixed.ensures
 
+pub returns-in-Problem : goal.returns-in-Problem
+returns-in-Problem c = rw c.in-Problem.is c.reply-in-Problem.ensures
+
 pub returns-in-Fill : goal.returns-in-Fill
 returns-in-Fill c = rw c.in-Fill.is c.reply-in-Fill.ensures
 

@@ -3,7 +3,7 @@ use Rattle.gj_top.specs.declared.reply.End.{End}
 use Rattle.gj_top.specs.declared.reply.End.TheVariants as end
 use Rattle.gj_top.specs.declared.status.Status.{Status}
 use Rattle.gj_top.specs.declared.status.Status.TheVariants.{Done}
-use Rattle.gj_refusals.specs.InputRead.{input_limit}
+use Rattle.gj_top.specs.InputRead.{input_limit}
 use Rattle.gj_top.specs.Answer.{IsAnswerTo}
 use Rattle.gj_top.specs.Answer.IsAnswerTo.{too_long, refused, replied}
 use Rattle.gj_top.specs.Decisive.{CallsExtreme}

@@ -1,3 +1,0 @@
-pub mod InputRead
-pub mod Clauses
-pub mod AnswerOfReply
