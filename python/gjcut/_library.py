@@ -16,8 +16,8 @@ TOP = HERE.parents[1]
 # An output that is kept between calls has this many bytes: more than most answers have.
 KEPT_ROOM = 1 << 17
 MISSING = (
-    "the library of gjcut is not here: `tools/install` at the top of the repository builds and "
-    "installs it"
+    "the library of gjcut is not here: `tools/build/install` at the top of the repository "
+    "builds and installs it"
 )
 
 
@@ -37,10 +37,10 @@ def packed() -> Path:
     folder = TOP / "crates/gj_library/out"
     archive, made = folder / "libgj_library.a", folder / NAME
     if not archive.exists():
-        how = "without installing, `tools/build_library` builds it"
+        how = "without installing, `tools/build/build_library` builds it"
         raise LibraryMissing(f"{MISSING}; {how} (there is no {archive})")
     if not made.exists() or made.stat().st_mtime <= archive.stat().st_mtime:
-        words = [str(TOP / "tools/build_library"), "--pack"]
+        words = [str(TOP / "tools/build/build_library"), "--pack"]
         done = subprocess.run(words, stderr=subprocess.PIPE, text=True, check=False)
         if done.returncode or not made.exists():
             raise LibraryMissing(f"the shared library could not be made:\n{done.stderr}")

@@ -1,5 +1,5 @@
 """What a refusal means, and what to do: one table, from which that of docs/formats.md is made too
-(`tools/write_sentences`).
+(`tools/pages/write_sentences`).
 
 The program says which line and which reason; which of several sentences fits is guessed here from
 that line and the text. The first that fits is taken, so the general one of each reason stands last.

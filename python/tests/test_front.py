@@ -56,7 +56,7 @@ class Sentences(unittest.TestCase):
         self.assertGreater(tried, 60)
 
     def test_each_refusal_of_a_problem_has_one(self):
-        for example in sorted(EXAMPLES.glob("problems/*/output")):
+        for example in sorted(EXAMPLES.glob("problem/*/output")):
             text, said = (example.parent / "input").read_text(), example.read_text().strip()
             if said.startswith("refused line"):
                 found = sentence_for(GJSAFE, text, said)
@@ -77,19 +77,19 @@ class Commands(unittest.TestCase):
         asymmetric = "it is not symmetric, since its values at 4/5 and at f - 4/5 = 4/5 are 1/3"
         extreme = "extreme: the function is minimal, and no average of two other valid functions"
         for example, command, begin in (
-            ("breaks_minimal", "minimal", "minimal: the function is 0 at 0, nowhere negative, sub"),
-            ("extreme_five_pieces", "extreme", extreme),
-            ("not_extreme_six_pieces", "extreme", "not extreme: the function is minimal, and the"),
-            ("asymmetric_point", "minimal", f"not minimal: {asymmetric}"),
-            ("superadditive_pair", "minimal", "not minimal: it is not subadditive, since its"),
-            ("negative_value", "minimal", "not minimal: its value at"),
-            ("not_zero_at_zero", "minimal", "not minimal: its value at 0 is"),
-            ("check_extreme", "check", "accepted: the function is extreme"),
-            ("check_minimal_rejected", "check", "rejected: line 2, `claim minimal`: the function"),
-            ("group_six_pieces", "group", "not extreme: the table of the function at the"),
-            ("cut_two_columns", "cut", "x0: 2/3 x1 + 1/2 x2 >= 1"),
-            ("cut_skipped_rows", "cut", "x0: no cut, since its right side 3 is whole"),
-            ("mixed_by_gmic", "mixed", "x0: 5/12 x1 + 5/4 c:z1 + 5/2 c:z2 >= 1"),
+            ("minimal/by_breakpoints", "minimal", "minimal: the function is 0 at 0, nowhere neg"),
+            ("extreme/five_pieces", "extreme", extreme),
+            ("extreme/not_extreme_six_pieces", "extreme", "not extreme: the function is minimal, and the"),
+            ("minimal/asymmetric_point", "minimal", f"not minimal: {asymmetric}"),
+            ("minimal/superadditive_pair", "minimal", "not minimal: it is not subadditive, since"),
+            ("minimal/negative_value", "minimal", "not minimal: its value at"),
+            ("minimal/not_zero_at_zero", "minimal", "not minimal: its value at 0 is"),
+            ("check/extreme", "check", "accepted: the function is extreme"),
+            ("check/minimal_rejected", "check", "rejected: line 2, `claim minimal`: the function"),
+            ("group/six_pieces", "group", "not extreme: the table of the function at the"),
+            ("cut/two_columns", "cut", "x0: 2/3 x1 + 1/2 x2 >= 1"),
+            ("cut/skipped_rows", "cut", "x0: no cut, since its right side 3 is whole"),
+            ("mixed/by_gmic", "mixed", "x0: 5/12 x1 + 5/4 c:z1 + 5/2 c:z2 >= 1"),
         ):
             status, said, errors = front(command, f"{example}/input")
             self.assertEqual((said[: len(begin)], errors), (begin, ""), example)
@@ -97,10 +97,10 @@ class Commands(unittest.TestCase):
 
     def test_the_text_of_the_program(self):
         for example, words in (
-            ("extreme_five_pieces", ["extreme", "--proof"]),
-            ("json_minimal", ["minimal", "--json"]),
-            ("times_2_1", ["times", "2", "1"]),
-            ("demo_50", ["demo", "50"]),
+            ("extreme/five_pieces", ["extreme", "--proof"]),
+            ("minimal/in_json", ["minimal", "--json"]),
+            ("transform/times_2_1", ["times", "2", "1"]),
+            ("demo/50", ["demo", "50"]),
         ):
             files = [] if words[0] == "demo" else [f"{example}/input"]
             status, said, _ = front(*words, *files)
@@ -109,11 +109,10 @@ class Commands(unittest.TestCase):
             )
 
     def test_standard_input(self):
-        text = (EXAMPLES / "breaks_minimal/input").read_text()
+        example = "minimal/by_breakpoints/input"
+        text = (EXAMPLES / example).read_text()
         for words in (["minimal"], ["minimal", "-"]):
-            self.assertEqual(
-                front(*words, text=text)[:2], (0, front("minimal", "breaks_minimal/input")[1])
-            )
+            self.assertEqual(front(*words, text=text)[:2], (0, front("minimal", example)[1]))
 
     def test_a_rule_beside_the_tableau(self):
         with tempfile.TemporaryDirectory() as folder:
@@ -121,15 +120,14 @@ class Commands(unittest.TestCase):
             table.write_text("basic,rhs,x1,s1\nx0,8/5,7/5,-1/5\n")
             expected = "x0: 2/3 x1 + 1/2 s1 >= 1\n"
             self.assertEqual(front("cut", "--rule", "gmic", str(table)), (0, expected, ""))
-            self.assertEqual(
-                front("cut", "--rule", "breaks_minimal/input", str(table)), (0, expected, "")
-            )
+            rule = "minimal/by_breakpoints/input"
+            self.assertEqual(front("cut", "--rule", rule, str(table)), (0, expected, ""))
 
     def test_many_files_give_the_worst_status_and_a_count(self):
         files = [
-            "extreme_five_pieces/input",
-            "not_extreme_six_pieces/input",
-            "breaks_place/input",
+            "extreme/five_pieces/input",
+            "extreme/not_extreme_six_pieces/input",
+            "minimal/breaks_place/input",
             "no_such_file",
         ]
         status, said, errors = front("extreme", "--progress", *files)
@@ -140,14 +138,14 @@ class Commands(unittest.TestCase):
         self.assertIn("3 of 4 files", errors)
         self.assertEqual(front("extreme", *files[:3])[0], 3)
         self.assertEqual(
-            front("check", "check_extreme/input", "check_minimal_rejected/input")[0], 1
+            front("check", "check/extreme/input", "check/minimal_rejected/input")[0], 1
         )
 
     def test_a_refusal_has_the_line_the_place_and_a_sentence(self):
-        status, said, _ = front("minimal", "breaks_descending/input")
+        status, said, _ = front("minimal", "minimal/breaks_descending/input")
         lines = said.splitlines()
         self.assertEqual(status, 3)
-        self.assertRegex(lines[0], r"^breaks_descending/input, line \d+: refused, break$")
+        self.assertRegex(lines[0], r"^minimal/breaks_descending/input, line \d+: refused, break$")
         self.assertRegex(lines[1], r"^    point ")
         self.assertIn("Sort the lines `point` by their places.", lines[2])
 
@@ -175,14 +173,14 @@ class Commands(unittest.TestCase):
         self.assertEqual((done.returncode, done.stdout, done.stderr.count("\n")), (14, "", 1))
 
     def test_explain(self):
-        for example in sorted(EXAMPLES.glob("check_*/input")):
+        for example in sorted(EXAMPLES.glob("check/*/input")):
             status, said, errors = front("explain", str(example))
             wanted = int((example.parent / "status").read_text())
             self.assertEqual((status, errors), (wanted, ""), example)
             if wanted < 2:
                 for line in said.splitlines()[1:]:
                     self.assertRegex(line, r"^ *\d+  \S.*  \S", example)
-        said = front("explain", "check_extreme/input")[1]
+        said = front("explain", "check/extreme/input")[1]
         self.assertIn("so [0, 1/5], on which it projects, is covered, and begins component 0", said)
 
 

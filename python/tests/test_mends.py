@@ -204,7 +204,7 @@ except gjcut.LibraryMissing as missing:
                 check=False,
             )
         self.assertEqual((done.returncode, done.stderr), (0, ""))
-        self.assertIn("tools/install", done.stdout)
+        self.assertIn("tools/build/install", done.stdout)
 
 
 class Room(unittest.TestCase):
