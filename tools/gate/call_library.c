@@ -9,8 +9,8 @@
  *                             of docs/library.md, and that all are given back
  * library -time N FOLDER      N calls on one example, with the time that a call takes and by how much the memory grew
  *
- * An example is a folder with the files words (one a line), input, output and status. One without words is for the
- * word problem. The program is linked with --wrap for malloc, realloc and free, so that it sees what a call asks for.
+ * An example is a folder with the files words (one a line), input, output and status. The
+ * program is linked with --wrap for malloc, realloc and free, so that it sees what a call asks for.
  */
 #include <malloc.h>
 #include <pthread.h>
@@ -105,15 +105,7 @@ static struct text read_file(const char *folder, const char *name) {
 
 /* The words stand one a line, and a call takes them with one blank between two. */
 static struct text read_words(const char *folder) {
-    FILE *file = open_file(folder, "words");
-    struct text words;
-    if (!file) {
-        words = (struct text){memory(7), 7};
-        memcpy(words.bytes, "problem", 7);
-        return words;
-    }
-    fclose(file);
-    words = read_file(folder, "words");
+    struct text words = read_file(folder, "words");
     if (words.length) words.length--;
     for (size_t i = 0; i < words.length; i++)
         if (words.bytes[i] == '\n') words.bytes[i] = ' ';
