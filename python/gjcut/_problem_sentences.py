@@ -1,4 +1,4 @@
-"""Sentences about the text of a problem, which `gjcut_safe_cut` and the command `problem` read."""
+"""Sentences about the text of a problem, which the command `problem` reads."""
 from ._function_sentences import LINE, five
 from ._sentence import Sentence
 

@@ -17,13 +17,14 @@ __all__ = ["RULES", "SENTENCES", "Sentence", "line_at_fault", "sentence_for"]
 
 COMMAND_SENTENCES = [*FUNCTION_SENTENCES, *OTHER_SENTENCES]
 SENTENCES = [*COMMAND_SENTENCES, *PROBLEM_SENTENCES]
+# What is said of a problem comes first where the command is `problem`, and nowhere else.
+SENTENCES_OF_PROBLEMS = [*PROBLEM_SENTENCES, *COMMAND_SENTENCES]
 
 
 def sentence_for(words: str, text: str, answer: str) -> Optional[Sentence]:
     """The sentence about an answer, without the line break at its end, to the words over a text."""
     given = text_of(words, "words"), text_of(text, "text"), text_of(answer, "answer")
-    is_of_problem = words == WORDS and answer.startswith("refused line")
-    among = PROBLEM_SENTENCES if is_of_problem else COMMAND_SENTENCES
+    among = SENTENCES_OF_PROBLEMS if words == WORDS else COMMAND_SENTENCES
     return next((each for each in among if each.fits(*given)), None)
 
 

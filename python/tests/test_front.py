@@ -85,6 +85,27 @@ class Commands(unittest.TestCase):
             self.assertEqual((said[: len(begin)], errors), (begin, ""), example)
             self.assertEqual(status, int(said.startswith("rejected")), example)
 
+    def test_problems(self):
+        for example, lines in (
+            ("worked", ["sum 1: -5/3 x + -5/3 y + 5/6 z >= -20/3"]),
+            ("infeasible", ["sum 1: 0 >= 1: no point is feasible"]),
+            ("integral", ["sum 1: no cut, since the right side of the sum is whole"]),
+            ("wide", ["sum 1: no cut, since a number would have more than 127 bits"]),
+            ("free_columns", ["sum 1: no cut, since y has no bound and cannot be left out, or its"]),
+        ):
+            status, said, errors = front("problem", f"problems/{example}/input")
+            self.assertEqual((status, errors), (0, ""), example)
+            for line, begin in zip(said.splitlines(), lines):
+                self.assertEqual(line[: len(begin)], begin)
+            output = (EXAMPLES / "problems" / example / "output").read_text()
+            self.assertEqual(
+                front("problem", "--proof", f"problems/{example}/input")[:2], (0, output)
+            )
+        status, said, _ = front("problem", "problems/refused_place/input")
+        self.assertEqual(status, 3)
+        self.assertIn("line 5: refused, place", said)
+        self.assertIn("No column before it has this name.", said)
+
     def test_the_text_of_the_program(self):
         for example, words in (
             ("extreme/five_pieces", ["extreme", "--proof"]),
