@@ -16,19 +16,10 @@ use Rattle.gj_theory.proofs.Everywhere.{at_same}
 use Rattle.gj_fields.specs.Fields.{OrderedField}
 use Rattle.gj_fields.proofs.Ring.{ring}
 use Rattle.gj_fields.proofs.Ring.Term.{var, nil, unit, neg, ◌⊕◌, ◌⊗◌}
+use Rattle.gj_reals.proofs.RowLists.{unit_row, pair_row, upto, each_upto, of_upto}
 use Rattle.gj_reals.proofs.Lift.{dot_whole, dot, Each, combined, combined_whole, combined_row, whole_or_zero}
 
--- ---- rows
-
--- 1 in the column i
-abbrev unit_row : ℕ → List ℤ
-unit_row zero = pos 1 ∷ []
-unit_row (suc i) = pos 0 ∷ unit_row i
-
--- the entries at i and j less that at k
-abbrev pair_row : ℕ → ℕ → ℕ → List ℤ
-pair_row i j k =
-    combined (pos 1) (combined (pos 1) (unit_row i) (pos 1) (unit_row j)) (negsuc 0) (unit_row k)
+-- ---- the rows of a solution in whole numbers
 
 unit_whole : (i : ℕ) (z : ℕ → ℤ) → dot_whole (unit_row i) z ≡ z i
 unit_whole zero z = whole_ring.by_ring (z 0 ∷ []) (search whole_ring.ring depth 20) refl
@@ -48,38 +39,6 @@ pair_whole i j k z h =
     (sym (unit_whole k z))
     ∙ sum in
     omega (arith, ints)
-
--- ---- rows for all numbers below another
-
-abbrev upto : ℕ → (ℕ → List (List ℤ)) → List (List ℤ)
-upto zero rows = []
-upto (suc n) rows = rows n ++ upto n rows
-
-each-append : (P : List ℤ → Type 0) (xs ys : List (List ℤ)) → Each P xs → Each P ys →
-    Each P (xs ++ ys)
-each-append P [] ys h k = k
-each-append P (x ∷ xs) ys h k = (h.0, each-append P xs ys h.1 k)
-
-each-parts : (P : List ℤ → Type 0) (xs ys : List (List ℤ)) → Each P (xs ++ ys) → Each P xs
-    × Each P ys
-each-parts P [] ys h = (tt, h)
-each-parts P (x ∷ xs) ys h = let rest = each-parts P xs ys h.1 in ((h.0, rest.0), rest.1)
-
-each_upto : (P : List ℤ → Type 0) (n : ℕ) (rows : ℕ → List (List ℤ)) →
-    ((i : ℕ) → i < n → Each P (rows i)) → Each P (upto n rows)
-each_upto P zero rows h = tt
-each_upto P (suc n) rows h =
-    each-append P (rows n) (upto n rows) (h n (omega arith))
-    (each_upto P n rows (λ i low. h i (omega arith)))
-
-of_upto : (P : List ℤ → Type 0) (n : ℕ) (rows : ℕ → List (List ℤ)) → Each P (upto n rows) →
-    (i : ℕ) → i < n → Each P (rows i)
-of_upto P zero rows h i low = absurd (omega arith)
-of_upto P (suc n) rows h i low =
-    let both = each-parts P (rows n) (upto n rows) h in
-    ⊎_elim (λ earlier. of_upto P n rows both.1 i earlier)
-    (λ last. let same : n ≡ i = omega arith in subst (λ k. Each P (rows k)) same both.0)
-    (cases_lt i n)
 
 -- the row of a pair if it is tight, and a row of zeros if not
 abbrev tight_row : FunctionData → ℕ → ℕ → List ℤ
