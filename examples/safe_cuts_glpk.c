@@ -3,7 +3,7 @@
  *
  * In each round GLPK solves the relaxation. For each whole column that is not whole there,
  * `glp_btran` gives the multipliers with which the constraints add up to its row. They are doubles,
- * and `gjcut_safe_cut` makes cuts of them: cuts in the columns of the program, with numbers over
+ * and the command `problem` makes cuts of them: cuts in the columns of the program, with numbers over
  * 2^20, so that they are doubles exactly. These are constraints of the next round. The bound is
  * printed after each round, and that which GLPK reaches by its own cuts of this kind. Then each
  * whole point of the program is tried with its least z: no cut may remove it. As z has no greatest
@@ -89,8 +89,12 @@ static void cut_of_row(glp_prob *p, int row) {
         if (!(fabs(multipliers[i]) < 1 << 20)) return;
     for (int i = 0; i < 3; i++) {
         size_t n = write_problem(input, p, multipliers, 1LL << powers[i]), written;
-        int status = gjcut_safe_cut((uint8_t *)input, n, (uint8_t *)output, sizeof output - 1,
-                                    &written);
+        int status = gjcut_answer((const uint8_t *)"problem", 7, (uint8_t *)input, n,
+                                  (uint8_t *)output, sizeof output - 1, &written);
+        if (status == GJCUT_NO_ROOM) {
+            printf("status %d: an answer of %zu bytes\n", status, written);
+            exit(1);
+        }
         output[written] = 0;
         if (status != GJCUT_DONE) {
             printf("status %d: %s\n", status, output);
