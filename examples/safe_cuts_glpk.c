@@ -3,8 +3,8 @@
  *
  * In each round GLPK solves the relaxation. For each whole column that is not whole there,
  * `glp_btran` gives the multipliers with which the constraints add up to its row. They are doubles,
- * and the command `problem` makes cuts of them: cuts in the columns of the program, with numbers
- * over 2^20, so that they are doubles exactly. These are constraints of the next round. The bound is
+ * and the command `problem` makes cuts of them: cuts in the columns of the program, with numbers over
+ * 2^20, so that they are doubles exactly. These are constraints of the next round. The bound is
  * printed after each round, and that which GLPK reaches by its own cuts of this kind. Then each
  * whole point of the program is tried with its least z: no cut may remove it. As z has no greatest
  * value, no cut may have an entry below 0 there.
@@ -91,7 +91,11 @@ static void cut_of_row(glp_prob *p, int row) {
         size_t n = write_problem(input, p, multipliers, 1LL << powers[i]), written;
         int status = gjcut_answer((const uint8_t *)"problem", 7, (uint8_t *)input, n,
                                   (uint8_t *)output, sizeof output - 1, &written);
-        output[status == GJCUT_NO_ROOM ? sizeof output - 1 : written] = 0;
+        if (status == GJCUT_NO_ROOM) {
+            printf("status %d: an answer of %zu bytes\n", status, written);
+            exit(1);
+        }
+        output[written] = 0;
         if (status != GJCUT_DONE) {
             printf("status %d: %s\n", status, output);
             exit(1);
