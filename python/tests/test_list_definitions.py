@@ -157,16 +157,24 @@ class Reached(unittest.TestCase):
         self.assertEqual(found, {"Kind"})
 
     def test_the_lists(self):
-        roots = [self.tool.Root("a", "high", "call", "second"), self.tool.Root("b", "high", "law")]
+        roots = [
+            self.tool.Root("a", "high", "call", "second"),
+            self.tool.Root("b", "high", "law"),
+            self.tool.Root("b", "high", "call", "first"),
+        ]
         parts = [self.tool.part_of(self.sources, root) for root in roots]
         lines = self.tool.lists(self.sources, parts).splitlines()
         for line in (
             "| a | `second` of `call` | `high` | 5 | 13 | 2 |",
             "| b | `law` | `high` | 3 | 6 | 0 |",
+            "| b | `first` of `call` | `high` | 1 | 2 | 1 |",
+            "2 definitions in 1 module, 4 lines besides.",
             "- `low/specs/Sets`, 1 definition, 2 lines (`most`). Sets of numbers, and their least.",
             "- `low`: `Shape`, `Side`.",
+            "- `high`: `Status`.",
         ):
             self.assertIn(line, lines)
+        self.assertEqual(lines.count("### B"), 1)
 
 
 if __name__ == "__main__":
