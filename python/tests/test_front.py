@@ -41,7 +41,7 @@ class Sentences(unittest.TestCase):
 
     def test_each_refusal_of_the_examples_has_one(self):
         tried = 0
-        for example in sorted(EXAMPLES.glob("**/words")):
+        for example in sorted(EXAMPLES.glob("*/*/words")):
             words = " ".join(example.read_text().split())
             text = (example.parent / "input").read_bytes().decode("utf-8", "replace")
             said = (example.parent / "output").read_text().strip()
