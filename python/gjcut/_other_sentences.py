@@ -211,7 +211,7 @@ OTHER_SENTENCES = [
     ),
     # ---- other statuses
     Sentence(
-        see="`no function VIOLATION` from `cut` or `mixed`",
+        see="`no function VIOLATION` from `cut`, `mixed` or `problem`",
         means="the function is not minimal, and its cuts need not hold",
         do="see what `minimal` says of it, or take the rule `gmic`",
         words="cut",
@@ -227,7 +227,7 @@ OTHER_SENTENCES = [
         when="not continuous .*", command="^extreme",
     ),
     Sentence(
-        see="`not continuous X` from `faces`, `fill`, `group`, `mixed` or `restrict`",
+        see="`not continuous X` from `faces`, `fill`, `group`, `mixed`, `problem` or `restrict`",
         means="the function jumps at X, and this command reads continuous functions",
         do="take a continuous function, often by a breakpoint more",
         words="faces", input="gj-function 1\nfamily half 1/2\nend\n", answer="not continuous 0",
