@@ -216,3 +216,7 @@ pub none_weighted : (m : Frac) (y x : Rational) → m.num ≡ pos 0 → y ≡ y 
 none_weighted m y x none =
     none_step y x
     ∙ ap (λ w. y +ℚ w *ℚ x) (sym (zero_frac m none))
+
+-- nor does it before a sum
+pub none_first : (m : Frac) (x y : Rational) → m.num ≡ pos 0 → y ≡ rational m *ℚ x +ℚ y
+none_first m x y none = none_weighted m y x none ∙ add_comm_q y (rational m *ℚ x)

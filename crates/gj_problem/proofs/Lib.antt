@@ -11,5 +11,8 @@ pub mod RowsAtPoints
 pub mod Prefixes
 pub mod OneColumn
 pub mod GridParts
+pub mod Terms
 pub mod MovedEntries
 pub mod OneRow
+pub mod WideRoundings
+pub mod WideScales

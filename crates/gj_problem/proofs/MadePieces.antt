@@ -1,4 +1,4 @@
--- Pieces that items make, and their sums.
+-- What items make, and sums of pieces.
 use Rattle.std.proofs.Common.{◌≡◌, ⊎_elim, inl, inr, List, [], ◌∷◌, ◌++◌, All, refl, sym, ap, subst, ◌∙◌}
 use Rattle.std.proofs.lemmas.List.Elements.{All-nil, All-cons, All-head, All-tail}
 use Rattle.gj_problem.specs.Rational.{Rational, rational, ◌+ℚ◌, ◌*ℚ◌}
@@ -9,12 +9,12 @@ use Rattle.gj_problem.specs.Aggregates.{pieces_at, AreMadeOf}
 
 -- ---- one more item
 
--- what an item that is not passed over makes of the first pieces
-abbrev pub Made : {A : Type 0} → (A → Type 0) → (A → Piece → Type 0) → A → List A → List Piece → Type 0
-Made Passed Makes x xs pieces =
-    (Passed x → ⊥) × (s : Piece) × (rest : List Piece) × (pieces ≡ s ∷ rest) × Makes x s × AreMadeOf Passed Makes xs rest
+-- what an item that is not passed over makes
+abbrev pub Made : {A B : Type 0} → (A → Type 0) → (A → B → Type 0) → A → List A → List B → Type 0
+Made {A} {B} Passed Makes x xs made =
+    (Passed x → ⊥) × (s : B) × (rest : List B) × (made ≡ s ∷ rest) × Makes x s × AreMadeOf Passed Makes xs rest
 
-pub made_passed : {A : Type 0} (P : A → Type 0) (M : A → Piece → Type 0) (xs : List A) (ps : List Piece) (x : A) →
+pub made_passed : {A B : Type 0} (P : A → Type 0) (M : A → B → Type 0) (xs : List A) (ps : List B) (x : A) →
     AreMadeOf P M xs ps → P x → AreMadeOf P M (xs ++ x ∷ []) ps
 made_passed P M [] ps x h passed = inl (passed, h)
 made_passed P M (y ∷ xs) ps x h passed =
@@ -23,19 +23,19 @@ made_passed P M (y ∷ xs) ps x h passed =
     (λ (k : Made P M y xs ps). inr (k.0, k.1, k.2, k.3, k.4, made_passed P M xs k.2 x k.5 passed))
     h
 
-pub made_more : {A : Type 0} (P : A → Type 0) (M : A → Piece → Type 0) (xs : List A) (ps : List Piece) (x : A) (s : Piece) →
+pub made_more : {A B : Type 0} (P : A → Type 0) (M : A → B → Type 0) (xs : List A) (ps : List B) (x : A) (s : B) →
     AreMadeOf P M xs ps → (P x → ⊥) → M x s → AreMadeOf P M (xs ++ x ∷ []) (ps ++ s ∷ [])
-made_more P M [] ps x s h kept makes = inr (kept, s, [], ap (λ (qs : List Piece). qs ++ s ∷ []) h, makes, refl)
-made_more P M (y ∷ xs) ps x s h kept makes =
+made_more {A} {B} P M [] ps x s h kept makes = inr (kept, s, [], ap (λ (qs : List B). qs ++ s ∷ []) h, makes, refl)
+made_more {A} {B} P M (y ∷ xs) ps x s h kept makes =
     ⊎_elim
     (λ (k : P y × AreMadeOf P M xs ps). inl (k.0, made_more P M xs ps x s k.1 kept makes))
     (λ (k : Made P M y xs ps).
-    inr (k.0, k.1, k.2 ++ s ∷ [], ap (λ (qs : List Piece). qs ++ s ∷ []) k.3, k.4, made_more P M xs k.2 x s k.5 kept makes))
+    inr (k.0, k.1, k.2 ++ s ∷ [], ap (λ (qs : List B). qs ++ s ∷ []) k.3, k.4, made_more P M xs k.2 x s k.5 kept makes))
     h
 
--- what is true of each item is true of each piece
-pub made_all : {A : Type 0} (P : A → Type 0) (M : A → Piece → Type 0) (Q : A → Type 0) (R : Piece → Type 0) (xs : List A) (ps : List Piece) →
-    AreMadeOf P M xs ps → All Q xs → ((x : A) (s : Piece) → Q x → M x s → R s) → All R ps
+-- what is true of each item is true of what it makes
+pub made_all : {A B : Type 0} (P : A → Type 0) (M : A → B → Type 0) (Q : A → Type 0) (R : B → Type 0) (xs : List A) (ps : List B) →
+    AreMadeOf P M xs ps → All Q xs → ((x : A) (s : B) → Q x → M x s → R s) → All R ps
 made_all P M Q R [] ps h all step = subst (All R) (sym h) (All-nil R)
 made_all P M Q R (y ∷ xs) ps h all step =
     ⊎_elim
@@ -45,9 +45,9 @@ made_all P M Q R (y ∷ xs) ps h all step =
     (All-cons R k.1 k.2 (step y k.1 (All-head Q y xs all) k.4) (made_all P M Q R xs k.2 k.5 (All-tail Q y xs all) step)))
     h
 
--- no item is free of which a piece is made or that is passed over
-pub none_from_made : {A : Type 0} (P : A → Type 0) (M : A → Piece → Type 0) (Q : A → Type 0) (xs : List A) (ps : List Piece) →
-    AreMadeOf P M xs ps → ((x : A) → P x → Q x) → ((x : A) (s : Piece) → M x s → Q x) → All Q xs
+-- what is true of an item that is passed over, and of one that makes something, is true of each
+pub none_from_made : {A B : Type 0} (P : A → Type 0) (M : A → B → Type 0) (Q : A → Type 0) (xs : List A) (ps : List B) →
+    AreMadeOf P M xs ps → ((x : A) → P x → Q x) → ((x : A) (s : B) → M x s → Q x) → All Q xs
 none_from_made P M Q [] ps h pass step = All-nil Q
 none_from_made P M Q (y ∷ xs) ps h pass step =
     ⊎_elim

@@ -1,9 +1,9 @@
 -- What is rounded by the bounds of its columns holds.
-use Rattle.std.proofs.Common.{◌≡◌, ◌<◌, ◌⊎◌, inl, inr, ℕ, zero, suc, ◌+◌, List, [], ◌∷◌, ◌++◌, length, get_or, take, map, All, Option, Some, None, pos, refl, sym, ap, subst, subst₂, ◌∙◌, arith}
+use Rattle.std.proofs.Common.{◌≡◌, ◌≤◌, ◌<◌, ◌⊎◌, ⊎_elim, inl, inr, ℕ, zero, suc, ◌+◌, List, [], ◌∷◌, ◌++◌, length, get_or, take, map, All, Option, Some, None, pos, refl, sym, ap, subst, subst₂, ◌∙◌, arith}
 use Rattle.std.proofs.lemmas.List.{take_more}
 use Rattle.std.proofs.lemmas.List.Elements.{All-nil, All-cons}
 use Rattle.gj_frac.specs.declared.Frac.{Frac}
-use Rattle.gj_problem.specs.Rational.{Rational, whole, rational, ◌+ℚ◌, ◌*ℚ◌, neg_ℚ, ◌-ℚ◌}
+use Rattle.gj_problem.specs.Rational.{Rational, whole, rational, ◌+ℚ◌, ◌*ℚ◌, neg_ℚ, ◌-ℚ◌, ◌≤ℚ◌}
 use Rattle.gj_problem.proofs.RationalLaws.{add_assoc_q, add_comm_q}
 use Rattle.gj_problem.proofs.RationalOrder.{at_most_turned}
 use Rattle.gj_problem.proofs.RationalRing.{by_ring_q, ring_q}
@@ -11,13 +11,17 @@ use Rattle.gj_problem.specs.declared.problem.Column.{Column}
 use Rattle.gj_problem.specs.declared.problem.Entry.{Entry}
 use Rattle.gj_problem.specs.declared.problem.Inequality.{Inequality}
 use Rattle.gj_problem.specs.declared.problem.Problem.{Problem}
-use Rattle.gj_problem.specs.Problems.{Holds}
+use Rattle.gj_problem.specs.Problems.{Holds, HasTerms, AreTermsWithin, sum_at, value_at}
 use Rattle.gj_problem.specs.Rows.{IsKept, IsRaised, IsLowered, AreChanged, total_of}
-use Rattle.gj_problem.proofs.AddedSums.{add_zero_q}
+use Rattle.gj_problem.proofs.AddedSums.{add_zero_q, none_first}
 use Rattle.gj_problem.proofs.HeldInequalities.{rounded_holds}
 use Rattle.gj_problem.specs.declared.rounding.RoundedCut.{RoundedCut}
 use Rattle.gj_problem.specs.declared.rounding.RoundedCut.TheVariants.{Cut, Free, Wide}
-use Rattle.gj_problem.specs.RoundedCuts.{IsBelowOnGrid, lower_of, upper_of, IsMoved, AreMoved, IsRoundedOf, IsFreeEntry, RoundedHolds}
+use Rattle.gj_problem.specs.RoundedCuts.{IsBelowOnGrid, lower_of, upper_of, IsMoved, AreMoved, IsZero, AreSomeOf, IsRoundedOf, IsFreeEntry, RoundedHolds, RoundedHasTerms}
+use Rattle.gj_problem.specs.Steps.{IsMadeNext}
+use Rattle.gj_problem.proofs.MadePieces.{Made}
+use Rattle.gj_problem.proofs.Prefixes.{made_next}
+use Rattle.gj_problem.proofs.Terms.{later_terms}
 
 -- ---- bounds
 
@@ -72,24 +76,39 @@ moved_changed p n (e ∷ es) (f ∷ fs) (s ∷ shifts) h = (
   moved_changed p n es fs shifts h.2,
 )
 
+-- what is left out is 0
+some_sum : (point : List Rational) (es fs : List Entry) → AreSomeOf es fs → sum_at point fs ≡ sum_at point es
+some_sum point [] fs h = ap (sum_at point) h
+some_sum point (e ∷ es) fs h =
+    ⊎_elim
+    (λ (a : IsZero e × AreSomeOf es fs). some_sum point es fs a.1 ∙ none_first e.value (value_at point e.column) (sum_at point es) a.0)
+    (λ (b : Made IsZero (λ (d f : Entry). f ≡ d) e es fs).
+    ap (sum_at point) (b.3 ∙ ap (λ (f : Entry). f ∷ b.2) b.4)
+    ∙ ap (λ w. rational e.value *ℚ value_at point e.column +ℚ w) (some_sum point es b.2 b.5))
+    h
+
 pub rounded_of_holds : (p : Problem) (n : ℕ) (q : Inequality) (r : RoundedCut) → IsRoundedOf p n q r → Holds p q → RoundedHolds p r
-rounded_of_holds p n q (Cut r) h holds =
-    rounded_holds p q r holds
-    (record { shifts = h.shifts; changed = moved_changed p n q.entries r.entries h.shifts h.moved; right = h.right.at_most })
+rounded_of_holds p n q (Cut r) h holds = λ point feasible.
+    subst (λ s. rational r.right ≤ℚ s) (sym (some_sum point h.entries r.entries h.some))
+    (rounded_holds p q (record { entries = h.entries; right = r.right }) holds
+    (record { shifts = h.shifts; changed = moved_changed p n q.entries h.entries h.shifts h.moved; right = h.right.at_most })
+    point feasible)
 rounded_of_holds p n q (Free j) h holds = tt
 rounded_of_holds p n q Wide h holds = tt
 
 -- ---- one more entry
 
--- the entries up to now are moved, and the right side is the given one with their shifts
+-- the entries up to now are moved, those that are 0 then left out, and the right side is the given
+-- one with their shifts
 pub record AreMovedTo (p : Problem) (n : ℕ) (es fs : List Entry) (given right : Rational) : Type 0 where
+  pub entries : List Entry
   pub shifts : List Rational
-  pub moved : AreMoved p n es fs shifts
+  pub moved : AreMoved p n es entries shifts
+  pub some : AreSomeOf entries fs
   pub right_is : right ≡ given +ℚ total_of shifts
 
 pub none_moved : (p : Problem) (n : ℕ) (given : Rational) (fs : List Entry) → fs ≡ [] → AreMovedTo p n [] fs given given
-none_moved p n given fs none =
-    subst (λ (gs : List Entry). AreMovedTo p n [] gs given given) (sym none) (record { shifts = []; moved = tt; right_is = add_zero_q given })
+none_moved p n given fs none = record { entries = []; shifts = []; moved = tt; some = none; right_is = add_zero_q given }
 
 longer : (p : Problem) (n : ℕ) (es fs : List Entry) (shifts : List Rational) (e f : Entry) (shift : Rational) → AreMoved p n es fs shifts →
     f.column ≡ e.column → IsMoved n (lower_of p e.column) (upper_of p e.column) (rational e.value) (rational f.value) shift →
@@ -106,16 +125,17 @@ total_more [] x = add_comm_q x (whole (pos 0))
 total_more (s ∷ shifts) x = ap (λ w. s +ℚ w) (total_more shifts x) ∙ sym (add_assoc_q s (total_of shifts) x)
 
 pub one_moved : (p : Problem) (n : ℕ) (es : List Entry) (i : ℕ) (e f : Entry) (fs gs : List Entry) (given now next shift : Rational) →
-    i < length es → e ≡ get_or es i e → gs ≡ fs ++ f ∷ [] → next ≡ now +ℚ shift → f.column ≡ e.column →
+    i < length es → e ≡ get_or es i e → IsMadeNext (IsZero f) (λ (d : Entry). d ≡ f) fs gs → next ≡ now +ℚ shift → f.column ≡ e.column →
     IsMoved n (lower_of p e.column) (upper_of p e.column) (rational e.value) (rational f.value) shift →
     AreMovedTo p n (take i es) fs given now → AreMovedTo p n (take (i + 1) es) gs given next
-one_moved p n es i e f fs gs given now next shift below here gs_is next_is same is h =
+one_moved p n es i e f fs gs given now next shift below here made next_is same is h =
     let more : take (i + 1) es ≡ take i es ++ e ∷ [] = take_more es i e below ∙ ap (λ (z : Entry). take i es ++ z ∷ []) (sym here) in
     record {
+      entries = h.entries ++ f ∷ [];
       shifts = h.shifts ++ shift ∷ [];
-      moved = subst (λ (xs : List Entry). AreMoved p n xs gs (h.shifts ++ shift ∷ [])) (sym more)
-          (subst (λ (ys : List Entry). AreMoved p n (take i es ++ e ∷ []) ys (h.shifts ++ shift ∷ [])) (sym gs_is)
-          (longer p n (take i es) fs h.shifts e f shift h.moved same is));
+      moved = subst (λ (xs : List Entry). AreMoved p n xs (h.entries ++ f ∷ []) (h.shifts ++ shift ∷ [])) (sym more)
+          (longer p n (take i es) h.entries h.shifts e f shift h.moved same is);
+      some = made_next IsZero (λ (d g : Entry). g ≡ d) h.entries (h.entries ++ f ∷ []) f fs gs refl h.some made;
       right_is = next_is ∙ ap (λ w. w +ℚ shift) h.right_is ∙ add_assoc_q given (total_of h.shifts) shift
           ∙ ap (λ w. given +ℚ w) (sym (total_more h.shifts shift));
     }
@@ -150,3 +170,30 @@ raised_to n x y z value l m shift upper y_is below value_is m_is shift_is = (
   subst₂ (IsBelowOnGrid n) y_is (sym (ap (λ (w : Frac). neg_ℚ (rational w)) m_is ∙ ap neg_ℚ value_is ∙ double_neg (rational z))) below,
   shift_is ∙ ap (λ (w : Frac). (rational w -ℚ rational x) *ℚ rational l) (sym m_is),
 )
+
+-- ---- terms
+
+moved_terms : (p : Problem) (n j k : ℕ) (es fs gs : List Entry) (shifts : List Rational) → AreTermsWithin j k es → AreMoved p n es fs shifts →
+    AreSomeOf fs gs → AreTermsWithin j k gs
+moved_terms p n j k [] [] gs [] terms moved some = subst (λ (hs : List Entry). AreTermsWithin j k hs) (sym some) terms
+moved_terms p n j k [] [] gs (s ∷ shifts) terms moved some = absurd moved
+moved_terms p n j k [] (f ∷ fs) gs shifts terms moved some = absurd moved
+moved_terms p n j k (e ∷ es) [] gs shifts terms moved some = absurd moved
+moved_terms p n j k (e ∷ es) (f ∷ fs) gs [] terms moved some = absurd moved
+moved_terms p n j k (e ∷ es) (f ∷ fs) gs (s ∷ shifts) terms moved some =
+    ⊎_elim
+    (λ (a : IsZero f × AreSomeOf fs gs).
+    later_terms j (e.column + 1) k gs (omega (arith, terms.0)) (moved_terms p n (e.column + 1) k es fs gs shifts terms.2 moved.2 a.1))
+    (λ (b : Made IsZero (λ (d g : Entry). g ≡ d) f fs gs).
+    subst (λ (hs : List Entry). AreTermsWithin j k hs) (sym (b.3 ∙ ap (λ (g : Entry). g ∷ b.2) b.4)) (
+      subst (λ (c : ℕ). j ≤ c) (sym moved.0) terms.0,
+      b.0,
+      subst (λ (c : ℕ). AreTermsWithin (c + 1) k b.2) (sym moved.0)
+          (moved_terms p n (e.column + 1) k es fs b.2 shifts terms.2 moved.2 b.5),
+    ))
+    some
+
+pub rounded_terms : (p : Problem) (n : ℕ) (q : Inequality) (r : RoundedCut) → IsRoundedOf p n q r → HasTerms p q → RoundedHasTerms p r
+rounded_terms p n q (Cut r) h terms = moved_terms p n 0 (length p.columns) q.entries h.entries r.entries h.shifts terms h.moved h.some
+rounded_terms p n q (Free j) h terms = tt
+rounded_terms p n q Wide h terms = tt

@@ -67,18 +67,18 @@ one_sum p ws cs ds r s h k =
 
 -- ---- one bound
 
-one_ceiling : (x : Frac) (n m : ℤ) → IsCeiling x n → IsCeiling x m → n ≡ m
+pub one_ceiling : (x : Frac) (n m : ℤ) → IsCeiling x n → IsCeiling x m → n ≡ m
 one_ceiling x n m h k =
     let some : pos 0 <ℤ x.den = x.lowest.positive in
     let low : (n -ℤ pos 1) <ℤ m = mul_lt_cancel_right_z (n -ℤ pos 1) m x.den some (omega (arith, ints, h.before_below, k.at_least)) in
     let high : (m -ℤ pos 1) <ℤ n = mul_lt_cancel_right_z (m -ℤ pos 1) n x.den some (omega (arith, ints, k.before_below, h.at_least)) in
     omega (arith, ints)
 
-one_lower : (b : Bool) (l x y : Frac) → IsLowerBound b l x → IsLowerBound b l y → rational x ≡ rational y
+pub one_lower : (b : Bool) (l x y : Frac) → IsLowerBound b l x → IsLowerBound b l y → rational x ≡ rational y
 one_lower true l x y h k = h.2 ∙ ap whole (one_ceiling l h.0 k.0 h.1 k.1) ∙ sym k.2
 one_lower false l x y h k = ap rational (h ∙ sym k)
 
-one_upper : (b : Bool) (u x y : Frac) → IsUpperBound b u x → IsUpperBound b u y → rational x ≡ rational y
+pub one_upper : (b : Bool) (u x y : Frac) → IsUpperBound b u x → IsUpperBound b u y → rational x ≡ rational y
 one_upper true u x y h k = h.2 ∙ ap whole (same_from_IsFloor u h.0 k.0 h.1 k.1) ∙ sym k.2
 one_upper false u x y h k = ap rational (h ∙ sym k)
 

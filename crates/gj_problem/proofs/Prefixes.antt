@@ -6,22 +6,21 @@ use Rattle.gj_problem.specs.Rational.{Rational, whole, rational, ◌+ℚ◌, ◌
 use Rattle.gj_problem.proofs.RationalLaws.{add_assoc_q, add_comm_q}
 use Rattle.gj_problem.specs.declared.problem.Column.{Column}
 use Rattle.gj_problem.specs.declared.problem.Constraint.{Constraint}
-use Rattle.gj_problem.specs.declared.pieces.Piece.{Piece}
 use Rattle.gj_problem.specs.Problems.{sum_at}
 use Rattle.gj_problem.specs.declared.bounds.Held.{Held}
 use Rattle.gj_problem.specs.Aggregates.{AreMadeOf, Weighted, weighted, aggregate_at, held}
 use Rattle.gj_problem.specs.Steps.{IsMadeNext}
 use Rattle.gj_problem.proofs.MadePieces.{made_passed, made_more}
 
--- ---- one more piece
+-- ---- one more item
 
-pub made_next : {A : Type 0} (P : A → Type 0) (M : A → Piece → Type 0) (xs ys : List A) (x : A) (old new : List Piece) →
+pub made_next : {A B : Type 0} (P : A → Type 0) (M : A → B → Type 0) (xs ys : List A) (x : A) (old new : List B) →
     ys ≡ xs ++ x ∷ [] → AreMadeOf P M xs old → IsMadeNext (P x) (M x) old new → AreMadeOf P M ys new
-made_next P M xs ys x old new ys_is h next =
+made_next {A} {B} P M xs ys x old new ys_is h next =
     subst (λ zs. AreMadeOf P M zs new) (sym ys_is)
     (⊎_elim
     (λ (k : P x × (new ≡ old)). subst (AreMadeOf P M (xs ++ x ∷ [])) (sym k.1) (made_passed P M xs old x h k.0))
-    (λ (k : (P x → ⊥) × (s : Piece) × M x s × (new ≡ old ++ s ∷ [])).
+    (λ (k : (P x → ⊥) × (s : B) × M x s × (new ≡ old ++ s ∷ [])).
     subst (AreMadeOf P M (xs ++ x ∷ [])) (sym k.3) (made_more P M xs old x k.1 h k.0 k.2))
     next)
 
@@ -67,6 +66,17 @@ pub weighted_next : (ms : List Frac) (cs : List Constraint) (i : ℕ) (m : Frac)
     take (i + 1) (weighted ms cs) ≡ take i (weighted ms cs) ++ record { multiplier = m; constraint = c } ∷ []
 weighted_next ms cs i m c m_below c_below m_is c_is =
     ap (λ (k : ℕ). take k (weighted ms cs)) (add-one i) ∙ weighted_more ms cs i m c m_below c_below m_is c_is
+
+-- the constraints before, at and behind an index
+pub weighted_split : (ms : List Frac) (cs : List Constraint) (i : ℕ) (m : Frac) (c : Constraint) → i < length ms → i < length cs →
+    m ≡ get_or ms i m → c ≡ get_or cs i c →
+    weighted ms cs ≡ take i (weighted ms cs) ++ record { multiplier = m; constraint = c } ∷ drop (i + 1) (weighted ms cs)
+weighted_split ms cs i m c m_below c_below m_is c_is =
+    let ws = weighted ms cs in
+    let w : Weighted = record { multiplier = m; constraint = c } in
+    sym (take-append-drop (i + 1) ws)
+    ∙ ap (λ (xs : List Weighted). xs ++ drop (i + 1) ws) (weighted_next ms cs i m c m_below c_below m_is c_is)
+    ∙ append_assoc (take i ws) (w ∷ []) (drop (i + 1) ws)
 
 weighted_length : (ms : List Frac) (cs : List Constraint) → length (weighted ms cs) ≤ length cs
 weighted_length [] cs = omega arith
@@ -141,7 +151,7 @@ held_split ds cs ups i d c up d_below c_below up_below d_is c_is up_is =
     ∙ append_assoc (take i hs) (h ∷ []) (drop (i + 1) hs)
 
 -- below the length the default says nothing
-pub default_unused : (us : List Bool) (i : ℕ) (a b : Bool) → i < length us → get_or us i a ≡ get_or us i b
+pub default_unused : {A : Type 0} (us : List A) (i : ℕ) (a b : A) → i < length us → get_or us i a ≡ get_or us i b
 default_unused [] i a b below = absurd (omega arith)
 default_unused (u ∷ us) zero a b below = refl
 default_unused (u ∷ us) (suc i) a b below = default_unused us i a b (omega arith)

@@ -126,7 +126,7 @@ bounds_at full j (d ∷ columns) (c ∷ cs) (up ∷ ups) (x ∷ point) ps h meet
 
 -- ---- rounded bounds
 
-above_ceiling : (l : Frac) (n z : ℤ) → IsCeiling l n → rational l ≤ℚ whole z → pos 0 ≤ℤ (z -ℤ n)
+pub above_ceiling : (l : Frac) (n z : ℤ) → IsCeiling l n → rational l ≤ℚ whole z → pos 0 ≤ℤ (z -ℤ n)
 unfolding whole
 above_ceiling l n z ceiling h =
     let low = h.crosswise in
@@ -144,7 +144,7 @@ below_floor u n z floor h =
     mul_lt_cancel_right_z z (n +ℤ pos 1) u.den u.lowest.positive (omega (arith, ints)) in
     omega (arith, ints)
 
-lower_rounded : (b : Bool) (l bound : Frac) (x : Rational) → IsLowerBound b l bound → (IsTrue b → IsWholeNumber x) →
+pub lower_rounded : (b : Bool) (l bound : Frac) (x : Rational) → IsLowerBound b l bound → (IsTrue b → IsWholeNumber x) →
     IsNonnegativeQ (x -ℚ rational l) → IsNonnegativeQ (x -ℚ rational bound)
 lower_rounded false l bound x h is_whole low = subst (λ (c : Frac). IsNonnegativeQ (x -ℚ rational c)) (sym h) low
 lower_rounded true l bound x h is_whole low =
@@ -153,7 +153,7 @@ lower_rounded true l bound x h is_whole low =
     let below : rational l ≤ℚ whole z = at_most_from_difference (rational l) (whole z) (subst (λ y. IsNonnegativeQ (y -ℚ rational l)) z_is low) in
     subst IsNonnegativeQ (whole_sub z n ∙ ap₂ (λ a b. a -ℚ b) (sym z_is) (sym h.2)) (nonnegative_whole (z -ℤ n) (above_ceiling l n z h.1 below))
 
-upper_rounded : (b : Bool) (u bound : Frac) (x : Rational) → IsUpperBound b u bound → (IsTrue b → IsWholeNumber x) →
+pub upper_rounded : (b : Bool) (u bound : Frac) (x : Rational) → IsUpperBound b u bound → (IsTrue b → IsWholeNumber x) →
     IsNonnegativeQ (rational u -ℚ x) → IsNonnegativeQ (rational bound -ℚ x)
 upper_rounded false u bound x h is_whole low = subst (λ (c : Frac). IsNonnegativeQ (rational c -ℚ x)) (sym h) low
 upper_rounded true u bound x h is_whole low =

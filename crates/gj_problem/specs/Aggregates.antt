@@ -29,11 +29,11 @@ combined_at point numbers pieces = dot numbers (map (surplus_at point) (map (λ 
 abbrev pub pieces_at : List Rational → List Piece → Rational
 pieces_at point pieces = combined_at point (map (λ s. s.entry) pieces) pieces
 
--- the pieces that the items make, in their order; some are passed over
-abbrev pub AreMadeOf : {A : Type 0} → (A → Type 0) → (A → Piece → Type 0) → List A → List Piece → Type 0
-AreMadeOf Passed Makes [] pieces = pieces ≡ []
-AreMadeOf Passed Makes (x ∷ xs) pieces = (Passed x × AreMadeOf Passed Makes xs pieces)
-    ⊎ ((Passed x → ⊥) × (s : Piece) × (rest : List Piece) × (pieces ≡ s ∷ rest) × Makes x s × AreMadeOf Passed Makes xs rest)
+-- what the items make, in their order; some are passed over
+abbrev pub AreMadeOf : {A B : Type 0} → (A → Type 0) → (A → B → Type 0) → List A → List B → Type 0
+AreMadeOf Passed Makes [] made = made ≡ []
+AreMadeOf {A} {B} Passed Makes (x ∷ xs) made = (Passed x × AreMadeOf Passed Makes xs made)
+    ⊎ ((Passed x → ⊥) × (s : B) × (rest : List B) × (made ≡ s ∷ rest) × Makes x s × AreMadeOf Passed Makes xs rest)
 
 -- ---- adding up
 

@@ -5,3 +5,4 @@ pub mod Aggregates
 pub mod Steps
 pub mod Made
 pub mod RoundedCuts
+pub mod WideRows

@@ -1,7 +1,8 @@
 -- Mixed-integer programs, the points that are feasible, and the inequalities that hold at all of
 -- them (Cook, Dash, Fukasawa and Goycoolea 2009).
-use Rattle.std.specs.Prelude.{◌≡◌, ℕ, ◌<◌, pos, List, [], ◌∷◌, length, All, IfSome, IsTrue, slice_index_or}
+use Rattle.std.specs.Prelude.{◌≡◌, ◌≢◌, ℕ, ◌+◌, ◌<◌, ◌≤◌, pos, List, [], ◌∷◌, length, All, IfSome, IsTrue, slice_index_or}
 use Rattle.std.specs.List.{AllZip}
+use Rattle.gj_frac.specs.Fraction.{numerator}
 use Rattle.gj_problem.specs.Rational.{Rational, whole, rational, ◌+ℚ◌, ◌*ℚ◌, ◌-ℚ◌, ◌≤ℚ◌, IsWholeNumber}
 use Rattle.gj_problem.specs.declared.problem.Entry.{Entry}
 use Rattle.gj_problem.specs.declared.problem.Column.{Column}
@@ -42,6 +43,15 @@ pub record IsFeasible (p : Problem) (point : List Rational) : Type 0 where
 -- how far the sum is above the right side
 abbrev pub surplus_at : List Rational → Inequality → Rational
 surplus_at point q = sum_at point q.entries -ℚ rational q.right
+
+-- no entry is 0, and the columns ascend, from the j-th on and below the k-th
+abbrev pub AreTermsWithin : ℕ → ℕ → List Entry → Type 0
+AreTermsWithin j k [] = j ≤ k
+AreTermsWithin j k (e ∷ entries) = (j ≤ e.column) × (numerator e.value ≢ pos 0) × AreTermsWithin (e.column + 1) k entries
+
+-- each column of the problem has at most one entry, not 0, in the order of the columns
+abbrev pub HasTerms : Problem → Inequality → Type 0
+HasTerms p q = AreTermsWithin 0 (length p.columns) q.entries
 
 -- the inequality holds at all feasible points
 abbrev pub Holds : Problem → Inequality → Type 0

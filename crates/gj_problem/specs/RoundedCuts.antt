@@ -1,12 +1,15 @@
 -- Inequalities rounded to the grid of all k/n, so that they still hold (own).
-use Rattle.std.specs.Prelude.{◌≡◌, ℕ, pos, List, [], ◌∷◌, ◌++◌, All, Option, Some, None, map, slice_index_or}
+use Rattle.std.specs.Prelude.{◌≡◌, ◌⊎◌, ℕ, pos, List, [], ◌∷◌, ◌++◌, All, Option, Some, None, map, slice_index_or}
 use Rattle.gj_problem.specs.Rational.{Rational, whole, rational, ◌+ℚ◌, ◌*ℚ◌, neg_ℚ, ◌-ℚ◌, ◌≤ℚ◌, IsWholeNumber}
 use Rattle.gj_frac.specs.declared.Frac.{Frac}
+use Rattle.gj_frac.specs.Fits.{FitsProduct, FitsSum}
+use Rattle.gj_frac.specs.Fraction.{numerator}
 use Rattle.gj_problem.specs.declared.problem.Entry.{Entry}
 use Rattle.gj_problem.specs.declared.problem.Inequality.{Inequality}
 use Rattle.gj_problem.specs.declared.problem.Problem.{Problem}
-use Rattle.gj_problem.specs.Problems.{Holds}
+use Rattle.gj_problem.specs.Problems.{Holds, HasTerms}
 use Rattle.gj_problem.specs.Rows.{total_of}
+use Rattle.gj_problem.specs.Aggregates.{AreMadeOf}
 use Rattle.gj_problem.specs.declared.rounding.RoundedCut.{RoundedCut}
 use Rattle.gj_problem.specs.declared.rounding.RoundedCut.TheVariants.{Cut, Free, Wide}
 
@@ -41,10 +44,20 @@ AreMoved p n (e ∷ es) (e' ∷ es') (shift ∷ shifts) = (e'.column ≡ e.colum
     × IsMoved n (lower_of p e.column) (upper_of p e.column) (rational e.value) (rational e'.value) shift × AreMoved p n es es' shifts
 AreMoved p n es es' shifts = ⊥
 
--- the right side is rounded down, once the shifts are added
+-- the entry is 0
+abbrev pub IsZero : Entry → Type 0
+IsZero e = numerator e.value ≡ pos 0
+
+-- these are the entries that are not 0
+abbrev pub AreSomeOf : List Entry → List Entry → Type 0
+AreSomeOf = AreMadeOf IsZero (λ e f. f ≡ e)
+
+-- what is 0 once it is moved is left out; the right side is rounded down, once the shifts are added
 pub record IsRoundedCut (p : Problem) (n : ℕ) (q rounded : Inequality) : Type 0 where
+  pub entries : List Entry
   pub shifts : List Rational
-  pub moved : AreMoved p n q.entries rounded.entries shifts
+  pub moved : AreMoved p n q.entries entries shifts
+  pub some : AreSomeOf entries rounded.entries
   pub right : IsBelowOnGrid n (rational q.right +ℚ total_of shifts) (rational rounded.right)
 
 -- the entry is off the grid, in a column that has no bound
@@ -63,14 +76,56 @@ pub record IsFirstFreeEntry (p : Problem) (n : ℕ) (entries : List Entry) (j : 
   pub free : IsFreeEntry p n entry
   pub column : j ≡ entry.column
 
--- the inequality rounded, or its first free entry; of numbers that do not fit it says nothing
+-- ---- when a number does not fit
+
+-- n times x does not fit
+abbrev pub IsWideTimes : ℕ → Frac → Type 0
+IsWideTimes n x = (m : Frac) × (rational m ≡ whole (pos n)) × (FitsProduct m x → ⊥)
+
+-- the change from x to y, or its product with the bound, does not fit
+abbrev pub IsWideChange : Frac → Frac → Frac → Type 0
+IsWideChange x y bound = (m : Frac) × (rational m ≡ neg_ℚ (rational x))
+    × ((FitsSum y m → ⊥) ⊎ ((d : Frac) × (rational d ≡ rational y -ℚ rational x) × (FitsProduct d bound → ⊥)))
+
+-- to round x by these bounds takes a number that does not fit
+abbrev pub IsWideMove : ℕ → Option Frac → Option Frac → Frac → Type 0
+IsWideMove n (Some l) upper x = ((m : Frac) × (rational m ≡ neg_ℚ (rational x)) × IsWideTimes n m)
+    ⊎ ((y : Frac) × IsBelowOnGrid n (neg_ℚ (rational x)) (neg_ℚ (rational y)) × IsWideChange x y l)
+IsWideMove n None (Some u) x = IsWideTimes n x ⊎ ((y : Frac) × IsBelowOnGrid n (rational x) (rational y) × IsWideChange x y u)
+IsWideMove n None None x = IsWideTimes n x
+
+-- the entry has such a move, or the right side with its shift does not fit
+abbrev pub IsWideEntryAt : Problem → ℕ → Frac → Entry → Type 0
+IsWideEntryAt p n right e = IsWideMove n (lower_of p e.column) (upper_of p e.column) e.value
+    ⊎ ((y : Frac) × (shift : Frac) × IsMoved n (lower_of p e.column) (upper_of p e.column) (rational e.value) (rational y) (rational shift)
+    × (FitsSum right shift → ⊥))
+
+-- so it is at some entry, when those before it have been moved, or at the right side once all are
+pub record IsWideRounding (p : Problem) (n : ℕ) (q : Inequality) : Type 0 where
+  pub before : List Entry
+  pub after : List Entry
+  pub place : q.entries ≡ before ++ after
+  pub moved : List Entry
+  pub shifts : List Rational
+  pub moved_before : AreMoved p n before moved shifts
+  pub right : Frac
+  pub right_is : rational right ≡ rational q.right +ℚ total_of shifts
+  pub wide : ((after ≡ []) × IsWideTimes n right) ⊎ ((e : Entry) × (rest : List Entry) × (after ≡ e ∷ rest) × IsWideEntryAt p n right e)
+
+-- the inequality rounded, its first free entry, or a number that does not fit
 abbrev pub IsRoundedOf : Problem → ℕ → Inequality → RoundedCut → Type 0
 IsRoundedOf p n q (Cut rounded) = IsRoundedCut p n q rounded
 IsRoundedOf p n q (Free j) = IsFirstFreeEntry p n q.entries j
-IsRoundedOf p n q Wide = Unit {0}
+IsRoundedOf p n q Wide = IsWideRounding p n q
 
 -- what is rounded, if it is, holds at all feasible points
 abbrev pub RoundedHolds : Problem → RoundedCut → Type 0
 RoundedHolds p (Cut rounded) = Holds p rounded
 RoundedHolds p (Free j) = Unit {0}
 RoundedHolds p Wide = Unit {0}
+
+-- its entries, if it is, are terms
+abbrev pub RoundedHasTerms : Problem → RoundedCut → Type 0
+RoundedHasTerms p (Cut rounded) = HasTerms p rounded
+RoundedHasTerms p (Free j) = Unit {0}
+RoundedHasTerms p Wide = Unit {0}

@@ -14,9 +14,9 @@ use Rattle.gj_problem.specs.Rows.{dot}
 use Rattle.gj_problem.specs.declared.bounds.Held.{Held}
 use Rattle.gj_problem.specs.Aggregates.{pieces_at, AreMadeOf, IsLeftOut, IsTurned, IsFirstFreeOf}
 
--- the item is passed over, or one more piece is made of it
-abbrev pub IsMadeNext : Type 0 → (Piece → Type 0) → List Piece → List Piece → Type 0
-IsMadeNext Passed Makes old new = (Passed × (new ≡ old)) ⊎ ((Passed → ⊥) × (s : Piece) × Makes s × (new ≡ old ++ s ∷ []))
+-- the item is passed over, or one more thing is made of it
+abbrev pub IsMadeNext : {B : Type 0} → Type 0 → (B → Type 0) → List B → List B → Type 0
+IsMadeNext {B} Passed Makes old new = (Passed × (new ≡ old)) ⊎ ((Passed → ⊥) × (s : B) × Makes s × (new ≡ old ++ s ∷ []))
 
 -- the columns are turned or left out, and the right side is the sum's with the bounds put in
 pub record AreTurned (hs : List Held) (against : Frac) (pieces : List Piece) (right : Frac) : Type 0 where

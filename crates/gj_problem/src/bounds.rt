@@ -1,16 +1,18 @@
 //! Columns turned to their bounds.
-ghost use Rattle.std.specs.Prelude.{◌≡◌, ◌↔◌, true, false, [], None, length};
+ghost use Rattle.std.specs.Prelude.{◌≡◌, ◌↔◌, true, false, [], None, Err, length};
 ghost use Rattle.std.specs.Prelude.{IfOk, IsTrue, MatchOption};
 ghost use Rattle.gj_problem.specs.Rational.{rational, ◌-ℚ◌};
 ghost use Rattle.gj_problem.specs.Aggregates.{pieces_at, held, IsLeftOut, IsTurned, IsFree};
 ghost use Rattle.gj_problem.specs.Aggregates.{IsLowerBound, IsUpperBound, IsFromLower, IsFromUpper};
 ghost use Rattle.gj_problem.specs.Steps.{IsMadeNext, AreTurnedOrFree};
+ghost use Rattle.gj_problem.specs.WideRows.{IsWideTurn, AreWideTurns};
 
 use crate::faults::Fault;
 use crate::pieces::{Piece, one_entry};
 use crate::problem::{Column, Inequality};
-use gj_frac::{Frac, Wide};
-use std::alloc::Global;
+use crate::sums::with_multiple;
+use gj_frac::Frac;
+use std::alloc::{AllocError, Global};
 
 /// The columns turned to their bounds, and the right side with the bounds put in.
 #[derive(Drop)]
@@ -41,8 +43,10 @@ pub(crate) fn turned_columns(
 ) -> Result<Turned, Fault>
     requires coefficients { length coefficients.now ≡ length columns.now }
     requires at_upper { length at_upper.now ≡ length columns.now }
-    ensures { IfOk result (AreTurnedOrFree
+    ensures turned { IfOk result (AreTurnedOrFree
         (held 0 columns.now coefficients.now at_upper.now) right) }
+    ensures wide { result ≡ Err Fault.Wide →
+        AreWideTurns (held 0 columns.now coefficients.now at_upper.now) right }
 {
     let mut bounds = Bounds {
         pieces: Vec::new(alloc),
@@ -87,6 +91,7 @@ impl Held {
         ensures next { IfOk result (λ done. IsTrue done → IsMadeNext (IsLeftOut self)
             (IsTurned self) bounds.old.pieces.items bounds.new.pieces.items) }
         ensures free { IfOk result (λ done. done ≡ false → IsFree self) }
+        ensures wide { result ≡ Err Fault.Wide → IsWideTurn self bounds.old.right }
     {
         if self.is_left_out() {
             return Ok(true);
@@ -94,8 +99,7 @@ impl Held {
         let Some(piece) = self.to_bound(alloc)? else {
             return Ok(false);
         };
-        let shift = piece.entry.checked_mul(piece.inequality.right)?;
-        bounds.right = bounds.right.checked_add(-shift)?;
+        bounds.right = with_multiple(bounds.right, -piece.entry, piece.inequality.right)?;
         bounds.pieces.push(piece)?;
         Ok(true)
     }
@@ -110,7 +114,7 @@ impl Held {
 
     /// The column turned to its bound: the lower one, unless there is none or the upper one is
     /// preferred.
-    fn to_bound(self, alloc: Global) -> Result<Option<Piece>, Fault>
+    fn to_bound(self, alloc: Global) -> Result<Option<Piece>, AllocError>
         ensures { IfOk result (λ made. MatchOption made
             ((self.column.lower ≡ None) × (self.column.upper ≡ None)) (IsTurned self)) }
     {
@@ -129,11 +133,11 @@ impl Held {
     }
 
     /// The column minus its lower bound.
-    fn above_lower(self, alloc: Global, lower: Frac) -> Result<Piece, Fault>
+    fn above_lower(self, alloc: Global, lower: Frac) -> Result<Piece, AllocError>
         ensures whole { IfOk result (λ s. s.is_whole ≡ self.column.is_whole) }
         ensures lower { IfOk result (IsFromLower self lower) }
     {
-        let bound = lower_bound(self.column.is_whole, lower)?;
+        let bound = lower_bound(self.column.is_whole, lower);
         let entries = one_entry(alloc, self.index, Frac::ratio(1, 1))?;
         Ok(Piece {
             entry: self.coefficient,
@@ -146,11 +150,11 @@ impl Held {
     }
 
     /// The upper bound minus the column.
-    fn below_upper(self, alloc: Global, upper: Frac) -> Result<Piece, Fault>
+    fn below_upper(self, alloc: Global, upper: Frac) -> Result<Piece, AllocError>
         ensures whole { IfOk result (λ s. s.is_whole ≡ self.column.is_whole) }
         ensures upper { IfOk result (IsFromUpper self upper) }
     {
-        let bound = upper_bound(self.column.is_whole, upper)?;
+        let bound = upper_bound(self.column.is_whole, upper);
         let entries = one_entry(alloc, self.index, Frac::ratio(-1, 1))?;
         Ok(Piece {
             entry: -self.coefficient,
@@ -164,30 +168,29 @@ impl Held {
 }
 
 /// The lower bound of a column; that of a whole one is rounded up.
-fn lower_bound(is_whole: bool, lower: Frac) -> Result<Frac, Wide>
-    ensures { IfOk result (IsLowerBound is_whole lower) }
+pub fn lower_bound(is_whole: bool, lower: Frac) -> Frac
+    ensures { IsLowerBound is_whole lower result }
 {
     if is_whole {
-        Ok(-rounded_down(-lower)?)
+        -rounded_down(-lower)
     } else {
-        Ok(lower)
+        lower
     }
 }
 
 /// The upper bound of a column; that of a whole one is rounded down.
-fn upper_bound(is_whole: bool, upper: Frac) -> Result<Frac, Wide>
-    ensures { IfOk result (IsUpperBound is_whole upper) }
+pub fn upper_bound(is_whole: bool, upper: Frac) -> Frac
+    ensures { IsUpperBound is_whole upper result }
 {
-    if is_whole {
-        rounded_down(upper)
-    } else {
-        Ok(upper)
-    }
+    if is_whole { rounded_down(upper) } else { upper }
 }
 
 /// The greatest whole number that is at most x, as a fraction.
-fn rounded_down(x: Frac) -> Result<Frac, Wide>
-    ensures { IfOk result (IsUpperBound true x) }
+pub fn rounded_down(x: Frac) -> Frac
+    ensures { IsUpperBound true x result }
 {
-    Frac::new(x.floor(), 1).ok_or(Wide)
+    let Some(whole) = Frac::new(x.floor(), 1) else {
+        unreachable!();
+    };
+    whole
 }

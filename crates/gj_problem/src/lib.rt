@@ -18,6 +18,7 @@ mod slacks;
 mod sums;
 pub mod theorems;
 
+pub use bounds::{lower_bound, rounded_down, upper_bound};
 pub use faults::Fault;
 pub use pieces::Piece;
 pub use problem::{Column, Constraint, Entry, Inequality, Problem, Sense};

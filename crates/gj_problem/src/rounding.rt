@@ -1,12 +1,15 @@
 //! Cuts rounded to a grid.
-ghost use Rattle.std.specs.Prelude.{◌≡◌, ◌<◌, ◌↔◌, pos, IfOk, IsTrue, MatchOption};
+ghost use Rattle.std.specs.Prelude.{◌≡◌, ◌<◌, ◌↔◌, pos, IfOk, IsTrue, MatchOption, OnErr};
 ghost use Rattle.gj_problem.specs.Rational.{whole, rational, ◌-ℚ◌, ◌*ℚ◌};
-ghost use Rattle.gj_problem.specs.Problems.{Holds};
+ghost use Rattle.gj_problem.specs.Problems.{Holds, HasTerms};
 ghost use Rattle.gj_problem.specs.RoundedCuts.{IsGridValue, IsBelowOnGrid, lower_of, upper_of};
 ghost use Rattle.gj_problem.specs.RoundedCuts.{IsMoved, IsFreeEntry, IsRoundedOf, RoundedHolds};
+ghost use Rattle.gj_problem.specs.RoundedCuts.{IsWideTimes, IsWideChange, IsWideMove};
+ghost use Rattle.gj_problem.specs.RoundedCuts.{IsWideRounding, RoundedHasTerms};
 
 use crate::faults::Fault;
 use crate::problem::{Entry, Inequality, Problem};
+use crate::sums::push_some;
 use gj_frac::{Frac, Wide};
 use gj_shape::List;
 use std::alloc::{AllocError, Global};
@@ -26,8 +29,8 @@ pub enum RoundedCut {
 /// feasible point if the given one does.
 ///
 /// A coefficient goes up where its column has a lower bound, and down where it has only an upper
-/// one; the right side changes by the bound times the change, and goes down. `Wide` where a number
-/// of this does not fit; that it comes nowhere else no clause says. Else `Free` exactly if a
+/// one, and is left out if it is 0 then; the right side changes by the bound times the change, and
+/// goes down. `Wide` comes only where a number of this does not fit. Else it is `Free` exactly if a
 /// coefficient is off the grid in a column without bounds. The only error is want of memory.
 pub fn rounded(
     alloc: Global,
@@ -38,6 +41,8 @@ pub fn rounded(
     requires { 0 < grid }
     ensures is { IfOk result (IsRoundedOf problem.now grid cut.now) }
     ensures holds { IfOk result (λ r. Holds problem.now cut.now → RoundedHolds problem.now r) }
+    ensures terms { IfOk result
+        (λ r. HasTerms problem.now cut.now → RoundedHasTerms problem.now r) }
 {
     match rounded_cut(alloc, problem, cut, grid) {
         Ok(made) => Ok(made),
@@ -54,7 +59,8 @@ fn rounded_cut(
     grid: u64,
 ) -> Result<RoundedCut, Fault>
     requires { 0 < grid }
-    ensures { IfOk result (IsRoundedOf problem.now grid cut.now) }
+    ensures is { IfOk result (IsRoundedOf problem.now grid cut.now) }
+    ensures wide { result ≡ Err Fault.Wide → IsWideRounding problem.now grid cut.now }
 {
     let mut entries = Vec::new(alloc);
     let mut right = cut.right;
@@ -63,10 +69,13 @@ fn rounded_cut(
             return Ok(RoundedCut::Free(entry.column));
         };
         right = right.checked_add(moved.shift)?;
-        entries.push(Entry {
-            column: entry.column,
-            value: moved.value,
-        })?;
+        push_some(
+            &mut entries,
+            Entry {
+                column: entry.column,
+                value: moved.value,
+            },
+        )?;
     }
     let right = below_on_grid(right, grid)?;
     Ok(RoundedCut::Cut(Inequality {
@@ -85,9 +94,11 @@ struct Moved {
 /// An entry rounded by the bounds of its column; none if it is off the grid and there is no bound.
 fn moved_entry(problem: &Problem, entry: Entry, grid: u64) -> Result<Option<Moved>, Wide>
     requires { 0 < grid }
-    ensures { IfOk result (λ made. MatchOption made (IsFreeEntry problem.now grid entry)
+    ensures value { IfOk result (λ made. MatchOption made (IsFreeEntry problem.now grid entry)
         (λ m. IsMoved grid (lower_of problem.now entry.column) (upper_of problem.now entry.column)
         (rational entry.value) (rational m.value) (rational m.shift))) }
+    ensures wide { OnErr result (IsWideMove grid (lower_of problem.now entry.column)
+        (upper_of problem.now entry.column) entry.value) }
 {
     let x = entry.value;
     match (
@@ -119,6 +130,7 @@ fn moved_to(x: Frac, value: Frac, bound: Frac) -> Result<Moved, Wide>
     ensures value { IfOk result (λ m. m.value ≡ value) }
     ensures shift { IfOk result (λ m. rational m.shift ≡
         (rational value -ℚ rational x) *ℚ rational bound) }
+    ensures wide { OnErr result (IsWideChange x value bound) }
 {
     let change = value.checked_add(-x)?;
     let shift = change.checked_mul(bound)?;
@@ -127,9 +139,10 @@ fn moved_to(x: Frac, value: Frac, bound: Frac) -> Result<Moved, Wide>
 
 /// The coefficient x if it is on the grid.
 fn kept(x: Frac, grid: u64) -> Result<Option<Moved>, Wide>
-    ensures { IfOk result (λ made. MatchOption made (IsGridValue grid (rational x) → ⊥)
+    ensures value { IfOk result (λ made. MatchOption made (IsGridValue grid (rational x) → ⊥)
         (λ m. IsGridValue grid (rational x) × (rational m.value ≡ rational x) ×
         (rational m.shift ≡ whole (pos 0)))) }
+    ensures wide { OnErr result (IsWideTimes grid x) }
 {
     if scaled(x, grid)?.den() == 1 {
         Ok(Some(Moved {
@@ -144,7 +157,8 @@ fn kept(x: Frac, grid: u64) -> Result<Option<Moved>, Wide>
 /// The greatest number on the grid that is at most x.
 fn below_on_grid(x: Frac, grid: u64) -> Result<Frac, Wide>
     requires { 0 < grid }
-    ensures { IfOk result (λ y. IsBelowOnGrid grid (rational x) (rational y)) }
+    ensures value { IfOk result (λ y. IsBelowOnGrid grid (rational x) (rational y)) }
+    ensures wide { OnErr result (IsWideTimes grid x) }
 {
     let multiple = scaled(x, grid)?.floor();
     Frac::new(multiple, i128::from(grid)).ok_or(Wide)
@@ -152,7 +166,8 @@ fn below_on_grid(x: Frac, grid: u64) -> Result<Frac, Wide>
 
 /// x times the whole number.
 fn scaled(x: Frac, grid: u64) -> Result<Frac, Wide>
-    ensures { IfOk result (λ s. rational s ≡ whole (pos grid) *ℚ rational x) }
+    ensures value { IfOk result (λ s. rational s ≡ whole (pos grid) *ℚ rational x) }
+    ensures wide { OnErr result (IsWideTimes grid x) }
 {
     let n = Frac::new(i128::from(grid), 1).ok_or(Wide)?;
     n.checked_mul(x)

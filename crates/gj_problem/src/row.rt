@@ -1,6 +1,7 @@
 //! The row of a problem by multipliers.
-ghost use Rattle.std.specs.Prelude.{◌≡◌, IfOk, length};
+ghost use Rattle.std.specs.Prelude.{◌≡◌, IfOk, Err, length};
 ghost use Rattle.gj_problem.specs.Made.{IsMadeRow};
+ghost use Rattle.gj_problem.specs.WideRows.{IsWideRow};
 
 use crate::bounds::{Bounds, Turned, turned_columns};
 use crate::faults::Fault;
@@ -32,9 +33,8 @@ pub enum MadeRow {
 
 /// The row that the multipliers make.
 ///
-/// `Memory` is for want of memory, and `Wide` where a number of the sum, of a slack or of a bound
-/// does not fit, an entry has no column, or there are more than 2^32 columns. That they come
-/// nowhere else no clause says.
+/// `Memory` is for want of memory, and `Wide` comes only where a number of the sum, of a slack or
+/// of a bound does not fit, an entry has no column, or there are more than 2^32 columns.
 pub fn row_of(
     alloc: Global,
     problem: &Problem,
@@ -43,7 +43,9 @@ pub fn row_of(
 ) -> Result<MadeRow, Fault>
     requires multipliers { length multipliers.now ≡ length problem.now.constraints }
     requires at_upper { length at_upper.now ≡ length problem.now.columns }
-    ensures { IfOk result (IsMadeRow problem.now multipliers.now at_upper.now) }
+    ensures row { IfOk result (IsMadeRow problem.now multipliers.now at_upper.now) }
+    ensures wide { result ≡ Err Fault.Wide →
+        IsWideRow problem.now multipliers.now at_upper.now }
 {
     let constraints = problem.constraints.as_slice();
     let Aggregate { sum, slacks } = added_up(alloc, problem, constraints, multipliers)?;

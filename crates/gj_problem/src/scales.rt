@@ -1,11 +1,12 @@
 //! Fractions divided and scaled.
-ghost use Rattle.std.specs.Prelude.{◌≡◌, ℕ, pos, IfOk, OnErr, unsigned_abs, ◌∷◌, map};
+ghost use Rattle.std.specs.Prelude.{◌≡◌, ◌≤◌, ◌^◌, ℕ, pos, IfOk, OnErr, unsigned_abs};
 ghost use Rattle.gj_frac.specs.Fraction.{SameValue, fraction_of, quotient_of, denominator};
 ghost use Rattle.gj_frac.specs.Fits.{FitsQuotient};
 ghost use Rattle.gj_lemmas.specs.Divisors.{IsLcm};
 ghost use Rattle.gj_shape.specs.Given.{IsLeastCommonDenominator};
 ghost use Rattle.gj_problem.specs.Rational.{whole, rational};
 ghost use Rattle.gj_problem.specs.Aggregates.{IsScale, signed};
+ghost use Rattle.gj_problem.specs.WideRows.{IsWideScale, numbers_of};
 
 use crate::problem::{Entry, Sense};
 use gj_frac::{Frac, Wide, gcd};
@@ -22,8 +23,9 @@ pub fn divided(x: Frac, y: Frac) -> Result<Frac, Wide>
 /// The number by which the slack of a constraint is multiplied: its least common denominator if its
 /// columns are whole, else 1.
 pub(crate) fn scale(right: Frac, entries: &[Entry], is_whole: bool) -> Result<Frac, Wide>
-    ensures { IfOk result (λ m. (n : ℕ) × IsScale right entries.now is_whole n ×
+    ensures scale { IfOk result (λ m. (n : ℕ) × IsScale right entries.now is_whole n ×
         (rational m ≡ whole (pos n))) }
+    ensures wide { OnErr result (IsWideScale right entries.now is_whole) }
 {
     if is_whole {
         whole_number(common_denominator(right, entries)?)
@@ -34,7 +36,9 @@ pub(crate) fn scale(right: Frac, entries: &[Entry], is_whole: bool) -> Result<Fr
 
 /// The least common denominator of the numbers of a constraint.
 fn common_denominator(right: Frac, entries: &[Entry]) -> Result<u128, Wide>
-    ensures { IfOk result (IsLeastCommonDenominator (right ∷ map (λ e. e.value) entries.now)) }
+    ensures least { IfOk result (IsLeastCommonDenominator (numbers_of right entries.now)) }
+    ensures wide { OnErr result ((n : ℕ) →
+        IsLeastCommonDenominator (numbers_of right entries.now) n → 2 ^ 128 ≤ n) }
 {
     let mut least = with_denominator(1, right)?;
     for entry in entries {
@@ -45,7 +49,9 @@ fn common_denominator(right: Frac, entries: &[Entry]) -> Result<u128, Wide>
 
 /// The least common multiple of a number and a denominator.
 fn with_denominator(m: u128, x: Frac) -> Result<u128, Wide>
-    ensures { IfOk result (IsLcm m (unsigned_abs (denominator x))) }
+    ensures multiple { IfOk result (IsLcm m (unsigned_abs (denominator x))) }
+    ensures wide { OnErr result ((n : ℕ) × IsLcm m (unsigned_abs (denominator x)) n
+        × (2 ^ 128 ≤ n)) }
 {
     let d = x.den().unsigned_abs();
     let common = gcd(m, d);
@@ -54,7 +60,8 @@ fn with_denominator(m: u128, x: Frac) -> Result<u128, Wide>
 
 /// The fraction that is this whole number, if it fits.
 fn whole_number(n: u128) -> Result<Frac, Wide>
-    ensures { IfOk result (λ x. rational x ≡ whole (pos n)) }
+    ensures value { IfOk result (λ x. rational x ≡ whole (pos n)) }
+    ensures wide { OnErr result (2 ^ 127 ≤ n) }
 {
     let Ok(signed) = i128::try_from(n) else {
         return Err(Wide);

@@ -1,11 +1,12 @@
 //! Sums of constraints, and their slacks.
-ghost use Rattle.std.specs.Prelude.{◌≡◌, ◌↔◌, List, IfOk, IsTrue, All, length};
+ghost use Rattle.std.specs.Prelude.{◌≡◌, ◌↔◌, List, IfOk, IsTrue, Err, All, length};
 ghost use Rattle.gj_problem.specs.Rational.{Rational, rational, ◌+ℚ◌, ◌*ℚ◌, ◌-ℚ◌};
 ghost use Rattle.gj_problem.specs.Problems.{IsWholeColumn, sum_at, surplus_at};
 ghost use Rattle.gj_problem.specs.Rows.{dot};
 ghost use Rattle.gj_problem.specs.Aggregates.{AreMadeOf, IsAggregate, Weighted, weighted};
 ghost use Rattle.gj_problem.specs.Aggregates.{HasNoSlack, IsSlack};
 ghost use Rattle.gj_problem.specs.Steps.{IsMadeNext};
+ghost use Rattle.gj_problem.specs.WideRows.{IsWideMultiple, IsWideSlack, IsWideNext, IsWideSum};
 
 use crate::faults::Fault;
 use crate::pieces::Piece;
@@ -39,6 +40,8 @@ pub(crate) fn added_up(
     ensures slacks { IfOk result (λ made.
         AreMadeOf HasNoSlack (IsSlack problem.now)
         (weighted multipliers.now constraints.now) made.slacks.items) }
+    ensures wide { result ≡ Err Fault.Wide →
+        IsWideSum problem.now (weighted multipliers.now constraints.now) }
 {
     let columns = problem.columns.as_slice().len();
     let sum = Sum::of_none(alloc, columns, Frac::ratio(0, 1))?;
@@ -71,6 +74,9 @@ fn add_weighted(
         (λ _. let w : Weighted = record { multiplier = multiplier; constraint = constraint.now } in
         IsMadeNext (HasNoSlack w) (IsSlack problem.now w)
         made.old.slacks.items made.new.slacks.items) }
+    ensures wide { result ≡ Err Fault.Wide →
+        IsWideNext problem.now made.old.sum.coefficients.items made.old.sum.right
+        (record { multiplier = multiplier; constraint = constraint.now }) }
 {
     if multiplier.num() == 0 {
         return Ok(());
@@ -98,8 +104,10 @@ fn slack(
     constraint: &Constraint,
     multiplier: Frac,
 ) -> Result<Piece, Fault>
-    ensures { IfOk result (IsSlack problem.now
+    ensures slack { IfOk result (IsSlack problem.now
         (record { multiplier = multiplier; constraint = constraint.now })) }
+    ensures wide { result ≡ Err Fault.Wide → IsWideSlack problem.now
+        (record { multiplier = multiplier; constraint = constraint.now }) }
 {
     let entries = constraint.entries.as_slice();
     let is_whole = have_whole_columns(problem, entries);
@@ -139,8 +147,9 @@ fn is_whole_column(problem: &Problem, column: u32) -> bool
 /// The inequality whose surplus is the factor times what the sum of the entries has above the right
 /// side.
 fn times(alloc: Global, factor: Frac, entries: &[Entry], right: Frac) -> Result<Inequality, Fault>
-    ensures { IfOk result (λ q. (point : List Rational) → surplus_at point q
+    ensures surplus { IfOk result (λ q. (point : List Rational) → surplus_at point q
         ≡ rational factor *ℚ (sum_at point entries.now -ℚ rational right)) }
+    ensures wide { result ≡ Err Fault.Wide → IsWideMultiple factor right entries.now }
 {
     let mut scaled = Vec::new(alloc);
     for entry in entries {

@@ -2,9 +2,10 @@
 ghost use Rattle.std.specs.Prelude.{◌≡◌, ◌<◌, ◌^◌, ◌⊎◌, ℕ, pos, List, IfOk, IfSome, IsNone, OnErr};
 ghost use Rattle.std.specs.Prelude.{length};
 ghost use Rattle.gj_problem.specs.Rational.{Rational, whole, rational, ◌+ℚ◌, ◌*ℚ◌, ◌-ℚ◌};
-ghost use Rattle.gj_problem.specs.Problems.{value_at, sum_at, surplus_at};
+ghost use Rattle.gj_problem.specs.Problems.{value_at, sum_at, surplus_at, AreTermsWithin};
 ghost use Rattle.gj_problem.specs.Rows.{dot};
-ghost use Rattle.gj_problem.specs.Steps.{IsWideAt, IsWideEntry, IsWideWithin};
+ghost use Rattle.gj_problem.specs.Steps.{IsMadeNext, IsWideAt, IsWideEntry, IsWideWithin};
+ghost use Rattle.gj_problem.specs.RoundedCuts.{IsZero};
 
 use crate::problem::{Entry, Inequality};
 use gj_frac::{Frac, Wide};
@@ -86,13 +87,15 @@ impl Sum {
         Ok(())
     }
 
-    /// The inequality of the coefficients that are not 0; none only if there are more than 2^32
-    /// columns. The only error is want of memory.
+    /// The inequality of the coefficients that are not 0, in the order of the columns; none only if
+    /// there are more than 2^32 columns. The only error is want of memory.
     pub fn inequality(self, alloc: Global) -> Result<Option<Inequality>, AllocError>
         ensures none { IfOk result (λ made. IsNone made → 2 ^ 32 < length self.coefficients.items) }
         ensures surplus { IfOk result (λ made. IfSome made (λ q. (point : List Rational) →
             surplus_at point q
             ≡ dot self.coefficients.items point -ℚ rational self.right)) }
+        ensures terms { IfOk result (λ made. IfSome made (λ q.
+            AreTermsWithin 0 (length self.coefficients.items) q.entries)) }
     {
         let mut entries = Vec::new(alloc);
         for (column, coefficient) in self.coefficients.iter().enumerate() {
@@ -115,7 +118,7 @@ impl Sum {
 }
 
 /// x with this multiple of a value added.
-fn with_multiple(x: Frac, factor: Frac, value: Frac) -> Result<Frac, Wide>
+pub(crate) fn with_multiple(x: Frac, factor: Frac, value: Frac) -> Result<Frac, Wide>
     ensures value { IfOk result
         (λ z. rational z ≡ rational x +ℚ rational factor *ℚ rational value) }
     ensures wide { OnErr result (IsWideAt x factor value) }
@@ -124,8 +127,10 @@ fn with_multiple(x: Frac, factor: Frac, value: Frac) -> Result<Frac, Wide>
 }
 
 /// The entries with one more, unless it is 0.
-fn push_some(entries: &mut Vec<Entry>, entry: Entry) -> Result<(), AllocError>
-    ensures { IfOk result (λ _. (point : List Rational) → sum_at point entries.new.items
+pub(crate) fn push_some(entries: &mut Vec<Entry>, entry: Entry) -> Result<(), AllocError>
+    ensures next { IfOk result (λ _. IsMadeNext (IsZero entry) (λ e. e ≡ entry)
+        entries.old.items entries.new.items) }
+    ensures sum { IfOk result (λ _. (point : List Rational) → sum_at point entries.new.items
         ≡ sum_at point entries.old.items +ℚ rational entry.value *ℚ value_at point entry.column) }
 {
     if entry.value.num() != 0 {

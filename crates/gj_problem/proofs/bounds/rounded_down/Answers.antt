@@ -1,19 +1,16 @@
-use Rattle.std.proofs.Common.{true, ℤ, pos, subst, rules}
+use Rattle.std.proofs.Common.{ℤ, pos, subst, rules}
 use Rattle.std.proofs.lemmas.Int.{to_z-of_z}
 use Rattle.std.proofs.lemmas.Option.{MatchOption-at_some}
 use Rattle.gj_frac.specs.Fraction.{IsRatio}
-use Rattle.gj_problem.specs.Aggregates.{IsUpperBound}
-use Rattle.gj_problem.proofs.AddedSums.{ok_if_some, whole_ratio}
+use Rattle.gj_problem.proofs.AddedSums.{whole_ratio}
 use Rattle.gj_problem.proofs.bounds.rounded_down.Goals as goal
 use mir.Syntax.{w128}
 
 pub returns : goal.returns
 returns c =
     let n = c.floor.result in
-    ok_if_some c.ok_or.result c.new.result (IsUpperBound true c.args.x) c.ok_or.ensures.ok_part
-    (λ x is. (
+    let x = c.in-Some.whole in (
       n,
       c.floor.ensures,
-      whole_ratio x n
-          (subst (λ (z : ℤ). IsRatio x z (pos 1)) (to_z-of_z w128 n (search rules)) (MatchOption-at_some _ _ x is c.new.ensures.value)),
-    ))
+      whole_ratio x n (subst (λ (z : ℤ). IsRatio x z (pos 1)) (to_z-of_z w128 n (search rules)) (MatchOption-at_some _ _ x c.in-Some.is c.new.ensures.value)),
+    )

@@ -1,8 +1,10 @@
-use Rattle.std.proofs.Common.{◌≡◌, ◌+◌, ◌<◌, false, Bool, ℕ, List, [], ◌∷◌, ◌++◌, length, take, drop, get_or, refl, sym, subst, arith}
+use Rattle.std.proofs.Common.{◌≡◌, ◌+◌, ◌<◌, inl, inr, false, Bool, ℕ, List, [], ◌∷◌, ◌++◌, length, take, drop, get_or, refl, sym, subst, arith}
+use Rattle.gj_frac.specs.declared.Frac.{Frac}
 use Rattle.gj_problem.specs.Rational.{rational}
 use Rattle.gj_problem.specs.declared.bounds.Held.{Held}
 use Rattle.gj_problem.specs.Aggregates.{held, IsLeftOut, IsTurned}
 use Rattle.gj_problem.specs.Steps.{AreTurned}
+use Rattle.gj_problem.proofs.WideRoundings.{handed_on}
 use Rattle.gj_problem.proofs.OneColumn.{right_begun, right_more}
 use Rattle.gj_problem.proofs.Prefixes.{made_next, held_next, held_split, held_all_taken, default_unused}
 use Rattle.gj_problem.proofs.TurnedColumns.{none_free}
@@ -40,8 +42,8 @@ loop-j-preserved c =
           c.loop-j.bounds.pieces.items c.turn.new.bounds.pieces.items c.loop-j.invariant.right_is (c.in_ok-turn.ensures.right c.if-not-branch.false);
     }
 
-pub returns-then-not-branch : goal.returns-then-not-branch
-returns-then-not-branch c =
+pub returns-then-not-branch-clause-turned : goal.returns-then-not-branch-clause-turned
+returns-then-not-branch-clause-turned c =
     let ds = c.args.columns.now in
     let cs = c.args.coefficients.now in
     let ups = c.args.at_upper.now in
@@ -68,7 +70,58 @@ returns-then-not-branch c =
       index = refl;
     }
 
-pub returns : goal.returns
-returns c =
+pub returns-clause-turned : goal.returns-clause-turned
+returns-clause-turned c =
     subst (λ (hs : List Held). AreTurned hs c.args.right c.loop-j.bounds.pieces.items c.loop-j.bounds.right)
     (held_all_taken c.args.columns.now c.args.coefficients.now c.args.at_upper.now c.loop-j.j c.loop-j-test.false) c.loop-j.invariant
+
+pub returns-in_err-turn-clause-wide : goal.returns-in_err-turn-clause-wide
+returns-in_err-turn-clause-wide c = λ fault.
+    let ds = c.args.columns.now in
+    let cs = c.args.coefficients.now in
+    let ups = c.args.at_upper.now in
+    let j = c.loop-j.j in
+    let up : Bool = get_or ups j false in
+    let same : c.in-Ok.index ≡ j = c.in-Ok.ensures.1 in
+    let c_below : j < length cs = omega arith in
+    let up_below : j < length ups = omega arith in
+    let split = held_split ds cs ups j c.index-columns-j.result c.index-coefficients-j.result up c.loop-j-test.true c_below
+    up_below c.index-columns-j.is c.index-coefficients-j.is (default_unused ups j false up up_below) in
+    let h : ℕ → Held = λ i. record {
+      index = i;
+      column = c.index-columns-j.result;
+      coefficient = c.index-coefficients-j.result;
+      at_upper = up;
+    } in
+    record {
+      before = take j (held 0 ds cs ups);
+      next = h c.in-Ok.index;
+      after = drop (j + 1) (held 0 ds cs ups);
+      place = subst (λ (i : ℕ). held 0 ds cs ups ≡ take j (held 0 ds cs ups) ++ h i ∷ drop (j + 1) (held 0 ds cs ups)) (sym same) split;
+      pieces = c.loop-j.bounds.pieces.items;
+      right = c.loop-j.bounds.right;
+      turned = c.loop-j.invariant;
+      wide = inr (c.in_err-turn.ensures.wide (handed_on c.from_residual.result _ _ c.from_residual.ensures.1 fault));
+    }
+
+pub returns-in_default-clause-wide : goal.returns-in_default-clause-wide
+returns-in_default-clause-wide c = λ fault.
+    let ds = c.args.columns.now in
+    let cs = c.args.coefficients.now in
+    let ups = c.args.at_upper.now in
+    let j = c.loop-j.j in
+    let up : Bool = get_or ups j false in
+    let k : Frac = get_or cs j c.args.right in
+    let c_below : j < length cs = omega arith in
+    let up_below : j < length ups = omega arith in
+    record {
+      before = take j (held 0 ds cs ups);
+      next = record { index = j; column = c.index-columns-j.result; coefficient = k; at_upper = up };
+      after = drop (j + 1) (held 0 ds cs ups);
+      place = held_split ds cs ups j c.index-columns-j.result k up c.loop-j-test.true c_below up_below c.index-columns-j.is
+          (default_unused cs j c.args.right k c_below) (default_unused ups j false up up_below);
+      pieces = c.loop-j.bounds.pieces.items;
+      right = c.loop-j.bounds.right;
+      turned = c.loop-j.invariant;
+      wide = inl (omega (arith, c.in_default.ensures));
+    }

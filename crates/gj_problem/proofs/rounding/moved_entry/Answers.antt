@@ -1,4 +1,7 @@
-use Rattle.std.proofs.Common.{Option, sym, subst, ◌∙◌}
+use Rattle.std.proofs.Common.{inl, inr, Option, sym, subst, subst₂, ◌∙◌}
+use Rattle.gj_frac.proofs.Refusals.{on_err}
+use Rattle.gj_problem.specs.RoundedCuts.{lower_of, IsWideMove}
+use Rattle.gj_problem.proofs.WideRoundings.{raised_wide}
 use Rattle.gj_frac.specs.declared.Frac.{Frac}
 use Rattle.gj_problem.specs.Rational.{rational}
 use Rattle.gj_problem.proofs.AddedSums.{negation_value}
@@ -6,8 +9,8 @@ use Rattle.gj_problem.specs.RoundedCuts.{upper_of, IsMoved}
 use Rattle.gj_problem.proofs.MovedEntries.{raised_to}
 use Rattle.gj_problem.proofs.rounding.moved_entry.Goals as goal
 
-pub returns-in_ok-moved_to-in-Some-default : goal.returns-in_ok-moved_to-in-Some-default
-returns-in_ok-moved_to-in-Some-default c =
+pub returns-in_ok-moved_to-in-Some-default-clause-value : goal.returns-in_ok-moved_to-in-Some-default-clause-value
+returns-in_ok-moved_to-in-Some-default-clause-value c =
     let x = c.args.entry.value in
     let z = c.in_ok-below_on_grid-in-Some-default.field-0 in
     let value = c.neg-in-Some-default.result in
@@ -16,5 +19,36 @@ returns-in_ok-moved_to-in-Some-default c =
     subst (λ (lower : Option Frac). IsMoved c.args.grid lower upper (rational x) (rational made.field-0.value) (rational made.field-0.shift))
     (sym c.in-Some-default.is-0 ∙ c.lower_bound.ensures)
     (raised_to c.args.grid x c.neg.result z value c.in-Some-default.lower made.field-0.value made.field-0.shift upper
-    (negation_value x c.neg.result c.neg.ensures) c.in_ok-below_on_grid-in-Some-default.ensures
+    (negation_value x c.neg.result c.neg.ensures) c.in_ok-below_on_grid-in-Some-default.ensures.value
     (negation_value z value c.neg-in-Some-default.ensures) made.ensures.value made.ensures.shift)
+
+pub returns-in_err-below_on_grid-in-Some-default-clause-wide : goal.returns-in_err-below_on_grid-in-Some-default-clause-wide
+returns-in_err-below_on_grid-in-Some-default-clause-wide c =
+    let x = c.args.entry.value in
+    let lower = lower_of c.args.problem.now c.args.entry.column in
+    let upper = upper_of c.args.problem.now c.args.entry.column in
+    on_err c.from_residual.result (IsWideMove c.args.grid lower upper x)
+    (subst (λ (o : Option Frac). IsWideMove c.args.grid o upper x) (sym c.in-Some-default.is-0 ∙ c.lower_bound.ensures)
+    (inl (c.neg.result, negation_value x c.neg.result c.neg.ensures, c.in_err-below_on_grid-in-Some-default.ensures.wide)))
+
+pub returns-in_err-moved_to-in-Some-default-clause-wide : goal.returns-in_err-moved_to-in-Some-default-clause-wide
+returns-in_err-moved_to-in-Some-default-clause-wide c =
+    let x = c.args.entry.value in
+    let z = c.in_ok-below_on_grid-in-Some-default.field-0 in
+    let lower = lower_of c.args.problem.now c.args.entry.column in
+    let upper = upper_of c.args.problem.now c.args.entry.column in
+    on_err c.from_residual-in_err-moved_to-in-Some-default.result (IsWideMove c.args.grid lower upper x)
+    (subst (λ (o : Option Frac). IsWideMove c.args.grid o upper x) (sym c.in-Some-default.is-0 ∙ c.lower_bound.ensures)
+    (raised_wide c.args.grid x c.neg.result z c.neg-in-Some-default.result c.in-Some-default.lower upper
+    (negation_value x c.neg.result c.neg.ensures) c.in_ok-below_on_grid-in-Some-default.ensures.value
+    (negation_value z c.neg-in-Some-default.result c.neg-in-Some-default.ensures) c.in_err-moved_to-in-Some-default.ensures.wide))
+
+pub returns-in_err-moved_to-in-None-Some-clause-wide : goal.returns-in_err-moved_to-in-None-Some-clause-wide
+returns-in_err-moved_to-in-None-Some-clause-wide c =
+    let x = c.args.entry.value in
+    let lower = lower_of c.args.problem.now c.args.entry.column in
+    let upper = upper_of c.args.problem.now c.args.entry.column in
+    on_err c.from_residual-in_err-moved_to-in-None-Some.result (IsWideMove c.args.grid lower upper x)
+    (subst₂ (λ (o o' : Option Frac). IsWideMove c.args.grid o o' x) (sym c.in-None-Some.is-0 ∙ c.lower_bound.ensures)
+    (sym c.in-None-Some.is-1 ∙ c.upper_bound.ensures)
+    (inr (c.in_ok-below_on_grid-in-None-Some.field-0, c.in_ok-below_on_grid-in-None-Some.ensures.value, c.in_err-moved_to-in-None-Some.ensures.wide)))

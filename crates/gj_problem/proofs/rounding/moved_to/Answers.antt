@@ -1,4 +1,6 @@
-use Rattle.std.proofs.Common.{ap, ◌∙◌}
+use Rattle.std.proofs.Common.{inl, inr, ap, ◌∙◌}
+use Rattle.gj_frac.proofs.Refusals.{on_err}
+use Rattle.gj_problem.specs.RoundedCuts.{IsWideChange}
 use Rattle.gj_problem.specs.Rational.{rational, ◌+ℚ◌, ◌*ℚ◌}
 use Rattle.gj_problem.proofs.AddedSums.{sum_value, product_value, negation_value}
 use Rattle.gj_problem.proofs.rounding.moved_to.Goals as goal
@@ -10,3 +12,21 @@ returns-clause-shift c =
     ∙ ap (λ w. w *ℚ rational c.args.bound)
     (sum_value c.args.value c.neg.result change c.in_ok-change.ensures.value
     ∙ ap (λ w. rational c.args.value +ℚ w) (negation_value c.args.x c.neg.result c.neg.ensures))
+
+pub returns-in_err-change-clause-wide : goal.returns-in_err-change-clause-wide
+returns-in_err-change-clause-wide c =
+    on_err c.from_residual.result (IsWideChange c.args.x c.args.value c.args.bound)
+    (c.neg.result, negation_value c.args.x c.neg.result c.neg.ensures, inl c.in_err-change.ensures.wide)
+
+pub returns-in_err-shift-clause-wide : goal.returns-in_err-shift-clause-wide
+returns-in_err-shift-clause-wide c =
+    let m_is = negation_value c.args.x c.neg.result c.neg.ensures in
+    on_err c.from_residual-in_err-shift.result (IsWideChange c.args.x c.args.value c.args.bound) (
+      c.neg.result,
+      m_is,
+      inr (
+        c.in_ok-change.change,
+        sum_value c.args.value c.neg.result c.in_ok-change.change c.in_ok-change.ensures.value ∙ ap (λ w. rational c.args.value +ℚ w) m_is,
+        c.in_err-shift.ensures.wide,
+      ),
+    )

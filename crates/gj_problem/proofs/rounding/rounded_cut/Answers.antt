@@ -1,4 +1,4 @@
-use Rattle.std.proofs.Common.{◌+◌, List, Option, MatchOption, take, drop, refl, subst}
+use Rattle.std.proofs.Common.{inl, inr, sym, ◌∙◌, [], ◌≡◌, ◌∷◌, ◌+◌, List, Option, MatchOption, take, drop, refl, subst}
 use Rattle.gj_problem.specs.Rational.{rational}
 use Rattle.gj_problem.specs.declared.problem.Entry.{Entry}
 use Rattle.gj_problem.proofs.AddedSums.{sum_value}
@@ -6,6 +6,9 @@ use Rattle.gj_problem.proofs.Prefixes.{split_at}
 use Rattle.gj_problem.specs.declared.rounding.Moved.{Moved}
 use Rattle.gj_problem.specs.RoundedCuts.{lower_of, upper_of, IsMoved, IsFreeEntry, IsFirstFreeEntry}
 use Rattle.gj_problem.proofs.MovedEntries.{none_moved, one_moved, none_free_in}
+use Rattle.std.proofs.lemmas.List.{take_all}
+use Rattle.gj_problem.specs.RoundedCuts.{AreMoved}
+use Rattle.gj_problem.proofs.WideRoundings.{no_more}
 use Rattle.gj_problem.proofs.rounding.rounded_cut.Goals as goal
 
 pub loop-entry-init : goal.loop-entry-init
@@ -22,14 +25,14 @@ loop-entry-preserved c =
     subst
     (λ (made : Option Moved). MatchOption made (IsFreeEntry p n e)
     (λ m. IsMoved n (lower_of p e.column) (upper_of p e.column) (rational e.value) (rational m.value) (rational m.shift)))
-    c.in-Some.is c.in_ok-moved.ensures in
-    one_moved p n c.as_slice-entry-items.result.now c.loop-entry.entry-index e f c.loop-entry.entries.items c.push.new.self.items
+    c.in-Some.is c.in_ok-moved.ensures.value in
+    one_moved p n c.as_slice-entry-items.result.now c.loop-entry.entry-index e f c.loop-entry.entries.items c.push_some.new.entries.items
     (rational c.args.cut.now.right) (rational c.loop-entry.right) (rational c.in_ok-right.right) (rational moved.shift) c.loop-entry-test.true
-    c.entry-item.is c.in_ok-push.ensures.items
+    c.entry-item.is c.in_ok-push_some.ensures.next
     (sum_value c.loop-entry.right moved.shift c.in_ok-right.right c.in_ok-right.ensures.value) refl is c.loop-entry.invariant
 
-pub returns-in_default : goal.returns-in_default
-returns-in_default c =
+pub returns-in_default-clause-is : goal.returns-in_default-clause-is
+returns-in_default-clause-is c =
     let p = c.args.problem.now in
     let n = c.args.grid in
     let e = c.entry-item.result in
@@ -40,11 +43,74 @@ returns-in_default c =
       entry = e;
       after = drop (i + 1) es;
       place = split_at es i e c.loop-entry-test.true c.entry-item.is;
-      none_before = none_free_in p n (take i es) c.loop-entry.entries.items c.loop-entry.invariant.shifts c.loop-entry.invariant.moved;
+      none_before = none_free_in p n (take i es) c.loop-entry.invariant.entries c.loop-entry.invariant.shifts c.loop-entry.invariant.moved;
       free = subst
           (λ (made : Option Moved). MatchOption made (IsFreeEntry p n e)
           (λ m. IsMoved n (lower_of p e.column) (upper_of p e.column) (rational e.value) (rational m.value) (rational m.shift)))
-          c.in_default.is c.in_ok-moved.ensures;
+          c.in_default.is c.in_ok-moved.ensures.value;
       column = refl;
     } in
     subst (λ (xs : List Entry). IsFirstFreeEntry p n xs e.column) c.as_slice-entry-items.ensures first
+
+pub returns-in_err-moved-clause-wide : goal.returns-in_err-moved-clause-wide
+returns-in_err-moved-clause-wide c = λ fault.
+    let p = c.args.problem.now in
+    let n = c.args.grid in
+    let e = c.entry-item.result in
+    let es = c.as_slice-entry-items.result.now in
+    let i = c.loop-entry.entry-index in
+    record {
+      before = take i es;
+      after = e ∷ drop (i + 1) es;
+      place = sym c.as_slice-entry-items.ensures ∙ split_at es i e c.loop-entry-test.true c.entry-item.is;
+      moved = c.loop-entry.invariant.entries;
+      shifts = c.loop-entry.invariant.shifts;
+      moved_before = c.loop-entry.invariant.moved;
+      right = c.loop-entry.right;
+      right_is = c.loop-entry.invariant.right_is;
+      wide = inr (e, drop (i + 1) es, refl, inl c.in_err-moved.ensures.wide);
+    }
+
+pub returns-in_err-right-clause-wide : goal.returns-in_err-right-clause-wide
+returns-in_err-right-clause-wide c = λ fault.
+    let p = c.args.problem.now in
+    let n = c.args.grid in
+    let e = c.entry-item.result in
+    let es = c.as_slice-entry-items.result.now in
+    let i = c.loop-entry.entry-index in
+    let moved = c.in-Some.moved in
+    let is : IsMoved n (lower_of p e.column) (upper_of p e.column) (rational e.value) (rational moved.value) (rational moved.shift) =
+    subst
+    (λ (made : Option Moved). MatchOption made (IsFreeEntry p n e)
+    (λ m. IsMoved n (lower_of p e.column) (upper_of p e.column) (rational e.value) (rational m.value) (rational m.shift)))
+    c.in-Some.is c.in_ok-moved.ensures.value in
+    record {
+      before = take i es;
+      after = e ∷ drop (i + 1) es;
+      place = sym c.as_slice-entry-items.ensures ∙ split_at es i e c.loop-entry-test.true c.entry-item.is;
+      moved = c.loop-entry.invariant.entries;
+      shifts = c.loop-entry.invariant.shifts;
+      moved_before = c.loop-entry.invariant.moved;
+      right = c.loop-entry.right;
+      right_is = c.loop-entry.invariant.right_is;
+      wide = inr (e, drop (i + 1) es, refl, inr (moved.value, moved.shift, is, c.in_err-right.ensures.wide));
+    }
+
+pub returns-in_err-right-2-clause-wide : goal.returns-in_err-right-2-clause-wide
+returns-in_err-right-2-clause-wide c = λ fault.
+    let p = c.args.problem.now in
+    let n = c.args.grid in
+    let es = c.as_slice-entry-items.result.now in
+    let i = c.loop-entry.entry-index in
+    let all : take i es ≡ es = take_all i es c.loop-entry-test.false in
+    record {
+      before = es;
+      after = [];
+      place = sym c.as_slice-entry-items.ensures ∙ no_more es;
+      moved = c.loop-entry.invariant.entries;
+      shifts = c.loop-entry.invariant.shifts;
+      moved_before = subst (λ (xs : List Entry). AreMoved p n xs c.loop-entry.invariant.entries c.loop-entry.invariant.shifts) all c.loop-entry.invariant.moved;
+      right = c.loop-entry.right;
+      right_is = c.loop-entry.invariant.right_is;
+      wide = inl (refl, c.in_err-right-2.ensures.wide);
+    }

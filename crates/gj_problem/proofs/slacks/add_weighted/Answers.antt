@@ -1,10 +1,13 @@
-use Rattle.std.proofs.Common.{◌≡◌, ℤ, pos, to_z, of_z, inr, ⊎_elim, List, sym, ap, ◌∙◌}
+use Rattle.std.proofs.Common.{◌≡◌, ℤ, pos, to_z, of_z, inl, inr, ⊎_elim, ◌⊎◌, List, sym, ap, subst, ◌∙◌}
 use Rattle.gj_frac.specs.Fraction.{numerator}
 use Rattle.gj_frac.proofs.Reduced.{read_part}
 use Rattle.gj_problem.specs.Rational.{Rational, rational, ◌-ℚ◌}
 use Rattle.gj_problem.specs.declared.problem.Sense.TheVariants.{Equal}
 use Rattle.gj_problem.specs.Problems.{sum_at}
 use Rattle.gj_problem.specs.Rows.{dot}
+use Rattle.gj_problem.specs.declared.problem.Entry.{Entry}
+use Rattle.gj_problem.specs.Steps.{IsWideAt, IsWideWithin}
+use Rattle.gj_problem.proofs.WideRoundings.{handed_on}
 use Rattle.gj_problem.proofs.AddedSums.{none_weighted}
 use Rattle.gj_problem.proofs.slacks.add_weighted.Goals as goal
 use mir.Syntax.{w128}
@@ -24,4 +27,27 @@ pub returns-clause-slack : goal.returns-clause-slack
 returns-clause-slack c =
     let some : numerator c.args.multiplier ≡ pos 0 → ⊥ = λ none. c.if-num-eq0.false (ap (of_z w128) (c.num.ensures ∙ none)) in
     let unequal : c.args.constraint.now.sense ≡ Equal → ⊥ = λ equal. let t = c.is_equation.ensures.1 equal in absurd (cc) in
-    inr (λ passed. ⊎_elim some unequal passed, c.in_ok-piece.piece, c.in_ok-piece.ensures, c.in_ok-push.ensures.items)
+    inr (λ passed. ⊎_elim some unequal passed, c.in_ok-piece.piece, c.in_ok-piece.ensures.slack, c.in_ok-push.ensures.items)
+
+pub returns-in_err-add-clause-wide : goal.returns-in_err-add-clause-wide
+returns-in_err-add-clause-wide c = λ fault.
+    let m = c.args.multiplier in
+    let k = c.args.constraint.now in
+    let sum = c.args.made.now.sum in
+    record {
+      named = λ none. c.if-num-eq0.false (ap (of_z w128) (c.num.ensures ∙ none));
+      wide = inl (subst (λ (es : List Entry). IsWideWithin sum.coefficients.items m es ⊎ IsWideAt sum.right m k.right) c.as_slice.ensures
+          c.in_err-add.ensures.wide);
+    }
+
+pub returns-in_err-piece-clause-wide : goal.returns-in_err-piece-clause-wide
+returns-in_err-piece-clause-wide c = λ fault.
+    let some : numerator c.args.multiplier ≡ pos 0 → ⊥ = λ none. c.if-num-eq0.false (ap (of_z w128) (c.num.ensures ∙ none)) in
+    let unequal : c.args.constraint.now.sense ≡ Equal → ⊥ = λ equal. let t = c.is_equation.ensures.1 equal in absurd (cc) in
+    record {
+      named = some;
+      wide = inr (
+        λ passed. ⊎_elim some unequal passed,
+        c.in_err-piece.ensures.wide (handed_on c.from_residual-in_err-piece.result _ _ c.from_residual-in_err-piece.ensures.1 fault),
+      );
+    }

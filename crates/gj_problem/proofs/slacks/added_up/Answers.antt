@@ -1,4 +1,4 @@
-use Rattle.std.proofs.Common.{◌≡◌, ◌≤◌, Bor, List, [], ◌∷◌, ◌++◌, length, take, length-append, sym, ap, subst, ◌∙◌, arith, rules}
+use Rattle.std.proofs.Common.{◌≡◌, ◌≤◌, Bor, List, [], ◌∷◌, ◌++◌, ◌+◌, length, take, drop, length-append, sym, ap, subst, ◌∙◌, arith, rules}
 use Rattle.std.proofs.Math.Nat.{le-min}
 use Rattle.std.proofs.lemmas.Slice.Zip.{zip_turn, zip_end}
 use Rattle.gj_problem.specs.Rational.{Rational, rational, ◌-ℚ◌}
@@ -6,8 +6,9 @@ use Rattle.gj_frac.specs.declared.Frac.{Frac}
 use Rattle.gj_problem.specs.declared.problem.Constraint.{Constraint}
 use Rattle.gj_problem.specs.Rows.{dot}
 use Rattle.gj_problem.specs.Aggregates.{AreMadeOf, Weighted, weighted, aggregate_at, HasNoSlack, IsSlack}
+use Rattle.gj_problem.proofs.WideRoundings.{handed_on}
 use Rattle.gj_problem.proofs.AddedSums.{nothing_minus}
-use Rattle.gj_problem.proofs.Prefixes.{made_next, weighted_next, weighted_all_taken, aggregate_next}
+use Rattle.gj_problem.proofs.Prefixes.{made_next, weighted_next, weighted_split, weighted_all_taken, aggregate_next}
 use Rattle.gj_problem.proofs.slacks.added_up.Goals as goal
 
 pub loop-constraint-init : goal.loop-constraint-init
@@ -43,8 +44,8 @@ loop-constraint-preserved c =
           c.add_weighted.new.made.slacks.items next c.loop-constraint.invariant.slacks c.in_ok-add_weighted.ensures.slack;
     }
 
-pub returns : goal.returns
-returns c =
+pub returns-clause-sum : goal.returns-clause-sum
+returns-clause-sum c =
     let ms = c.args.multipliers.now in
     let cs = c.args.constraints.now in
     let done = c.loop-constraint.yielded in
@@ -55,10 +56,41 @@ returns c =
     (le-min (omega arith) (omega (arith, c.requires))) in
     let all = weighted_all_taken ms cs (length done) end in
     record {
-      sum = record {
-        count = c.loop-constraint.invariant.count;
-        adds = λ (point : List Rational). c.loop-constraint.invariant.adds point ∙ ap (aggregate_at point) all;
-      };
-      slacks = subst (λ (ws : List Weighted). AreMadeOf HasNoSlack (IsSlack c.args.problem.now) ws c.loop-constraint.made.slacks.items) all
-          c.loop-constraint.invariant.slacks;
+      count = c.loop-constraint.invariant.count;
+      adds = λ (point : List Rational). c.loop-constraint.invariant.adds point ∙ ap (aggregate_at point) all;
+    }
+
+pub returns-clause-slacks : goal.returns-clause-slacks
+returns-clause-slacks c =
+    let ms = c.args.multipliers.now in
+    let cs = c.args.constraints.now in
+    let done = c.loop-constraint.yielded in
+    let end : length cs ≤ length done =
+    subst (λ n. length cs ≤ n)
+    (sym (zip_end cs ms done c.into_iter-constraint-iterator.result c.loop-constraint.constraint-iterator c.next.new.self c.next.result
+    (search rules) (search rules) c.loop-constraint.yielded_by c.in-None.is c.next.ensures.steps))
+    (le-min (omega arith) (omega (arith, c.requires))) in
+    let all = weighted_all_taken ms cs (length done) end in
+    subst (λ (ws : List Weighted). AreMadeOf HasNoSlack (IsSlack c.args.problem.now) ws c.loop-constraint.made.slacks.items) all
+    c.loop-constraint.invariant.slacks
+
+pub returns-in_err-add_weighted-clause-wide : goal.returns-in_err-add_weighted-clause-wide
+returns-in_err-add_weighted-clause-wide c = λ fault.
+    let ms = c.args.multipliers.now in
+    let cs = c.args.constraints.now in
+    let done = c.loop-constraint.yielded in
+    let pair : Bor Constraint × Bor Frac = (c.in-Some.constraint, c.in-Some.multiplier) in
+    let turn = zip_turn cs ms done c.into_iter-constraint-iterator.result c.loop-constraint.constraint-iterator c.next.new.self c.next.result
+    (search rules) (search rules) c.loop-constraint.yielded_by pair c.in-Some.is c.next.ensures.steps in
+    let w : Weighted = record { multiplier = c.in-Some.multiplier.now; constraint = c.in-Some.constraint.now } in
+    record {
+      before = take (length done) (weighted ms cs);
+      next = w;
+      after = drop (length done + 1) (weighted ms cs);
+      place = weighted_split ms cs (length done) w.multiplier w.constraint turn.1 turn.0 (turn.3 w.multiplier) (turn.2 w.constraint);
+      coefficients = c.loop-constraint.made.sum.coefficients.items;
+      against = c.loop-constraint.made.sum.right;
+      sum = record { count = c.loop-constraint.invariant.count; adds = c.loop-constraint.invariant.adds };
+      wide = c.in_err-add_weighted.ensures.wide
+          (handed_on c.from_residual-in_err-add_weighted.result _ _ c.from_residual-in_err-add_weighted.ensures.1 fault);
     }

@@ -6,10 +6,10 @@ use Rattle.gj_problem.proofs.bounds.Held.above_lower.Goals as goal
 
 pub returns-clause-lower : goal.returns-clause-lower
 returns-clause-lower c = record {
-  bound = c.in_ok-bound.bound;
-  bound_is = c.in_ok-bound.ensures;
+  bound = c.lower_bound-bound.result;
+  bound_is = c.lower_bound-bound.ensures;
   surplus_is = λ (point : List Rational).
-      lower_surplus point c.in_ok-entries.entries c.args.self.index c.ratio.result c.in_ok-bound.bound c.in_ok-entries.ensures
+      lower_surplus point c.in_ok-entries.entries c.args.self.index c.ratio.result c.lower_bound-bound.result c.in_ok-entries.ensures
       (whole_ratio c.ratio.result (pos 1) c.ratio.ensures);
   entry_is = refl;
 }
