@@ -12,3 +12,5 @@ pub mod PrintedItems
 pub mod PrintedLines
 pub mod AnsweredRequests
 pub mod WholeTexts
+pub mod OneListOfCuts
+pub mod TermsOfCuts

@@ -1,6 +1,7 @@
 -- The text of the cuts (own).
-use Rattle.std.specs.Prelude.{ℕ, ◌≡◌, List, [], ◌∷◌, ◌++◌, All, codes, flat_map, slice_index_or}
+use Rattle.std.specs.Prelude.{ℕ, ◌≡◌, ◌<◌, List, [], ◌∷◌, ◌++◌, All, codes, flat_map, length, slice_index_or}
 use Rattle.gj_frac.specs.declared.Frac.{Frac}
+use Rattle.gj_lex.specs.Name.{IsName}
 use Rattle.gj_forms.specs.LineForms.{LineForm, form_of, line_of}
 use Rattle.gj_forms.specs.LineForms.Field.{word, fraction}
 use Rattle.gj_function_lines.specs.FunctionLines.{line}
@@ -39,6 +40,19 @@ cut_lines names Integral = line (codes "skip integral")
 cut_lines names OtherFraction = line (codes "skip other")
 cut_lines names (Free j) = line_of free_form (name_at names j)
 cut_lines names Wide = line (codes "skip wide")
+
+-- each is a name, and no two are the same
+pub record AreNames (names : List (List ℕ)) : Type 0 where
+  pub names : All IsName names
+  pub different : (i j : ℕ) → i < length names → j < length names → name_at names i ≡ name_at names j → i ≡ j
+
+-- the columns that the cut names are below the n-th
+abbrev pub HasColumnsBelow : ℕ → SafeCut → Type 0
+HasColumnsBelow n (Cut q) = All (λ e. e.column < n) q.entries
+HasColumnsBelow n Integral = Unit {0}
+HasColumnsBelow n OtherFraction = Unit {0}
+HasColumnsBelow n (Free j) = j < n
+HasColumnsBelow n Wide = Unit {0}
 
 -- the text has the lines of the rule and those of the cuts that the task asks for, and each cut
 -- holds at all feasible points of the task's problem

@@ -1,7 +1,7 @@
 -- The cuts of a problem that a text asks for (own).
 use Rattle.std.specs.Prelude.{ℕ, ◌≡◌, Option, Some, None, Bool, true, false, List, [], ◌∷◌, length, slice_set, replicate}
 use Rattle.gj_frac.specs.declared.Frac.{Frac}
-use Rattle.gj_problem.specs.RoundedCuts.{IsRoundedCut, IsFirstFreeEntry}
+use Rattle.gj_problem.specs.RoundedCuts.{IsRoundedCut, IsFirstFreeEntry, IsWideRounding}
 use Rattle.gj_problem.specs.declared.problem.Inequality.{Inequality}
 use Rattle.gj_problem.specs.declared.problem.Problem.{Problem}
 use Rattle.gj_rule.specs.declared.kind.RuleKind.TheVariants as kind
@@ -19,7 +19,7 @@ use Rattle.gj_problem_text.specs.declared.task.Task.{Task}
 abbrev pub IsRoundedTo : Problem → ℕ → Inequality → SafeCut → Type 0
 IsRoundedTo p n q (Cut rounded) = IsRoundedCut p n q rounded
 IsRoundedTo p n q (Free j) = IsFirstFreeEntry p n q.entries j
-IsRoundedTo p n q Wide = Unit {0}
+IsRoundedTo p n q Wide = IsWideRounding p n q
 IsRoundedTo p n q Integral = ⊥
 IsRoundedTo p n q OtherFraction = ⊥
 

@@ -1,6 +1,11 @@
 //! Laws of problem texts.
-ghost use Rattle.std.specs.Prelude.{◌≡◌, ℕ, List};
+ghost use Rattle.std.specs.Prelude.{◌≡◌, ℕ, List, All, flat_map, length};
 ghost use Rattle.gj_lex.specs.declared.reason.Reason.{Reason};
+ghost use Rattle.gj_safe_cut.specs.SafeCuts.{SafeCutHasTerms};
+ghost use Rattle.gj_safe_cut.specs.declared.cut.SafeCut.{SafeCut};
+ghost use Rattle.gj_proof.specs.declared.cut.CutRule.{CutRule};
+ghost use Rattle.gj_problem_text.specs.CutText.{cut_lines, AreNames, HasColumnsBelow};
+ghost use Rattle.gj_problem_text.specs.CutText.{IsCutsTextBy};
 ghost use Rattle.gj_problem_text.specs.declared.input.SafeInput.{SafeInput};
 ghost use Rattle.gj_problem_text.specs.declared.task.Task.{Task};
 ghost use Rattle.gj_problem_text.specs.ProblemText.{IsProblemText, IsFirstFault};
@@ -25,4 +30,17 @@ pub fn one_safe_input()
         IsFirstFaultOfInput text n e → ⊥ }
     ensures fault { (text : List ℕ) (n m : ℕ) (e d : Reason) → IsFirstFaultOfInput text n e →
         IsFirstFaultOfInput text m d → (n ≡ m) × (e ≡ d) }
+{}
+
+/// The lines of cuts are those of one list of cuts, if the columns have different names.
+pub fn one_list_of_cuts()
+    ensures { (names : List (List ℕ)) (cuts others : List SafeCut) → AreNames names →
+        All (HasColumnsBelow (length names)) cuts → All (HasColumnsBelow (length names)) others →
+        flat_map (cut_lines names) cuts ≡ flat_map (cut_lines names) others → cuts ≡ others }
+{}
+
+/// The coefficients of each cut of a text are not 0, and stand in the order of the columns.
+pub fn cuts_have_terms()
+    ensures { (r : CutRule) (s : Task) (text : List ℕ) (t : IsCutsTextBy r s text) →
+        All (SafeCutHasTerms s.problem) t.cuts }
 {}

@@ -19,7 +19,7 @@ mod text;
 
 pub use faults::ProblemFault;
 pub use input::{SafeInput, read_safe_input};
-pub use laws::{one_problem_text, one_safe_input};
+pub use laws::{cuts_have_terms, one_list_of_cuts, one_problem_text, one_safe_input};
 pub use read::read_problem;
 pub use task::{Request, Task};
 pub use text::cuts_text;

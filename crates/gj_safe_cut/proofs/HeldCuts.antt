@@ -19,7 +19,7 @@ use Rattle.gj_problem.proofs.HeldInequalities.{turned_back_holds}
 use Rattle.gj_problem.proofs.RowsAtPoints.{sound_pieces, row_at}
 use Rattle.gj_safe_cut.specs.declared.cut.SafeCut.{SafeCut}
 use Rattle.gj_safe_cut.specs.declared.cut.SafeCut.TheVariants.{Cut, Integral, OtherFraction, Free, Wide}
-use Rattle.gj_safe_cut.specs.SafeCuts.{IsCutOfPieces, IsSafeCutOf, IsGmicSafeCutOf, SafeCutHolds}
+use Rattle.gj_safe_cut.specs.SafeCuts.{IsCutOfPieces, IsSafeCutOf, IsGmicSafeCutOf, SafeCutHolds, SafeCutHasTerms}
 use Rattle.gj_safe_cut.proofs.PointCuts.{AreCutsHeld, cut_over}
 
 -- ---- the cuts of rows
@@ -44,7 +44,7 @@ usable_from (Table shape) h = h
 
 row_cut_holds : (kind : RuleKind) (up down : Frac) (p : Problem) (ms : List Frac) (ups : List Bool) (pieces : List Piece) (right : Frac)
     (q : Inequality) → length ups ≡ length p.columns → IsRow p ms ups pieces right → AreCutsHeld (IsKindValue kind) up down right →
-    IsCutOfPieces (IsKindValue kind) up down pieces q → Holds p q
+    IsCutOfPieces (IsKindValue kind) up down (length p.columns) pieces q → Holds p q
 row_cut_holds kind up down p ms ups pieces right q count row held made =
     turned_back_holds p pieces made.0 q
     (cut_over (IsKindValue kind) up down right p pieces made.0 held made.1 (sound_pieces p ms ups pieces right row)
@@ -71,3 +71,20 @@ holds_by_gmic p ms ups Integral count h = tt
 holds_by_gmic p ms ups OtherFraction count h = tt
 holds_by_gmic p ms ups (Free j) count h = tt
 holds_by_gmic p ms ups Wide count h = tt
+
+-- ---- the terms of the cuts
+
+pub rule_terms : (kind : RuleKind) (up down : Frac) (p : Problem) (ms : List Frac) (ups : List Bool) (cut : SafeCut) →
+    IsSafeCutOf kind up down p ms ups cut → SafeCutHasTerms p cut
+rule_terms kind up down p ms ups (Cut q) (pieces, right, row, (not_whole, part, made)) = made.3
+rule_terms kind up down p ms ups Integral h = tt
+rule_terms kind up down p ms ups OtherFraction h = tt
+rule_terms kind up down p ms ups (Free j) h = tt
+rule_terms kind up down p ms ups Wide h = tt
+
+pub gmic_terms : (p : Problem) (ms : List Frac) (ups : List Bool) (cut : SafeCut) → IsGmicSafeCutOf p ms ups cut → SafeCutHasTerms p cut
+gmic_terms p ms ups (Cut q) (pieces, right, row, (f, up, down, slopes, (not_whole, part, made))) = made.3
+gmic_terms p ms ups Integral h = tt
+gmic_terms p ms ups OtherFraction h = tt
+gmic_terms p ms ups (Free j) h = tt
+gmic_terms p ms ups Wide h = tt

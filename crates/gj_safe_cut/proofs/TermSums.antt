@@ -1,5 +1,5 @@
 -- Sums to which the inequalities of pieces are added.
-use Rattle.std.proofs.Common.{◌≡◌, ℕ, ◌+◌, ◌<◌, ◌≤◌, List, [], ◌∷◌, ◌++◌, length, get_or, take, pos, refl, sym, ap, ap₂, subst, ◌∙◌}
+use Rattle.std.proofs.Common.{◌≡◌, ℕ, ◌+◌, ◌<◌, ◌≤◌, List, [], ◌∷◌, ◌++◌, length, get_or, take, pos, append_assoc, refl, sym, ap, ap₂, subst, ◌∙◌}
 use Rattle.std.specs.List.{AllZip}
 use Rattle.std.proofs.lemmas.List.{take_more, take_all}
 use Rattle.gj_frac.specs.declared.Frac.{Frac}
@@ -12,7 +12,9 @@ use Rattle.gj_problem.specs.declared.sums.Sum.{Sum}
 use Rattle.gj_problem.specs.Problems.{surplus_at}
 use Rattle.gj_problem.specs.Aggregates.{combined_at}
 use Rattle.gj_problem.proofs.AddedSums.{add_zero_q}
-use Rattle.gj_safe_cut.specs.AddedTerms.{sum_surplus_at, AreAdded}
+use Rattle.gj_problem.specs.Rows.{dot}
+use Rattle.gj_safe_cut.specs.SafeCuts.{IsCoefficient, IsWideSumOfTerms}
+use Rattle.gj_safe_cut.specs.AddedTerms.{sum_surplus_at, AreAdded, IsWideAdding}
 
 -- ---- two lists of pieces
 
@@ -71,3 +73,62 @@ against_one d a b x y q r d_is r_is x_is y_is q_is =
   where
     grouped : (a b : Rational) → ((whole (pos 0) -ℚ whole (pos 1)) +ℚ a) +ℚ b ≡ (a +ℚ b) -ℚ whole (pos 1)
     grouped a b = by_ring_q (a ∷ b ∷ []) (search ring_q depth 40) refl
+
+pub against_first : (d a x : Rational) (r : Frac) → d ≡ whole (pos 0) → rational r ≡ whole (pos 1) → x ≡ (d -ℚ rational r) +ℚ a →
+    x ≡ a -ℚ whole (pos 1)
+against_first d a x r d_is r_is x_is = x_is ∙ ap₂ (λ v w. (v -ℚ w) +ℚ a) d_is r_is ∙ grouped a
+  where
+    grouped : (a : Rational) → (whole (pos 0) -ℚ whole (pos 1)) +ℚ a ≡ a -ℚ whole (pos 1)
+    grouped a = by_ring_q (a ∷ []) (search ring_q depth 40) refl
+
+-- ---- where a number does not fit
+
+-- nothing, against 1
+pub record IsBegun (n : ℕ) (sum : Sum) : Type 0 where
+  pub count : length sum.coefficients.items ≡ n
+  pub none : (point : List Rational) → dot sum.coefficients.items point ≡ whole (pos 0)
+  pub right : rational sum.right ≡ whole (pos 1)
+
+pub wide_in_first : (IsValue : Frac → Frac → Type 0) (IsOut : Frac → Type 0) (up down : Frac) (n : ℕ) (ps qs : List Piece) (none : Sum) →
+    IsBegun n none → IsWideAdding IsValue IsOut up down ps none → IsWideSumOfTerms IsValue IsOut up down n (ps ++ qs)
+wide_in_first IsValue IsOut up down n ps qs none begun w = record {
+  before = w.before;
+  next = w.next;
+  after = w.after ++ qs;
+  place = ap (λ (xs : List Piece). xs ++ qs) w.place ∙ append_assoc w.before (w.next ∷ w.after) qs;
+  coefficients = w.added.coefficients;
+  given = w.added.given;
+  sum = w.reached.coefficients.items;
+  right = w.reached.right;
+  count = w.count ∙ begun.count;
+  adds = λ (point : List Rational).
+      against_first (dot none.coefficients.items point) (combined_at point w.added.coefficients w.before) (sum_surplus_at point w.reached) none.right
+      (begun.none point) begun.right (w.added.adds point);
+  wide = w.wide;
+}
+
+pub wide_in_second : (IsValue : Frac → Frac → Type 0) (IsOut : Frac → Type 0) (up down : Frac) (n : ℕ) (ps qs : List Piece) (none middle : Sum) →
+    IsBegun n none → AreAdded (IsCoefficient IsValue up down) ps none middle →
+    length middle.coefficients.items ≡ length none.coefficients.items → IsWideAdding IsValue IsOut up down qs middle →
+    IsWideSumOfTerms IsValue IsOut up down n (ps ++ qs)
+wide_in_second IsValue IsOut up down n ps qs none middle begun first count w =
+    let R : Piece → Frac → Type 0 = IsCoefficient IsValue up down in
+    record {
+      before = ps ++ w.before;
+      next = w.next;
+      after = w.after;
+      place = ap (λ (xs : List Piece). ps ++ xs) w.place ∙ sym (append_assoc ps w.before (w.next ∷ w.after));
+      coefficients = first.coefficients ++ w.added.coefficients;
+      given = zip_joined R ps w.before first.coefficients w.added.coefficients first.given w.added.given;
+      sum = w.reached.coefficients.items;
+      right = w.reached.right;
+      count = w.count ∙ count ∙ begun.count;
+      adds = λ (point : List Rational).
+          let a = combined_at point first.coefficients ps in
+          let b = combined_at point w.added.coefficients w.before in
+          let reached = sum_surplus_at point w.reached in
+          against_one (dot none.coefficients.items point) a b (sum_surplus_at point middle) reached reached none.right (begun.none point)
+          begun.right (first.adds point) (w.added.adds point) refl
+          ∙ ap (λ z. z -ℚ whole (pos 1)) (sym (combined_joined R point ps w.before first.coefficients w.added.coefficients first.given));
+      wide = w.wide;
+    }

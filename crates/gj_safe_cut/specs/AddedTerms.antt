@@ -1,5 +1,5 @@
 -- Sums to which the inequalities of pieces are added, each times its coefficient (own).
-use Rattle.std.specs.Prelude.{◌≡◌, List}
+use Rattle.std.specs.Prelude.{◌≡◌, List, ◌∷◌, ◌++◌, length}
 use Rattle.std.specs.List.{AllZip}
 use Rattle.gj_frac.specs.declared.Frac.{Frac}
 use Rattle.gj_problem.specs.Rational.{Rational, rational, ◌+ℚ◌, ◌-ℚ◌}
@@ -7,6 +7,7 @@ use Rattle.gj_problem.specs.declared.pieces.Piece.{Piece}
 use Rattle.gj_problem.specs.declared.sums.Sum.{Sum}
 use Rattle.gj_problem.specs.Rows.{dot}
 use Rattle.gj_problem.specs.Aggregates.{combined_at}
+use Rattle.gj_safe_cut.specs.SafeCuts.{IsCoefficient, IsWideTerm}
 
 -- what the sum is at a point, against its right side
 abbrev pub sum_surplus_at : List Rational → Sum → Rational
@@ -17,3 +18,14 @@ pub record AreAdded (Gives : Piece → Frac → Type 0) (pieces : List Piece) (o
   pub coefficients : List Frac
   pub given : AllZip Gives pieces coefficients
   pub adds : (point : List Rational) → sum_surplus_at point new ≡ sum_surplus_at point old +ℚ combined_at point coefficients pieces
+
+-- the terms of the pieces before some piece have been added, and then a number does not fit
+pub record IsWideAdding (IsValue : Frac → Frac → Type 0) (IsOut : Frac → Type 0) (up down : Frac) (pieces : List Piece) (old : Sum) : Type 0 where
+  pub before : List Piece
+  pub next : Piece
+  pub after : List Piece
+  pub place : pieces ≡ before ++ next ∷ after
+  pub reached : Sum
+  pub added : AreAdded (IsCoefficient IsValue up down) before old reached
+  pub count : length reached.coefficients.items ≡ length old.coefficients.items
+  pub wide : IsWideTerm IsValue IsOut up down reached.coefficients.items reached.right next

@@ -1,11 +1,11 @@
 //! The cut of a problem by multipliers.
-ghost use Rattle.std.specs.Prelude.{◌≡◌, IfOk, length, ◌++◌};
+ghost use Rattle.std.specs.Prelude.{◌≡◌, IfOk, Err, length, ◌++◌};
 ghost use Rattle.gj_rule.specs.Kind.{IsKindWithinBounds, IsMinimalKind};
 ghost use Rattle.gj_mixed.specs.Slopes.{AreSlopesOfKind};
 ghost use Rattle.gj_problem.specs.declared.problem.Inequality.{Inequality};
-ghost use Rattle.gj_safe_cut.specs.declared.cut.SafeCut.TheVariants.{Cut};
+ghost use Rattle.gj_safe_cut.specs.declared.cut.SafeCut.TheVariants.{Cut, Wide};
 ghost use Rattle.gj_safe_cut.specs.SafeCuts.{IsSafeCutOf, IsGmicSafeCutOf, IsCutOfRow};
-ghost use Rattle.gj_safe_cut.specs.SafeCuts.{IsGmicCutOfRow, SafeCutHolds};
+ghost use Rattle.gj_safe_cut.specs.SafeCuts.{IsGmicCutOfRow, SafeCutHolds, SafeCutHasTerms};
 
 use crate::cut::SafeCut;
 use crate::terms::turned_back;
@@ -20,9 +20,8 @@ use std::alloc::{AllocError, Global};
 /// The mixed-integer cut of the row that the multipliers make of the problem, in its columns.
 ///
 /// There is a multiplier for each constraint, and nothing is asked of it. `at_upper` says of each
-/// column whether its upper bound is preferred. It is `Wide` where a number of the row, a
-/// coefficient, or a number of the cut does not fit; that it is so nowhere else no clause says.
-/// Else it is `Integral` exactly if the right side of the row is whole, `Free` exactly at the first
+/// column whether its upper bound is preferred. It is `Wide` only where a number of the row, a
+/// coefficient, or a number of the cut does not fit. Else it is `Integral` exactly if the right side of the row is whole, `Free` exactly at the first
 /// column that has no bound and cannot be left out, and never `OtherFraction`. The only error is
 /// want of memory.
 pub fn gmic_safe_cut(
@@ -35,6 +34,7 @@ pub fn gmic_safe_cut(
     requires at_upper { length at_upper.now ≡ length problem.now.columns }
     ensures is { IfOk result (IsGmicSafeCutOf problem.now multipliers.now at_upper.now) }
     ensures holds { IfOk result (SafeCutHolds problem.now) }
+    ensures terms { IfOk result (SafeCutHasTerms problem.now) }
 {
     match gmic_cut(alloc, problem, multipliers, at_upper) {
         Ok(cut) => Ok(cut),
@@ -46,8 +46,8 @@ pub fn gmic_safe_cut(
 /// The cut of the row that the multipliers make of the problem by the rule and the slopes, in its
 /// columns.
 ///
-/// It is `Wide` also where the rule is asked for its value at an entry that cannot stand in a row.
-/// Where it is not, it is `OtherFraction` exactly if the right side of the row is not whole and its
+/// It is `Wide` also where the rule is asked for its value at an entry whose denominator is 2^31 or
+/// more. Where it is not, it is `OtherFraction` exactly if the right side of the row is not whole and its
 /// fractional part is not the rule's f. For the rest see [`gmic_safe_cut`].
 pub fn safe_cut<E: Evaluator, G: Evaluator>(
     alloc: Global,
@@ -64,6 +64,7 @@ pub fn safe_cut<E: Evaluator, G: Evaluator>(
         multipliers.now at_upper.now) }
     ensures holds { IfOk result (λ cut. IsMinimalKind rule.now.kind →
         SafeCutHolds problem.now cut) }
+    ensures terms { IfOk result (SafeCutHasTerms problem.now) }
 {
     match rule_cut(alloc, rule, slopes, problem, multipliers, at_upper) {
         Ok(cut) => Ok(cut),
@@ -81,7 +82,9 @@ fn gmic_cut(
 ) -> Result<SafeCut, Fault>
     requires multipliers { length multipliers.now ≡ length problem.now.constraints }
     requires at_upper { length at_upper.now ≡ length problem.now.columns }
-    ensures { IfOk result (IsGmicSafeCutOf problem.now multipliers.now at_upper.now) }
+    ensures cut { IfOk result (IsGmicSafeCutOf problem.now multipliers.now at_upper.now) }
+    ensures wide { result ≡ Err Fault.Wide →
+        IsGmicSafeCutOf problem.now multipliers.now at_upper.now Wide }
 {
     match row_of(alloc, problem, multipliers, at_upper)? {
         MadeRow::Row(row) => gmic_cut_of_row(alloc, problem.columns.as_slice().len(), &row),
@@ -91,15 +94,16 @@ fn gmic_cut(
 
 /// The mixed-integer cut of a row.
 fn gmic_cut_of_row(alloc: Global, columns: usize, row: &Row) -> Result<SafeCut, Fault>
-    ensures { IfOk result (IsGmicCutOfRow
+    ensures cut { IfOk result (IsGmicCutOfRow columns
         (row.now.slacks.items ++ row.now.bounds.items) row.now.right) }
+    ensures wide { result ≡ Err Fault.Wide → IsGmicCutOfRow columns
+        (row.now.slacks.items ++ row.now.bounds.items) row.now.right Wide }
 {
     let Some(f) = part_of(row.right) else {
         return Ok(SafeCut::Integral);
     };
     let place = Place::of(f);
-    let slopes = place.slopes()?;
-    let cut = turned_back(alloc, columns, row, &place, slopes)?;
+    let cut = turned_back(alloc, columns, row, &place, place.slopes())?;
     Ok(SafeCut::Cut(cut))
 }
 
@@ -118,6 +122,8 @@ fn rule_cut<E: Evaluator, G: Evaluator>(
         multipliers.now at_upper.now) }
     ensures limits { IfOk result (λ cut. (q : Inequality) → cut ≡ Cut q →
         IsKindWithinBounds rule.now.kind) }
+    ensures wide { result ≡ Err Fault.Wide → IsSafeCutOf rule.now.kind slopes.now.up
+        slopes.now.down problem.now multipliers.now at_upper.now Wide }
 {
     match row_of(alloc, problem, multipliers, at_upper)? {
         MadeRow::Row(row) => {
@@ -138,8 +144,11 @@ fn rule_cut_of_row<E: Evaluator, G: Evaluator>(
     ensures limits { IfOk result (λ cut. (q : Inequality) → cut ≡ Cut q →
         IsKindWithinBounds rule.now.kind) }
     ensures is { IfOk result
-        (IsCutOfRow rule.now.kind slopes.now.up slopes.now.down
+        (IsCutOfRow rule.now.kind slopes.now.up slopes.now.down columns
         (row.now.slacks.items ++ row.now.bounds.items) row.now.right) }
+    ensures wide { result ≡ Err Fault.Wide →
+        IsCutOfRow rule.now.kind slopes.now.up slopes.now.down columns
+        (row.now.slacks.items ++ row.now.bounds.items) row.now.right Wide }
 {
     match right_side(rule, row.right) {
         RightSide::Whole => Ok(SafeCut::Integral),

@@ -1,7 +1,8 @@
 //! Terms of a cut, added up in the columns of a problem.
-ghost use Rattle.std.specs.Prelude.{IfOk, ◌++◌};
-ghost use Rattle.gj_safe_cut.specs.SafeCuts.{IsCoefficient, IsCutOfPieces};
-ghost use Rattle.gj_safe_cut.specs.AddedTerms.{AreAdded};
+ghost use Rattle.std.specs.Prelude.{◌≡◌, IfOk, OnErr, Err, length, ◌++◌};
+ghost use Rattle.gj_safe_cut.specs.SafeCuts.{IsCoefficient, HasNoCoefficient, IsCutOfPieces};
+ghost use Rattle.gj_safe_cut.specs.SafeCuts.{IsWideCut};
+ghost use Rattle.gj_safe_cut.specs.AddedTerms.{AreAdded, IsWideAdding};
 
 use crate::values::{Values, weight};
 use gj_frac::{Frac, Wide};
@@ -17,8 +18,11 @@ pub(crate) fn turned_back<V: Values>(
     values: &V,
     slopes: SlopesAtZero,
 ) -> Result<Inequality, Fault>
-    ensures { IfOk result (IsCutOfPieces (V.has_value values.now) slopes.up slopes.down
+    ensures cut { IfOk result (IsCutOfPieces (V.has_value values.now) slopes.up slopes.down columns
         (row.now.slacks.items ++ row.now.bounds.items)) }
+    ensures wide { result ≡ Err Fault.Wide →
+        IsWideCut (V.has_value values.now) (V.is_out values.now) slopes.up slopes.down columns
+        (row.now.slacks.items ++ row.now.bounds.items) }
 {
     let mut sum = Sum::of_none(alloc, columns, Frac::ratio(1, 1))?;
     add_terms(&mut sum, row.slacks.as_slice(), values, slopes)?;
@@ -36,8 +40,12 @@ fn add_terms<V: Values>(
     values: &V,
     slopes: SlopesAtZero,
 ) -> Result<(), Wide>
-    ensures { IfOk result (λ _. AreAdded (IsCoefficient
+    ensures count { IfOk result (λ _. length sum.new.coefficients.items
+        ≡ length sum.old.coefficients.items) }
+    ensures added { IfOk result (λ _. AreAdded (IsCoefficient
         (V.has_value values.now) slopes.up slopes.down) pieces.now sum.old sum.new) }
+    ensures wide { OnErr result (IsWideAdding (V.has_value values.now) (V.is_out values.now)
+        slopes.up slopes.down pieces.now sum.old) }
 {
     for piece in pieces {
         let coefficient = coefficient_of(piece, values, slopes)?;
@@ -49,7 +57,10 @@ fn add_terms<V: Values>(
 
 /// The coefficient of a piece.
 fn coefficient_of<V: Values>(piece: &Piece, values: &V, slopes: SlopesAtZero) -> Result<Frac, Wide>
-    ensures { IfOk result (IsCoefficient (V.has_value values.now) slopes.up slopes.down piece.now) }
+    ensures coefficient { IfOk result
+        (IsCoefficient (V.has_value values.now) slopes.up slopes.down piece.now) }
+    ensures wide { OnErr result
+        (HasNoCoefficient (V.is_out values.now) slopes.up slopes.down piece.now) }
 {
     if piece.is_whole {
         values.value(piece.entry)

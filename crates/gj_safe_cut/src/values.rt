@@ -1,10 +1,12 @@
 //! Values of rules at fractions of any size, if they fit.
-ghost use Rattle.std.specs.Prelude.{◌≡◌, ◌↔◌, pos, IfOk, IsTrue};
+ghost use Rattle.std.specs.Prelude.{◌≡◌, ◌↔◌, ◌<ℤ◌, pos, IfOk, OnErr, IsTrue};
 ghost use Rattle.gj_frac.specs.declared.Frac.{Frac};
 ghost use Rattle.gj_frac.specs.Fraction.{SameValue, LessValue, fraction_of, quotient_of, IsInside};
+ghost use Rattle.gj_frac.specs.Fraction.{numerator};
 ghost use Rattle.gj_theory.specs.Cuts.{IsGmicValue};
 ghost use Rattle.gj_rule.specs.Kind.{IsKindValue};
 ghost use Rattle.gj_mixed.specs.Slopes.{IsWeight, AreGmicSlopes};
+ghost use Rattle.gj_safe_cut.specs.SafeCuts.{HasNoValue, IsTooFine};
 
 use gj_frac::{Frac, Wide};
 use gj_mixed::SlopesAtZero;
@@ -16,19 +18,25 @@ use std::cmp::Ordering;
 pub(crate) trait Values {
     // The second fraction is the value at the first.
     ghost has_value: { Self → Frac → Frac → Type 0 };
+    // There is no value to be had.
+    ghost is_out: { Self → Frac → Type 0 };
 
     /// The value at x.
     fn value(&self, x: Frac) -> Result<Frac, Wide>
-        ensures { IfOk result (has_value self.now x) };
+        ensures value { IfOk result (has_value self.now x) }
+        ensures wide { OnErr result (is_out self.now x) };
 }
 
-/// The values of a rule at fractions that can stand in a row.
+/// The values of a rule at fractions with denominators below 2^31: those at their fractional parts.
 impl<E: Evaluator> Values for Rule<E> {
     ghost has_value = { λ rule. IsKindValue rule.kind };
 
+    ghost is_out = { λ _. IsTooFine };
+
     fn value(&self, x: Frac) -> Result<Frac, Wide> {
-        if is_in_range(x) {
-            Ok(self.at(x))
+        let rest = x.fract();
+        if is_in_range(rest) {
+            Ok(self.at(rest))
         } else {
             Err(Wide)
         }
@@ -44,6 +52,8 @@ pub(crate) struct Place {
 
 impl Values for Place {
     ghost has_value = { λ place. IsGmicValue place.f };
+
+    ghost is_out = { λ place. HasNoValue (IsGmicValue place.f) };
 
     fn value(&self, x: Frac) -> Result<Frac, Wide> {
         let rest = x.fract();
@@ -65,12 +75,13 @@ impl Place {
     }
 
     /// The slopes of the mixed-integer cut at 0.
-    pub(crate) fn slopes(&self) -> Result<SlopesAtZero, Wide>
-        ensures { IfOk result (λ at_zero. AreGmicSlopes self.now.f at_zero.up at_zero.down) }
+    pub(crate) fn slopes(&self) -> SlopesAtZero
+        ensures { AreGmicSlopes self.now.f result.up result.down }
     {
-        let up = inverse(self.f)?;
-        let down = inverse(self.f.complement())?;
-        Ok(SlopesAtZero { up, down })
+        SlopesAtZero {
+            up: inverse(self.f),
+            down: inverse(self.f.complement()),
+        }
     }
 }
 
@@ -84,17 +95,22 @@ fn is_below(x: Frac, y: Frac) -> bool
     }
 }
 
-/// 1 divided by x, if x is not 0.
-fn inverse(x: Frac) -> Result<Frac, Wide>
-    ensures { IfOk result (λ y. SameValue (fraction_of y) (quotient_of
-        (record { top = pos 1; bottom = pos 1 }) (fraction_of x))) }
+/// 1 divided by x, which is above 0.
+fn inverse(x: Frac) -> Frac
+    requires { pos 0 <ℤ numerator x }
+    ensures { SameValue (fraction_of result) (quotient_of
+        (record { top = pos 1; bottom = pos 1 }) (fraction_of x)) }
 {
-    divided(Frac::ratio(1, 1), x)
+    let Some(y) = Frac::new(x.den(), x.num()) else {
+        unreachable!();
+    };
+    y
 }
 
 /// The weight of a continuous column with the entry c.
 pub(crate) fn weight(slopes: SlopesAtZero, c: Frac) -> Result<Frac, Wide>
-    ensures { IfOk result (IsWeight slopes.up slopes.down c) }
+    ensures weight { IfOk result (IsWeight slopes.up slopes.down c) }
+    ensures wide { OnErr result (HasNoValue (IsWeight slopes.up slopes.down) c) }
 {
     if c.num() < 0 {
         slopes.down.checked_mul(-c)

@@ -1,19 +1,41 @@
-use Rattle.std.proofs.Common.{◌++◌, subst}
+use Rattle.std.proofs.Common.{◌++◌, inl, inr, IfOk, List, length, subst}
 use Rattle.std.proofs.lemmas.Result.{IfOk-weaker}
 use Rattle.gj_problem.specs.Aggregates.{IsRow}
 use Rattle.gj_problem.specs.Made.{IsMadeRow}
+use Rattle.gj_problem.specs.declared.problem.Column.{Column}
 use Rattle.gj_problem.specs.declared.row.MadeRow.{MadeRow}
+use Rattle.gj_problem.proofs.WideRoundings.{handed_on}
 use Rattle.gj_safe_cut.specs.SafeCuts.{IsGmicCutOfRow, IsGmicSafeCutOf}
+use Rattle.gj_safe_cut.specs.declared.cut.SafeCut.TheVariants.{Wide}
 use Rattle.gj_safe_cut.proofs.CutRows.{of_row}
 use Rattle.gj_safe_cut.proofs.problem_cuts.gmic_cut.Goals as goal
 
-pub returns-in-Row : goal.returns-in-Row
-returns-in-Row c =
+pub returns-in-Row-clause-cut : goal.returns-in-Row-clause-cut
+returns-in-Row-clause-cut c =
     let p = c.args.problem.now in
     let ms = c.args.multipliers.now in
     let ups = c.args.at_upper.now in
     let row = c.in-Row.row in
     let pieces = row.slacks.items ++ row.bounds.items in
-    let is : IsRow p ms ups pieces row.right = subst (λ (made : MadeRow). IsMadeRow p ms ups made) c.in-Row.is c.in_ok-row.ensures in
-    IfOk-weaker c.gmic_cut_of_row.result (IsGmicCutOfRow pieces row.right) (IsGmicSafeCutOf p ms ups)
-    (of_row IsGmicCutOfRow p ms ups pieces row.right is (λ j h. h)) c.gmic_cut_of_row.ensures
+    let is : IsRow p ms ups pieces row.right = subst (λ (made : MadeRow). IsMadeRow p ms ups made) c.in-Row.is c.in_ok-row.ensures.row in
+    IfOk-weaker c.gmic_cut_of_row.result (IsGmicCutOfRow (length p.columns) pieces row.right) (IsGmicSafeCutOf p ms ups)
+    (of_row IsGmicCutOfRow p ms ups pieces row.right is (λ j h. h))
+    (subst (λ (cs : List Column). IfOk c.gmic_cut_of_row.result (IsGmicCutOfRow (length cs) pieces row.right)) c.as_slice.ensures
+    c.gmic_cut_of_row.ensures.cut)
+
+pub returns-in-Row-clause-wide : goal.returns-in-Row-clause-wide
+returns-in-Row-clause-wide c = λ fault.
+    let p = c.args.problem.now in
+    let ms = c.args.multipliers.now in
+    let ups = c.args.at_upper.now in
+    let row = c.in-Row.row in
+    let pieces = row.slacks.items ++ row.bounds.items in
+    inr (
+      pieces,
+      row.right,
+      subst (λ (made : MadeRow). IsMadeRow p ms ups made) c.in-Row.is c.in_ok-row.ensures.row,
+      subst (λ (cs : List Column). IsGmicCutOfRow (length cs) pieces row.right Wide) c.as_slice.ensures (c.gmic_cut_of_row.ensures.wide fault),
+    )
+
+pub returns-in_err-row-clause-wide : goal.returns-in_err-row-clause-wide
+returns-in_err-row-clause-wide c = λ fault. inl (c.in_err-row.ensures.wide (handed_on c.from_residual.result _ _ c.from_residual.ensures.1 fault))

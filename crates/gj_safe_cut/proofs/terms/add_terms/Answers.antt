@@ -1,22 +1,72 @@
-use Rattle.std.proofs.Common.{List, ap, ◌∙◌}
+use Rattle.std.proofs.Common.{◌⊎◌, ◌+◌, inl, inr, List, take, drop, refl, ap, subst, ◌∙◌}
+use Rattle.gj_frac.proofs.Refusals.{on_err}
 use Rattle.gj_problem.specs.Rational.{Rational, rational, ◌+ℚ◌, ◌*ℚ◌, ◌-ℚ◌}
 use Rattle.gj_problem.specs.declared.problem.Entry.{Entry}
 use Rattle.gj_problem.specs.Problems.{sum_at}
-use Rattle.gj_safe_cut.specs.AddedTerms.{sum_surplus_at}
+use Rattle.gj_problem.specs.Steps.{IsWideAt, IsWideWithin}
+use Rattle.gj_problem.proofs.Prefixes.{split_at}
+use Rattle.gj_safe_cut.specs.AddedTerms.{sum_surplus_at, IsWideAdding}
 use Rattle.gj_safe_cut.proofs.TermSums.{none_added, one_added, all_added}
 use Rattle.gj_safe_cut.proofs.terms.add_terms.Goals as goal
 
 pub loop-piece-init : goal.loop-piece-init
-loop-piece-init g c = none_added _ c.args.sum.now
+loop-piece-init g c = record { added = none_added _ c.args.sum.now; count = refl }
 
 pub loop-piece-preserved : goal.loop-piece-preserved
 loop-piece-preserved g c =
     let s = c.piece-item.result in
     let k = c.in_ok-coefficient.coefficient in
-    one_added _ c.args.pieces.now c.loop-piece.piece-index s k c.args.sum.now c.loop-piece.sum c.add.new.self c.loop-piece-test.true
-    c.piece-item.is c.loop-piece.invariant c.in_ok-coefficient.ensures
-    (λ (point : List Rational). c.in_ok-add.ensures.added point
-    ∙ ap (λ (es : List Entry). sum_surplus_at point c.loop-piece.sum +ℚ rational k *ℚ (sum_at point es -ℚ rational s.inequality.right)) c.as_slice.ensures)
+    record {
+      added = one_added _ c.args.pieces.now c.loop-piece.piece-index s k c.args.sum.now c.loop-piece.sum c.add.new.self c.loop-piece-test.true
+          c.piece-item.is c.loop-piece.invariant.added c.in_ok-coefficient.ensures.coefficient
+          (λ (point : List Rational). c.in_ok-add.ensures.added point
+          ∙ ap (λ (es : List Entry). sum_surplus_at point c.loop-piece.sum +ℚ rational k *ℚ (sum_at point es -ℚ rational s.inequality.right))
+          c.as_slice.ensures);
+      count = c.add.ensures.count ∙ c.loop-piece.invariant.count;
+    }
 
-pub returns : goal.returns
-returns g c = all_added _ c.args.pieces.now c.loop-piece.piece-index c.args.sum.now c.loop-piece.sum c.loop-piece-test.false c.loop-piece.invariant
+pub returns-clause-added : goal.returns-clause-added
+returns-clause-added g c =
+    all_added _ c.args.pieces.now c.loop-piece.piece-index c.args.sum.now c.loop-piece.sum c.loop-piece-test.false c.loop-piece.invariant.added
+
+pub returns-in_err-coefficient-clause-wide : goal.returns-in_err-coefficient-clause-wide
+returns-in_err-coefficient-clause-wide g c =
+    let ps = c.args.pieces.now in
+    let i = c.loop-piece.piece-index in
+    on_err c.from_residual.result
+    (IsWideAdding (g.V.Values.has_value c.args.values.now) (g.V.Values.is_out c.args.values.now) c.args.slopes.up c.args.slopes.down ps c.args.sum.now)
+    (record {
+      before = take i ps;
+      next = c.piece-item.result;
+      after = drop (i + 1) ps;
+      place = split_at ps i c.piece-item.result c.loop-piece-test.true c.piece-item.is;
+      reached = c.loop-piece.sum;
+      added = c.loop-piece.invariant.added;
+      count = c.loop-piece.invariant.count;
+      wide = inl c.in_err-coefficient.ensures.wide;
+    })
+
+pub returns-in_err-add-clause-wide : goal.returns-in_err-add-clause-wide
+returns-in_err-add-clause-wide g c =
+    let ps = c.args.pieces.now in
+    let i = c.loop-piece.piece-index in
+    let s = c.piece-item.result in
+    let k = c.in_ok-coefficient.coefficient in
+    let sum = c.loop-piece.sum in
+    on_err c.from_residual-in_err-add.result
+    (IsWideAdding (g.V.Values.has_value c.args.values.now) (g.V.Values.is_out c.args.values.now) c.args.slopes.up c.args.slopes.down ps c.args.sum.now)
+    (record {
+      before = take i ps;
+      next = s;
+      after = drop (i + 1) ps;
+      place = split_at ps i s c.loop-piece-test.true c.piece-item.is;
+      reached = sum;
+      added = c.loop-piece.invariant.added;
+      count = c.loop-piece.invariant.count;
+      wide = inr (
+        k,
+        c.in_ok-coefficient.ensures.coefficient,
+        subst (λ (es : List Entry). IsWideWithin sum.coefficients.items k es ⊎ IsWideAt sum.right k s.inequality.right) c.as_slice.ensures
+            c.in_err-add.ensures.wide,
+      );
+    })

@@ -1,30 +1,35 @@
-use Rattle.std.proofs.Common.{◌≡◌, ◌++◌, List, Option, IfSome, pos, sym, ap, subst, ◌∙◌}
+use Rattle.std.proofs.Common.{◌≡◌, ◌++◌, inl, ℕ, List, Option, IfSome, length, pos, sym, ap, subst, ◌∙◌}
 use Rattle.gj_frac.specs.declared.Frac.{Frac}
 use Rattle.gj_problem.specs.Rational.{Rational, whole, rational, ◌-ℚ◌}
 use Rattle.gj_problem.specs.declared.problem.Inequality.{Inequality}
 use Rattle.gj_problem.specs.declared.pieces.Piece.{Piece}
-use Rattle.gj_problem.specs.Problems.{surplus_at}
+use Rattle.gj_problem.specs.Problems.{surplus_at, AreTermsWithin}
 use Rattle.gj_problem.specs.Rows.{dot}
 use Rattle.gj_problem.specs.Aggregates.{combined_at}
 use Rattle.gj_problem.proofs.AddedSums.{whole_ratio}
 use Rattle.gj_safe_cut.specs.SafeCuts.{IsCoefficient}
-use Rattle.gj_safe_cut.specs.AddedTerms.{sum_surplus_at, AreAdded}
-use Rattle.gj_safe_cut.proofs.TermSums.{zip_joined, combined_joined, against_one}
+use Rattle.gj_safe_cut.specs.AddedTerms.{sum_surplus_at, AreAdded, IsWideAdding}
+use Rattle.gj_safe_cut.proofs.TermSums.{IsBegun, zip_joined, combined_joined, against_one, wide_in_first, wide_in_second}
 use Rattle.gj_safe_cut.proofs.terms.turned_back.Goals as goal
 
-pub returns-in-Some : goal.returns-in-Some
-returns-in-Some g c =
+pub returns-in-Some-clause-cut : goal.returns-in-Some-clause-cut
+returns-in-Some-clause-cut g c =
     let R : Piece → Frac → Type 0 = IsCoefficient (g.V.Values.has_value c.args.values.now) c.args.slopes.up c.args.slopes.down in
     let ps = c.args.row.now.slacks.items in
     let qs = c.args.row.now.bounds.items in
     let none = c.in_ok-sum.sum in
     let middle = c.add_terms.new.sum in
     let last = c.add_terms-2.new.sum in
-    let first : AreAdded R ps none middle = subst (λ (xs : List Piece). AreAdded R xs none middle) c.as_slice.ensures.value c.in_ok-add_terms.ensures in
-    let second : AreAdded R qs middle last = subst (λ (xs : List Piece). AreAdded R xs middle last) c.as_slice-2.ensures.value c.in_ok-add_terms-2.ensures in
+    let first : AreAdded R ps none middle =
+    subst (λ (xs : List Piece). AreAdded R xs none middle) c.as_slice.ensures.value c.in_ok-add_terms.ensures.added in
+    let second : AreAdded R qs middle last =
+    subst (λ (xs : List Piece). AreAdded R xs middle last) c.as_slice-2.ensures.value c.in_ok-add_terms-2.ensures.added in
     let made : (point : List Rational) → surplus_at point c.in-Some.cut ≡ sum_surplus_at point last =
     subst (λ (q : Option Inequality). IfSome q (λ q. (point : List Rational) → surplus_at point q ≡ sum_surplus_at point last)) c.in-Some.is
-    c.in_ok-cut.ensures.surplus in (
+    c.in_ok-cut.ensures.surplus in
+    let terms : AreTermsWithin 0 (length last.coefficients.items) c.in-Some.cut.entries =
+    subst (λ (q : Option Inequality). IfSome q (λ q. AreTermsWithin 0 (length last.coefficients.items) q.entries)) c.in-Some.is
+    c.in_ok-cut.ensures.terms in (
       first.coefficients ++ second.coefficients,
       zip_joined R ps qs first.coefficients second.coefficients first.given second.given,
       λ (point : List Rational).
@@ -35,4 +40,40 @@ returns-in-Some g c =
           (ap rational c.in_ok-sum.ensures.right ∙ whole_ratio c.ratio.result (pos 1) c.ratio.ensures) (first.adds point) (second.adds point)
           (made point)
           ∙ ap (λ w. w -ℚ whole (pos 1)) (sym (combined_joined R point ps qs first.coefficients second.coefficients first.given)),
+      subst (λ (n : ℕ). AreTermsWithin 0 n c.in-Some.cut.entries)
+          (c.in_ok-add_terms-2.ensures.count ∙ c.in_ok-add_terms.ensures.count ∙ c.in_ok-sum.ensures.count) terms,
     )
+
+pub returns-in_err-add_terms-clause-wide : goal.returns-in_err-add_terms-clause-wide
+returns-in_err-add_terms-clause-wide g c = λ fault.
+    let none = c.in_ok-sum.sum in
+    let begun : IsBegun c.args.columns none = record {
+      count = c.in_ok-sum.ensures.count;
+      none = c.in_ok-sum.ensures.none;
+      right = ap rational c.in_ok-sum.ensures.right ∙ whole_ratio c.ratio.result (pos 1) c.ratio.ensures;
+    } in
+    inl (wide_in_first (g.V.Values.has_value c.args.values.now) (g.V.Values.is_out c.args.values.now) c.args.slopes.up c.args.slopes.down c.args.columns
+    c.args.row.now.slacks.items c.args.row.now.bounds.items none begun
+    (subst
+    (λ (xs : List Piece). IsWideAdding (g.V.Values.has_value c.args.values.now) (g.V.Values.is_out c.args.values.now) c.args.slopes.up
+    c.args.slopes.down xs none)
+    c.as_slice.ensures.value c.in_err-add_terms.ensures.wide))
+
+pub returns-in_err-add_terms-2-clause-wide : goal.returns-in_err-add_terms-2-clause-wide
+returns-in_err-add_terms-2-clause-wide g c = λ fault.
+    let R : Piece → Frac → Type 0 = IsCoefficient (g.V.Values.has_value c.args.values.now) c.args.slopes.up c.args.slopes.down in
+    let none = c.in_ok-sum.sum in
+    let middle = c.add_terms.new.sum in
+    let begun : IsBegun c.args.columns none = record {
+      count = c.in_ok-sum.ensures.count;
+      none = c.in_ok-sum.ensures.none;
+      right = ap rational c.in_ok-sum.ensures.right ∙ whole_ratio c.ratio.result (pos 1) c.ratio.ensures;
+    } in
+    inl (wide_in_second (g.V.Values.has_value c.args.values.now) (g.V.Values.is_out c.args.values.now) c.args.slopes.up c.args.slopes.down
+    c.args.columns c.args.row.now.slacks.items c.args.row.now.bounds.items none middle begun
+    (subst (λ (xs : List Piece). AreAdded R xs none middle) c.as_slice.ensures.value c.in_ok-add_terms.ensures.added)
+    c.in_ok-add_terms.ensures.count
+    (subst
+    (λ (xs : List Piece). IsWideAdding (g.V.Values.has_value c.args.values.now) (g.V.Values.is_out c.args.values.now) c.args.slopes.up
+    c.args.slopes.down xs middle)
+    c.as_slice-2.ensures.value c.in_err-add_terms-2.ensures.wide))

@@ -1,0 +1,19 @@
+use Rattle.std.proofs.Common.{rules, IsTrue, false}
+use Rattle.gj_rule.proofs.ClosedForm.{rest_parts}
+use Rattle.gj_safe_cut.proofs.ValueParts.{value_of_part, part_in_range}
+use Rattle.gj_safe_cut.proofs.values.RuleValues.value.Goals as goal
+
+false_is_not_true : IsTrue false → ⊥
+false_is_not_true h = search rules
+
+pub returns-then-is_in_range-clause-value : goal.returns-then-is_in_range-clause-value
+returns-then-is_in_range-clause-value g c =
+    let rest = c.fract-rest.result in
+    value_of_part c.args.self.now.kind c.args.x rest c.at.result (rest_parts c.args.x rest c.fract-rest.ensures.value)
+    c.fract-rest.ensures.not_negative c.fract-rest.ensures.below_one c.at.ensures.value
+
+pub returns-else-is_in_range-clause-wide : goal.returns-else-is_in_range-clause-wide
+returns-else-is_in_range-clause-wide g c = λ fine.
+    let rest = c.fract-rest.result in
+    false_is_not_true (c.if-is_in_range.ensures.1 (part_in_range c.args.x rest (rest_parts c.args.x rest c.fract-rest.ensures.value)
+    c.fract-rest.ensures.not_negative c.fract-rest.ensures.below_one fine))
