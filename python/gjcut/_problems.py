@@ -10,7 +10,7 @@ from typing import Union
 from ._arguments import Number, fields, items, number, text as text_of, whole, word, written, wrong
 from ._functions import Rule, line, printed, text_of_rule
 from ._library import call_safe_cut
-from ._problem_sentences import GJSAFE
+from ._problem_sentences import WORDS
 from ._refusals import NAME, REFUSED, RIGHT, WIDEST, Place, Refused
 from .sentences import sentence_for
 
@@ -232,7 +232,7 @@ def _answer(front: str, given: Given, multipliers: Sequence[Fraction]) -> SafeCu
     room = MOST_OF_LINES + sum(MOST_OF_A_TERM + len(name) for name, *_ in given.columns)
     status, said = call_safe_cut(text, room)
     if status:
-        place, found = _place(given, multipliers, said), sentence_for(GJSAFE, text, said.strip())
+        place, found = _place(given, multipliers, said), sentence_for(WORDS, text, said.strip())
         raise Refused(status, said, place, f"{found.means}; {found.do}" if found else None)
     return _read(said)
 

@@ -10,7 +10,7 @@ from typing import Optional
 from ._arguments import text as text_of
 from ._function_sentences import FUNCTION_SENTENCES
 from ._other_sentences import OTHER_SENTENCES
-from ._problem_sentences import GJSAFE, PROBLEM_SENTENCES
+from ._problem_sentences import PROBLEM_SENTENCES, WORDS
 from ._sentence import Sentence, line_at_fault
 
 __all__ = ["RULES", "SENTENCES", "Sentence", "line_at_fault", "sentence_for"]
@@ -20,10 +20,9 @@ SENTENCES = [*COMMAND_SENTENCES, *PROBLEM_SENTENCES]
 
 
 def sentence_for(words: str, text: str, answer: str) -> Optional[Sentence]:
-    """The sentence about an answer, without the line break at its end, to the words over a text.
-    For a problem the words are "gjsafe"."""
+    """The sentence about an answer, without the line break at its end, to the words over a text."""
     given = text_of(words, "words"), text_of(text, "text"), text_of(answer, "answer")
-    among = PROBLEM_SENTENCES if words == GJSAFE else COMMAND_SENTENCES
+    among = [*PROBLEM_SENTENCES, *COMMAND_SENTENCES] if words == WORDS else COMMAND_SENTENCES
     return next((each for each in among if each.fits(*given)), None)
 
 

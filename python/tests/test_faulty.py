@@ -8,7 +8,7 @@ from pathlib import Path
 
 from gjcut import command_line
 from gjcut._library import call_safe_cut
-from gjcut._problem_sentences import GJSAFE
+from gjcut._problem_sentences import WORDS
 from gjcut.sentences import sentence_for
 
 TWO = "gj-function 2\nf 4/5\npoint 0 0\npoint 4/5 1\nend\n"
@@ -132,7 +132,7 @@ class Faulty(unittest.TestCase):
             faulty = PROBLEM.replace(old, new, 1)
             status, said = call_safe_cut(faulty, 200)
             self.assertEqual(status, 3, faulty)
-            found = sentence_for(GJSAFE, faulty, said.strip())
+            found = sentence_for(WORDS, faulty, said.strip())
             self.assertIn(words, f"{found.means}; {found.do}", faulty)
 
 

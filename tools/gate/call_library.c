@@ -9,8 +9,8 @@
  *                             of docs/library.md, and that all are given back
  * library -time N FOLDER      N calls on one example, with the time that a call takes and by how much the memory grew
  *
- * An example is a folder with the files words (one a line), input, output and status. One without words is a problem,
- * for gjcut_safe_cut, and all others are for gjcut_answer. The program is linked with --wrap for malloc, realloc and
+ * An example is a folder with the files words (one a line), input, output and status, for gjcut_answer. One with the
+ * word problem is then answered by gjcut_safe_cut, too, and that call takes no words. The program is linked with --wrap for malloc, realloc and
  * free, so that it sees what a call asks for.
  */
 #include <malloc.h>
@@ -104,11 +104,8 @@ static struct text read_file(const char *folder, const char *name) {
     return text;
 }
 
-/* The words stand one a line, and a call takes them with one blank between two. A problem has none. */
+/* The words stand one a line, and a call takes them with one blank between two. */
 static struct text read_words(const char *folder) {
-    FILE *file = open_file(folder, "words");
-    if (!file) return (struct text){NULL, 0};
-    fclose(file);
     struct text words = read_file(folder, "words");
     if (words.length) words.length--;
     for (size_t i = 0; i < words.length; i++)
@@ -121,6 +118,18 @@ static struct example read_example(const char *folder) {
     struct text status = read_file(folder, "status");
     for (size_t i = 0; i < status.length && status.bytes[i] != '\n'; i++) example.status = 10 * example.status + status.bytes[i] - '0';
     free(status.bytes);
+    return example;
+}
+
+static int is_problem(struct text words) {
+    return words.length == 7 && !memcmp(words.bytes, "problem", 7);
+}
+
+/* The same example for gjcut_safe_cut. */
+static struct example without_words(const char *folder) {
+    struct example example = read_example(folder);
+    free(example.words.bytes);
+    example.words = (struct text){NULL, 0};
     return example;
 }
 
@@ -374,7 +383,7 @@ static struct text tableau(int rows, int columns, int width) {
 
 /* How many bytes a call holds at most for each byte of its input. In JSON and in a line `sum` two bytes can be a number. */
 static size_t held_a_byte(struct text words) {
-    if (!words.bytes) return 40;
+    if (!words.bytes || is_problem(words)) return 40;
     return gjcut_has_word(words.bytes, words.length, "--json") ? 30 : 6;
 }
 
@@ -465,23 +474,27 @@ int main(int count, char **words) {
         fprintf(stderr, "library: no example is named\n");
         return 2;
     }
-    struct example *examples = memory((size_t)(count - first) * sizeof *examples);
-    for (int i = first; i < count; i++) examples[i - first] = read_example(words[i]);
+    struct example *examples = memory(2 * (size_t)(count - first) * sizeof *examples);
+    int all = 0;
+    for (int i = first; i < count; i++) {
+        examples[all++] = read_example(words[i]);
+        if (is_problem(examples[all - 1].words)) examples[all++] = without_words(words[i]);
+    }
     if (time)
         good = take_time(atol(words[2]), examples);
     else if (stack)
-        good = stack_is_enough(examples, count - first);
+        good = stack_is_enough(examples, all);
     else if (refused)
-        good = refuse(examples, count - first);
+        good = refuse(examples, all);
     else if (counted)
-        good = heap_is_enough(examples, count - first);
+        good = heap_is_enough(examples, all);
     else if (threads)
-        good = from_threads(examples, count - first);
+        good = from_threads(examples, all);
     else {
-        for (int i = 0; i < count - first; i++) good = is_answered(&examples[i]) && good;
+        for (int i = 0; i < all; i++) good = is_answered(&examples[i]) && good;
         good = others() && good;
     }
-    for (int i = 0; i < count - first; i++) free_example(examples[i]);
+    for (int i = 0; i < all; i++) free_example(examples[i]);
     free(examples);
     return !good;
 }
