@@ -120,18 +120,6 @@ static struct example read_example(const char *folder) {
     return example;
 }
 
-static int is_problem(struct text words) {
-    return words.length == 7 && !memcmp(words.bytes, "problem", 7);
-}
-
-/* The same example for gjcut_safe_cut. */
-static struct example without_words(const char *folder) {
-    struct example example = read_example(folder);
-    free(example.words.bytes);
-    example.words = (struct text){NULL, 0};
-    return example;
-}
-
 static void free_example(struct example example) {
     free(example.words.bytes);
     free(example.input.bytes);
@@ -497,27 +485,23 @@ int main(int count, char **words) {
         fprintf(stderr, "library: no example is named\n");
         return 2;
     }
-    struct example *examples = memory(2 * (size_t)(count - first) * sizeof *examples);
-    int all = 0;
-    for (int i = first; i < count; i++) {
-        examples[all++] = read_example(words[i]);
-        if (is_problem(examples[all - 1].words)) examples[all++] = without_words(words[i]);
-    }
+    struct example *examples = memory((size_t)(count - first) * sizeof *examples);
+    for (int i = first; i < count; i++) examples[i - first] = read_example(words[i]);
     if (time)
         good = take_time(atol(words[2]), examples);
     else if (stack)
-        good = stack_is_enough(examples, all);
+        good = stack_is_enough(examples, count - first);
     else if (refused)
-        good = refuse(examples, all);
+        good = refuse(examples, count - first);
     else if (counted)
-        good = heap_is_enough(examples, all);
+        good = heap_is_enough(examples, count - first);
     else if (threads)
-        good = from_threads(examples, all);
+        good = from_threads(examples, count - first);
     else {
         for (int i = 0; i < count - first; i++) good = is_answered(&examples[i]) && good;
         good = others() && many_cuts() && good;
     }
-    for (int i = 0; i < all; i++) free_example(examples[i]);
+    for (int i = 0; i < count - first; i++) free_example(examples[i]);
     free(examples);
     return !good;
 }
