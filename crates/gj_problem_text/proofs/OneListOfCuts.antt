@@ -1,15 +1,13 @@
 -- A text of cuts spells one list of them.
-use Rattle.std.proofs.Common.{◌≡◌, ◌×◌, ℕ, ◌<◌, eqb, Bool, true, false, List, [], ◌∷◌, ◌++◌, All, length, map, flat_map, codes, refl, sym, ap, ap₂, subst, ◌∙◌, arith}
+use Rattle.std.proofs.Common.{◌≡◌, ℕ, ◌<◌, List, [], ◌∷◌, ◌++◌, All, length, map, flat_map, codes, refl, sym, ap, ap₂, subst, ◌∙◌, arith}
 use Rattle.std.specs.List.{join_with_byte}
-use Rattle.std.proofs.lemmas.Bool.{false≢true}
 use Rattle.std.proofs.lemmas.Grind.{flat_map-append}
 use Rattle.std.proofs.lemmas.List.{append_assoc, append-nil, length-append}
 use Rattle.std.proofs.lemmas.List.Elements.{All-head, All-tail}
-use Rattle.std.proofs.lemmas.Nat.{eqb_refl}
 use Rattle.gj_frac.specs.declared.Frac.{Frac}
-use Rattle.gj_lex.specs.TextLines.{HasStrictLine}
+use Rattle.gj_forms.specs.TextLines.{HasStrictLine}
 use Rattle.gj_lex.proofs.CanonicalTexts.{same_from_fraction_text}
-use Rattle.gj_lex.proofs.StrictLines.{one_strict_line, plain_line}
+use Rattle.gj_forms.proofs.StrictLines.{one_strict_line, plain_line}
 use Rattle.gj_forms.specs.LineForms.{Field, word_of, words_of, first_of, others_of, bytes_of}
 use Rattle.gj_forms.specs.LineForms.Field.{word, fraction}
 use Rattle.gj_forms.proofs.FieldWords.{AreGood, head_and_tail, joined_words, words_are_plain}
@@ -72,7 +70,7 @@ module _ (names : List (List ℕ)) where
 second : (words others : List (List ℕ)) → words ≡ others → first_of (others_of words) ≡ first_of (others_of others)
 second words others e = ap (λ ws. first_of (others_of ws)) e
 
-head : SafeLine → List ℕ
+abbrev head : SafeLine → List ℕ
 head (cut x) = codes "cut"
 head (term name x) = codes "term"
 head integral = codes "skip"
@@ -150,24 +148,22 @@ one_right x y e = cc
 one_name : (m n : List ℕ) → free m ≡ free n → m ≡ n
 one_name m n e = cc
 
-abbrev kind : SafeCut → ℕ
-kind (Cut q) = 0
-kind Integral = 1
-kind OtherFraction = 2
-kind (Free j) = 3
-kind Wide = 4
+-- a word for each cut, which its first line tells
+abbrev kind : SafeCut → List ℕ
+kind (Cut q) = codes "cut"
+kind Integral = codes "integral"
+kind OtherFraction = codes "other"
+kind (Free j) = codes "free"
+kind Wide = codes "wide"
 
-abbrev line_kind : List SafeLine → ℕ
-line_kind (cut x ∷ ls) = 0
-line_kind (integral ∷ ls) = 1
-line_kind (other ∷ ls) = 2
-line_kind (free name ∷ ls) = 3
-line_kind (wide ∷ ls) = 4
-line_kind (term name x ∷ ls) = 5
-line_kind [] = 6
-
-differ : (m n : ℕ) → eqb m n ≡ false → m ≡ n → ⊥
-differ m n h e = false≢true (sym h ∙ subst (λ k. eqb m k ≡ true) e (eqb_refl m))
+abbrev line_kind : List SafeLine → List ℕ
+line_kind (cut x ∷ ls) = codes "cut"
+line_kind (integral ∷ ls) = codes "integral"
+line_kind (other ∷ ls) = codes "other"
+line_kind (free name ∷ ls) = codes "free"
+line_kind (wide ∷ ls) = codes "wide"
+line_kind (term name x ∷ ls) = codes "term"
+line_kind [] = []
 
 module _ (names : List (List ℕ)) (are : AreNames names) where
   no_term_first : (cs : List SafeCut) → NoTermFirst (flat_map (lines_of names) cs)
@@ -198,16 +194,16 @@ module _ (names : List (List ℕ)) (are : AreNames names) where
 
   same_cuts : (cs ds : List SafeCut) → All IsKnownCut cs → All IsKnownCut ds → flat_map (lines_of names) cs ≡ flat_map (lines_of names) ds → cs ≡ ds
   same_cuts [] [] g h e = refl
-  same_cuts [] (Cut q ∷ ds) g h e = absurd (differ 6 0 refl (ap line_kind e))
-  same_cuts [] (Integral ∷ ds) g h e = absurd (differ 6 1 refl (ap line_kind e))
-  same_cuts [] (OtherFraction ∷ ds) g h e = absurd (differ 6 2 refl (ap line_kind e))
-  same_cuts [] (Free j ∷ ds) g h e = absurd (differ 6 3 refl (ap line_kind e))
-  same_cuts [] (Wide ∷ ds) g h e = absurd (differ 6 4 refl (ap line_kind e))
-  same_cuts (Cut q ∷ cs) [] g h e = absurd (differ 0 6 refl (ap line_kind e))
-  same_cuts (Integral ∷ cs) [] g h e = absurd (differ 1 6 refl (ap line_kind e))
-  same_cuts (OtherFraction ∷ cs) [] g h e = absurd (differ 2 6 refl (ap line_kind e))
-  same_cuts (Free j ∷ cs) [] g h e = absurd (differ 3 6 refl (ap line_kind e))
-  same_cuts (Wide ∷ cs) [] g h e = absurd (differ 4 6 refl (ap line_kind e))
+  same_cuts [] (Cut q ∷ ds) g h e = absurd (apart [] (codes "cut") refl (ap line_kind e))
+  same_cuts [] (Integral ∷ ds) g h e = absurd (apart [] (codes "integral") refl (ap line_kind e))
+  same_cuts [] (OtherFraction ∷ ds) g h e = absurd (apart [] (codes "other") refl (ap line_kind e))
+  same_cuts [] (Free j ∷ ds) g h e = absurd (apart [] (codes "free") refl (ap line_kind e))
+  same_cuts [] (Wide ∷ ds) g h e = absurd (apart [] (codes "wide") refl (ap line_kind e))
+  same_cuts (Cut q ∷ cs) [] g h e = absurd (apart (codes "cut") [] refl (ap line_kind e))
+  same_cuts (Integral ∷ cs) [] g h e = absurd (apart (codes "integral") [] refl (ap line_kind e))
+  same_cuts (OtherFraction ∷ cs) [] g h e = absurd (apart (codes "other") [] refl (ap line_kind e))
+  same_cuts (Free j ∷ cs) [] g h e = absurd (apart (codes "free") [] refl (ap line_kind e))
+  same_cuts (Wide ∷ cs) [] g h e = absurd (apart (codes "wide") [] refl (ap line_kind e))
   same_cuts (Cut q ∷ cs) (Cut r ∷ ds) g h e =
       let both = head_and_tail (cut q.right) (cut r.right) (map (term_at names) q.entries ++ flat_map (lines_of names) cs)
       (map (term_at names) r.entries ++ flat_map (lines_of names) ds) e in
@@ -231,12 +227,12 @@ module _ (names : List (List ℕ)) (are : AreNames names) where
       (one_name (name_at names j) (name_at names k) both.0) in
       ap₂ (λ (c : SafeCut) es. c ∷ es) (ap Free column)
       (same_cuts cs ds (All-tail IsKnownCut (Free j) cs g) (All-tail IsKnownCut (Free k) ds h) both.1)
-  same_cuts (c ∷ cs) (d ∷ ds) g h e = absurd (differ (kind c) (kind d) refl (ap line_kind e))
+  same_cuts (c ∷ cs) (d ∷ ds) g h e = absurd (apart (kind c) (kind d) refl (ap line_kind e))
 
   -- ---- all lines are good
 
   good_name : (j : ℕ) → j < length names → AreGood (word (name_at names j) ∷ [])
-  good_name j below = name_is_plain (name_at names j) (are.names j [] below)
+  good_name j below = name_is_plain (name_at names j) (are.are j [] below)
 
   good_terms : (es : List Entry) (ls : List SafeLine) → All IsBelow es → AreGoodLines ls → AreGoodLines (map (term_at names) es ++ ls)
   good_terms [] ls h good = good
