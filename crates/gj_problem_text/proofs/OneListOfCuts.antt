@@ -179,14 +179,14 @@ module _ (names : List (List ℕ)) (are : AreNames names) where
 
   same_terms : (es ds : List Entry) (xs ys : List SafeLine) → All IsBelow es → All IsBelow ds → NoTermFirst xs → NoTermFirst ys →
       map (term_at names) es ++ xs ≡ map (term_at names) ds ++ ys → (es ≡ ds) × (xs ≡ ys)
-  same_terms [] [] xs ys g h no none e = (refl, e)
-  same_terms [] (d ∷ ds) xs ys g h no none e = absurd (subst NoTermFirst e no)
-  same_terms (d ∷ es) [] xs ys g h no none e = absurd (subst NoTermFirst (sym e) none)
-  same_terms (a ∷ es) (b ∷ ds) xs ys g h no none e =
+  same_terms [] [] xs ys g h start end e = (refl, e)
+  same_terms [] (d ∷ ds) xs ys g h start end e = absurd (subst NoTermFirst e start)
+  same_terms (d ∷ es) [] xs ys g h start end e = absurd (subst NoTermFirst (sym e) end)
+  same_terms (a ∷ es) (b ∷ ds) xs ys g h start end e =
       let both = head_and_tail (term_at names a) (term_at names b) (map (term_at names) es ++ xs) (map (term_at names) ds ++ ys) e in
       let one = one_term (name_at names a.column) (name_at names b.column) a.value b.value both.0 in
       let column = are.different a.column b.column (All-head IsBelow a es g) (All-head IsBelow b ds h) one.0 in
-      let rest = same_terms es ds xs ys (All-tail IsBelow a es g) (All-tail IsBelow b ds h) no none both.1 in
+      let rest = same_terms es ds xs ys (All-tail IsBelow a es g) (All-tail IsBelow b ds h) start end both.1 in
       (ap₂ (λ (f : Entry) fs. f ∷ fs) (ap₂ (λ j x. record { column = j; value = x }) column one.1) rest.0, rest.1)
 
   abbrev IsKnownCut : SafeCut → Type 0
@@ -237,7 +237,7 @@ module _ (names : List (List ℕ)) (are : AreNames names) where
   good_terms : (es : List Entry) (ls : List SafeLine) → All IsBelow es → AreGoodLines ls → AreGoodLines (map (term_at names) es ++ ls)
   good_terms [] ls h good = good
   good_terms (e ∷ es) ls h good =
-      ((known (codes "term") refl, good_name e.column (All-head IsBelow e es h), tt), good_terms es ls (All-tail IsBelow e es h) good)
+      ((known (codes "term") refl, (good_name e.column (All-head IsBelow e es h), tt)), good_terms es ls (All-tail IsBelow e es h) good)
 
   good_lines : (cs : List SafeCut) → All IsKnownCut cs → AreGoodLines (flat_map (lines_of names) cs)
   good_lines [] h = tt
@@ -249,7 +249,7 @@ module _ (names : List (List ℕ)) (are : AreNames names) where
   good_lines (OtherFraction ∷ cs) h =
       ((known (codes "skip") refl, known (codes "other") refl), good_lines cs (All-tail IsKnownCut OtherFraction cs h))
   good_lines (Free j ∷ cs) h =
-      ((known (codes "skip") refl, known (codes "free") refl, good_name j (All-head IsKnownCut (Free j) cs h)),
+      ((known (codes "skip") refl, (known (codes "free") refl, good_name j (All-head IsKnownCut (Free j) cs h))),
       good_lines cs (All-tail IsKnownCut (Free j) cs h))
   good_lines (Wide ∷ cs) h =
       ((known (codes "skip") refl, known (codes "wide") refl), good_lines cs (All-tail IsKnownCut Wide cs h))
