@@ -1,15 +1,13 @@
 -- A text of cuts spells one list of them.
-use Rattle.std.proofs.Common.{◌≡◌, ◌×◌, ℕ, ◌<◌, eqb, Bool, true, false, List, [], ◌∷◌, ◌++◌, All, length, map, flat_map, codes, refl, sym, ap, ap₂, subst, ◌∙◌, arith}
+use Rattle.std.proofs.Common.{◌≡◌, ℕ, ◌<◌, List, [], ◌∷◌, ◌++◌, All, length, map, flat_map, codes, refl, sym, ap, ap₂, subst, ◌∙◌, arith}
 use Rattle.std.specs.List.{join_with_byte}
-use Rattle.std.proofs.lemmas.Bool.{false≢true}
 use Rattle.std.proofs.lemmas.Grind.{flat_map-append}
 use Rattle.std.proofs.lemmas.List.{append_assoc, append-nil, length-append}
 use Rattle.std.proofs.lemmas.List.Elements.{All-head, All-tail}
-use Rattle.std.proofs.lemmas.Nat.{eqb_refl}
 use Rattle.gj_frac.specs.declared.Frac.{Frac}
-use Rattle.gj_lex.specs.TextLines.{HasStrictLine}
+use Rattle.gj_forms.specs.TextLines.{HasStrictLine}
 use Rattle.gj_lex.proofs.CanonicalTexts.{same_from_fraction_text}
-use Rattle.gj_lex.proofs.StrictLines.{one_strict_line, plain_line}
+use Rattle.gj_forms.proofs.StrictLines.{one_strict_line, plain_line}
 use Rattle.gj_forms.specs.LineForms.{Field, word_of, words_of, first_of, others_of, bytes_of}
 use Rattle.gj_forms.specs.LineForms.Field.{word, fraction}
 use Rattle.gj_forms.proofs.FieldWords.{AreGood, head_and_tail, joined_words, words_are_plain}
@@ -72,7 +70,7 @@ module _ (names : List (List ℕ)) where
 second : (words others : List (List ℕ)) → words ≡ others → first_of (others_of words) ≡ first_of (others_of others)
 second words others e = ap (λ ws. first_of (others_of ws)) e
 
-head : SafeLine → List ℕ
+abbrev head : SafeLine → List ℕ
 head (cut x) = codes "cut"
 head (term name x) = codes "term"
 head integral = codes "skip"
@@ -150,24 +148,22 @@ one_right x y e = cc
 one_name : (m n : List ℕ) → free m ≡ free n → m ≡ n
 one_name m n e = cc
 
-abbrev kind : SafeCut → ℕ
-kind (Cut q) = 0
-kind Integral = 1
-kind OtherFraction = 2
-kind (Free j) = 3
-kind Wide = 4
+-- a word for each cut, which its first line tells
+abbrev kind : SafeCut → List ℕ
+kind (Cut q) = codes "cut"
+kind Integral = codes "integral"
+kind OtherFraction = codes "other"
+kind (Free j) = codes "free"
+kind Wide = codes "wide"
 
-abbrev line_kind : List SafeLine → ℕ
-line_kind (cut x ∷ ls) = 0
-line_kind (integral ∷ ls) = 1
-line_kind (other ∷ ls) = 2
-line_kind (free name ∷ ls) = 3
-line_kind (wide ∷ ls) = 4
-line_kind (term name x ∷ ls) = 5
-line_kind [] = 6
-
-differ : (m n : ℕ) → eqb m n ≡ false → m ≡ n → ⊥
-differ m n h e = false≢true (sym h ∙ subst (λ k. eqb m k ≡ true) e (eqb_refl m))
+abbrev line_kind : List SafeLine → List ℕ
+line_kind (cut x ∷ ls) = codes "cut"
+line_kind (integral ∷ ls) = codes "integral"
+line_kind (other ∷ ls) = codes "other"
+line_kind (free name ∷ ls) = codes "free"
+line_kind (wide ∷ ls) = codes "wide"
+line_kind (term name x ∷ ls) = codes "term"
+line_kind [] = []
 
 module _ (names : List (List ℕ)) (are : AreNames names) where
   no_term_first : (cs : List SafeCut) → NoTermFirst (flat_map (lines_of names) cs)
@@ -183,14 +179,14 @@ module _ (names : List (List ℕ)) (are : AreNames names) where
 
   same_terms : (es ds : List Entry) (xs ys : List SafeLine) → All IsBelow es → All IsBelow ds → NoTermFirst xs → NoTermFirst ys →
       map (term_at names) es ++ xs ≡ map (term_at names) ds ++ ys → (es ≡ ds) × (xs ≡ ys)
-  same_terms [] [] xs ys g h no none e = (refl, e)
-  same_terms [] (d ∷ ds) xs ys g h no none e = absurd (subst NoTermFirst e no)
-  same_terms (d ∷ es) [] xs ys g h no none e = absurd (subst NoTermFirst (sym e) none)
-  same_terms (a ∷ es) (b ∷ ds) xs ys g h no none e =
+  same_terms [] [] xs ys g h start end e = (refl, e)
+  same_terms [] (d ∷ ds) xs ys g h start end e = absurd (subst NoTermFirst e start)
+  same_terms (d ∷ es) [] xs ys g h start end e = absurd (subst NoTermFirst (sym e) end)
+  same_terms (a ∷ es) (b ∷ ds) xs ys g h start end e =
       let both = head_and_tail (term_at names a) (term_at names b) (map (term_at names) es ++ xs) (map (term_at names) ds ++ ys) e in
       let one = one_term (name_at names a.column) (name_at names b.column) a.value b.value both.0 in
       let column = are.different a.column b.column (All-head IsBelow a es g) (All-head IsBelow b ds h) one.0 in
-      let rest = same_terms es ds xs ys (All-tail IsBelow a es g) (All-tail IsBelow b ds h) no none both.1 in
+      let rest = same_terms es ds xs ys (All-tail IsBelow a es g) (All-tail IsBelow b ds h) start end both.1 in
       (ap₂ (λ (f : Entry) fs. f ∷ fs) (ap₂ (λ j x. record { column = j; value = x }) column one.1) rest.0, rest.1)
 
   abbrev IsKnownCut : SafeCut → Type 0
@@ -198,16 +194,16 @@ module _ (names : List (List ℕ)) (are : AreNames names) where
 
   same_cuts : (cs ds : List SafeCut) → All IsKnownCut cs → All IsKnownCut ds → flat_map (lines_of names) cs ≡ flat_map (lines_of names) ds → cs ≡ ds
   same_cuts [] [] g h e = refl
-  same_cuts [] (Cut q ∷ ds) g h e = absurd (differ 6 0 refl (ap line_kind e))
-  same_cuts [] (Integral ∷ ds) g h e = absurd (differ 6 1 refl (ap line_kind e))
-  same_cuts [] (OtherFraction ∷ ds) g h e = absurd (differ 6 2 refl (ap line_kind e))
-  same_cuts [] (Free j ∷ ds) g h e = absurd (differ 6 3 refl (ap line_kind e))
-  same_cuts [] (Wide ∷ ds) g h e = absurd (differ 6 4 refl (ap line_kind e))
-  same_cuts (Cut q ∷ cs) [] g h e = absurd (differ 0 6 refl (ap line_kind e))
-  same_cuts (Integral ∷ cs) [] g h e = absurd (differ 1 6 refl (ap line_kind e))
-  same_cuts (OtherFraction ∷ cs) [] g h e = absurd (differ 2 6 refl (ap line_kind e))
-  same_cuts (Free j ∷ cs) [] g h e = absurd (differ 3 6 refl (ap line_kind e))
-  same_cuts (Wide ∷ cs) [] g h e = absurd (differ 4 6 refl (ap line_kind e))
+  same_cuts [] (Cut q ∷ ds) g h e = absurd (apart [] (codes "cut") refl (ap line_kind e))
+  same_cuts [] (Integral ∷ ds) g h e = absurd (apart [] (codes "integral") refl (ap line_kind e))
+  same_cuts [] (OtherFraction ∷ ds) g h e = absurd (apart [] (codes "other") refl (ap line_kind e))
+  same_cuts [] (Free j ∷ ds) g h e = absurd (apart [] (codes "free") refl (ap line_kind e))
+  same_cuts [] (Wide ∷ ds) g h e = absurd (apart [] (codes "wide") refl (ap line_kind e))
+  same_cuts (Cut q ∷ cs) [] g h e = absurd (apart (codes "cut") [] refl (ap line_kind e))
+  same_cuts (Integral ∷ cs) [] g h e = absurd (apart (codes "integral") [] refl (ap line_kind e))
+  same_cuts (OtherFraction ∷ cs) [] g h e = absurd (apart (codes "other") [] refl (ap line_kind e))
+  same_cuts (Free j ∷ cs) [] g h e = absurd (apart (codes "free") [] refl (ap line_kind e))
+  same_cuts (Wide ∷ cs) [] g h e = absurd (apart (codes "wide") [] refl (ap line_kind e))
   same_cuts (Cut q ∷ cs) (Cut r ∷ ds) g h e =
       let both = head_and_tail (cut q.right) (cut r.right) (map (term_at names) q.entries ++ flat_map (lines_of names) cs)
       (map (term_at names) r.entries ++ flat_map (lines_of names) ds) e in
@@ -231,32 +227,30 @@ module _ (names : List (List ℕ)) (are : AreNames names) where
       (one_name (name_at names j) (name_at names k) both.0) in
       ap₂ (λ (c : SafeCut) es. c ∷ es) (ap Free column)
       (same_cuts cs ds (All-tail IsKnownCut (Free j) cs g) (All-tail IsKnownCut (Free k) ds h) both.1)
-  same_cuts (c ∷ cs) (d ∷ ds) g h e = absurd (differ (kind c) (kind d) refl (ap line_kind e))
+  same_cuts (c ∷ cs) (d ∷ ds) g h e = absurd (apart (kind c) (kind d) refl (ap line_kind e))
 
   -- ---- all lines are good
 
   good_name : (j : ℕ) → j < length names → AreGood (word (name_at names j) ∷ [])
-  good_name j below = name_is_plain (name_at names j) (are.names j [] below)
+  good_name j below = name_is_plain (name_at names j) (are.are j [] below)
 
   good_terms : (es : List Entry) (ls : List SafeLine) → All IsBelow es → AreGoodLines ls → AreGoodLines (map (term_at names) es ++ ls)
   good_terms [] ls h good = good
   good_terms (e ∷ es) ls h good =
-      ((known (codes "term") refl, good_name e.column (All-head IsBelow e es h), tt), good_terms es ls (All-tail IsBelow e es h) good)
+      ((known (codes "term") refl, (good_name e.column (All-head IsBelow e es h), tt)), good_terms es ls (All-tail IsBelow e es h) good)
 
   good_lines : (cs : List SafeCut) → All IsKnownCut cs → AreGoodLines (flat_map (lines_of names) cs)
   good_lines [] h = tt
-  good_lines (Cut q ∷ cs) h = (
-    (known (codes "cut") refl, tt),
-    good_terms q.entries (flat_map (lines_of names) cs) (All-head IsKnownCut (Cut q) cs h) (good_lines cs (All-tail IsKnownCut (Cut q) cs h)),
-  )
+  good_lines (Cut q ∷ cs) h =
+      ((known (codes "cut") refl, tt),
+      good_terms q.entries (flat_map (lines_of names) cs) (All-head IsKnownCut (Cut q) cs h) (good_lines cs (All-tail IsKnownCut (Cut q) cs h)))
   good_lines (Integral ∷ cs) h =
       ((known (codes "skip") refl, known (codes "integral") refl), good_lines cs (All-tail IsKnownCut Integral cs h))
   good_lines (OtherFraction ∷ cs) h =
       ((known (codes "skip") refl, known (codes "other") refl), good_lines cs (All-tail IsKnownCut OtherFraction cs h))
-  good_lines (Free j ∷ cs) h = (
-    (known (codes "skip") refl, known (codes "free") refl, good_name j (All-head IsKnownCut (Free j) cs h)),
-    good_lines cs (All-tail IsKnownCut (Free j) cs h),
-  )
+  good_lines (Free j ∷ cs) h =
+      ((known (codes "skip") refl, (known (codes "free") refl, good_name j (All-head IsKnownCut (Free j) cs h))),
+      good_lines cs (All-tail IsKnownCut (Free j) cs h))
   good_lines (Wide ∷ cs) h =
       ((known (codes "skip") refl, known (codes "wide") refl), good_lines cs (All-tail IsKnownCut Wide cs h))
 

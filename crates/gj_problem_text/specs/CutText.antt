@@ -43,7 +43,7 @@ cut_lines names Wide = line (codes "skip wide")
 
 -- each is a name, and no two are the same
 pub record AreNames (names : List (List ℕ)) : Type 0 where
-  pub names : All IsName names
+  pub are : All IsName names
   pub different : (i j : ℕ) → i < length names → j < length names → name_at names i ≡ name_at names j → i ≡ j
 
 -- the columns that the cut names are below the n-th
