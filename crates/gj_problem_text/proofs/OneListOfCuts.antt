@@ -241,16 +241,18 @@ module _ (names : List (List ℕ)) (are : AreNames names) where
 
   good_lines : (cs : List SafeCut) → All IsKnownCut cs → AreGoodLines (flat_map (lines_of names) cs)
   good_lines [] h = tt
-  good_lines (Cut q ∷ cs) h =
-      ((known (codes "cut") refl, tt),
-      good_terms q.entries (flat_map (lines_of names) cs) (All-head IsKnownCut (Cut q) cs h) (good_lines cs (All-tail IsKnownCut (Cut q) cs h)))
+  good_lines (Cut q ∷ cs) h = (
+    (known (codes "cut") refl, tt),
+    good_terms q.entries (flat_map (lines_of names) cs) (All-head IsKnownCut (Cut q) cs h) (good_lines cs (All-tail IsKnownCut (Cut q) cs h)),
+  )
   good_lines (Integral ∷ cs) h =
       ((known (codes "skip") refl, known (codes "integral") refl), good_lines cs (All-tail IsKnownCut Integral cs h))
   good_lines (OtherFraction ∷ cs) h =
       ((known (codes "skip") refl, known (codes "other") refl), good_lines cs (All-tail IsKnownCut OtherFraction cs h))
-  good_lines (Free j ∷ cs) h =
-      ((known (codes "skip") refl, (known (codes "free") refl, good_name j (All-head IsKnownCut (Free j) cs h))),
-      good_lines cs (All-tail IsKnownCut (Free j) cs h))
+  good_lines (Free j ∷ cs) h = (
+    (known (codes "skip") refl, (known (codes "free") refl, good_name j (All-head IsKnownCut (Free j) cs h))),
+    good_lines cs (All-tail IsKnownCut (Free j) cs h),
+  )
   good_lines (Wide ∷ cs) h =
       ((known (codes "skip") refl, known (codes "wide") refl), good_lines cs (All-tail IsKnownCut Wide cs h))
 
