@@ -1,10 +1,10 @@
-"""The shared library: where it is found, and the two calls that it has."""
+"""The shared library: where it is found, and the call that it has."""
 import ctypes
 import functools
 import os
 import subprocess
 from pathlib import Path
-from typing import Callable, NamedTuple, Tuple, Union
+from typing import NamedTuple, Union
 
 from . import _arguments
 
@@ -64,30 +64,17 @@ def find() -> Path:
 
 
 @functools.lru_cache(maxsize=None)
-def _function(name: str, texts: int):
-    """A function of the library, of so many texts and an output."""
+def _answer():
+    """The function of the library."""
     path = find()
     try:
-        function = getattr(ctypes.CDLL(str(path)), name)
+        function = ctypes.CDLL(str(path)).gjcut_answer
     except AttributeError:
-        raise LibraryMissing(f"{path} has no {name}: it is older than this package") from None
+        raise LibraryMissing(f"{path} has no gjcut_answer: it is no library of gjcut") from None
     sized = [ctypes.c_char_p, ctypes.c_size_t]
-    function.argtypes = [*sized * (texts + 1), ctypes.POINTER(ctypes.c_size_t)]
+    function.argtypes = [*sized * 3, ctypes.POINTER(ctypes.c_size_t)]
     function.restype = ctypes.c_uint8
     return function
-
-
-def room_for(words: str, length: int) -> int:
-    """How many bytes are enough for each answer to the words over an input of this length, as
-    `gjcut_room` of the header says."""
-    command = words.split(" ")
-    if "extreme" in command:
-        return 15_000_000 if "--json" in command else 12_000_000
-    if "faces" in command:
-        return 28_100_000
-    if "cut" in command or "mixed" in command:
-        return 100_000 + 304 * min(length // 4 + 1, 10_000) + 352 * min(length // 2, 100_000)
-    return 400_000 if "fill" in command else 100_000
 
 
 # Outputs that no call uses now. A call takes one and puts it back, so that no two calls have one at
@@ -96,7 +83,8 @@ _free: list = []
 
 
 def call(words: str, text: Union[str, bytes] = "") -> Answer:
-    """The answer to the words of a command, with one blank between two, over a text.
+    """The answer to the words of a command, with one blank between two, over a text. So
+    `call("problem", text)` gives the cuts of a whole problem text.
 
     >>> call("check", "gj-proof 2")
     Answer(status=3, text='refused line 1 form\\n')
@@ -104,29 +92,7 @@ def call(words: str, text: Union[str, bytes] = "") -> Answer:
     Answer(status=2, text='words refused\\n')
     """
     command, given = _arguments.text(words, "words").encode(), _bytes(text)
-    sized = (command, len(command), given, len(given))
-    return _called("gjcut_answer", sized, lambda: room_for(words, len(given)))
-
-
-def call_safe_cut(text: Union[str, bytes], room: int) -> Answer:
-    """The answer to the text of a problem: that of its cuts, for which so many bytes are enough.
-
-    >>> call_safe_cut("gj-problem 2", 100)
-    Answer(status=3, text='refused line 1 form\\n')
-    """
-    given = _bytes(text)
-    return _called("gjcut_safe_cut", (given, len(given)), lambda: room)
-
-
-def _bytes(text: Union[str, bytes]) -> bytes:
-    if isinstance(text, bytes):
-        return text
-    return _arguments.text(text, "text", wanted="a str, or bytes").encode()
-
-
-def _called(name: str, sized: Tuple[Union[bytes, int], ...], room: Callable[[], int]) -> Answer:
-    """The answer to texts, each with its length."""
-    function = _function(name, len(sized) // 2)
+    sized, function = (command, len(command), given, len(given)), _answer()
     try:
         output, written = _free.pop()
     except IndexError:
@@ -134,9 +100,16 @@ def _called(name: str, sized: Tuple[Union[bytes, int], ...], room: Callable[[], 
     used = output
     status = function(*sized, used, KEPT_ROOM, written)
     if status == NO_ROOM:
-        enough = room()
+        # Now `written` is the length of the whole answer.
+        enough = written.value
         used = ctypes.create_string_buffer(enough)
         status = function(*sized, used, enough, written)
     said = ctypes.string_at(used, written.value).decode()
     _free.append((output, written))
     return Answer(status, said)
+
+
+def _bytes(text: Union[str, bytes]) -> bytes:
+    if isinstance(text, bytes):
+        return text
+    return _arguments.text(text, "text", wanted="a str, or bytes").encode()

@@ -9,8 +9,8 @@ from typing import Union
 
 from ._arguments import Number, fields, items, number, text as text_of, whole, word, written, wrong
 from ._functions import Rule, line, printed, text_of_rule
-from ._library import call_safe_cut
-from ._problem_sentences import GJSAFE
+from ._library import call
+from ._problem_sentences import WORDS
 from ._refusals import NAME, REFUSED, RIGHT, WIDEST, Place, Refused
 from .sentences import sentence_for
 
@@ -24,9 +24,6 @@ SIDES = ("the lower bound", "the upper bound")
 A_NAME, NAMES, NUMBERS = "a name, which is a str", "a list of names", "a list of numbers"
 A_KIND = f"True or {WHOLE!r}, or False or {CONTINUOUS!r}"
 A_SENSE, ENTRIES = "'<=', '>=' or '='", "a dict with the numbers by the names of columns"
-# The lines of an answer have so many bytes at most, a function among them, and a term beside the
-# name of its column.
-MOST_OF_LINES, MOST_OF_A_TERM = 100_500, 88
 
 
 class Column(NamedTuple):
@@ -229,10 +226,9 @@ def _value(given: Multiplier, *place) -> Fraction:
 def _answer(front: str, given: Given, multipliers: Sequence[Fraction]) -> SafeCut:
     words = [written(value, "multipliers", i) for i, value in enumerate(multipliers)]
     text = front + line("sum", *words) + "end\n"
-    room = MOST_OF_LINES + sum(MOST_OF_A_TERM + len(name) for name, *_ in given.columns)
-    status, said = call_safe_cut(text, room)
+    status, said = call(WORDS, text)
     if status:
-        place, found = _place(given, multipliers, said), sentence_for(GJSAFE, text, said.strip())
+        place, found = _place(given, multipliers, said), sentence_for(WORDS, text, said.strip())
         raise Refused(status, said, place, f"{found.means}; {found.do}" if found else None)
     return _read(said)
 

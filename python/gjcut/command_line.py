@@ -10,7 +10,8 @@ from . import _build
 from ._arguments import items, text as text_of
 from ._functions import printed
 from ._library import LibraryMissing, call, find
-from .explain import CLAIMS, explained, function_of, skipped_in_words, violation_in_words
+from .explain import CLAIMS, explained, function_of, skipped_in_words, sum_skipped_in_words
+from .explain import violation_in_words
 from .sentences import RULES, Sentence, line_at_fault, sentence_for
 
 # The status of a file that cannot be read, and where there is no library.
@@ -23,6 +24,7 @@ COMMANDS: Dict[str, Tuple[Tuple[str, ...], str]] = {
     "explain": ((), "what a proof text shows, line by line"),
     "cut": ((), "the cuts of tableau rows"),
     "mixed": ((), "the cuts of rows; columns whose names begin with c: are continuous"),
+    "problem": ((), "the cuts of a mixed-integer program, by multipliers of its constraints"),
     "show": ((), "a function by its values at all multiples of 1/q"),
     "faces": ((), "the maximal additive faces, the covered and the uncovered intervals"),
     "fill": ((), "the two-slope fill-in of a continuous function"),
@@ -33,7 +35,7 @@ COMMANDS: Dict[str, Tuple[Tuple[str, ...], str]] = {
     "demo": (("N",), "a decision on a function of the program's own"),
 }
 WITH_JSON = ("minimal", "extreme", "show")
-WITH_PROOF = ("minimal", "extreme", "cut", "mixed", "group", "check")
+WITH_PROOF = ("minimal", "extreme", "cut", "mixed", "problem", "group", "check")
 
 
 class Result(NamedTuple):
@@ -190,6 +192,8 @@ def _sentence(command: str, text: str, status: int, said: str) -> str:
         return _verdict(text, said)
     if command in ("cut", "mixed"):
         return "\n".join(_cuts(said))
+    if command == "problem":
+        return "\n".join(_cuts_of_problem(said))
     return _group(text, said) if command == "group" else said
 
 
@@ -254,6 +258,27 @@ def _end_of_cut(parts: List[str]) -> str:
     if len(parts) > 1:
         return " >= 1"
     return "" if "no cut" in parts[0] else "0 >= 1: the row has no solution"
+
+
+def _cuts_of_problem(said: str) -> List[str]:
+    """A line for each sum, in their order."""
+    found: List[Tuple[Optional[str], List[str], str]] = []
+    for kind, *words in map(str.split, said.splitlines()):
+        if kind == "skip":
+            found.append((None, [], f"no cut, since {sum_skipped_in_words(*words)}"))
+        elif kind == "cut":
+            found.append((words[0], [], ""))
+        elif kind == "term":
+            found[-1][1].append(f"{words[1]} {words[0]}")
+    shown = [why if right is None else _inequality(terms, right) for right, terms, why in found]
+    lines = [f"sum {i}: {each}" for i, each in enumerate(shown, 1)]
+    return lines or ["no cut, since the problem has no line `sum`"]
+
+
+def _inequality(terms: List[str], right: str) -> str:
+    if terms:
+        return f"{' + '.join(terms)} >= {right}"
+    return f"0 >= {right}" + (": no point is feasible" if printed(right) > 0 else "")
 
 
 def _explained(text: str, status: int, said: str) -> Result:

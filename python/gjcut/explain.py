@@ -198,6 +198,20 @@ def skipped_in_words(right: str, why: str) -> str:
     return f"the fractional part of its right side {shown} is not f"
 
 
+def sum_skipped_in_words(why: str, *name: str) -> str:
+    """Why a sum of constraints has no cut, for the words that stand after `skip`."""
+    words = text_of(why, "why"), *(text_of(each, "name", i) for i, each in enumerate(name))
+    if words == ("integral",):
+        return "the right side of the sum is whole"
+    if words == ("other",):
+        return "the fractional part of the right side of the sum is not f"
+    if words == ("wide",):
+        return "a number would have more than 127 bits"
+    if why == "free" and len(name) == 1:
+        return f"{name[0]} has no bound and cannot be left out, or its coefficient is off the grid"
+    raise ValueError(f"why: there is no {' '.join(words)!r}")
+
+
 def explained(text: str) -> Iterator[Tuple[str, str]]:
     """Each line of a proof text that `check` reads, and what it says."""
     reader = _Reader(text_of(text, "text"))

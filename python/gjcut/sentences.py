@@ -10,20 +10,21 @@ from typing import Optional
 from ._arguments import text as text_of
 from ._function_sentences import FUNCTION_SENTENCES
 from ._other_sentences import OTHER_SENTENCES
-from ._problem_sentences import GJSAFE, PROBLEM_SENTENCES
+from ._problem_sentences import PROBLEM_SENTENCES, WORDS
 from ._sentence import Sentence, line_at_fault
 
 __all__ = ["RULES", "SENTENCES", "Sentence", "line_at_fault", "sentence_for"]
 
 COMMAND_SENTENCES = [*FUNCTION_SENTENCES, *OTHER_SENTENCES]
 SENTENCES = [*COMMAND_SENTENCES, *PROBLEM_SENTENCES]
+# What is said of a problem comes first where the command is `problem`, and nowhere else.
+SENTENCES_OF_PROBLEMS = [*PROBLEM_SENTENCES, *COMMAND_SENTENCES]
 
 
 def sentence_for(words: str, text: str, answer: str) -> Optional[Sentence]:
-    """The sentence about an answer, without the line break at its end, to the words over a text.
-    For a problem the words are "gjsafe"."""
+    """The sentence about an answer, without the line break at its end, to the words over a text."""
     given = text_of(words, "words"), text_of(text, "text"), text_of(answer, "answer")
-    among = PROBLEM_SENTENCES if words == GJSAFE else COMMAND_SENTENCES
+    among = SENTENCES_OF_PROBLEMS if words == WORDS else COMMAND_SENTENCES
     return next((each for each in among if each.fits(*given)), None)
 
 

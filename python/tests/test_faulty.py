@@ -7,9 +7,6 @@ import unittest
 from pathlib import Path
 
 from gjcut import command_line
-from gjcut._library import call_safe_cut
-from gjcut._problem_sentences import GJSAFE
-from gjcut.sentences import sentence_for
 
 TWO = "gj-function 2\nf 4/5\npoint 0 0\npoint 4/5 1\nend\n"
 ONE = "gj-function 1\norder 5\nf 4/5\npoint 0\npoint 1/4\npoint 1/2\npoint 3/4\npoint 1\nend\n"
@@ -93,19 +90,19 @@ PROBLEM = (
 # A problem, an old word of it, the faulty one, and words of the sentence.
 FAULTY_PROBLEMS = [
     ("whole", "integer", "has a name, `whole` or `continuous`, and two bounds"),
-    ("0 -", "0 inf", "write `-` for a bound that is not there"),
+    ("0 -", "0 inf", "Write `-` for a bound that is not there"),
     ("column x", "column x 1", "no blank"),
     ("<=", "=<", "`<=`, `>=` or `=`, and its right side"),
-    ("c <=", "<=", "a constraint has a name"),
+    ("c <=", "<=", "A constraint has a name"),
     ("7/2", "3,5", "a decimal comma"),
     ("entry x 1", "entry 1 x", "or is a name"),
     ("constraint c <= 7/2\n", "", "stands after its constraint"),
-    ("entry x", "entry X", "correct the name"),
+    ("entry x", "entry X", "Correct the name"),
     ("sum 1", "sum", "not as many multipliers as constraints"),
-    ("sum 1", "sum 1e-3", "write `0.001` or `1/1000`"),
+    ("sum 1", "sum 1e-3", "Write `0.001` or `1/1000`"),
     ("rule gmic\n", "", "does not begin with the lines `gj-problem 1` and `rule gmic`"),
-    ("end\n", "", "the line `end` is missing"),
-    ("end\n", "end\nsum 1\n", "something follows the line `end`"),
+    ("end\n", "", "The line `end` is missing"),
+    ("end\n", "end\nsum 1\n", "Something follows the line `end`"),
 ]
 
 
@@ -127,13 +124,12 @@ class Faulty(unittest.TestCase):
             self.assertEqual(self.answer(command, mended)[0], 0, mended)
 
     def test_problems(self):
-        self.assertEqual(call_safe_cut(PROBLEM, 200).status, 0)
+        self.assertEqual(self.answer("problem", PROBLEM), (0, "sum 1: -2 x >= -6"))
         for old, new, words in FAULTY_PROBLEMS:
             faulty = PROBLEM.replace(old, new, 1)
-            status, said = call_safe_cut(faulty, 200)
+            status, said = self.answer("problem", faulty)
             self.assertEqual(status, 3, faulty)
-            found = sentence_for(GJSAFE, faulty, said.strip())
-            self.assertIn(words, f"{found.means}; {found.do}", faulty)
+            self.assertIn(words, said, faulty)
 
 
 if __name__ == "__main__":

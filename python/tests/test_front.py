@@ -9,8 +9,6 @@ from pathlib import Path
 
 import gjcut
 from gjcut import command_line
-from gjcut._library import call_safe_cut
-from gjcut._problem_sentences import GJSAFE
 from gjcut.sentences import RULES, SENTENCES, sentence_for
 
 TOP = Path(__file__).resolve().parents[2]
@@ -36,8 +34,7 @@ class Sentences(unittest.TestCase):
     def test_each_has_an_input_that_causes_it(self):
         for each in SENTENCES:
             given = each.input * each.times
-            is_problem = each.words == GJSAFE
-            _, said = call_safe_cut(given, 200) if is_problem else gjcut.call(each.words, given)
+            _, said = gjcut.call(each.words, given)
             line = each.answer if each.answer in said.splitlines() else said.strip()
             self.assertEqual(line, each.answer, each.see)
             self.assertIs(sentence_for(each.words, given, line), each, each.see)
@@ -59,7 +56,7 @@ class Sentences(unittest.TestCase):
         for example in sorted(EXAMPLES.glob("problems/*/output")):
             text, said = (example.parent / "input").read_text(), example.read_text().strip()
             if said.startswith("refused line"):
-                found = sentence_for(GJSAFE, text, said)
+                found = sentence_for("problem", text, said)
                 self.assertIsNotNone(found, f"{example.parent.name}: {said}")
 
     def test_each_rule_of_the_checker_has_one(self):
@@ -94,6 +91,27 @@ class Commands(unittest.TestCase):
             status, said, errors = front(command, f"{example}/input")
             self.assertEqual((said[: len(begin)], errors), (begin, ""), example)
             self.assertEqual(status, int(said.startswith("rejected")), example)
+
+    def test_problems(self):
+        for example, lines in (
+            ("worked", ["sum 1: -5/3 x + -5/3 y + 5/6 z >= -20/3"]),
+            ("infeasible", ["sum 1: 0 >= 1: no point is feasible"]),
+            ("integral", ["sum 1: no cut, since the right side of the sum is whole"]),
+            ("wide", ["sum 1: no cut, since a number would have more than 127 bits"]),
+            ("free_columns", ["sum 1: no cut, since y has no bound and cannot be left out, or its"]),
+        ):
+            status, said, errors = front("problem", f"problems/{example}/input")
+            self.assertEqual((status, errors), (0, ""), example)
+            for line, begin in zip(said.splitlines(), lines):
+                self.assertEqual(line[: len(begin)], begin)
+            output = (EXAMPLES / "problems" / example / "output").read_text()
+            self.assertEqual(
+                front("problem", "--proof", f"problems/{example}/input")[:2], (0, output)
+            )
+        status, said, _ = front("problem", "problems/refused_place/input")
+        self.assertEqual(status, 3)
+        self.assertIn("line 5: refused, place", said)
+        self.assertIn("No column before it has this name.", said)
 
     def test_the_text_of_the_program(self):
         for example, words in (

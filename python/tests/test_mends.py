@@ -208,17 +208,19 @@ except gjcut.LibraryMissing as missing:
 
 
 class Room(unittest.TestCase):
-    def assert_room(self, words, text):
+    def assert_room(self, words, text, room):
+        """The answer is whole, and not longer than the header says."""
         status, said = gjcut.call(words, text)
-        self.assertNotEqual(status, 5)
-        self.assertLessEqual(len(said), _library.room_for(words, len(text)))
+        self.assertEqual((status, said[-1]), (0, "\n"))
+        self.assertLessEqual(len(said), room)
         return len(said)
 
     def test_the_longest_answers_have_room(self):
         zero = "gj-function 2\nf 1/1000\npoint 0 0\nend\n"
-        self.assertGreater(self.assert_room("faces", zero), 27_000_000)
+        self.assertGreater(self.assert_room("faces", zero, 28_100_000), 27_000_000)
         values = "".join(f"point {-2**20 + 1}/2147483647\n" for _ in range(1000))
-        self.assert_room("show --json", f"gj-function 1\norder 1000\nf 1/2\n{values}end\n")
+        function = f"gj-function 1\norder 1000\nf 1/2\n{values}end\n"
+        self.assert_room("show --json", function, 100_000)
         name = "x" * 250
         columns = ",".join(f"c:{name}{i}" for i in range(10))
         row = ",".join(
@@ -227,7 +229,19 @@ class Room(unittest.TestCase):
         rows = "".join(f"y{i},-{2**30}/2147483647,{row}\n" for i in range(1000))
         for command in ("cut", "mixed"):
             for rule in ("gj-rule 1\ngmic\nend\n", "gj-function 1\nfamily gmic 1/2\nend\n"):
-                self.assert_room(command, f"{rule}basic,rhs,{columns}\n{rows}")
+                text = f"{rule}basic,rhs,{columns}\n{rows}"
+                room = 304 * min(len(text) // 4 + 1, 10_000) + 352 * min(len(text) // 2, 100_000)
+                self.assert_room(command, text, 100_000 + room)
+
+    def test_an_answer_that_is_longer_than_the_room_that_is_kept(self):
+        # -1/3 x + .. + s = 1/2: each column has the coefficient 2/3, and 2 s is 1 + 2/3 x + ..
+        columns = [gjcut.Column(f"x{i:07}", i % 2 == 0, 0, None) for i in range(10_000)]
+        entries = {column.name: "-1/3" for column in columns}
+        constraint = gjcut.Constraint("c", entries, "<=", "1/2")
+        cut = gjcut.safe_cut(columns, [constraint], [1])
+        self.assertEqual(cut.entries, dict.fromkeys(entries, Fraction(4, 3)))
+        self.assertGreater(len(cut.text), _library.KEPT_ROOM)
+        self.assertTrue(cut.text.endswith("end\n"))
 
 
 @unittest.skipUnless(shutil.which("cc"), "there is no C compiler")
