@@ -98,7 +98,7 @@ class Commands(unittest.TestCase):
             ("infeasible", ["sum 1: 0 >= 1: no point is feasible"]),
             ("integral", ["sum 1: no cut, since the right side of the sum is whole"]),
             ("wide", ["sum 1: no cut, since a number would have more than 127 bits"]),
-            ("free_columns", ["sum 1: no cut, since y has no bound and cannot be left out, or its"]),
+            ("free_columns", ["sum 1: no cut, since y has no bound and cannot be left out"]),
         ):
             status, said, errors = front("problem", f"problems/{example}/input")
             self.assertEqual((status, errors), (0, ""), example)
