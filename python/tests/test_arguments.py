@@ -325,6 +325,11 @@ class Wrong(unittest.TestCase):
         )
         self.refuse(TypeError, "right: ", lambda x: explain.skipped_in_words(x, "other"), 1)
         self.refuse(ValueError, "why: ", lambda x: explain.skipped_in_words("1/2", x), "wide", "")
+        self.refuse(TypeError, "why: ", explain.sum_skipped_in_words, 1, None)
+        self.refuse(
+            ValueError, "why: there is no", lambda x: explain.sum_skipped_in_words(*x),
+            ("free",), ("wide", "x"), ("skip",), ("",),
+        )
         for i, argument in enumerate(("words", "text", "answer")):
             given = ["minimal", GMIC, "refused line 1 form"]
             for wrong in (None, b"minimal", 1):
