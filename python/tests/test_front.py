@@ -93,15 +93,15 @@ class Commands(unittest.TestCase):
             ("wide", ["sum 1: no cut, since a number would have more than 127 bits"]),
             ("free_columns", ["sum 1: no cut, since y has no bound and cannot be left out, or its"]),
         ):
-            status, said, errors = front("problem", f"problems/{example}/input")
+            status, said, errors = front("problem", f"problem/{example}/input")
             self.assertEqual((status, errors), (0, ""), example)
             for line, begin in zip(said.splitlines(), lines):
                 self.assertEqual(line[: len(begin)], begin)
-            output = (EXAMPLES / "problems" / example / "output").read_text()
+            output = (EXAMPLES / "problem" / example / "output").read_text()
             self.assertEqual(
-                front("problem", "--proof", f"problems/{example}/input")[:2], (0, output)
+                front("problem", "--proof", f"problem/{example}/input")[:2], (0, output)
             )
-        status, said, _ = front("problem", "problems/refused_place/input")
+        status, said, _ = front("problem", "problem/refused_place/input")
         self.assertEqual(status, 3)
         self.assertIn("line 5: refused, place", said)
         self.assertIn("No column before it has this name.", said)
