@@ -1,6 +1,6 @@
 //! Why a rule makes no cuts.
 ghost use Rattle.std.specs.Prelude.{◌≡◌, ◌++◌, codes, IfOk, IfSome, IfNone};
-ghost use Rattle.gj_proof.specs.ProofText.{violation_line};
+ghost use Rattle.gj_proof.specs.ProofText.{IsBoundedRule, violation_line};
 ghost use Rattle.gj_cut_text.specs.CutRules.{PassesTests};
 ghost use Rattle.gj_cut_text.specs.MixedLines.{MakesMixedCuts};
 ghost use Rattle.gj_top.specs.Objection.{IsObjection, NamesJump};
@@ -18,6 +18,7 @@ pub(crate) fn objection_to(alloc: Global, rule: &CutRule) -> Result<Option<Reply
     ensures some { IfOk result (λ found. IfSome found
         (λ reply. IsObjection rule.now reply.end reply.text.items)) }
     ensures none { IfOk result (λ found. IfNone found (MakesMixedCuts rule.now)) }
+    ensures bounded { IfOk result (λ found. IfNone found (IsBoundedRule rule.now)) }
 {
     if let Some(violation) = violation_of_rule(rule) {
         return Ok(Some(Reply {
@@ -34,6 +35,7 @@ fn jump_of(alloc: Global, rule: &CutRule) -> Result<Option<Reply>, AllocError>
     ensures some { IfOk result (λ found. IfSome found
         (λ reply. (reply.end ≡ End.NotContinuous) × NamesJump rule.now reply.text.items)) }
     ensures none { IfOk result (λ found. IfNone found (MakesMixedCuts rule.now)) }
+    ensures bounded { IfOk result (λ found. IfNone found (IsBoundedRule rule.now)) }
 {
     match rule {
         CutRule::Gmic => Ok(None),

@@ -1,4 +1,4 @@
-use Rattle.std.proofs.Common.{ℕ, ◌<◌, ◌≤◌, refl, sym, subst, arith}
+use Rattle.std.proofs.Common.{◌≡◌, inl, inr, ℕ, ◌<◌, ◌≤◌, true, false, refl, sym, subst, arith}
 use Rattle.std.proofs.lemmas.Bool.{cases_lt}
 use Rattle.gj_port.specs.Runs.{Gains}
 use Rattle.gj_top.specs.declared.status.Status.{Status}
@@ -56,10 +56,11 @@ returns-in_default-clause-is_run g c =
     is_run _ (silent (record { status_is = refl; unanswered = c.in_default.ensures.memory; unwritten = refl })) (λ e. absurd (cc))
     c.in_default.ensures.count (omega arith)
 
-less : (n m : ℕ) → (n ≤ m → ⊥) → m < n
-less n m not = elim (cases_lt m n) [
+-- a call that would not have failed if the sink was sure
+unsure : (length sure : ℕ) → (length ≤ sure → false ≡ true) → sure < length
+unsure length sure takes = elim (cases_lt sure length) [
   | inl is ↦ is
-  | inr more ↦ absurd (not (omega arith))
+  | inr more ↦ absurd (let wrong = takes (omega arith) in cc)
 ]
 
 pub returns-clause-is_run : goal.returns-clause-is_run
@@ -68,6 +69,6 @@ returns-clause-is_run g c = is_run _ (cut_off (record {
   status = answer_status c.in-Ok.answer;
   text = answer_text c.in-Ok.answer;
   answer = c.in-Ok.ensures.answer;
-  unsure = less _ _ (rw c.text.ensures at c.in-Err.ensures.sure_takes);
+  unsure = unsure _ _ (rw c.text.ensures at c.in-Err.ensures.sure_takes);
   gain = (rw c.text.ensures at c.in-Err.ensures.told);
 })) (λ e. c.in-Err.ensures.cause) c.in-Ok.ensures.count c.in-Err.ensures.count
