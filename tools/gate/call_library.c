@@ -296,7 +296,7 @@ static struct text problem(int constraints, int columns, int width, int sums, in
 /* Many cuts of columns whose names begin as the line sum: the room that the header says is no multiple of them, and a
  * second call has as much as the first asked for. */
 static int many_cuts(void) {
-    struct text words = text_of("problem"), input = problem_of("sum", 20, 300, 1, 100, 7);
+    struct text words = text_of("problem"), input = problem_of("sum", 2, 300, 1, 100, 7);
     size_t room = gjcut_room(words.bytes, words.length, input.length), asked, written;
     struct text front = {memory(room), room};
     int good = room < 10 * input.length + 100000 && call(words, input, front, &asked) == GJCUT_NO_ROOM && asked > room;

@@ -10,7 +10,6 @@ use Rattle.gj_port.specs.Runs.{IsSourceFault}
 use Rattle.gj_words.specs.Grammar.{HasFlag, command_words, json_word}
 use Rattle.gj_words.specs.declared.requests.Command.{Command}
 use Rattle.gj_words.specs.declared.requests.Command.TheVariants.{Minimal, Extreme, Cut, Check, Show, Faces, Demo, Mixed, Problem, Fill, Group, Times, Mirror, Restrict}
-use Rattle.gj_words.specs.declared.requests.Request.{Request}
 use Rattle.gj_top.specs.declared.status.Status.{Status}
 use Rattle.gj_top.specs.declared.status.Status.TheVariants.{WriteFault, Memory}
 use Rattle.gj_top.specs.Answer.{IsAnswer}
@@ -19,12 +18,11 @@ use Rattle.gj_top.specs.Causes.{IsTrueRun}
 use Rattle.gj_top.specs.Code.{code_of}
 use Rattle.gj_top.specs.Command.{IsNamed, NameNone}
 use Rattle.gj_top.specs.IsRun.{IsRun}
-use Rattle.gj_top.specs.Outcome.{IsOutcome}
 use Rattle.gj_top.specs.Outcome.IsOutcome.{silent, told, cut_off}
 use Rattle.gj_top.specs.Run.{Run}
 use Rattle.gj_top.proofs.Clauses.{no_write_fault, no_memory, headline_clause}
 use Rattle.gj_top.proofs.EveryRun as every
-use Rattle.gj_library.specs.Call.{AreWordsOf, OfWords, IsAnswered, IsCall, IsTooSmall, room_faults, run_over}
+use Rattle.gj_library.specs.Call.{AreWordsOf, OfWords, IsAnswered, IsCall, IsTooSmall, run_over}
 use Rattle.gj_library.specs.Handing.{IsHandedOver}
 use Rattle.gj_library.specs.Handing.IsHandedOver.{whole, part}
 use Rattle.gj_library.specs.declared.answer.Answer.{Answer}

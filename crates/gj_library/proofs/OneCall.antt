@@ -1,5 +1,5 @@
 -- To the words of a call over an input there is one answer.
-use Rattle.std.proofs.Common.{◌≡◌, ◌≢◌, ◌⊎◌, inl, inr, ℕ, ◌<◌, ◌≤◌, List, length, map, Option, Some, String, string_bytes, refl, sym, ap, subst, ◌∙◌, arith}
+use Rattle.std.proofs.Common.{◌≡◌, ◌≢◌, ◌⊎◌, inl, inr, ℕ, ◌≤◌, List, length, map, Option, Some, String, string_bytes, refl, sym, ap, subst, ◌∙◌, arith}
 use Rattle.std.specs.declared.alloc.Global.{Global}
 use Rattle.gj_words.specs.Grammar.{SpellRequest}
 use Rattle.gj_words.specs.declared.requests.Command.TheVariants.{Problem}

@@ -30,7 +30,7 @@ use Rattle.gj_top.proofs.Commands.{one_named}
 use Rattle.gj_top.proofs.Sound.{sound}
 use Rattle.gj_library.specs.Call.{AreWordsOf, IsCall}
 use Rattle.gj_library.specs.ProblemCall.{problem_word, IsProblemCall, IsProblemCode, IsProblemRefusal}
-use Rattle.gj_library.proofs.Codes.{status_at, back, status_is}
+use Rattle.gj_library.proofs.Codes.{back, status_is}
 
 abbrev request : Request
 request = record { command = Problem; json = false }

@@ -4,12 +4,10 @@ use Rattle.gj_problem_text.specs.SafeInputs.{IsSafeInput}
 use Rattle.gj_problem_text.specs.declared.input.SafeInput.{SafeInput}
 use Rattle.gj_top.specs.declared.reply.End.{End}
 use Rattle.gj_top.specs.declared.reply.End.TheVariants as end
-use Rattle.gj_top.specs.declared.status.Status.{Status}
 use Rattle.gj_top.specs.Code.{code_of}
 use Rattle.gj_top.specs.InputRead.{input_limit}
 use Rattle.gj_top.specs.Lines.{long_line}
 use Rattle.gj_top.specs.Problem.{problem, AreProblemCuts, IsProblemReply, RefusesProblem}
-use Rattle.gj_top.specs.Promise.{IsTrueReply}
 use Rattle.gj_top.specs.Reply.{status_of}
 use Rattle.gj_top.specs.Task.{IsReply}
 

@@ -1,5 +1,5 @@
 //! An answer, put into the output of a call.
-ghost use Rattle.std.specs.Prelude.{◌≡◌, ◌<◌, ◌≤◌, length, take, drop, IfOk, IfErr};
+ghost use Rattle.std.specs.Prelude.{◌≡◌, ◌<◌, length, take, drop, IfOk, IfErr};
 ghost use Rattle.gj_library.specs.Handing.{IsHandedOver};
 
 use crate::answer::Answer;
