@@ -2,8 +2,8 @@
 //! top call.
 #![tactic(auto)]
 
+use gj_commands::run_command;
 use gj_port::{StdSink, StdSource};
-use gj_top::run;
 use std::io::ErrorKind;
 use std::process::ExitCode;
 use std::rt::Env;
@@ -21,7 +21,7 @@ fn main(rt: HostRuntime) -> ExitCode {
         Ok(words) => {
             let mut source = StdSource::new(rt.stdin());
             let mut sink = StdSink::new(rt.stdout());
-            run(rt.alloc(), words.as_slice(), &mut source, &mut sink).code()
+            run_command(rt.alloc(), words.as_slice(), &mut source, &mut sink).code()
         }
         Err(error) if error.kind() == ErrorKind::OutOfMemory => NO_MEMORY_FOR_WORDS,
         Err(_) => NO_WORDS,
