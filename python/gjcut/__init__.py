@@ -2,9 +2,11 @@
 
 A function is made from its breakpoints, its values or a family, and everything comes back as
 `Fraction`s, with what the program writes as `text`. A number is an int, a `Fraction`, a `Decimal`,
-or a text such as "3/5" or "0.25"; a float is refused, since it is seldom the number that was meant.
-An input that is refused, and a function with which a command does nothing, raise `Refused`. Only
-the multipliers of `safe_cut` may be floats: it makes cuts of a mixed-integer program.
+or a text such as "3/5" or "0.25"; a float is refused, since it is seldom the number that was meant,
+and so is a bool. Only the multipliers of `safe_cut` may be floats: it makes cuts of a mixed-integer
+program. Where a list is wanted, each iterable serves but a text, a mapping and a set. What has
+another type than it should raises `TypeError`, which says where it stands. An input that is
+refused, and a function with which a command does nothing, raise `Refused`.
 
 Several threads may call at once, and so may several processes. But the child of a fork in a process
 with several threads must not call: where a process has threads, give `multiprocessing` the way
@@ -13,16 +15,19 @@ with several threads must not call: where a process has threads, give `multiproc
 Nothing of this package is proved: it hands texts to the library, whose answers are. For a paper
 write the `text` of a verdict to a file, let the proved `gjcut check` accept it, and cite that.
 """
-import operator
+import itertools
 from fractions import Fraction
-from typing import Iterable, List, NamedTuple, Optional, Sequence, Tuple, Union
+from typing import Iterable, Iterator, List, NamedTuple, Optional, Sequence, Tuple, Union
 
-from ._functions import Function, Number, Point
-from ._functions import line as _line, number as _number, printed as _printed
+from ._arguments import Number, fields as _fields, items as _items, number as _number
+from ._arguments import text as _text, whole as _whole, word as _word, written as _written
+from ._functions import Function, Point, Rule
+from ._functions import function as _function, line as _line, printed as _printed
+from ._functions import text_of_rule as _text_of_rule
 from ._library import Answer, LibraryMissing, call
 from ._problems import Column, Constraint, SafeCut, safe_cut
-from ._refusals import Place, Places, Refused
-from ._refusals import always as _always, no_place as _no_place, refusal as _refusal
+from ._refusals import RIGHT, Place, Places, Refused
+from ._refusals import Row as _Row, always as _always, no_place as _no_place, refusal as _refusal
 from ._refusals import places_of_breakpoints as _places_of_breakpoints
 from ._refusals import places_of_tableau as _places_of_tableau
 from ._refusals import places_of_values as _places_of_values
@@ -96,29 +101,31 @@ class Judgement(NamedTuple):
 
 
 Row = Tuple[str, Number, Iterable[Number]]
-Rule = Union[Function, str]
+# What belongs in the place of a value of another type.
+_A_NAME = "the name, which is a str"
+_NAMES, _ROWS = "a list of names", "a list of rows"
+_A_ROW = "a name, a right side and a list of entries"
+_ENTRIES, _POINTS, _VALUES = "a list of entries", "a list of points", "a list of values"
+_A_POINT = "a place and a value, or a place, a limit, the value and a limit"
 
 
-def _done(words: str, text: str, places: Places = _no_place) -> str:
+def _done(
+    words: str,
+    text: Union[str, bytes],
+    places: Places = _no_place,
+    asked: Optional[str] = None,
+) -> str:
     status, said = call(words, text)
     if status:
-        raise _refusal(status, said, places)
+        raise _refusal(status, said, places, asked)
     return said
 
 
-def _text_of(function: Function, argument: str = "function") -> str:
-    if not isinstance(function, Function):
-        kind = type(function).__name__
-        how = "as by_breakpoints or by_text gives it"
-        raise TypeError(f"{argument} is a {kind}, and no Function, {how}")
-    return function.text
+def _of_function(words: str, function: Function, asked: Optional[str] = None) -> str:
+    return _done(words, _function(function).text, _always("function"), asked)
 
 
-def _of_function(words: str, function: Function) -> str:
-    return _done(words, _text_of(function), _always("function"))
-
-
-def by_text(text: str) -> Function:
+def by_text(text: Union[str, bytes]) -> Function:
     """The function of a function text, in each form that the program reads.
 
     >>> by_text("gj-function 2\\nf 3/5\\npoint 0 0\\npoint 3/5 1\\nend\\n").order
@@ -135,8 +142,11 @@ def by_breakpoints(f: Number, points: Iterable[Sequence[Number]]) -> Function:
     >>> gmic.at("1/5"), gmic.order
     (Fraction(1, 3), 5)
     """
-    lines = [_line("point", *map(_number, point)) for point in points]
-    text = "gj-function 2\n" + _line("f", _number(f)) + "".join(lines) + "end\n"
+    lines = []
+    for i, point in enumerate(_items(points, _POINTS, "points")):
+        numbers = _items(point, _A_POINT, "points", i)
+        lines.append(_line("point", *(_word(each, "points", i) for each in numbers)))
+    text = "gj-function 2\n" + _line("f", _word(f, "f")) + "".join(lines) + "end\n"
     return Function(_done("show", text, _places_of_breakpoints(len(lines))))
 
 
@@ -147,9 +157,11 @@ def by_values(f: Number, values: Iterable[Union[Number, Sequence[Number]]]) -> F
     >>> by_values("1/2", [0, "1/4", 1, "3/4"]).at("3/8")
     Fraction(5, 8)
     """
-    triples = [value if isinstance(value, (tuple, list)) else (value,) for value in values]
-    lines = [_line("point", *map(_number, triple)) for triple in triples]
-    front = "gj-function 1\n" + _line("order", len(lines)) + _line("f", _number(f))
+    lines = []
+    for i, value in enumerate(_items(values, _VALUES, "values")):
+        numbers = value if isinstance(value, (tuple, list)) else (value,)
+        lines.append(_line("point", *(_word(each, "values", i) for each in numbers)))
+    front = "gj-function 1\n" + _line("order", len(lines)) + _line("f", _word(f, "f"))
     return Function(_done("show", front + "".join(lines) + "end\n", _places_of_values(len(lines))))
 
 
@@ -160,12 +172,19 @@ def family(name: str, *words: Union[Number, str]) -> Function:
     >>> family("two-slope", 5, "++-++---").order
     8
     """
-    parts = [str(name), *(word if isinstance(word, str) else str(_number(word)) for word in words)]
-    for part in parts:
-        if part.split() != [part]:
-            raise ValueError(f"{part!r} is no single word")
+    parts = [_single(_text(name, "name", wanted=_A_NAME), "name")]
+    for i, word in enumerate(words):
+        is_text = isinstance(word, str)
+        part = _text(word, "words", i) if is_text else _word(word, "words", i)
+        parts.append(_single(part, "words", i))
     text = "gj-function 1\n" + _line("family", *parts) + "end\n"
     return Function(_done("show", text, _always("family")))
+
+
+def _single(word: str, *place) -> str:
+    if word.split() != [word]:
+        raise ValueError(f"{Place(*place)}: {word!r} is no single word")
+    return word
 
 
 def _verdict(command: str, function: Function) -> Verdict:
@@ -217,7 +236,7 @@ def extreme(function: Function) -> Verdict:
     return _verdict("extreme", function)
 
 
-def check(text: str) -> Judgement:
+def check(text: Union[str, bytes]) -> Judgement:
     """What the checker says of a proof text, as that of a verdict or of cuts.
 
     >>> check(extreme(family("gmic", "3/5")).text).accepted
@@ -258,30 +277,43 @@ def mixed(rule: Rule, columns: Iterable[str], rows: Iterable[Row]) -> Cuts:
     return _cuts("mixed", rule, columns, rows)
 
 
-def _rule_text(rule: Rule) -> str:
-    if isinstance(rule, str):
-        if rule == "gmic":
-            return "gj-rule 1\ngmic\nend\n"
-        raise ValueError(f"there is no rule {rule!r}: a rule is \"gmic\" or a Function")
-    return _text_of(rule, "rule")
-
-
-def _field(name: str, place: Place) -> str:
-    if name.strip(" \t") != name:
-        raise ValueError(f"{place}: the name {name!r} has a blank at an end")
+def _field(name: str) -> str:
     return '"' + name.replace('"', '""') + '"'
 
 
+def _name(given: str, *place) -> str:
+    name = _text(given, *place, wanted=_A_NAME)
+    if name.strip(" \t") != name:
+        raise ValueError(f"{Place(*place)}: the name {name!r} has a blank at an end")
+    return name
+
+
 def _cuts(command: str, rule: Rule, columns: Iterable[str], rows: Iterable[Row]) -> Cuts:
-    front, names = _rule_text(rule), [str(name) for name in columns]
-    table = [(str(name), _number(right), list(map(_number, row))) for name, right, row in rows]
-    header = [_field(name, Place("columns", i)) for i, name in enumerate(names)]
-    records = [["basic", "rhs", *header]]
+    front = _text_of_rule(rule) or "gj-rule 1\ngmic\nend\n"
+    names = [_name(each, "columns", i) for i, each in enumerate(_items(columns, _NAMES, "columns"))]
+    table = list(_rows(names, rows))
+    records = [["basic", "rhs", *map(_field, names)]]
     for i, (basic, right, entries) in enumerate(table):
-        records.append([_field(basic, Place("rows", i)), str(right), *map(str, entries)])
+        try:
+            records.append([_field(basic), str(right), *map(str, entries)])
+        except ValueError as error:
+            raise ValueError(f"{Place('rows', i)}: {error}") from None
     text = front + "".join(",".join(record) + "\n" for record in records)
     said = _done(command, text, _places_of_tableau(names, table))
     return Cuts(tuple(_read_cuts(said)), said)
+
+
+def _rows(names: Sequence[str], rows: Iterable[Row]) -> Iterator[_Row]:
+    shown = [repr(name) for name in names]
+    for i, row in enumerate(_items(rows, _ROWS, "rows")):
+        basic, right, entries = _fields(row, 3, _A_ROW, "rows", i)
+        numbers = _items(entries, _ENTRIES, "rows", i, "the entries")
+        wheres = itertools.chain(shown, itertools.repeat("an entry behind the last column"))
+        yield (
+            _name(basic, "rows", i),
+            _number(right, "rows", i, RIGHT),
+            [_number(each, "rows", i, where) for each, where in zip(numbers, wheres)],
+        )
 
 
 def _read_cuts(said: str) -> List[Cut]:
@@ -315,7 +347,9 @@ def times(function: Function, n: int, j: int = 0) -> Function:
     >>> times(family("gmic", "3/5"), 2, 1).f
     Fraction(4, 5)
     """
-    return Function(_of_function(f"times {operator.index(n)} {operator.index(j)}", function))
+    n, j = _whole(n, "n"), _whole(j, "j")
+    words = f"times {_written(n, 'n')} {_written(j, 'j')}"
+    return Function(_of_function(words, function, "j" if n > 0 and not 0 <= j < n else "n"))
 
 
 def mirror(function: Function) -> Function:
@@ -334,4 +368,5 @@ def restrict(function: Function, order: int) -> Function:
     >>> restrict(by_values("1/2", [0, "1/4", 1, "3/4"]), 2) == family("gmic", "1/2")
     True
     """
-    return Function(_of_function(f"restrict {operator.index(order)}", function))
+    words = f"restrict {_written(_whole(order, 'order'), 'order')}"
+    return Function(_of_function(words, function, "order"))

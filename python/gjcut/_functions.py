@@ -1,24 +1,11 @@
 """Numbers and functions."""
 import bisect
 import math
-import numbers
-from decimal import Decimal
 from fractions import Fraction
 from typing import Iterable, Iterator, List, NamedTuple, Optional, Tuple, Union
 
-Number = Union[int, Fraction, Decimal, str]
-
-
-def number(given: Number) -> Fraction:
-    """The fraction that a caller means. A float is refused: it is seldom the number meant."""
-    if isinstance(given, (str, Decimal, numbers.Rational)):
-        try:
-            return Fraction(given)
-        except (ValueError, OverflowError, ZeroDivisionError):
-            raise ValueError(f"{given!r} is no fraction") from None
-    kind = type(given).__name__
-    wanted = "an int, a Fraction, a Decimal, or a text such as '3/5' or '0.25'"
-    raise TypeError(f"{given!r} is a {kind}: write {wanted}")
+from . import _arguments
+from ._arguments import Number, items, kind_of, number, wrong
 
 
 def printed(word: str) -> Fraction:
@@ -69,8 +56,13 @@ class Function:
     ):
         # Either a text that the program has printed, or f and the points; the other is made when it
         # is asked for.
-        self._text, self._f = text, f
-        self._points = None if points is None else tuple(points)
+        is_printed = text is not None
+        if is_printed != (f is None) or is_printed != (points is None):
+            how = "take by_text or by_breakpoints"
+            raise TypeError(f"a Function has a text, or f and points: {how}")
+        self._text = text if text is None else _arguments.text(text, "text")
+        self._f = f if f is None else number(f, "f")
+        self._points = None if points is None else tuple(_points(points))
         self._places: Optional[List[Fraction]] = None
         self._breakpoints: Optional[Tuple[Point, ...]] = None
 
@@ -149,7 +141,7 @@ class Function:
         >>> gjcut.family("gmic", "3/5").at("-1/5")
         Fraction(1, 2)
         """
-        points, x = self.points, number(x) % 1
+        points, x = self.points, number(x, "x") % 1
         if self._places is None:
             self._places = [point.place for point in points]
         i = bisect.bisect_right(self._places, x)
@@ -161,7 +153,7 @@ class Function:
 
     def limits(self, x: Number) -> Point:
         """The point at x: its place from 0 to below 1, the limits and the value."""
-        x = number(x) % 1
+        x = number(x, "x") % 1
         value = self.at(x)
         i = bisect.bisect_right(self._places, x)
         return self.points[i - 1] if self._places[i - 1] == x else Point(x, value, value, value)
@@ -202,7 +194,7 @@ class Function:
     def __mul__(self, factor: Number) -> "Function":
         if isinstance(factor, Function):
             return NotImplemented
-        n = number(factor)
+        n = number(factor, "factor")
         points = (Point(place, *(value * n for value in rest)) for place, *rest in self.points)
         return Function(f=self.f, points=points)
 
@@ -215,7 +207,36 @@ class Function:
         return self + -other if isinstance(other, Function) else NotImplemented
 
     def __truediv__(self, divisor: Number) -> "Function":
-        return NotImplemented if isinstance(divisor, Function) else self * (1 / number(divisor))
+        if isinstance(divisor, Function):
+            return NotImplemented
+        return self * (1 / number(divisor, "divisor"))
+
+
+Rule = Union[Function, str]
+
+
+def function(given: Function, argument: str = "function") -> Function:
+    """The function that a caller hands over."""
+    if isinstance(given, Function):
+        return given
+    how = "as by_breakpoints or by_text gives it"
+    raise TypeError(f"{argument} is {kind_of(given)}, and no Function, {how}")
+
+
+def text_of_rule(rule: Rule) -> Optional[str]:
+    """The text of the function that a rule is; the rule "gmic" has none."""
+    if not isinstance(rule, str):
+        return function(rule, "rule").text
+    if rule == "gmic":
+        return None
+    raise ValueError(f"rule: there is no rule {rule!r}: a rule is \"gmic\" or a Function")
+
+
+def _points(given: Iterable[Point]) -> Iterator[Point]:
+    for i, point in enumerate(items(given, "Points", "points")):
+        if not isinstance(point, Point):
+            raise wrong(point, "a Point", "points", i)
+        yield point
 
 
 def _short(point: Point) -> Tuple[Fraction, ...]:

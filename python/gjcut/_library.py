@@ -6,6 +6,8 @@ import subprocess
 from pathlib import Path
 from typing import Callable, NamedTuple, Tuple, Union
 
+from . import _arguments
+
 NO_ROOM = 5
 HERE = Path(__file__).resolve().parent
 NAME = "libgjcut.so"
@@ -101,7 +103,7 @@ def call(words: str, text: Union[str, bytes] = "") -> Answer:
     >>> call("times 3", "")
     Answer(status=2, text='words refused\\n')
     """
-    command, given = words.encode(), text if isinstance(text, bytes) else text.encode()
+    command, given = _arguments.text(words, "words").encode(), _bytes(text)
     sized = (command, len(command), given, len(given))
     return _called("gjcut_answer", sized, lambda: room_for(words, len(given)))
 
@@ -112,8 +114,14 @@ def call_safe_cut(text: Union[str, bytes], room: int) -> Answer:
     >>> call_safe_cut("gj-problem 2", 100)
     Answer(status=3, text='refused line 1 form\\n')
     """
-    given = text if isinstance(text, bytes) else text.encode()
+    given = _bytes(text)
     return _called("gjcut_safe_cut", (given, len(given)), lambda: room)
+
+
+def _bytes(text: Union[str, bytes]) -> bytes:
+    if isinstance(text, bytes):
+        return text
+    return _arguments.text(text, "text", wanted="a str, or bytes").encode()
 
 
 def _called(name: str, sized: Tuple[Union[bytes, int], ...], room: Callable[[], int]) -> Answer:

@@ -2,23 +2,28 @@
 import itertools
 import math
 import numbers
-import operator
+from collections import abc
 from fractions import Fraction
 from typing import Dict, Iterable, Iterator, List, Mapping, NamedTuple, Optional, Sequence
-from typing import Tuple, Union
+from typing import Union
 
-from ._functions import Function, Number, line, number, printed
+from ._arguments import Number, fields, items, number, text as text_of, whole, word, written, wrong
+from ._functions import Rule, line, printed, text_of_rule
 from ._library import call_safe_cut
 from ._problem_sentences import GJSAFE
-from ._refusals import NAME, REFUSED, WIDEST, Place, Refused
+from ._refusals import NAME, REFUSED, RIGHT, WIDEST, Place, Refused
 from .sentences import sentence_for
 
 # A float is taken as a multiple of one over the first of these with which a number is not too wide.
 DENOMINATORS = (2**40, 2**30, 2**20)
 GMIC = ("gj-problem 1\n", "rule gmic\n")
-SENSES = ("<=", ">=", "=")
-# Values of a column and of a constraint, as a refusal names them.
-SIDES, RIGHT = ("the lower bound", "the upper bound"), "the right side"
+WHOLE, CONTINUOUS, SENSES = "whole", "continuous", ("<=", ">=", "=")
+# The bounds of a column, as a refusal names them.
+SIDES = ("the lower bound", "the upper bound")
+# What belongs in the place of a value of another type.
+A_NAME, NAMES, NUMBERS = "a name, which is a str", "a list of names", "a list of numbers"
+A_KIND = f"True or {WHOLE!r}, or False or {CONTINUOUS!r}"
+A_SENSE, ENTRIES = "'<=', '>=' or '='", "a dict with the numbers by the names of columns"
 # The lines of an answer have so many bytes at most, a function among them, and a term beside the
 # name of its column.
 MOST_OF_LINES, MOST_OF_A_TERM = 100_500, 88
@@ -26,10 +31,10 @@ MOST_OF_LINES, MOST_OF_A_TERM = 100_500, 88
 
 class Column(NamedTuple):
     """A variable: its name, whether it is a whole number at each point, and its bounds; None is no
-    bound."""
+    bound. `is_whole` is a bool, or one of the words "whole" and "continuous"."""
 
     name: str
-    whole: bool
+    is_whole: Union[bool, str]
     lower: Optional[Number]
     upper: Optional[Number]
 
@@ -71,7 +76,7 @@ def safe_cut(
     columns: Iterable[Column],
     constraints: Iterable[Constraint],
     multipliers: Iterable[Multiplier],
-    rule: Union[Function, str] = "gmic",
+    rule: Rule = "gmic",
     at_upper: Iterable[str] = (),
     grid: Optional[int] = None,
 ) -> SafeCut:
@@ -82,7 +87,9 @@ def safe_cut(
     whole columns, any in the others. Multipliers alone may be floats. These are rounded to
     multiples of 1/2**40; and if a number of the computation is then too wide, to those of 1/2**30
     and of 1/2**20. `at_upper` names the columns that are turned by their upper bounds. With `grid`
-    the numbers of the cut are rounded to multiples of 1/grid, so that it holds still.
+    the numbers of the cut are rounded to multiples of 1/grid, so that it holds still. A tuple of
+    the same fields serves as a `Column` or a `Constraint`. A value of another type raises
+    `TypeError`, which says where it stands.
 
     `skipped` is "integral" (the right side of the sum is whole, and there is no cut), "other" (its
     fractional part is not the f of the function), "free NAME" (this column has no bound, and cannot
@@ -97,50 +104,61 @@ def safe_cut(
     >>> [f"{value} {name}" for name, value in cut.entries.items()], str(cut.right)
     (['-5/3 x', '-5/3 y', '5/6 z'], '-20/3')
     """
-    given = Given(_front(rule), list(columns), list(constraints), list(at_upper), grid)
+    given = Given(
+        _front(rule),
+        [Column(*each) for each in _records(columns, Column, "columns")],
+        [Constraint(*each) for each in _records(constraints, Constraint, "constraints")],
+        # The order of these names says nothing, so that a set serves too.
+        list(at_upper) if isinstance(at_upper, abc.Set) else items(at_upper, NAMES, "at_upper"),
+        None if grid is None else whole(grid, "grid"),
+    )
     text, found = "".join(_lines(given)), SafeCut({}, None, "wide", "")
-    for tried in _rounded(list(multipliers)):
+    for tried in _rounded(items(multipliers, NUMBERS, "multipliers")):
         found = _answer(text, given, tried)
         if found.skipped != "wide":
             break
     return found
 
 
-def _front(rule: Union[Function, str]) -> Sequence[str]:
+def _front(rule: Rule) -> Sequence[str]:
     """The first lines: those of a function, or the line of the rule."""
-    if isinstance(rule, Function):
-        return [*rule.text.splitlines(keepends=True), GMIC[0]]
-    if rule == "gmic":
-        return GMIC
-    raise ValueError(f"there is no rule {rule!r}: a rule is \"gmic\" or a Function")
+    text = text_of_rule(rule)
+    return GMIC if text is None else [*text.splitlines(keepends=True), GMIC[0]]
+
+
+def _records(given: Iterable, kind: type, argument: str) -> Iterator[List]:
+    """The fields of each column, or of each constraint."""
+    wanted = f"{kind.__name__}({', '.join(kind._fields)})"
+    for i, each in enumerate(items(given, f"a list of {wanted}", argument)):
+        yield fields(each, len(kind._fields), wanted, argument, i)
 
 
 def _lines(given: Given) -> Iterator[str]:
     """The lines of the problem, up to the sum."""
     yield from given.front
     known = set()
-    for i, (name, whole, *bounds) in enumerate(given.columns):
-        kind, words = "whole" if whole else "continuous", []
+    for i, (given_name, is_whole, *bounds) in enumerate(given.columns):
+        name = _name(given_name, "columns", i)
+        words = [name, _kind(is_whole, "columns", i, f"is_whole of {name!r}")]
         for side, bound in zip(SIDES, bounds):
-            words.append("-" if bound is None else _exact(bound, "columns", i, side))
-        known.add(_name(name, "columns", i))
-        yield line("column", name, kind, *words)
+            words.append("-" if bound is None else word(bound, "columns", i, side))
+        known.add(name)
+        yield line("column", *words)
     for i, (name, entries, sense, right) in enumerate(given.constraints):
-        if sense not in SENSES:
-            which = f"constraints[{i}]: the sense {sense!r}"
-            raise ValueError(f"{which} is none of \"<=\", \">=\" and \"=\"")
-        side = _exact(right, "constraints", i, RIGHT)
-        yield line("constraint", _name(name, "constraints", i), sense, side)
+        words = [_name(name, "constraints", i), _sense(sense, "constraints", i)]
+        yield line("constraint", *words, word(right, "constraints", i, RIGHT))
+        if not isinstance(entries, abc.Mapping):
+            raise wrong(entries, ENTRIES, "constraints", i, "the entries")
         for column, value in entries.items():
-            if column not in known:
-                _name(column, "constraints", i, repr(column))
-            if type(value) is not int:
-                value = _exact(value, "constraints", i, repr(column))
+            if type(column) is not str or column not in known:
+                column = _name(column, "constraints", i, repr(column))
+            if type(value) is not int or abs(value) > WIDEST:
+                value = word(value, "constraints", i, repr(column))
             yield f"entry {column} {value}\n"
     for i, name in enumerate(given.at_upper):
         yield line("upper", _name(name, "at_upper", i))
     if given.grid is not None:
-        yield line("grid", operator.index(given.grid))
+        yield line("grid", written(given.grid, "grid"))
 
 
 def _places(given: Given) -> Iterator[Place]:
@@ -157,18 +175,31 @@ def _places(given: Given) -> Iterator[Place]:
         yield Place("grid")
 
 
-def _name(name: str, *place) -> str:
-    if not (isinstance(name, str) and NAME.fullmatch(name)):
+def _name(given: str, *place) -> str:
+    name = text_of(given, *place, wanted=A_NAME)
+    if not NAME.fullmatch(name):
         how = "write 1 to 255 visible ASCII characters, without a blank or a double quote"
         raise ValueError(f"{Place(*place)}: the name {name!r} cannot stand in a problem: {how}")
     return name
 
 
-def _exact(given: Number, *place) -> Fraction:
-    try:
-        return number(given)
-    except (TypeError, ValueError) as error:
-        raise type(error)(f"{Place(*place)}: {error}") from None
+def _kind(given: Union[bool, str], *place) -> str:
+    """The word for a column. Nothing else is taken for true or false: a continuous column that is
+    taken for a whole one gives a cut that removes feasible points."""
+    if isinstance(given, bool):
+        return WHOLE if given else CONTINUOUS
+    if isinstance(given, str) and given in (WHOLE, CONTINUOUS):
+        return text_of(given, *place)
+    raise wrong(given, A_KIND, *place)
+
+
+def _sense(given: str, *place) -> str:
+    if not isinstance(given, str):
+        raise wrong(given, A_SENSE, *place, "the sense")
+    if given not in SENSES:
+        which = f"{Place(*place)}: the sense {given!r}"
+        raise ValueError(f"{which} is none of \"<=\", \">=\" and \"=\"")
+    return text_of(given, *place)
 
 
 def _rounded(multipliers: Sequence[Multiplier]) -> Iterator[List[Fraction]]:
@@ -189,14 +220,15 @@ def _is_float(given: Multiplier) -> bool:
 
 def _value(given: Multiplier, *place) -> Fraction:
     if not _is_float(given):
-        return _exact(given, *place)
+        return number(given, *place)
     if math.isfinite(given):
         return Fraction(float(given))
     raise ValueError(f"{Place(*place)}: {given!r} is no number: leave this sum out")
 
 
 def _answer(front: str, given: Given, multipliers: Sequence[Fraction]) -> SafeCut:
-    text = front + line("sum", *multipliers) + "end\n"
+    words = [written(value, "multipliers", i) for i, value in enumerate(multipliers)]
+    text = front + line("sum", *words) + "end\n"
     room = MOST_OF_LINES + sum(MOST_OF_A_TERM + len(name) for name, *_ in given.columns)
     status, said = call_safe_cut(text, room)
     if status:

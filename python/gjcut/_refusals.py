@@ -8,6 +8,8 @@ REFUSED = re.compile(r"refused (line|record) (\d+) (\S+)\n")
 NAME = re.compile(r"[\x21\x23-\x7e]{1,255}")
 # Limits of a tableau, and of what a number is written with.
 LARGEST_ENTRY, FINEST_ROW, WIDEST, MOST_ENTRIES = 2**31, 2**31 - 1, 2**127 - 1, 100_000
+# The status of words that name no request, and a value of a row or a constraint.
+WORDS, RIGHT = 2, "the right side"
 
 
 class Place(NamedTuple):
@@ -51,7 +53,7 @@ class Refused(ValueError):
         self.line = int(found[2]) if found else None
         self.reason = found[3] if found else text.strip()
         said = text.strip() or f"status {status}"
-        where = f"{place}: refused, {self.reason}" if place else said
+        where = f"{place}: {'refused, ' if found else ''}{self.reason}" if place else said
         super().__init__(f"{where}: {advice}" if advice else where)
 
     def __reduce__(self):
@@ -73,9 +75,12 @@ def always(argument: str) -> Places:
     return lambda _kind, _at, _reason: Place(argument)
 
 
-def refusal(status: int, text: str, places: Places) -> Refused:
+def refusal(status: int, text: str, places: Places, asked: Optional[str] = None) -> Refused:
+    """The refusal of a text, or of words in which the argument `asked` is at fault."""
     found = REFUSED.fullmatch(text)
-    return Refused(status, text, places(found[1], int(found[2]), found[3]) if found else None)
+    if found:
+        return Refused(status, text, places(found[1], int(found[2]), found[3]))
+    return Refused(status, text, Place(asked) if asked and status == WORDS else None)
 
 
 def places_of_breakpoints(count: int) -> Places:
@@ -128,7 +133,7 @@ def _field_at_fault(columns: Sequence[str], row: Row, reason: str) -> Optional[s
     if reason in ("name", "twice"):
         return f"the name {basic!r}"
     common = 1
-    for name, value in zip(["the right side", *map(repr, columns)], [right, *entries]):
+    for name, value in zip([RIGHT, *map(repr, columns)], [right, *entries]):
         common = math.lcm(common, value.denominator)
         faults = {
             "number": max(abs(value.numerator), value.denominator) > WIDEST,

@@ -4,6 +4,8 @@ import io
 import re
 from typing import List, NamedTuple, Optional, Tuple
 
+from ._arguments import text as text_of
+
 
 class Sentence(NamedTuple):
     """What is seen, what it means and what to do, in the words of the page; when it fits; and an
@@ -40,6 +42,7 @@ class Sentence(NamedTuple):
 def line_at_fault(text: str, answer: str) -> Tuple[str, str, bool]:
     """The significant line before the one at fault, that line, and whether it comes after the last
     one; for a record likewise."""
+    text, answer = text_of(text, "text"), text_of(answer, "answer")
     found = re.match(r"(refused line|rejected line|refused record) (\d+)", answer)
     if not found:
         return "", "", False

@@ -7,6 +7,7 @@ import textwrap
 from typing import Dict, List, NamedTuple, Optional, Tuple
 
 from . import _build
+from ._arguments import items, text as text_of
 from ._functions import printed
 from ._library import LibraryMissing, call, find
 from .explain import CLAIMS, explained, function_of, skipped_in_words, violation_in_words
@@ -78,6 +79,9 @@ def parser() -> argparse.ArgumentParser:
 
 
 def main(words: Optional[List[str]] = None) -> int:
+    if words is not None:
+        given = items(words, "a list of words", "words")
+        words = [text_of(word, "words", i) for i, word in enumerate(given)]
     chosen = parser().parse_args(words)
     try:
         if chosen.version:

@@ -2,7 +2,8 @@
 from fractions import Fraction
 from typing import Iterator, List, Tuple
 
-from ._functions import Function, printed
+from ._arguments import number, text as text_of
+from ._functions import Function, function as a_function, printed
 
 CLAIMS = {
     "minimal": "the function is minimal",
@@ -11,6 +12,9 @@ CLAIMS = {
     "not-extreme": "the function is minimal and not extreme",
     "cut": "each cut holds at all solutions of its row",
 }
+# How many points each violation has, and why a row has no cut.
+VIOLATIONS = {"zero": 0, "negative": 1, "asymmetric": 1, "superadditive": 2}
+WHYS = ("integral", "other")
 # The corners of a face in the square with the lower left corner (a, b), in steps of 1/q.
 CORNERS = {
     "vertex": [(0, 0)],
@@ -24,12 +28,17 @@ CORNERS = {
 
 def function_of(text: str) -> Function:
     """The function in a proof text."""
-    kept = [line for line in text.splitlines() if line.split(" ")[0] in ("order", "f", "point")]
+    lines = text_of(text, "text").splitlines()
+    kept = [line for line in lines if line.split(" ")[0] in ("order", "f", "point")]
     return Function("\n".join(["gj-function 1", *kept, "end", ""]))
 
 
 def violation_in_words(function: Function, kind: str, *at: Fraction) -> str:
     """What is wrong with a function at the points of a violation."""
+    a_function(function)
+    if len(at) != VIOLATIONS.get(text_of(kind, "kind")):
+        raise ValueError(f"kind: there is no violation {kind!r} at {len(at)} points")
+    at = tuple(number(x, "at", i) for i, x in enumerate(at))
     values = [function.at(x) for x in at]
     if kind == "zero":
         return f"its value at 0 is {function.at(0)}, not 0"
@@ -180,14 +189,17 @@ class _Reader:
 
 
 def skipped_in_words(right: str, why: str) -> str:
+    """Why the row with this right side has no cut, for the word "integral" or "other"."""
+    shown = text_of(right, "right")
+    if text_of(why, "why") not in WHYS:
+        raise ValueError(f"why: {why!r} is none of {' and '.join(map(repr, WHYS))}")
     if why == "integral":
-        return f"its right side {right} is whole"
-    return f"the fractional part of its right side {right} is not f"
+        return f"its right side {shown} is whole"
+    return f"the fractional part of its right side {shown} is not f"
 
 
 def explained(text: str) -> Iterator[Tuple[str, str]]:
     """Each line of a proof text that `check` reads, and what it says."""
-    reader = _Reader(text)
+    reader = _Reader(text_of(text, "text"))
     lines: List[str] = text.splitlines()
-    for line in lines:
-        yield line, reader.words(line)
+    return ((line, reader.words(line)) for line in lines)

@@ -7,6 +7,7 @@ Each has an input that causes it, which the tests try.
 """
 from typing import Optional
 
+from ._arguments import text as text_of
 from ._function_sentences import FUNCTION_SENTENCES
 from ._other_sentences import OTHER_SENTENCES
 from ._problem_sentences import GJSAFE, PROBLEM_SENTENCES
@@ -21,8 +22,9 @@ SENTENCES = [*COMMAND_SENTENCES, *PROBLEM_SENTENCES]
 def sentence_for(words: str, text: str, answer: str) -> Optional[Sentence]:
     """The sentence about an answer, without the line break at its end, to the words over a text.
     For a problem the words are "gjsafe"."""
+    given = text_of(words, "words"), text_of(text, "text"), text_of(answer, "answer")
     among = PROBLEM_SENTENCES if words == GJSAFE else COMMAND_SENTENCES
-    return next((each for each in among if each.fits(words, text, answer)), None)
+    return next((each for each in among if each.fits(*given)), None)
 
 
 # What a rule of the checker asks, for a proof that is rejected.

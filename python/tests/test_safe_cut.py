@@ -173,7 +173,7 @@ class Refusals(unittest.TestCase):
 
     def test_names_that_cannot_stand_in_a_text(self):
         c = ONE[1][0]
-        for name in ("", "a b", 'a"', "a\n", "a\nend", "\xe4", "a" * 256, "\0", 1):
+        for name in ("", "a b", 'a"', "a\n", "a\nend", "\xe4", "a" * 256, "\0"):
             for columns, constraints, upper, place in (
                 ([X._replace(name=name)], [], [], r"columns\[0\]"),
                 ([X], [c._replace(name=name)], [], r"constraints\[0\]"),
@@ -233,7 +233,7 @@ class Program:
     def ends(self, point):
         """The least and the greatest z with which the point of the whole columns is feasible, and
         None where there is none; nothing if there is no such z."""
-        least, greatest = next((c[2:] for c in self.columns if not c.whole), (0, 0))
+        least, greatest = next((c[2:] for c in self.columns if not c.is_whole), (0, 0))
         for constraint in self.constraints:
             slope = constraint.entries.get("z", 0)
             rest = sum(constraint.entries.get(name, 0) * value for name, value in point.items())
@@ -249,7 +249,7 @@ class Program:
         return None if None not in (least, greatest) and least > greatest else (least, greatest)
 
     def points(self):
-        whole = [column for column in self.columns if column.whole]
+        whole = [column for column in self.columns if column.is_whole]
         ranges = [range(-(-c.lower // 1), c.upper // 1 + 1) for c in whole]
         for values in itertools.product(*ranges):
             point = dict(zip([column.name for column in whole], values))

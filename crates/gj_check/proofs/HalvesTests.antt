@@ -14,7 +14,7 @@ use Rattle.gj_shape.proofs.AtLemmas.{at_below}
 use Rattle.gj_shape.proofs.TableLemmas.{left_is_value, right_is_value}
 use Rattle.gj_theory.proofs.Everywhere.{everywhere, at_same}
 use Rattle.gj_proof.specs.Rules.{MeetsScale, MeetsRange, MeetsAverage, IsMinimalHalf}
-use Rattle.gj_check.specs.Tables.{IsTableInRange}
+use Rattle.gj_check_minimal.specs.Tables.{IsTableInRange}
 use Rattle.gj_check.specs.HalvesRules.{IsHalvesRefinement, IsBetween}
 use Rattle.gj_check.specs.declared.halves.Refinement.{Refinement}
 

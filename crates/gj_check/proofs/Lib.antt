@@ -1,13 +1,7 @@
-pub mod TestsInTurn
 pub mod Multiples
 pub mod Ratios
-pub mod ReadNumbers
-pub mod PassedTests
 pub mod SamePlaces
 pub mod ShownPoints
-pub mod NumeratorTests
-pub mod RowTests
-pub mod LanePieces
 pub mod DemandsOfClaims
 pub mod ExtremeMeaning
 pub mod HalvesMeaning
@@ -22,11 +16,6 @@ pub mod CutDemands
 pub mod CutMeaning
 pub mod RowOutcomes
 pub mod ValuesOfCuts
-pub mod TableTests
-pub mod MiddleEntries
-pub mod BendRows
-pub mod BendTests
-pub mod GridTests
 pub mod NumberedLines
 pub mod HalvesTests
 pub mod OwnLineNumbers

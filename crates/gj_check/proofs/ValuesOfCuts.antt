@@ -16,10 +16,10 @@ use Rattle.gj_shape.specs.Values.{IsCongruent, IsValueAt}
 use Rattle.gj_shape.proofs.LeastDenominator.{denominator_some}
 use Rattle.gj_shape.proofs.ValueLemmas.{natural_index, congruent_back, value_from_place}
 use Rattle.gj_theory.proofs.Lanes.{are_bounded}
-use Rattle.gj_check.specs.declared.pieces.Piece.{Piece}
-use Rattle.gj_check.specs.Pieces.{IsPieceAt, HasNumbersBelow}
+use Rattle.gj_check_minimal.specs.declared.pieces.Piece.{Piece}
+use Rattle.gj_check_minimal.specs.Pieces.{IsPieceAt, HasNumbersBelow}
 use Rattle.gj_check.proofs.FractionalParts.{IsRestOf}
-use Rattle.gj_check.proofs.PassedTests.{all_to_symmetry}
+use Rattle.gj_check_minimal.proofs.PassedTests.{all_to_symmetry}
 use Rattle.gj_check.proofs.Ratios.{denominator_is}
 
 -- ---- there is one

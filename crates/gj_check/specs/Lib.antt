@@ -1,14 +1,8 @@
 pub mod RuleWords
 pub mod FirstFailure
-pub mod Pieces
-pub mod Tests
-pub mod Lanes
 pub mod Coordinates
 pub mod RowLimits
 pub mod CutRows
-pub mod Tables
-pub mod Bends
 pub mod CoverLines
 pub mod HalvesRules
 pub mod GroupRules
-pub mod Numerators

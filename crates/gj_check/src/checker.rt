@@ -9,9 +9,9 @@ use crate::cuts::check_cuts;
 use crate::extremality::check_extreme;
 use crate::faults::CheckFault;
 use crate::halves::check_halves;
-use crate::minimality::is_minimal;
 use crate::points::is_shown;
 use crate::rules::CheckRule;
+use gj_check_minimal::is_minimal;
 use gj_proof::{CLAIM_LINE, Claim, Numbers, Proof, line_behind_function};
 use std::alloc::Global;
 

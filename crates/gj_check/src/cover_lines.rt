@@ -10,7 +10,7 @@ ghost use Rattle.gj_theory.specs.CoverRules.{MeetsCoverRule};
 ghost use Rattle.gj_proof.specs.ProofText.{IsCoverLineBelow};
 ghost use Rattle.gj_check.specs.CoverLines.{HaveLines, IsCoverOutcome};
 
-use crate::pieces::adds_up;
+use gj_check_minimal::adds_up;
 use gj_shape::{CoverLine, Face, FaceKind, Shape};
 use std::alloc::{AllocError, Global};
 

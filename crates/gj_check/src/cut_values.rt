@@ -9,10 +9,10 @@ ghost use Rattle.gj_shape.specs.Values.{IsValueAt};
 ghost use Rattle.gj_proof.specs.ProofText.{IfFunction, subject_of_rule};
 ghost use Rattle.gj_proof.specs.Rules.{IsGmicCoefficient, MeetsFraction, MeetsValue};
 ghost use Rattle.gj_check.specs.CutRows.{GivesCut, GivesNoCut};
-ghost use Rattle.gj_check.specs.Pieces.{HasNumbersBelow};
+ghost use Rattle.gj_check_minimal.specs.Pieces.{HasNumbersBelow};
 
-use crate::pieces::Piece;
 use crate::row_denominators::denominator_of;
+use gj_check_minimal::Piece;
 use gj_frac::Frac;
 use gj_proof::{CutLine, CutRule, CutTerm, SkipReason};
 use gj_shape::Shape;

@@ -8,8 +8,8 @@ ghost use Rattle.gj_check.specs.FirstFailure.{IsCheckFaultOf};
 
 use crate::cut_rows::{failure_in_row, known_behind};
 use crate::faults::CheckFault;
-use crate::minimality::is_minimal;
 use crate::rules::CheckRule;
+use gj_check_minimal::is_minimal;
 use gj_proof::{
     CLAIM_LINE, CutLine, CutRule, CutTerm, line_behind_row, line_behind_rule, line_below,
 };

@@ -8,9 +8,9 @@ ghost use Rattle.gj_check.specs.GroupRules.{rule_on_groups as checked_rule};
 
 use crate::cover_lines::{Covered, components_by};
 use crate::faults::CheckFault;
-use crate::minimality::is_minimal;
 use crate::rules::CheckRule;
 use gj_check_groups::{GroupRule, failure_in_groups};
+use gj_check_minimal::is_minimal;
 use gj_proof::{
     CLAIM_LINE, Numbers, PivotRow, first_group_line, line_behind_covers, line_behind_group,
     line_below,

@@ -13,10 +13,9 @@ ghost use Rattle.gj_check.specs.HalvesRules.{IsHalvesRefinement, IsPairsOutcome,
 ghost use Rattle.gj_check.specs.HalvesRules.{IsBetween};
 
 use crate::faults::CheckFault;
-use crate::minimality::is_minimal;
 use crate::points::times;
 use crate::rules::CheckRule;
-use crate::tables::is_minimal_table;
+use gj_check_minimal::{is_minimal, is_minimal_table};
 use gj_proof::{CLAIM_LINE, line_behind_function, line_of_pair};
 use gj_shape::{Halves, Shape};
 use std::alloc::{AllocError, Global};

@@ -4,30 +4,24 @@
 //! `check` takes the demands of a claim in their order, and answers the first that fails by its
 //! rule and the number of its line. `rules_give_meaning`: if every rule holds, what the claim says
 //! is true. With them it shares functions and fractions as data, numbers in lanes, the reading of
-//! texts, definitions and theorems. The rules on the rows of a proof that a function is extreme are
-//! those of `gj_check_groups`.
+//! texts, definitions and theorems. The tests of minimality are those of `gj_check_minimal`, and the
+//! rules on the rows of a proof that a function is extreme those of `gj_check_groups`.
 #![tactic(auto)]
 
-mod bends;
 mod checker;
 mod cover_lines;
 mod cut_rows;
 mod cut_values;
 mod cuts;
 mod denominators;
-mod entries;
 mod extremality;
 mod faults;
 mod halves;
 mod laws;
-mod minimality;
 mod names;
-mod pieces;
 mod points;
 mod row_denominators;
 mod rules;
-mod squares;
-mod tables;
 
 pub use checker::check;
 pub use faults::CheckFault;

@@ -7,7 +7,7 @@ use Rattle.gj_frac.specs.Fraction.{Fits}
 use Rattle.gj_lex.proofs.Decimals.{same_from_decimal}
 use Rattle.gj_lex.proofs.CanonicalTexts.{same_from_fraction_text}
 use Rattle.gj_lex.proofs.SpelledWords.{fraction_is_plain, count_is_plain}
-use Rattle.gj_lex.proofs.StrictLines.{IsPlain}
+use Rattle.gj_lex.proofs.WordBytes.{IsPlain}
 use Rattle.gj_forms.specs.LineForms.{Field, word_of, words_of, with_numbers, bytes_of}
 use Rattle.gj_forms.specs.LineForms.Field.{word, fraction, count, whole}
 use Rattle.gj_forms.proofs.WholeNumbers.{same_from_whole, whole_is_plain}

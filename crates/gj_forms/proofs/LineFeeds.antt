@@ -3,9 +3,9 @@ use Rattle.std.proofs.Common.{◌≡◌, ◌≢◌, ℕ, ◌+◌, ◌==◌, fals
 use Rattle.std.specs.List.{join_with_byte}
 use Rattle.std.proofs.lemmas.Bool.{ne_eqb}
 use Rattle.std.proofs.lemmas.List.Elements.{All-head, All-tail}
-use Rattle.gj_lex.specs.TextLines.{line_feeds}
-use Rattle.gj_lex.proofs.LineNumbers.{line_feeds_append}
-use Rattle.gj_lex.proofs.StrictLines.{strict_no_feed}
+use Rattle.gj_forms.specs.TextLines.{line_feeds}
+use Rattle.gj_forms.proofs.LineNumbers.{line_feeds_append}
+use Rattle.gj_forms.proofs.StrictLines.{strict_no_feed}
 use Rattle.gj_forms.specs.LineForms.{LineForm, words_of, line_of}
 use Rattle.gj_forms.proofs.FieldWords.{joined_words}
 use Rattle.gj_forms.proofs.LineLaws.{IsClear, strict_line}

@@ -6,12 +6,12 @@ use Rattle.std.proofs.lemmas.List.{append_assoc}
 use Rattle.gj_lex.specs.declared.spelling.Spelling.TheVariants.{Strict}
 use Rattle.gj_lex.specs.declared.reason.Reason.{Reason}
 use Rattle.gj_lex.specs.declared.reason.Reason.TheVariants as reason
-use Rattle.gj_lex.specs.TextLines.{HasStrictLine}
-use Rattle.gj_lex.specs.Parts.{BeginsWithWord, line_part, IsExactRule, IsExactPart}
-use Rattle.gj_lex.proofs.PartLaws.{line_part_is_exact}
-use Rattle.gj_lex.proofs.StrictLines.{plain_line}
+use Rattle.gj_forms.specs.TextLines.{HasStrictLine}
+use Rattle.gj_forms.specs.Parts.{BeginsWithWord, line_part, IsExactRule, IsExactPart}
+use Rattle.gj_forms.proofs.PartLaws.{line_part_is_exact}
+use Rattle.gj_forms.proofs.StrictLines.{plain_line}
 use Rattle.gj_forms.specs.LineForms.{Field, words_of, with_numbers, bytes_of, LineForm, line_of, AreOfForm, BreaksForm, rule_of}
-use Rattle.gj_lex.proofs.WhereLaws.{other_word}
+use Rattle.gj_forms.proofs.WhereLaws.{other_word}
 use Rattle.gj_forms.specs.ListParts.{IsPrinted}
 use Rattle.gj_forms.proofs.FieldWords.{AreGood, words_are_plain, own_numbers, joined_words}
 

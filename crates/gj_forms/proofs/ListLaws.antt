@@ -2,11 +2,11 @@
 use Rattle.std.proofs.Common.{◌≡◌, ◌⊎◌, inl, inr, ℕ, zero, suc, List, [], ◌∷◌, ◌++◌, All, flat_map, length, refl, sym, ap, subst, ◌∙◌, arith}
 use Rattle.std.proofs.lemmas.List.{append_assoc, append-nil}
 use Rattle.std.proofs.lemmas.List.Elements.{All-nil, All-cons, All-head, All-tail}
-use Rattle.gj_lex.specs.Parts.{Part, empty_part, then_part, loop_part, IsExactPart}
-use Rattle.gj_lex.specs.Parts.ReadsInTurn.{last, onward}
-use Rattle.gj_lex.proofs.PartLaws.{empty_part_is_exact, then_part_is_exact, made_part_is_exact}
-use Rattle.gj_lex.proofs.LoopLaws.{loop_part_is_exact}
-use Rattle.gj_lex.proofs.WhereLaws.{where_part_is_exact}
+use Rattle.gj_forms.specs.Parts.{Part, empty_part, then_part, loop_part, IsExactPart}
+use Rattle.gj_forms.specs.Parts.ReadsInTurn.{last, onward}
+use Rattle.gj_forms.proofs.PartLaws.{empty_part_is_exact, then_part_is_exact, made_part_is_exact}
+use Rattle.gj_forms.proofs.LoopLaws.{loop_part_is_exact}
+use Rattle.gj_forms.proofs.WhereLaws.{where_part_is_exact}
 use Rattle.gj_forms.specs.ListParts.{one_more, next_while, while_part, next_until, until_part, times_part, IsPrinted}
 
 -- ---- they are exact

@@ -1,10 +1,10 @@
 -- Lists of things, read one after another.
 use Rattle.std.proofs.Common.{◌≡◌, ◌⊎◌, inl, inr, ℕ, zero, suc, ◌+◌, ◌-◌, ◌<◌, ◌≤◌, List, [], ◌∷◌, ◌++◌, refl, sym, ap, subst, ◌∙◌, arith}
-use Rattle.gj_lex.specs.declared.fault.PartFault.{PartFault}
-use Rattle.gj_lex.specs.Parts.{Part, empty_part, IsFaultOf}
-use Rattle.gj_lex.proofs.PartLaws.{fault_in_first, fault_in_next, fault_in_made}
-use Rattle.gj_lex.proofs.LoopRead.{LeadsOn, leads_on, leads_to_end, leads_to_fault}
-use Rattle.gj_lex.proofs.WhereLaws.{fault_where, fault_else}
+use Rattle.gj_forms.specs.declared.fault.PartFault.{PartFault}
+use Rattle.gj_forms.specs.Parts.{Part, empty_part, IsFaultOf}
+use Rattle.gj_forms.proofs.PartLaws.{fault_in_first, fault_in_next, fault_in_made}
+use Rattle.gj_forms.proofs.LoopRead.{LeadsOn, leads_on, leads_to_end, leads_to_fault}
+use Rattle.gj_forms.proofs.WhereLaws.{fault_where, fault_else}
 use Rattle.gj_forms.specs.ListParts.{IsPrinted, one_more, next_while, while_part, next_until, until_part, times_part}
 
 module _ {A : Type 0} (p : Part A) where

@@ -1,6 +1,6 @@
 -- Lines of a form in either spelling are exact, and so are things made of them.
 use Rattle.std.proofs.Common.{◌≡◌, inl, inr, ℕ, List, [], ◌∷◌, refl, sym, ap, subst, ◌∙◌}
-use Rattle.gj_lex.specs.Parts.{LineRule, IsExactRule}
+use Rattle.gj_forms.specs.Parts.{LineRule, IsExactRule}
 use Rattle.gj_lex.specs.declared.spelling.Spelling.{Spelling}
 use Rattle.gj_lex.specs.declared.reason.Reason.{Reason}
 use Rattle.gj_lex.proofs.SpelledWords.{one_fraction, one_count}

@@ -3,12 +3,12 @@
 use Rattle.std.proofs.Common.{◌≡◌, ◌≢◌, inl, inr, ℕ, List, [], ◌∷◌, ◌++◌, get_or, refl, sym, ap, ◌∙◌}
 use Rattle.std.specs.List.{join_with_byte}
 use Rattle.std.proofs.lemmas.List.{append_assoc}
-use Rattle.gj_lex.specs.Parts.{LineRule, line_part, IsExactRule}
-use Rattle.gj_lex.specs.TextLines.{HasLine}
+use Rattle.gj_forms.specs.Parts.{LineRule, line_part, IsExactRule}
+use Rattle.gj_forms.specs.TextLines.{HasLine}
 use Rattle.gj_lex.specs.declared.spelling.Spelling.{Spelling}
 use Rattle.gj_lex.specs.declared.spelling.Spelling.TheVariants.{Strict}
 use Rattle.gj_lex.specs.declared.reason.Reason.{Reason}
-use Rattle.gj_lex.proofs.CanonicalLines.{line_in}
+use Rattle.gj_forms.proofs.CanonicalLines.{line_in}
 use Rattle.gj_lex.proofs.SpelledWords.{canonical_fraction, canonical_count}
 use Rattle.gj_forms.specs.LineForms.{Field, word_of, words_of, first_of, with_numbers, bytes_of, LineForm, line_of, form_of}
 use Rattle.gj_forms.specs.LineForms.Field.{word, fraction, count, whole}

@@ -1,7 +1,7 @@
 -- Parts of texts that spell lists: things of one part, one behind another (own).
 use Rattle.std.specs.Prelude.{ℕ, zero, suc, ◌≡◌, ◌⊎◌, List, [], ◌∷◌, ◌++◌}
 use Rattle.std.proofs.Common.{inl, inr}
-use Rattle.gj_lex.specs.Parts.{Part, empty_part, then_part, made_part, where_part, loop_part}
+use Rattle.gj_forms.specs.Parts.{Part, empty_part, then_part, made_part, where_part, loop_part}
 
 -- one more behind these
 abbrev pub one_more : {A : Type 0} → Part A → List A → Part (List A ⊎ List A)

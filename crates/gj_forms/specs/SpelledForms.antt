@@ -3,7 +3,7 @@ use Rattle.std.specs.Prelude.{ℕ, ◌≡◌, ◌⊎◌, List, [], ◌∷◌}
 use Rattle.std.specs.Fmt.{signed_decimal}
 use Rattle.gj_frac.specs.Fraction.{Fits}
 use Rattle.gj_lex.specs.SpelledNumbers.{IsCountWord, IsFractionWord}
-use Rattle.gj_lex.specs.Parts.{LineRule}
+use Rattle.gj_forms.specs.Parts.{LineRule}
 use Rattle.gj_lex.specs.declared.spelling.Spelling.{Spelling}
 use Rattle.gj_lex.specs.declared.reason.Reason.{Reason}
 use Rattle.gj_lex.specs.declared.reason.Reason.TheVariants as reason

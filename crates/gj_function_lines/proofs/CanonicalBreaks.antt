@@ -1,6 +1,6 @@
 -- The line of a breakpoint in its one spelling is read as that breakpoint.
 use Rattle.std.proofs.Common.{ℕ, List, ◌++◌, refl, sym, ap, arith}
-use Rattle.gj_lex.specs.TextLines.{HasLine}
+use Rattle.gj_forms.specs.TextLines.{HasLine}
 use Rattle.gj_lex.specs.declared.spelling.Spelling.TheVariants.{Lenient}
 use Rattle.gj_forms.specs.LineForms.{words_of}
 use Rattle.gj_forms.proofs.SpelledLines.{spells_its_thing, has_its_line}

@@ -4,7 +4,7 @@ use Rattle.std.proofs.lemmas.List.Concat.{flat_map-append}
 use Rattle.gj_frac.specs.declared.Frac.{Frac}
 use Rattle.gj_frac.specs.Fraction.{IsRatio}
 use Rattle.gj_lex.specs.declared.spelling.Spelling.{Spelling}
-use Rattle.gj_lex.specs.Parts.{line_part}
+use Rattle.gj_forms.specs.Parts.{line_part}
 use Rattle.gj_forms.specs.LineForms.{words_of}
 use Rattle.gj_forms.proofs.SpelledLines.{spells_its_thing, has_its_line, line_is_spelled}
 use Rattle.gj_shape.specs.FunctionData.{FunctionData, IsWithinBounds}

@@ -1,5 +1,5 @@
 -- The words of a line spell one breakpoint, or break one rule on its form and its numbers first.
-use Rattle.gj_lex.specs.Parts.{IsExactRule}
+use Rattle.gj_forms.specs.Parts.{IsExactRule}
 use Rattle.gj_lex.specs.declared.spelling.Spelling.TheVariants.{Lenient}
 use Rattle.gj_forms.specs.SpelledForms.{rule_in}
 use Rattle.gj_forms.proofs.SpelledLaws.{rule_in_is_exact}

@@ -5,8 +5,8 @@ use Rattle.gj_frac.proofs.SameValues.{one_place}
 use Rattle.gj_lex.specs.declared.spelling.Spelling.{Spelling}
 use Rattle.gj_lex.specs.declared.reason.Reason.{Reason}
 use Rattle.gj_lex.specs.declared.reason.Reason.TheVariants as reason
-use Rattle.gj_lex.specs.Parts.{line_part, IsExactRule, IsExactPart}
-use Rattle.gj_lex.proofs.PartLaws.{line_part_is_exact, empty_part_is_exact, then_part_is_exact, made_part_is_exact}
+use Rattle.gj_forms.specs.Parts.{line_part, IsExactRule, IsExactPart}
+use Rattle.gj_forms.proofs.PartLaws.{line_part_is_exact, empty_part_is_exact, then_part_is_exact, made_part_is_exact}
 use Rattle.gj_forms.specs.SpelledForms.{rule_in, barred_rule}
 use Rattle.gj_forms.proofs.SpelledLaws.{rule_in_is_exact, made_rule_is_exact}
 use Rattle.gj_forms.proofs.SpelledLines.{turned_rule_is_exact, barred_rule_is_exact}

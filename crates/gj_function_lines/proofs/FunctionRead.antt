@@ -1,9 +1,9 @@
 -- The lines of a function: its order, its place and its points, one part after the other.
 use Rattle.std.proofs.Common.{ℕ, List, []}
 use Rattle.gj_lex.specs.declared.spelling.Spelling.{Spelling}
-use Rattle.gj_lex.specs.declared.fault.PartFault.{PartFault}
-use Rattle.gj_lex.specs.Parts.{Part, line_part, then_part, made_part, IsFaultOf}
-use Rattle.gj_lex.proofs.PartLaws.{fault_in_first, fault_in_next, fault_in_made}
+use Rattle.gj_forms.specs.declared.fault.PartFault.{PartFault}
+use Rattle.gj_forms.specs.Parts.{Part, line_part, then_part, made_part, IsFaultOf}
+use Rattle.gj_forms.proofs.PartLaws.{fault_in_first, fault_in_next, fault_in_made}
 use Rattle.gj_shape.specs.FunctionData.{FunctionData, IsWithinBounds}
 use Rattle.gj_shape.specs.Given.{IsGivenBy}
 use Rattle.gj_shape.specs.Points.{lefts, values, rights}

@@ -2,9 +2,9 @@
 use Rattle.std.proofs.Common.{◌≡◌, inl, inr, ℕ, zero, suc, ◌+◌, ◌-◌, ◌<◌, List, [], ◌∷◌, ◌++◌, All, length, refl, sym, ap, subst, arith}
 use Rattle.std.proofs.lemmas.List.{length_push}
 use Rattle.gj_lex.specs.declared.spelling.Spelling.{Spelling}
-use Rattle.gj_lex.specs.declared.fault.PartFault.{PartFault}
-use Rattle.gj_lex.specs.Parts.{line_part, IsFaultOf}
-use Rattle.gj_lex.proofs.PartLaws.{line_refused, fault_in_first, fault_in_next}
+use Rattle.gj_forms.specs.declared.fault.PartFault.{PartFault}
+use Rattle.gj_forms.specs.Parts.{line_part, IsFaultOf}
+use Rattle.gj_forms.proofs.PartLaws.{line_refused, fault_in_first, fault_in_next}
 use Rattle.gj_shape.specs.Given.{IsSmall, HasCommonDenominator, AreWithinBounds}
 use Rattle.gj_shape.specs.Points.{all_fractions, IsPointFault}
 use Rattle.gj_shape.specs.declared.points.Point.{Point}

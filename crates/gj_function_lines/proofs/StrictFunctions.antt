@@ -5,7 +5,7 @@ use Rattle.gj_frac.specs.declared.Frac.{Frac}
 use Rattle.gj_frac.specs.Fraction.{IsRatio}
 use Rattle.gj_lex.specs.declared.spelling.Spelling.TheVariants.{Strict}
 use Rattle.gj_lex.specs.NumberText.{fraction_text}
-use Rattle.gj_lex.specs.Parts.{line_part}
+use Rattle.gj_forms.specs.Parts.{line_part}
 use Rattle.gj_lex.proofs.SpelledWords.{fraction_is_short, count_is_short}
 use Rattle.gj_forms.specs.LineForms.{line_of}
 use Rattle.gj_forms.proofs.SpelledLines.{strict_bytes}

@@ -2,7 +2,7 @@
 -- spelling (own).
 use Rattle.std.specs.Prelude.{ℕ, List, ◌∷◌, codes}
 use Rattle.gj_frac.specs.declared.Frac.{Frac}
-use Rattle.gj_lex.specs.Parts.{LineRule}
+use Rattle.gj_forms.specs.Parts.{LineRule}
 use Rattle.gj_lex.specs.declared.spelling.Spelling.TheVariants.{Lenient}
 use Rattle.gj_forms.specs.LineForms.{LineForm, form_of, line_of}
 use Rattle.gj_forms.specs.LineForms.Field.{word, fraction}

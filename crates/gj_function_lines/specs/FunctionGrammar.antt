@@ -4,7 +4,7 @@ use Rattle.gj_frac.specs.Fraction.{IsRatio}
 use Rattle.gj_lex.specs.declared.spelling.Spelling.{Spelling}
 use Rattle.gj_lex.specs.declared.spelling.Spelling.TheVariants.{Strict}
 use Rattle.gj_lex.specs.declared.reason.Reason.TheVariants as reason
-use Rattle.gj_lex.specs.Parts.{LineRule, Part, line_part, empty_part, then_part, made_part}
+use Rattle.gj_forms.specs.Parts.{LineRule, Part, line_part, empty_part, then_part, made_part}
 use Rattle.gj_forms.specs.SpelledForms.{rule_in, made_rule, turned_rule, barred_rule}
 use Rattle.gj_shape.specs.FunctionData.{FunctionData}
 use Rattle.gj_shape.specs.Given.{IsOrder, IsPlace, AreWithinBounds, IsGivenBy}

@@ -2,10 +2,10 @@
 use Rattle.std.specs.Prelude.{ℕ, ◌≡◌, ◌⊎◌, List, [], ◌∷◌, length}
 use Rattle.gj_lex.specs.declared.spelling.Spelling.{Spelling}
 use Rattle.gj_lex.specs.declared.reason.Reason.TheVariants as reason
-use Rattle.gj_lex.specs.declared.fault.PartFault.{PartFault}
-use Rattle.gj_lex.specs.declared.fault.PartFault.TheVariants as part
-use Rattle.gj_lex.specs.Parts.{LineRule}
-use Rattle.gj_lex.specs.TextLines.{HasLine}
+use Rattle.gj_forms.specs.declared.fault.PartFault.{PartFault}
+use Rattle.gj_forms.specs.declared.fault.PartFault.TheVariants as part
+use Rattle.gj_forms.specs.Parts.{LineRule}
+use Rattle.gj_forms.specs.TextLines.{HasLine}
 use Rattle.gj_forms.specs.LineForms.{form_of}
 use Rattle.gj_forms.specs.SpelledForms.{rule_in, turned_rule}
 use Rattle.gj_shape.specs.Points.{even_point}

@@ -8,7 +8,8 @@ ghost use Rattle.gj_function_lines.specs.BreakLines.{spelled_break_rule};
 ghost use Rattle.gj_function_lines.specs.Reading.{words_of_point, IsOneOrThree, numbers_rule};
 
 use crate::points::{PointWords, fractions_in, point_of};
-use gj_lex::{Reason, Spelling, behind_name, fraction_of, split_word};
+use gj_forms::{behind_name, split_word};
+use gj_lex::{Reason, Spelling, fraction_of};
 use gj_shape::Break;
 
 /// The breakpoint that the line gives in lenient spelling, `point X V` or `point X L V R`, or the

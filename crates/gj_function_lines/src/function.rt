@@ -1,11 +1,12 @@
 //! The lines of a function, read.
 ghost use Rattle.std.specs.Prelude.{IfOk, IfErr};
-ghost use Rattle.gj_lex.specs.Parts.{IsFaultOf};
+ghost use Rattle.gj_forms.specs.Parts.{IsFaultOf};
 ghost use Rattle.gj_function_lines.specs.FunctionGrammar.{function_part};
 
 use crate::head::{order_at, place_at};
 use crate::points::points_at;
-use gj_lex::{PartFault, Spelling};
+use gj_forms::PartFault;
+use gj_lex::Spelling;
 use gj_shape::Shape;
 use std::alloc::Global;
 

@@ -3,12 +3,13 @@ ghost use Rattle.std.specs.Prelude.{◌≡◌, ◌↔◌, IfSome, IfNone, IfOk, 
 ghost use Rattle.std.specs.Str.Parse.{digits_value};
 ghost use Rattle.gj_lex.specs.Words.{word_texts};
 ghost use Rattle.gj_lex.specs.SpelledNumbers.{IsCountWord};
-ghost use Rattle.gj_lex.specs.Parts.{line_part, IsFaultOf};
+ghost use Rattle.gj_forms.specs.Parts.{line_part, IsFaultOf};
 ghost use Rattle.gj_shape.specs.Given.{IsOrder};
 ghost use Rattle.gj_function_lines.specs.FunctionGrammar.{order_rule, place_rule};
 
 use crate::place::place_of;
-use gj_lex::{PartFault, Reason, Spelling, count_of, field_of, fraction_of, is_count, line_at};
+use gj_forms::{PartFault, field_of, line_at};
+use gj_lex::{Reason, Spelling, count_of, fraction_of, is_count};
 use gj_shape::GREATEST_ORDER;
 
 /// The order in the next line, from 2 to 1,000, and what follows the line.

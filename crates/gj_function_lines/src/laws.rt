@@ -1,7 +1,7 @@
 //! Laws of the lines of a function.
 ghost use Rattle.std.specs.Prelude.{◌≡◌, ◌≤◌, ◌++◌, ℕ, List, length};
 ghost use Rattle.gj_lex.specs.declared.spelling.Spelling.{Spelling};
-ghost use Rattle.gj_lex.specs.Parts.{IsExactPart};
+ghost use Rattle.gj_forms.specs.Parts.{IsExactPart};
 ghost use Rattle.gj_shape.specs.FunctionData.{FunctionData, IsWithinBounds};
 ghost use Rattle.gj_function_lines.specs.FunctionGrammar.{function_part};
 ghost use Rattle.gj_function_lines.specs.FunctionLines.{AreFunctionLines};

@@ -2,7 +2,7 @@
 ghost use Rattle.std.specs.Prelude.{◌≡◌, ◌↔◌, ◌++◌, [], ◌∷◌, ℕ, List, length, codes, IsTrue};
 ghost use Rattle.std.specs.Prelude.{IfSome, IfNone, IfOk, IfErr, OnOk, All};
 ghost use Rattle.gj_lex.specs.Words.{word_texts};
-ghost use Rattle.gj_lex.specs.Parts.{line_part, IsFaultOf};
+ghost use Rattle.gj_forms.specs.Parts.{line_part, IsFaultOf};
 ghost use Rattle.gj_shape.specs.Given.{IsSmall, HasCommonDenominator};
 ghost use Rattle.gj_shape.specs.Points.{all_fractions, IsPointFault};
 ghost use Rattle.gj_shape.specs.declared.points.Point.{Point};
@@ -13,9 +13,8 @@ ghost use Rattle.gj_function_lines.specs.Reading.{IsPointLine, point_of_printed,
 ghost use Rattle.gj_function_lines.specs.declared.points.PointWords.{PointWords};
 
 use crate::printed::{PrintedPoint, printed_point};
-use gj_lex::{
-    PartFault, Reason, Spelling, behind_name, fraction_of, has_no_word, line_at, split_word,
-};
+use gj_forms::{PartFault, behind_name, has_no_word, line_at, split_word};
+use gj_lex::{Reason, Spelling, fraction_of};
 use gj_shape::{Point, PointFault, Points};
 use std::alloc::Global;
 

@@ -12,8 +12,9 @@ ghost use Rattle.gj_function_lines.specs.FunctionLines.{number_fields, has_no_ju
 ghost use Rattle.gj_function_lines.specs.FunctionLines.{point_line, AreFunctionLines};
 ghost use Rattle.gj_shape.specs.declared.points.Point.{Point};
 
+use gj_forms::print_pair;
 use gj_frac::Frac;
-use gj_lex::{print_frac, print_pair, push_count_line};
+use gj_lex::{print_frac, push_count_line};
 use gj_shape::{Break, Point, Shape};
 use std::alloc::{AllocError, Global};
 

@@ -5,8 +5,9 @@ ghost use Rattle.gj_function_lines.specs.FunctionLines.{point_line};
 ghost use Rattle.gj_function_lines.specs.Reading.{point_of_printed};
 
 use crate::print::has_no_jump;
+use gj_forms::behind_text;
 use gj_frac::Frac;
-use gj_lex::{behind_byte, behind_text, printed_fraction};
+use gj_lex::{behind_byte, printed_fraction};
 use gj_shape::Point;
 
 /// A point whose printed line was read.

@@ -1,13 +1,13 @@
 -- How the lines of breakpoints that were read make the lines of the text, and a fault of theirs one
 -- of the text.
 use Rattle.std.proofs.Common.{◌≡◌, ◌⊎◌, inl, inr, ℕ, List, length, refl}
-use Rattle.gj_lex.specs.declared.fault.PartFault.{PartFault}
+use Rattle.gj_forms.specs.declared.fault.PartFault.{PartFault}
 use Rattle.gj_lex.specs.declared.spelling.Spelling.TheVariants.{Lenient}
-use Rattle.gj_lex.specs.TextLines.{HasLine}
-use Rattle.gj_lex.specs.Parts.{line_part, loop_part, IsFaultOf}
-use Rattle.gj_lex.proofs.PartLaws.{fault_in_made}
-use Rattle.gj_lex.proofs.WhereLaws.{fault_where, fault_else}
-use Rattle.gj_lex.proofs.LoopRead.{LeadsOn, leads_on, leads_to_end, leads_to_fault}
+use Rattle.gj_forms.specs.TextLines.{HasLine}
+use Rattle.gj_forms.specs.Parts.{line_part, loop_part, IsFaultOf}
+use Rattle.gj_forms.proofs.PartLaws.{fault_in_made}
+use Rattle.gj_forms.proofs.WhereLaws.{fault_where, fault_else}
+use Rattle.gj_forms.proofs.LoopRead.{LeadsOn, leads_on, leads_to_end, leads_to_fault}
 use Rattle.gj_shape.specs.FunctionData.{FunctionData}
 use Rattle.gj_shape.specs.Given.{IsTooFineOf}
 use Rattle.gj_shape.specs.Breaks.{BreakList, IsBreakFault, AreListsOfBreaks}

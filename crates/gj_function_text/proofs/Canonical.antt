@@ -2,8 +2,8 @@
 use Rattle.std.proofs.Common.{◌≡◌, inr, ℕ, List, [], ◌∷◌, ◌++◌, codes, refl, ap, subst, ◌∙◌, ◌+◌, ◌≤◌, length, length-append, append-nil, arith}
 use Rattle.std.proofs.lemmas.List.{append_assoc}
 use Rattle.gj_lex.specs.declared.spelling.Spelling.TheVariants.{Lenient}
-use Rattle.gj_lex.specs.TextLines.IsSkippedText.{nothing}
-use Rattle.gj_lex.proofs.CanonicalLines.{words_line}
+use Rattle.gj_forms.specs.TextLines.IsSkippedText.{nothing}
+use Rattle.gj_forms.proofs.CanonicalLines.{words_line}
 use Rattle.gj_shape.specs.FunctionData.{FunctionData, IsWithinBounds}
 use Rattle.gj_function_lines.specs.FunctionLines.{line}
 use Rattle.gj_function_lines.proofs.CanonicalFunctions.{canonical_lines_are_read}

@@ -2,9 +2,9 @@
 use Rattle.std.proofs.Common.{◌≡◌, ◌≢◌, ℕ, inr, List, [], ◌∷◌, ◌++◌, map, flat_map, codes, refl, sym, subst, append_assoc, arith}
 use Rattle.std.specs.List.{AllZip}
 use Rattle.gj_frac.specs.declared.Frac.{Frac}
-use Rattle.gj_lex.specs.TextLines.{HasLine, HasLines}
+use Rattle.gj_forms.specs.TextLines.{HasLine, HasLines}
 use Rattle.gj_lex.specs.declared.spelling.Spelling.TheVariants.{Lenient}
-use Rattle.gj_lex.proofs.CanonicalLines.{line_in, plain_by_test}
+use Rattle.gj_forms.proofs.CanonicalLines.{line_in, plain_by_test}
 use Rattle.gj_shape.specs.Breaks.{BreakList, AreBreaks, IsOfBreaks}
 use Rattle.gj_shape.specs.FunctionData.{FunctionData}
 use Rattle.gj_shape.specs.declared.breaks.Break.{Break}

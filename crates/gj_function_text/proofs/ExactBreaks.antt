@@ -5,10 +5,10 @@ use Rattle.gj_frac.specs.Fraction.{denominator, IsInside}
 use Rattle.gj_lex.specs.declared.spelling.Spelling.TheVariants.{Lenient}
 use Rattle.gj_lex.specs.declared.reason.Reason.{Reason}
 use Rattle.gj_lex.specs.declared.reason.Reason.TheVariants as reason
-use Rattle.gj_lex.specs.Parts.{words_rule, Part, line_part, made_part, loop_part, IsExactRule, IsExactPart}
-use Rattle.gj_lex.proofs.PartLaws.{line_part_is_exact, words_rule_is_exact, then_part_is_exact, made_part_is_exact}
-use Rattle.gj_lex.proofs.WhereLaws.{where_part_is_exact}
-use Rattle.gj_lex.proofs.LoopLaws.{loop_part_is_exact}
+use Rattle.gj_forms.specs.Parts.{words_rule, Part, line_part, made_part, loop_part, IsExactRule, IsExactPart}
+use Rattle.gj_forms.proofs.PartLaws.{line_part_is_exact, words_rule_is_exact, then_part_is_exact, made_part_is_exact}
+use Rattle.gj_forms.proofs.WhereLaws.{where_part_is_exact}
+use Rattle.gj_forms.proofs.LoopLaws.{loop_part_is_exact}
 use Rattle.gj_shape.specs.FunctionData.{FunctionData}
 use Rattle.gj_shape.specs.Breaks.{BreakList, no_breaks, Follows, IsBreakFault, IsOfBreaks, AreTooFine}
 use Rattle.gj_shape.specs.declared.breaks.Break.{Break}

@@ -3,8 +3,8 @@ use Rattle.std.proofs.Common.{◌≡◌, ◌⊎◌, inl, inr, ℕ, List, [], ◌
 use Rattle.gj_frac.specs.declared.Frac.{Frac}
 use Rattle.gj_lex.specs.declared.reason.Reason.{Reason}
 use Rattle.gj_lex.specs.declared.spelling.Spelling.TheVariants.{Lenient}
-use Rattle.gj_lex.specs.Parts.{IsExactRule, IsExactPart}
-use Rattle.gj_lex.proofs.PartLaws.{line_part_is_exact}
+use Rattle.gj_forms.specs.Parts.{IsExactRule, IsExactPart}
+use Rattle.gj_forms.proofs.PartLaws.{line_part_is_exact}
 use Rattle.gj_lex.specs.declared.reason.Reason.TheVariants as reason
 use Rattle.gj_forms.specs.LineForms.{with_numbers}
 use Rattle.gj_forms.specs.SpelledForms.{rule_in}

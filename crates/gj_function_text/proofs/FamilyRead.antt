@@ -4,9 +4,9 @@ use Rattle.std.proofs.lemmas.List.Elements.{All-map}
 use Rattle.gj_lex.specs.declared.spelling.Spelling.TheVariants.{Lenient}
 use Rattle.std.proofs.lemmas.Int.{ints}
 use Rattle.gj_frac.specs.declared.Frac.{Frac}
-use Rattle.gj_lex.specs.LineFaults.{IsRefusedFor}
-use Rattle.gj_lex.specs.declared.line_fault.LineFault.{LineFault}
-use Rattle.gj_lex.proofs.PartLaws.{refused_for}
+use Rattle.gj_forms.specs.LineFaults.{IsRefusedFor}
+use Rattle.gj_forms.specs.declared.line_fault.LineFault.{LineFault}
+use Rattle.gj_forms.proofs.PartLaws.{refused_for}
 use Rattle.gj_lex.specs.SpelledNumbers.{IsCountWord, IsFractionWord}
 use Rattle.gj_lex.specs.declared.reason.Reason.TheVariants as reason
 use Rattle.gj_forms.specs.LineForms.{AreOfForm}

@@ -1,12 +1,12 @@
 -- How the lines that were read make a function text, and a fault of theirs one of the text.
 use Rattle.std.proofs.Common.{◌≡◌, ◌⊎◌, inl, inr, ℕ, List, [], ◌∷◌, codes, refl, sym, subst, ◌∙◌, arith}
-use Rattle.gj_lex.specs.declared.fault.PartFault.{PartFault}
+use Rattle.gj_forms.specs.declared.fault.PartFault.{PartFault}
 use Rattle.gj_lex.specs.declared.spelling.Spelling.TheVariants.{Lenient}
-use Rattle.gj_lex.specs.Parts.{words_rule, Part, line_part, empty_part, then_part, ReadsInTurn, BeginsWithLine, BeginsWithWord, IsFaultOf}
-use Rattle.gj_lex.specs.Parts.ReadsInTurn.{last, onward}
-use Rattle.gj_lex.specs.TextLines.{HasNothing}
-use Rattle.gj_lex.proofs.PartLaws.{fault_in_first, fault_in_next}
-use Rattle.gj_lex.proofs.WhereLaws.{other_line, other_word}
+use Rattle.gj_forms.specs.Parts.{words_rule, Part, line_part, empty_part, then_part, ReadsInTurn, BeginsWithLine, BeginsWithWord, IsFaultOf}
+use Rattle.gj_forms.specs.Parts.ReadsInTurn.{last, onward}
+use Rattle.gj_forms.specs.TextLines.{HasNothing}
+use Rattle.gj_forms.proofs.PartLaws.{fault_in_first, fault_in_next}
+use Rattle.gj_forms.proofs.WhereLaws.{other_line, other_word}
 use Rattle.gj_shape.specs.FunctionData.{FunctionData, IsWithinBounds}
 use Rattle.gj_shape.specs.Breaks.{BreakList}
 use Rattle.gj_forms.proofs.SpelledLaws.{spelled_words}

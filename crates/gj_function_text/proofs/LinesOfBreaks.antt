@@ -1,11 +1,11 @@
 -- A function text by breakpoints has the lines of its function, and a text that has them is one.
 use Rattle.std.proofs.Common.{◌≡◌, ◌≢◌, ◌⊎◌, inl, inr, codes, ℕ, List, [], ◌∷◌, ◌++◌, refl, sym, ap, subst, ◌∙◌, append-nil, append_assoc}
 use Rattle.std.specs.List.{AllZip}
-use Rattle.gj_lex.specs.TextLines.{HasLines, HasNextLine}
-use Rattle.gj_lex.specs.Parts.{ReadsInTurn}
-use Rattle.gj_lex.specs.Parts.ReadsInTurn.{last, onward}
+use Rattle.gj_forms.specs.TextLines.{HasLines, HasNextLine}
+use Rattle.gj_forms.specs.Parts.{ReadsInTurn}
+use Rattle.gj_forms.specs.Parts.ReadsInTurn.{last, onward}
 use Rattle.gj_lex.specs.declared.spelling.Spelling.TheVariants.{Lenient}
-use Rattle.gj_lex.proofs.WhereLaws.{other_word}
+use Rattle.gj_forms.proofs.WhereLaws.{other_word}
 use Rattle.gj_shape.specs.FunctionData.{FunctionData}
 use Rattle.gj_shape.specs.Breaks.{BreakList, no_breaks, AreBreaks, IsOfBreaks, Follows}
 use Rattle.gj_shape.specs.declared.breaks.Break.{Break}

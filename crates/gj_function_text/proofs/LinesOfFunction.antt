@@ -3,10 +3,10 @@ use Rattle.std.proofs.Common.{◌≡◌, ◌⊎◌, ⊎_elim, inl, inr, codes, �
 use Rattle.std.specs.List.{AllZip}
 use Rattle.std.proofs.lemmas.Grind.{flat_map-append}
 use Rattle.gj_frac.specs.Fraction.{IsRatio}
-use Rattle.gj_lex.specs.Parts.{BeginsWithLine, BeginsWithWord}
-use Rattle.gj_lex.specs.TextLines.{HasLines, HasNextLine}
+use Rattle.gj_forms.specs.Parts.{BeginsWithLine, BeginsWithWord}
+use Rattle.gj_forms.specs.TextLines.{HasLines, HasNextLine}
 use Rattle.gj_lex.specs.declared.spelling.Spelling.TheVariants.{Lenient, Strict}
-use Rattle.gj_lex.proofs.WhereLaws.{other_line, begins_so}
+use Rattle.gj_forms.proofs.WhereLaws.{other_line, begins_so}
 use Rattle.gj_shape.specs.FunctionData.{FunctionData}
 use Rattle.gj_shape.specs.Given.{AreWithinBounds}
 use Rattle.gj_shape.specs.Points.{fractions_of, all_fractions, ArePointsOf}

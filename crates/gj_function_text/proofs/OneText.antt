@@ -3,10 +3,10 @@
 use Rattle.std.proofs.Common.{◌≡◌, ℕ, List, codes}
 use Rattle.gj_lex.specs.declared.reason.Reason.{Reason}
 use Rattle.gj_lex.specs.declared.spelling.Spelling.TheVariants.{Lenient}
-use Rattle.gj_lex.specs.Parts.{IsExactPart, end_part, BeginsWithLine, BeginsWithWord}
-use Rattle.gj_lex.proofs.PartLaws.{framed_part_is_exact, then_part_is_exact, end_part_is_exact}
-use Rattle.gj_lex.proofs.WhereLaws.{where_part_is_exact}
-use Rattle.gj_lex.proofs.LineNumbers as numbers
+use Rattle.gj_forms.specs.Parts.{IsExactPart, end_part, BeginsWithLine, BeginsWithWord}
+use Rattle.gj_forms.proofs.PartLaws.{framed_part_is_exact, then_part_is_exact, end_part_is_exact}
+use Rattle.gj_forms.proofs.WhereLaws.{where_part_is_exact}
+use Rattle.gj_forms.proofs.LineNumbers as numbers
 use Rattle.gj_shape.specs.FunctionData.{FunctionData}
 use Rattle.gj_function_lines.specs.FunctionGrammar.{function_part}
 use Rattle.gj_function_text.specs.BreaksText.{end_words}

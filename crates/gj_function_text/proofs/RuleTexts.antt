@@ -1,11 +1,11 @@
 -- A rule text ends at one place, and how its lines make it.
 use Rattle.std.proofs.Common.{◌≡◌, ℕ, List}
 use Rattle.gj_lex.specs.declared.reason.Reason.{Reason}
-use Rattle.gj_lex.specs.declared.fault.PartFault.{PartFault}
+use Rattle.gj_forms.specs.declared.fault.PartFault.{PartFault}
 use Rattle.gj_lex.specs.declared.spelling.Spelling.TheVariants.{Lenient}
-use Rattle.gj_lex.specs.Parts.{words_rule, Part, line_part, empty_part, then_part, IsExactPart, IsFaultOf}
-use Rattle.gj_lex.proofs.PartLaws.{words_rule_is_exact, line_part_is_exact, framed_part_is_exact, fault_in_first, fault_in_next}
-use Rattle.gj_lex.proofs.LineNumbers as numbers
+use Rattle.gj_forms.specs.Parts.{words_rule, Part, line_part, empty_part, then_part, IsExactPart, IsFaultOf}
+use Rattle.gj_forms.proofs.PartLaws.{words_rule_is_exact, line_part_is_exact, framed_part_is_exact, fault_in_first, fault_in_next}
+use Rattle.gj_forms.proofs.LineNumbers as numbers
 use Rattle.gj_function_text.specs.BreaksText.{end_words}
 use Rattle.gj_function_text.specs.RuleText.{rule_title_words, rule_name_words, rule_text, IsRuleText, IsFirstFaultOfRule}
 

@@ -1,8 +1,8 @@
 -- What the readers of the lines of breakpoints find (own).
 use Rattle.std.specs.Prelude.{ℕ}
 use Rattle.gj_lex.specs.declared.reason.Reason.TheVariants as reason
-use Rattle.gj_lex.specs.declared.fault.PartFault.{PartFault}
-use Rattle.gj_lex.specs.declared.fault.PartFault.TheVariants as part
+use Rattle.gj_forms.specs.declared.fault.PartFault.{PartFault}
+use Rattle.gj_forms.specs.declared.fault.PartFault.TheVariants as part
 use Rattle.gj_shape.specs.declared.breaks.BreakFault.{BreakFault}
 use Rattle.gj_shape.specs.declared.breaks.BreakFault.TheVariants as fault
 use Rattle.gj_shape.specs.declared.faults.ShapeFault.{ShapeFault}

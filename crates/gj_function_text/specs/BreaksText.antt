@@ -3,7 +3,7 @@
 use Rattle.std.specs.Prelude.{ℕ, ◌≡◌, ◌≢◌, ◌⊎◌, ◌≤◌, List, [], ◌∷◌, codes, unsigned_abs}
 use Rattle.std.proofs.Common.{inl, inr}
 use Rattle.gj_frac.specs.Fraction.{denominator, IsInside}
-use Rattle.gj_lex.specs.Parts.{words_rule, LineRule, Part, line_part, then_part, made_part, where_part, loop_part, BeginsWithWord}
+use Rattle.gj_forms.specs.Parts.{words_rule, LineRule, Part, line_part, then_part, made_part, where_part, loop_part, BeginsWithWord}
 use Rattle.gj_lex.specs.declared.spelling.Spelling.TheVariants.{Lenient}
 use Rattle.gj_lex.specs.declared.reason.Reason.{Reason}
 use Rattle.gj_lex.specs.declared.reason.Reason.TheVariants as reason

@@ -2,7 +2,7 @@
 -- answer (own).
 use Rattle.std.specs.Prelude.{ℕ, List}
 use Rattle.gj_lex.specs.declared.reason.Reason.{Reason}
-use Rattle.gj_lex.specs.Parts.{IsFirstFaultIn}
+use Rattle.gj_forms.specs.Parts.{IsFirstFaultIn}
 use Rattle.gj_function_text.specs.FunctionText.{function_text, whole_function_text}
 use Rattle.gj_function_text.specs.declared.faults.TextFault.{TextFault}
 use Rattle.gj_function_text.specs.declared.faults.TextFault.TheVariants.{Refused, Memory}

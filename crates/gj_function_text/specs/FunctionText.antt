@@ -2,7 +2,7 @@
 -- spelling, and its one canonical text (own).
 use Rattle.std.specs.Prelude.{ℕ, ◌≡◌, List, [], ◌∷◌, ◌++◌, codes, flat_map}
 use Rattle.gj_frac.specs.declared.Frac.{Frac}
-use Rattle.gj_lex.specs.Parts.{Part, words_rule, line_part, framed_part, then_part, where_part, end_part, BeginsWithLine, BeginsWithWord}
+use Rattle.gj_forms.specs.Parts.{Part, words_rule, line_part, framed_part, then_part, where_part, end_part, BeginsWithLine, BeginsWithWord}
 use Rattle.gj_lex.specs.declared.spelling.Spelling.TheVariants.{Lenient}
 use Rattle.gj_shape.specs.FunctionData.{FunctionData}
 use Rattle.gj_shape.specs.declared.breaks.Break.{Break}

@@ -1,6 +1,6 @@
 -- Rule text: a cut rule that is not told as a function, in lenient spelling (own).
 use Rattle.std.specs.Prelude.{ℕ, List, [], ◌∷◌, codes}
-use Rattle.gj_lex.specs.Parts.{Part, words_rule, line_part, framed_part, BeginsWithWord, IsFirstFaultIn}
+use Rattle.gj_forms.specs.Parts.{Part, words_rule, line_part, framed_part, BeginsWithWord, IsFirstFaultIn}
 use Rattle.gj_lex.specs.declared.reason.Reason.{Reason}
 use Rattle.gj_lex.specs.declared.spelling.Spelling.TheVariants.{Lenient}
 use Rattle.gj_function_text.specs.BreaksText.{end_words}

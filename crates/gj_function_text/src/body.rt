@@ -1,11 +1,12 @@
 //! What tells the function in a function text, read.
 ghost use Rattle.std.specs.Prelude.{IfOk, IfErr};
-ghost use Rattle.gj_lex.specs.Parts.{IsFaultOf};
+ghost use Rattle.gj_forms.specs.Parts.{IsFaultOf};
 ghost use Rattle.gj_function_text.specs.FunctionText.{body_part};
 
 use crate::family::family_at;
+use gj_forms::{PartFault, begins_with_word};
 use gj_function_lines::function_at;
-use gj_lex::{PartFault, Spelling, begins_with_word};
+use gj_lex::Spelling;
 use gj_shape::Shape;
 use std::alloc::Global;
 

@@ -3,18 +3,17 @@ ghost use Rattle.std.specs.Prelude.{◌≡◌, ◌≢◌, ◌≤◌, ◌↔◌, 
 ghost use Rattle.std.specs.Prelude.{unsigned_abs};
 ghost use Rattle.gj_frac.specs.Fraction.{denominator, IsInside};
 ghost use Rattle.gj_lex.specs.Words.{word_texts};
-ghost use Rattle.gj_lex.specs.Parts.{line_part, loop_part, IsFaultOf};
+ghost use Rattle.gj_forms.specs.Parts.{line_part, loop_part, IsFaultOf};
 ghost use Rattle.gj_shape.specs.Limits.{greatest_order};
 ghost use Rattle.gj_shape.specs.Breaks.{no_breaks};
 ghost use Rattle.gj_function_text.specs.BreaksText.{start_rule, break_rule, end_rule, EndsHere};
 ghost use Rattle.gj_function_text.specs.BreaksText.{next_break, breaks_part};
 ghost use Rattle.gj_function_text.specs.BreaksRead.{refusal_of, end_refusal};
 
+use gj_forms::{PartFault, begins_with_word, field_of, has_words, line_at};
 use gj_frac::Frac;
 use gj_function_lines::break_in;
-use gj_lex::{
-    PartFault, Reason, Spelling, begins_with_word, field_of, fraction_of, has_words, line_at,
-};
+use gj_lex::{Reason, Spelling, fraction_of};
 use gj_shape::{BreakFault, Breaks, GREATEST_ORDER, Shape, ShapeFault};
 use std::alloc::Global;
 

@@ -1,9 +1,9 @@
 //! Lines that name a function of a family, read.
 ghost use Rattle.std.specs.Prelude.{◌≡◌, ◌↔◌, All, IfSome, IfNone, IfOk, IfErr, IsTrue};
 ghost use Rattle.std.specs.Str.Parse.{digits_value};
-ghost use Rattle.gj_lex.specs.LineFaults.{IsRefusedFor};
+ghost use Rattle.gj_forms.specs.LineFaults.{IsRefusedFor};
 ghost use Rattle.gj_lex.specs.Words.{word_texts};
-ghost use Rattle.gj_lex.specs.Parts.{IsFaultOf};
+ghost use Rattle.gj_forms.specs.Parts.{IsFaultOf};
 ghost use Rattle.gj_lex.specs.SpelledNumbers.{IsCountWord};
 ghost use Rattle.gj_forms.specs.LineForms.{AreOfForm};
 ghost use Rattle.gj_function_text.specs.FamilyLine.{family_form, AreSigns, IsReasonOf, family_rule};
@@ -12,10 +12,8 @@ ghost use Rattle.gj_function_text.specs.FamilyRead.{texts_of, IsSign, IsCut};
 ghost use Rattle.gj_function_text.specs.FunctionText.{family_part};
 
 use gj_family::{FamilyFault, gmic, half, two_slope};
-use gj_lex::{
-    LineFault, PartFault, Reason, Spelling, behind_name, count_of, field_of, fraction_of, is_count,
-    line_at, two_fields_of,
-};
+use gj_forms::{LineFault, PartFault, behind_name, field_of, line_at, two_fields_of};
+use gj_lex::{Reason, Spelling, count_of, fraction_of, is_count};
 use gj_shape::Shape;
 use std::alloc::{AllocError, Global};
 

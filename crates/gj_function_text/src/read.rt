@@ -1,6 +1,6 @@
 //! Function texts, read.
 ghost use Rattle.std.specs.Prelude.{◌≡◌, ◌≤◌, List, ℕ, drop, length, IfOk, IfErr, MatchResult};
-ghost use Rattle.gj_lex.specs.Parts.{IsFaultOf};
+ghost use Rattle.gj_forms.specs.Parts.{IsFaultOf};
 ghost use Rattle.gj_shape.specs.FunctionData.{FunctionData};
 ghost use Rattle.gj_function_text.specs.FunctionText.{points_text, breaks_text, function_text};
 ghost use Rattle.gj_function_text.specs.FunctionText.{whole_function_text, IsFunctionText};
@@ -11,7 +11,8 @@ ghost use Rattle.gj_function_text.specs.FirstFault.{NamesFirstFaultOfWhole};
 use crate::body::body_at;
 use crate::breaks::breaks_at;
 use crate::faults::TextFault;
-use gj_lex::{PartFault, Spelling, begins_with_line, end_at, line_number, words_at};
+use gj_forms::{PartFault, begins_with_line, end_at, line_number, words_at};
+use gj_lex::Spelling;
 use gj_shape::Shape;
 use std::alloc::Global;
 

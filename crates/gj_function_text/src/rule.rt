@@ -1,11 +1,12 @@
 //! Rule texts, read.
 ghost use Rattle.std.specs.Prelude.{◌≡◌, ◌≤◌, ◌↔◌, List, ℕ, drop, length, IfOk, IfErr, MatchResult};
 ghost use Rattle.std.specs.Prelude.{IsTrue};
-ghost use Rattle.gj_lex.specs.Parts.{IsFaultOf, IsRefusal};
+ghost use Rattle.gj_forms.specs.Parts.{IsFaultOf, IsRefusal};
 ghost use Rattle.gj_function_text.specs.RuleText.{rule_text, IsRuleText, IsFirstFaultOfRule};
 ghost use Rattle.gj_function_text.specs.RuleText.{BeginsAsRule};
 
-use gj_lex::{PartFault, Reason, Spelling, begins_with_word, line_number, words_at};
+use gj_forms::{PartFault, begins_with_word, line_number, words_at};
+use gj_lex::{Reason, Spelling};
 
 /// Whether the text begins as a rule text: whether the first word of its first line that is not
 /// skipped is `gj-rule`. It takes no memory.

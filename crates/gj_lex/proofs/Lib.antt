@@ -4,7 +4,6 @@ pub mod FirstPlaces
 pub mod LeadingDigits
 pub mod LineEnds
 pub mod LineFeedBits
-pub mod LineWords
 pub mod Places
 pub mod SignedNumbers
 pub mod CanonicalTexts
@@ -13,14 +12,5 @@ pub mod WordBytes
 pub mod WordRuns
 pub mod WordTexts
 pub mod WrittenNumbers
-pub mod LenientLines
-pub mod CommentLines
-pub mod StrictLines
-pub mod LineNumbers
-pub mod PartLaws
 pub mod SpelledWords
-pub mod LoopLaws
-pub mod CanonicalLines
-pub mod WhereLaws
-pub mod LoopRead
 pub mod LeadingNumbers

@@ -7,7 +7,7 @@ use Rattle.std.proofs.lemmas.List.{drop_min, drop-drop}
 use Rattle.std.proofs.lemmas.List.Sums.{position_or_len_is}
 use Rattle.gj_lex.specs.declared.cursor.LineSpan.{LineSpan}
 use Rattle.gj_lex.specs.Lines.{CursorState, IsLine, GivesLine, rest_of}
-use Rattle.gj_lex.specs.TextLines.{is_line_feed}
+use Rattle.gj_lex.specs.Lines.{is_line_feed}
 use Rattle.gj_lex.proofs.Places.{fails_until, passes_there, place_within}
 
 -- the first LF from a place on, or the end of the source, ends the line that begins there

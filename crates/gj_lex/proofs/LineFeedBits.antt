@@ -9,7 +9,7 @@ use Rattle.std.proofs.Math.ListN.{get_or-map}
 use Rattle.std.proofs.lemmas.Nat.Bits.{bit_at-trailing_zeros, bit_at-zero}
 use Rattle.std.proofs.lemmas.Simd.{bitmask_splat, bit_mask_l, get_or-chunk}
 use Rattle.memchr.specs.Find.{Nowhere, NoneBefore, Passes}
-use Rattle.gj_lex.specs.TextLines.{is_line_feed}
+use Rattle.gj_lex.specs.Lines.{is_line_feed}
 
 from_digit : (t : Bool) → cond {A = ℕ} t 1 0 ≡ 1 → t ≡ true
 from_digit true e = refl

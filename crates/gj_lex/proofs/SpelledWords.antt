@@ -21,8 +21,7 @@ use Rattle.gj_lex.specs.declared.spelling.Spelling.{Spelling}
 use Rattle.gj_lex.specs.declared.spelling.Spelling.TheVariants.{Lenient, Strict}
 use Rattle.gj_lex.proofs.Decimals.{decimal_some, decimal_at_most, decimal_leading_zero}
 use Rattle.gj_lex.proofs.CanonicalTexts.{denominator_one, denominator_small, denominator_more, same_from_fraction_text}
-use Rattle.gj_lex.proofs.WordBytes.{all_from_digits, digits_from_all, decimal_bytes, decimal_is_word, fraction_is_word, fraction_some}
-use Rattle.gj_lex.proofs.StrictLines.{IsPlain}
+use Rattle.gj_lex.proofs.WordBytes.{IsPlain, all_from_digits, digits_from_all, decimal_bytes, decimal_is_word, fraction_is_word, fraction_some}
 
 -- ---- the mark of a number
 

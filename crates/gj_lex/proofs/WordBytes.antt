@@ -13,6 +13,10 @@ use Rattle.gj_lex.specs.NumberText.{denominator_text, fraction_text, IsNumberByt
 use Rattle.gj_lex.proofs.Decimals.{decimal_some}
 use Rattle.gj_lex.proofs.CanonicalTexts.{denominator_small, denominator_more}
 
+-- a word is not empty, and no byte of it parts words or ends a line
+abbrev pub IsPlain : List ℕ → Type 0
+IsPlain w = (0 < length w) × All IsWordByte w
+
 -- bytes whose values are those of digits are digits
 pub all_from_digits : (ds : List ℕ) → AllDigits 10 ds → All IsAsciiDigit ds
 all_from_digits [] d = All-nil IsAsciiDigit

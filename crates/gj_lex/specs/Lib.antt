@@ -3,8 +3,5 @@ pub mod Name
 pub mod NumberText
 pub mod Reason
 pub mod Words
-pub mod TextLines
-pub mod Parts
 pub mod SpelledNumbers
-pub mod LineFaults
 pub mod LeadingText

@@ -1,6 +1,10 @@
 -- Lines of bytes, as a cursor gives them (own).
-use Rattle.std.specs.Prelude.{ℕ, ◌≡◌, ◌≢◌, ◌+◌, ◌<◌, ◌≤◌, min, List, length, drop, slice_index}
+use Rattle.std.specs.Prelude.{ℕ, ◌≡◌, ◌≢◌, ◌+◌, ◌<◌, ◌≤◌, Bool, ◌==◌, min, List, length, drop, slice_index}
 use Rattle.gj_lex.specs.declared.cursor.LineSpan.{LineSpan}
+
+-- whether a byte ends a line
+abbrev pub is_line_feed : ℕ → Bool
+is_line_feed b = b == 10
 
 -- what a cursor knows: the whole source, at which of its bytes it stands, and how many lines it
 -- gave

@@ -2,10 +2,9 @@
 
 ghost use Rattle.std.specs.Prelude.{◌≡◌, ◌↔◌, ◌≤◌, length, IfSome, IfNone, IsNone, OnSome};
 ghost use Rattle.std.specs.List.{after_first, before_first, position, slice_range};
-ghost use Rattle.gj_lex.specs.Lines.{GivesLine, IsLine, rest_of};
-ghost use Rattle.gj_lex.specs.TextLines.{is_line_feed};
+ghost use Rattle.gj_lex.specs.Lines.{GivesLine, IsLine, is_line_feed, rest_of};
 
-use crate::text_lines::first_line_feed;
+use crate::line_feeds::first_line_feed;
 use std::marker::Model;
 
 /// A line of a source: the bytes from `start` up to `end`. Lines are numbered from 1.

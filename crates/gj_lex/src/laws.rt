@@ -5,7 +5,6 @@ ghost use Rattle.std.specs.Char.{IsAsciiDigit};
 ghost use Rattle.gj_frac.specs.declared.Frac.{Frac};
 ghost use Rattle.gj_lex.specs.declared.spelling.Spelling.{Spelling};
 ghost use Rattle.gj_lex.specs.SpelledNumbers.{IsCountWord, IsFractionWord};
-ghost use Rattle.gj_lex.specs.TextLines.{HasLine, HasStrictLine, IsSkipped};
 ghost use Rattle.gj_lex.specs.NumberText.{fraction_text, IsNumberByte, IsWordByte};
 
 use crate::spelling::Spelling;
@@ -42,11 +41,4 @@ pub fn canonical_texts_are_short()
 pub fn canonical_text_is_a_word()
     ensures fraction { (s : Spelling) (x : Frac) → IsFractionWord s (fraction_text x) x }
     ensures count { (s : Spelling) (n : ℕ) → n < 2 ^ 32 → IsCountWord s (decimal n) n }
-{}
-
-/// A strict line is a lenient line of the same words, unless its first word begins with `#`.
-pub fn strict_line_is_lenient()
-    ensures { (text : List ℕ) (words : List (List ℕ)) (rest : List ℕ) →
-        HasStrictLine text words rest → (IsSkipped words → ⊥) →
-        HasLine Spelling.Lenient text text words rest }
 {}

@@ -1,13 +1,9 @@
 //! Names of variables and of columns.
 
-ghost use Rattle.std.specs.Prelude.{◌≡◌, ◌↔◌, IfOk, IfErr, OnOk, IsErrOf, IsTrue};
-ghost use Rattle.gj_lex.specs.LineFaults.{IsRefusedFor};
+ghost use Rattle.std.specs.Prelude.{◌≡◌, ◌↔◌, IfOk, OnOk, IsErrOf, IsTrue};
 ghost use Rattle.gj_lex.specs.Name.{IsName, IsNameByte};
 ghost use Rattle.gj_lex.specs.declared.name.NameFault.TheVariants.{Memory};
-ghost use Rattle.gj_lex.specs.declared.reason.Reason.TheVariants.{Form};
 
-use crate::line_fault::LineFault;
-use crate::reason::Reason;
 use smallvec::SmallVec;
 use std::alloc::{AllocError, Global};
 use std::marker::Model;
@@ -85,20 +81,6 @@ impl Name {
     {
         let bytes = SmallVec::from_slice(alloc, self.bytes.as_slice())?;
         Ok(Name { bytes })
-    }
-}
-
-/// The name that a word of a line is.
-///
-/// `Form` comes exactly if the word is no name, and before any memory is taken.
-pub fn name_of(alloc: Global, word: &[u8]) -> Result<Name, LineFault>
-    ensures found { IfOk result (λ name. (name ≡ word.now) × IsName word.now) }
-    ensures refused { IfErr result (IsRefusedFor (λ e. (e ≡ Form) × ¬ IsName word.now)) }
-{
-    match Name::new(alloc, word) {
-        Ok(name) => Ok(name),
-        Err(NameFault::Form) => Err(LineFault::Broken(Reason::Form)),
-        Err(NameFault::Memory(error)) => Err(LineFault::Memory(error)),
     }
 }
 

@@ -12,9 +12,6 @@ use std::alloc::{AllocError, Global};
 /// The length of the longest text: a sign, a `/`, and twice the 39 digits of a number of 128 bits.
 const SPACE: usize = 80;
 
-/// The length of the longest text of two fractions, with a space before each and a line feed.
-const PAIR_SPACE: usize = 163;
-
 /// Room for two counts, with a space before each and a byte behind them.
 const COUNTS_SPACE: usize = 81;
 
@@ -56,20 +53,6 @@ pub fn print_frac(_alloc: Global, out: &mut Vec<u8>, x: Frac) -> Result<(), Allo
     out.extend_from_slice(&text[start..])
 }
 
-/// Appends the end of a line of two fractions in canonical form: a space before each, and a line
-/// feed behind them.
-///
-/// An error says that memory ran out; `out` is then as it was.
-pub fn print_pair(out: &mut Vec<u8>, x: Frac, y: Frac) -> Result<(), AllocError>
-    ensures ok { OnOk result (out.new.items ≡
-        out.old.items ++ 32 ∷ fraction_text x ++ 32 ∷ fraction_text y ++ 10 ∷ []) }
-    ensures err { OnErr result (out.new.items ≡ out.old.items) }
-{
-    let mut text = [0; PAIR_SPACE];
-    let start = fill_with_pair(&mut text, x, y);
-    out.extend_from_slice(&text[start..])
-}
-
 /// Appends two counts in canonical form, a space before each, and a byte behind them.
 ///
 /// An error says that memory ran out; `out` is then as it was.
@@ -97,48 +80,6 @@ fn write_spaced_count(text: &mut [u8], end: usize, n: u32) -> usize
     let start = write_digits(text, end, u128::from(n));
     text[start - 1] = b' ';
     start - 1
-}
-
-/// Writes the end of a line of two fractions in canonical form into the text, so that it ends
-/// before `end`, and says where it begins: a space before each, and a line feed behind them.
-///
-/// So a line can be written from its end to its front, before it is appended at once.
-#[inline(always)]
-pub fn write_pair(text: &mut [u8], end: usize, x: Frac, y: Frac) -> usize
-    requires room { 163 ≤ end }
-    requires within { end ≤ length text.old }
-    ensures written { drop result text.new
-        ≡ 32 ∷ fraction_text x ++ 32 ∷ fraction_text y ++ 10 ∷ drop end text.old }
-    ensures begins { result ≤ end }
-    ensures room { end ≤ result + 163 }
-{
-    text[end - 1] = b'\n';
-    let second = write_spaced(text, end - 1, y);
-    write_spaced(text, second, x)
-}
-
-/// Writes two fractions as `write_pair` does, so that they end where the text does.
-#[inline(always)]
-fn fill_with_pair(text: &mut [u8], x: Frac, y: Frac) -> usize
-    requires { length text.old ≡ 163 }
-    ensures written { drop result text.new
-        ≡ 32 ∷ fraction_text x ++ 32 ∷ fraction_text y ++ 10 ∷ [] }
-    ensures begins { result ≤ length text.new }
-{
-    write_pair(text, PAIR_SPACE, x, y)
-}
-
-/// Writes a word into the text so that it ends before `end`, and says where it begins.
-#[inline(always)]
-pub fn write_word(text: &mut [u8], end: usize, word: &[u8]) -> usize
-    requires room { length word.now ≤ end }
-    requires within { end ≤ length text.old }
-    ensures written { drop result text.new ≡ word.now ++ drop end text.old }
-    ensures begins { result + length word.now ≡ end }
-{
-    let start = end - word.len();
-    text[start..end].copy_from_slice(word);
-    start
 }
 
 /// Writes a space and a fraction in canonical form into the text so that they end before `end`, and

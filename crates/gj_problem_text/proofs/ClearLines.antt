@@ -1,7 +1,7 @@
 -- A line tells one thing: the form of the lines is clear.
 use Rattle.std.proofs.Common.{◌≡◌, ℕ, List, [], ◌∷◌, Bool, true, false, map, codes, refl, sym, ap, ap₂}
 use Rattle.gj_frac.specs.declared.Frac.{Frac}
-use Rattle.gj_lex.specs.Parts.{IsExactRule}
+use Rattle.gj_forms.specs.Parts.{IsExactRule}
 use Rattle.gj_lex.specs.declared.spelling.Spelling.TheVariants.{Lenient}
 use Rattle.gj_forms.specs.LineForms.{Field, with_numbers, first_of, others_of, words_of}
 use Rattle.gj_forms.specs.LineForms.Field.{fraction}

@@ -1,12 +1,12 @@
 -- A problem text tells one task, and has no fault then; else it has one first fault.
 use Rattle.std.proofs.Common.{◌≡◌, ◌⊎◌, inl, inr, ℕ, List, codes, sym, ◌∙◌}
-use Rattle.gj_lex.specs.Parts.{words_rule, line_part, end_part, BeginsWithWord, IsExactPart}
+use Rattle.gj_forms.specs.Parts.{words_rule, line_part, end_part, BeginsWithWord, IsExactPart}
 use Rattle.gj_lex.specs.declared.reason.Reason.{Reason}
 use Rattle.gj_lex.specs.declared.spelling.Spelling.TheVariants.{Lenient}
-use Rattle.gj_lex.proofs.PartLaws.{words_rule_is_exact, line_part_is_exact, made_part_is_exact, then_part_is_exact, end_part_is_exact}
-use Rattle.gj_lex.proofs.LineNumbers as numbers
-use Rattle.gj_lex.proofs.LoopLaws.{loop_part_is_exact}
-use Rattle.gj_lex.proofs.WhereLaws.{where_part_is_exact}
+use Rattle.gj_forms.proofs.PartLaws.{words_rule_is_exact, line_part_is_exact, made_part_is_exact, then_part_is_exact, end_part_is_exact}
+use Rattle.gj_forms.proofs.LineNumbers as numbers
+use Rattle.gj_forms.proofs.LoopLaws.{loop_part_is_exact}
+use Rattle.gj_forms.proofs.WhereLaws.{where_part_is_exact}
 use Rattle.gj_function_text.specs.BreaksText.{end_words}
 use Rattle.gj_problem_text.specs.ProblemText.{title_words, rule_words, no_task, next_line, lines_part, problem_text, IsProblemText, IsFirstFault}
 use Rattle.gj_problem_text.specs.Tasks.{task_rule}

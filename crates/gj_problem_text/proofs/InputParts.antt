@@ -1,13 +1,13 @@
 -- The parts of a problem text with its rule.
 use Rattle.std.proofs.Common.{◌≡◌, inl, inr, ℕ, List, Result, Ok, Err, MatchResult, IfOk, IfErr, refl, sym, subst, ◌∙◌}
-use Rattle.gj_lex.specs.TextLines.{HasNothing}
-use Rattle.gj_lex.specs.Parts.{Part, words_rule, end_part, IsExactPart, IsFaultOf, IsTail}
-use Rattle.gj_lex.specs.declared.fault.PartFault.{PartFault}
+use Rattle.gj_forms.specs.TextLines.{HasNothing}
+use Rattle.gj_forms.specs.Parts.{Part, words_rule, end_part, IsExactPart, IsFaultOf, IsTail}
+use Rattle.gj_forms.specs.declared.fault.PartFault.{PartFault}
 use Rattle.gj_lex.specs.declared.reason.Reason.{Reason}
 use Rattle.gj_lex.specs.declared.spelling.Spelling.TheVariants.{Lenient}
-use Rattle.gj_lex.proofs.LineNumbers as numbers
-use Rattle.gj_lex.proofs.PartLaws.{words_rule_is_exact, line_part_is_exact, made_part_is_exact, then_part_is_exact, fault_in_first, fault_in_next, fault_in_made, tail_refused}
-use Rattle.gj_lex.proofs.WhereLaws.{where_part_is_exact, fault_where}
+use Rattle.gj_forms.proofs.LineNumbers as numbers
+use Rattle.gj_forms.proofs.PartLaws.{words_rule_is_exact, line_part_is_exact, made_part_is_exact, then_part_is_exact, fault_in_first, fault_in_next, fault_in_made, tail_refused}
+use Rattle.gj_forms.proofs.WhereLaws.{where_part_is_exact, fault_where}
 use Rattle.gj_shape.specs.FunctionData.{FunctionData}
 use Rattle.gj_function_text.specs.FirstFault.{IsFirstFaultOfFunction}
 use Rattle.gj_function_text.specs.FunctionText.{function_text, IsFunctionText}

@@ -1,11 +1,11 @@
 -- The lines of a problem, one after another.
 use Rattle.std.proofs.Common.{◌≡◌, ◌⊎◌, inl, inr, ℕ, List, codes, refl}
-use Rattle.gj_lex.specs.Parts.{Part, words_rule, line_part, made_part, BeginsWithWord, IsFaultOf}
-use Rattle.gj_lex.specs.declared.fault.PartFault.{PartFault}
+use Rattle.gj_forms.specs.Parts.{Part, words_rule, line_part, made_part, BeginsWithWord, IsFaultOf}
+use Rattle.gj_forms.specs.declared.fault.PartFault.{PartFault}
 use Rattle.gj_lex.specs.declared.spelling.Spelling.TheVariants.{Lenient}
-use Rattle.gj_lex.proofs.LoopRead.{LeadsOn, leads_on, leads_to_end, leads_to_fault}
-use Rattle.gj_lex.proofs.PartLaws.{fault_in_made}
-use Rattle.gj_lex.proofs.WhereLaws.{fault_where, fault_else}
+use Rattle.gj_forms.proofs.LoopRead.{LeadsOn, leads_on, leads_to_end, leads_to_fault}
+use Rattle.gj_forms.proofs.PartLaws.{fault_in_made}
+use Rattle.gj_forms.proofs.WhereLaws.{fault_where, fault_else}
 use Rattle.gj_function_text.specs.BreaksText.{end_words}
 use Rattle.gj_problem_text.specs.ProblemText.{no_task, next_line, lines_part}
 use Rattle.gj_problem_text.specs.Tasks.{task_rule}

@@ -1,8 +1,8 @@
 -- What each task has that a text tells.
 use Rattle.std.proofs.Common.{◌≡◌, ◌⊎◌, inl, inr, ℕ, All, List, [], ◌∷◌, ◌++◌, sym, subst}
 use Rattle.std.proofs.lemmas.List.Elements.{All-nil, All-cons, All-append}
-use Rattle.gj_lex.specs.Parts.{ReadsInTurn}
-use Rattle.gj_lex.specs.Parts.ReadsInTurn.{last, onward}
+use Rattle.gj_forms.specs.Parts.{ReadsInTurn}
+use Rattle.gj_forms.specs.Parts.ReadsInTurn.{last, onward}
 use Rattle.gj_problem_text.specs.ProblemLines.{ProblemLine, HasProblemLine, column, constraint, entry, upper, sum, grid}
 use Rattle.gj_problem_text.specs.ProblemText.{no_task, next_line, IsProblemText}
 use Rattle.gj_problem_text.specs.Ready.{HasMultipliers, IsReady}

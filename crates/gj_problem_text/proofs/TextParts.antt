@@ -1,10 +1,10 @@
 -- The parts of a problem text, one after another.
 use Rattle.std.proofs.Common.{ℕ, List, refl}
-use Rattle.gj_lex.specs.TextLines.{HasNothing}
-use Rattle.gj_lex.specs.Parts.{Part, words_rule, line_part, then_part, end_part, IsFaultOf, IsTail}
-use Rattle.gj_lex.specs.declared.fault.PartFault.{PartFault}
+use Rattle.gj_forms.specs.TextLines.{HasNothing}
+use Rattle.gj_forms.specs.Parts.{Part, words_rule, line_part, then_part, end_part, IsFaultOf, IsTail}
+use Rattle.gj_forms.specs.declared.fault.PartFault.{PartFault}
 use Rattle.gj_lex.specs.declared.spelling.Spelling.TheVariants.{Lenient}
-use Rattle.gj_lex.proofs.PartLaws.{fault_in_first, fault_in_next, tail_refused}
+use Rattle.gj_forms.proofs.PartLaws.{fault_in_first, fault_in_next, tail_refused}
 use Rattle.gj_problem_text.specs.ProblemText.{title_words, rule_words, lines_part, problem_text, IsProblemText}
 use Rattle.gj_problem_text.specs.declared.task.Task.{Task}
 

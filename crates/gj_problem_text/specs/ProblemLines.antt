@@ -1,7 +1,7 @@
 -- Lines of a problem text, each by its words and numbers (own).
 use Rattle.std.specs.Prelude.{ℕ, ◌<◌, ◌^◌, Bool, true, false, List, [], ◌∷◌, map, codes}
 use Rattle.gj_frac.specs.declared.Frac.{Frac}
-use Rattle.gj_lex.specs.Parts.{LineRule}
+use Rattle.gj_forms.specs.Parts.{LineRule}
 use Rattle.gj_lex.specs.declared.spelling.Spelling.TheVariants.{Lenient}
 use Rattle.gj_forms.specs.LineForms.{Field, LineForm}
 use Rattle.gj_forms.specs.LineForms.Field.{word, fraction, count}

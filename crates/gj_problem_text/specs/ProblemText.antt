@@ -1,7 +1,7 @@
 -- The text of a problem, in lenient spelling (own).
 use Rattle.std.specs.Prelude.{ℕ, ◌≡◌, ◌⊎◌, None, List, [], ◌∷◌, codes}
 use Rattle.std.proofs.Common.{inl, inr}
-use Rattle.gj_lex.specs.Parts.{Part, words_rule, line_part, then_part, made_part, where_part, loop_part, end_part, BeginsWithWord, IsFirstFaultIn}
+use Rattle.gj_forms.specs.Parts.{Part, words_rule, line_part, then_part, made_part, where_part, loop_part, end_part, BeginsWithWord, IsFirstFaultIn}
 use Rattle.gj_lex.specs.declared.reason.Reason.{Reason}
 use Rattle.gj_lex.specs.declared.spelling.Spelling.TheVariants.{Lenient}
 use Rattle.gj_function_text.specs.BreaksText.{end_words}

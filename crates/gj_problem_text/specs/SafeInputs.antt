@@ -1,7 +1,7 @@
 -- A problem text with its rule: the line `rule gmic` in it, or a function text in front of it
 -- (own).
 use Rattle.std.specs.Prelude.{ℕ, ◌≡◌, List, codes}
-use Rattle.gj_lex.specs.Parts.{Part, words_rule, line_part, then_part, made_part, where_part, end_part, BeginsWithWord, IsFirstFaultIn}
+use Rattle.gj_forms.specs.Parts.{Part, words_rule, line_part, then_part, made_part, where_part, end_part, BeginsWithWord, IsFirstFaultIn}
 use Rattle.gj_lex.specs.declared.reason.Reason.{Reason}
 use Rattle.gj_lex.specs.declared.spelling.Spelling.TheVariants.{Lenient}
 use Rattle.gj_function_text.specs.FunctionText.{function_text}

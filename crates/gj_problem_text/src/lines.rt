@@ -1,14 +1,15 @@
 //! The lines of a problem text, read.
 ghost use Rattle.std.specs.Prelude.{◌≡◌, ◌∷◌, [], ℕ, Bool, List, codes, IfSome, IfNone, IfOk};
 ghost use Rattle.std.specs.Prelude.{IfErr};
-ghost use Rattle.gj_lex.specs.LineFaults.{IsRefusedFor};
+ghost use Rattle.gj_forms.specs.LineFaults.{IsRefusedFor};
 ghost use Rattle.gj_lex.specs.Words.{word_texts};
 ghost use Rattle.gj_problem.specs.declared.problem.Sense.{Sense};
 ghost use Rattle.gj_problem_text.specs.ProblemLines.{kind_word, sense_word, told_rule};
 ghost use Rattle.gj_problem_text.specs.LinesRead.{line_told};
 
+use gj_forms::{LineFault, only_word, split_word};
 use gj_frac::Frac;
-use gj_lex::{LineFault, Reason, Spelling, count_of, fraction_of, only_word, split_word};
+use gj_lex::{Reason, Spelling, count_of, fraction_of};
 use gj_problem::Sense;
 use std::alloc::Global;
 

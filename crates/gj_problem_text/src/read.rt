@@ -1,7 +1,7 @@
 //! Problem texts, read.
 ghost use Rattle.std.specs.Prelude.{◌≡◌, ◌≤◌, List, ℕ, length, IfOk, IfErr, MatchResult};
-ghost use Rattle.gj_lex.specs.LineFaults.{IsRefusedFor};
-ghost use Rattle.gj_lex.specs.Parts.{line_part, IsFaultOf};
+ghost use Rattle.gj_forms.specs.LineFaults.{IsRefusedFor};
+ghost use Rattle.gj_forms.specs.Parts.{line_part, IsFaultOf};
 ghost use Rattle.gj_lex.specs.Words.{word_texts};
 ghost use Rattle.gj_problem_text.specs.FirstFault.{IsMemoryFault, NamesFirstFault};
 ghost use Rattle.gj_problem_text.specs.ProblemText.{no_task, lines_part, problem_text};
@@ -15,9 +15,8 @@ use crate::lines::line_in;
 use crate::places::Places;
 use crate::steps::with_line;
 use crate::task::Task;
-use gj_lex::{
-    LineFault, PartFault, Spelling, begins_with_word, end_at, line_at, line_number, words_at,
-};
+use gj_forms::{LineFault, PartFault, begins_with_word, end_at, line_at, line_number, words_at};
+use gj_lex::Spelling;
 use gj_problem::Problem;
 use gj_shape::List;
 use std::alloc::Global;

@@ -1,7 +1,7 @@
 //! A task with one more line.
 ghost use Rattle.std.specs.Prelude.{◌≡◌, ◌≢◌, ◌≤◌, ◌∷◌, ◌++◌, [], None, length, IfSome, IfNone};
 ghost use Rattle.std.specs.Prelude.{IfOk, IfErr, IsTrue, ◌↔◌, codes};
-ghost use Rattle.gj_lex.specs.LineFaults.{IsRefusedFor, IsMemory};
+ghost use Rattle.gj_forms.specs.LineFaults.{IsRefusedFor, IsMemory};
 ghost use Rattle.gj_lex.specs.declared.reason.Reason.TheVariants as reason;
 ghost use Rattle.gj_problem_text.specs.LinesRead.{line_told};
 ghost use Rattle.gj_problem_text.specs.Tasks.{Adds, Refuses, AddsColumn, RefusesColumn};
@@ -13,8 +13,9 @@ ghost use Rattle.gj_problem_text.specs.Tasks.{IsBound, most_columns};
 use crate::lines::Line;
 use crate::places::Places;
 use crate::task::{Request, Task};
+use gj_forms::{LineFault, name_of};
 use gj_frac::Frac;
-use gj_lex::{LineFault, Reason, Spelling, fraction_of, name_of};
+use gj_lex::{Reason, Spelling, fraction_of};
 use gj_problem::{Column, Constraint, Entry, Problem, Sense};
 use gj_shape::List;
 use std::alloc::Global;

@@ -4,7 +4,7 @@ use Rattle.std.proofs.lemmas.Int.{ints}
 use Rattle.gj_frac.specs.Fraction.{Fits}
 use Rattle.gj_frac.specs.declared.Frac.{Frac}
 use Rattle.gj_lex.specs.Name.{IsName}
-use Rattle.gj_lex.proofs.StrictLines.{IsPlain}
+use Rattle.gj_lex.proofs.WordBytes.{IsPlain}
 use Rattle.gj_forms.specs.LineForms.{words_of}
 use Rattle.gj_forms.proofs.FieldWords.{AreGood, same_fields}
 use Rattle.gj_forms.proofs.LineLaws.{IsClear}

@@ -1,10 +1,10 @@
 -- The rule and the rows of cuts, read one line after another.
 use Rattle.std.proofs.Common.{◌≡◌, inl, inr, ℕ, List, [], ◌∷◌, codes, refl, sym, subst, ◌∙◌}
 use Rattle.gj_lex.specs.declared.spelling.Spelling.TheVariants.{Strict}
-use Rattle.gj_lex.specs.declared.fault.PartFault.{PartFault}
-use Rattle.gj_lex.specs.Parts.{words_rule, Part, line_part, made_part, BeginsWithLine, IsExactPart, IsFaultOf}
-use Rattle.gj_lex.proofs.PartLaws.{words_rule_is_exact, line_part_is_exact, made_part_is_exact, fault_in_first, fault_in_next, fault_in_made}
-use Rattle.gj_lex.proofs.WhereLaws.{where_part_is_exact, fault_where, fault_else}
+use Rattle.gj_forms.specs.declared.fault.PartFault.{PartFault}
+use Rattle.gj_forms.specs.Parts.{words_rule, Part, line_part, made_part, BeginsWithLine, IsExactPart, IsFaultOf}
+use Rattle.gj_forms.proofs.PartLaws.{words_rule_is_exact, line_part_is_exact, made_part_is_exact, fault_in_first, fault_in_next, fault_in_made}
+use Rattle.gj_forms.proofs.WhereLaws.{where_part_is_exact, fault_where, fault_else}
 use Rattle.gj_shape.specs.FunctionData.{FunctionData}
 use Rattle.gj_function_lines.specs.FunctionGrammar.{function_part}
 use Rattle.gj_function_lines.proofs.ExactFunctions.{function_part_is_exact}

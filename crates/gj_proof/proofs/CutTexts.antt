@@ -4,9 +4,9 @@ use Rattle.std.proofs.lemmas.List.{append_assoc}
 use Rattle.gj_frac.specs.declared.Frac.{Frac}
 use Rattle.gj_lex.specs.declared.spelling.Spelling.TheVariants.{Strict}
 use Rattle.gj_lex.specs.Name.{IsName}
-use Rattle.gj_lex.specs.Parts.{BeginsWithLine, BeginsWithWord, IsExactPart}
-use Rattle.gj_lex.proofs.PartLaws.{empty_part_is_exact, then_part_is_exact, made_part_is_exact}
-use Rattle.gj_lex.proofs.WhereLaws.{other_word, shorter_behind_line}
+use Rattle.gj_forms.specs.Parts.{BeginsWithLine, BeginsWithWord, IsExactPart}
+use Rattle.gj_forms.proofs.PartLaws.{empty_part_is_exact, then_part_is_exact, made_part_is_exact}
+use Rattle.gj_forms.proofs.WhereLaws.{other_word, shorter_behind_line}
 use Rattle.gj_forms.specs.LineForms.{line_of, rule_of}
 use Rattle.gj_forms.specs.ListParts.{IsPrinted}
 use Rattle.gj_forms.proofs.PlainWords.{apart}

@@ -4,9 +4,9 @@ use Rattle.std.proofs.lemmas.List.{append_assoc, length-map}
 use Rattle.std.proofs.lemmas.List.Elements.{All-nil, All-cons, All-head, All-tail}
 use Rattle.gj_frac.specs.Fraction.{Fits}
 use Rattle.gj_lex.specs.declared.spelling.Spelling.TheVariants.{Strict}
-use Rattle.gj_lex.specs.Parts.{Part, BeginsWithWord, then_part, made_part, IsExactPart}
-use Rattle.gj_lex.proofs.PartLaws.{empty_part_is_exact, then_part_is_exact, made_part_is_exact}
-use Rattle.gj_lex.proofs.WhereLaws.{shorter_behind_line}
+use Rattle.gj_forms.specs.Parts.{Part, BeginsWithWord, then_part, made_part, IsExactPart}
+use Rattle.gj_forms.proofs.PartLaws.{empty_part_is_exact, then_part_is_exact, made_part_is_exact}
+use Rattle.gj_forms.proofs.WhereLaws.{shorter_behind_line}
 use Rattle.gj_forms.specs.LineForms.{LineForm, line_of, rule_of}
 use Rattle.gj_forms.specs.ListParts.{IsPrinted}
 use Rattle.gj_forms.proofs.PlainWords.{known, apart}

@@ -3,8 +3,8 @@ use Rattle.std.proofs.Common.{◌≡◌, ◌≢◌, ℕ, List, [], ◌∷◌, �
 use Rattle.std.proofs.lemmas.List.{append_assoc}
 use Rattle.std.proofs.lemmas.List.Elements.{All-nil, All-cons, All-head, All-tail, All-append}
 use Rattle.gj_lemmas.proofs.Lists.{All-back}
-use Rattle.gj_lex.specs.TextLines.{line_feeds}
-use Rattle.gj_lex.proofs.LineNumbers.{line_feeds_append}
+use Rattle.gj_forms.specs.TextLines.{line_feeds}
+use Rattle.gj_forms.proofs.LineNumbers.{line_feeds_append}
 use Rattle.gj_forms.specs.LineForms.{bytes_of}
 use Rattle.gj_proof.specs.ProofText.{title_fields, claim_fields, claim_word, ProofLine, OwnLine}
 use Rattle.gj_proof.specs.declared.claim.Claim.{Claim}

@@ -4,8 +4,8 @@ use Rattle.std.specs.List.{range_with_len}
 use Rattle.std.proofs.lemmas.List.{append_assoc, map-append, length-map}
 use Rattle.std.proofs.lemmas.List.Elements.{All-nil, All-cons, All-head, All-append, All-map}
 use Rattle.std.proofs.lemmas.List.FromFn.{length-map-range_with_len}
-use Rattle.gj_lex.specs.TextLines.{line_feeds}
-use Rattle.gj_lex.proofs.LineNumbers.{line_feeds_append}
+use Rattle.gj_forms.specs.TextLines.{line_feeds}
+use Rattle.gj_forms.proofs.LineNumbers.{line_feeds_append}
 use Rattle.gj_shape.specs.FunctionData.{FunctionData, IsWithinBounds}
 use Rattle.gj_shape.specs.declared.violations.Violation.{Violation}
 use Rattle.gj_function_lines.specs.FunctionLines.{line, order_form, order_line, place_form, place_line, point_form, numbers_of as printed_numbers, point_line, AreFunctionLines}

@@ -1,7 +1,7 @@
 -- A text is that of one claim and has one first fault or none, and a claim has one text.
 use Rattle.std.proofs.Common.{◌≡◌, ℕ, List, [], ◌++◌, codes, sym, ap, ◌∙◌}
 use Rattle.gj_lex.specs.declared.reason.Reason.{Reason}
-use Rattle.gj_lex.proofs.LineNumbers as numbers
+use Rattle.gj_forms.proofs.LineNumbers as numbers
 use Rattle.gj_function_lines.specs.FunctionLines.{line}
 use Rattle.gj_function_lines.proofs.OneTextOfLines.{one_text_of_lines}
 use Rattle.gj_proof.specs.ProofText.{IsBounded, subject_of, numbers_of, AreSubjectLines, IsProofText, own_text}

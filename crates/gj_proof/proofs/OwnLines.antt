@@ -3,7 +3,7 @@ use Rattle.std.proofs.Common.{◌≡◌, ◌≢◌, ℕ, suc, ◌+◌, ◌≤◌
 use Rattle.std.proofs.lemmas.List.{append_assoc, append-nil, map-append}
 use Rattle.std.proofs.lemmas.List.Elements.{All-nil, All-cons, All-head, All-tail, All-append, All-weaker}
 use Rattle.gj_lex.specs.Name.{IsName}
-use Rattle.gj_lex.specs.TextLines.{line_feeds}
+use Rattle.gj_forms.specs.TextLines.{line_feeds}
 use Rattle.gj_shape.specs.declared.extremality.CoverLine.{CoverLine}
 use Rattle.gj_forms.proofs.LineFeeds.{one_feed}
 use Rattle.gj_proof.specs.ProofText.{ProofLine, OwnLine, IsBounded, HasNames, HasText, own_lines, violation_line, row_line, term_line, terms_of, term_lines, row_lines, covered_lines, extreme_lines, pair_lines, row_text, own_text}

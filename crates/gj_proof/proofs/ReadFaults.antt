@@ -1,9 +1,9 @@
 -- The fault of a line of a proof text is that of the text.
 use Rattle.std.proofs.Common.{◌≡◌, List, ℕ}
 use Rattle.gj_lex.specs.declared.spelling.Spelling.TheVariants.{Strict}
-use Rattle.gj_lex.specs.declared.fault.PartFault.{PartFault}
-use Rattle.gj_lex.specs.Parts.{made_part, end_part, IsFaultOf, IsTail}
-use Rattle.gj_lex.proofs.PartLaws.{fault_in_first, fault_in_next, fault_in_made, tail_refused}
+use Rattle.gj_forms.specs.declared.fault.PartFault.{PartFault}
+use Rattle.gj_forms.specs.Parts.{made_part, end_part, IsFaultOf, IsTail}
+use Rattle.gj_forms.proofs.PartLaws.{fault_in_first, fault_in_next, fault_in_made, tail_refused}
 use Rattle.gj_shape.specs.FunctionData.{FunctionData}
 use Rattle.gj_shape.specs.declared.violations.Violation.{Violation}
 use Rattle.gj_function_lines.specs.FunctionGrammar.{function_part}

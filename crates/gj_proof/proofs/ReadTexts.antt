@@ -3,9 +3,9 @@ use Rattle.std.proofs.Common.{◌≡◌, inl, inr, ℕ, List, [], ◌∷◌, ◌
 use Rattle.std.specs.List.{join_with_byte}
 use Rattle.std.proofs.lemmas.List.{append_assoc, append-nil}
 use Rattle.gj_lex.specs.declared.spelling.Spelling.TheVariants.{Strict}
-use Rattle.gj_lex.specs.Parts.{Part, words_rule, line_part, then_part, made_part, end_part, IsExactPart}
-use Rattle.gj_lex.proofs.CanonicalLines.{plain_by_test}
-use Rattle.gj_lex.proofs.PartLaws.{line_part_is_exact, words_rule_is_exact, then_part_is_exact, then_read_is_exact, made_part_is_exact, end_part_is_exact}
+use Rattle.gj_forms.specs.Parts.{Part, words_rule, line_part, then_part, made_part, end_part, IsExactPart}
+use Rattle.gj_forms.proofs.CanonicalLines.{plain_by_test}
+use Rattle.gj_forms.proofs.PartLaws.{line_part_is_exact, words_rule_is_exact, then_part_is_exact, then_read_is_exact, made_part_is_exact, end_part_is_exact}
 use Rattle.gj_shape.specs.FunctionData.{FunctionData, IsWithinBounds}
 use Rattle.gj_shape.specs.declared.extremality.CoverLine.{CoverLine}
 use Rattle.gj_shape.specs.declared.extremality.Halves.{Halves}
@@ -23,7 +23,7 @@ use Rattle.gj_function_lines.specs.FunctionLines.{order_form}
 use Rattle.gj_forms.proofs.LineLaws.{part_is_exact, line_is_read, only_line}
 use Rattle.gj_proof.specs.ProofText.{IfFunction, IsBounded, subject_of_rule, extreme_claim, AreSubjectLines, violation_line, IsProofText, row_text, group_text, halves_text, modulus_text}
 use Rattle.gj_proof.specs.ProofGrammar.{title_form, numbers_of_word, claim_form, violation_form, form_part, rule_part, rows_part, covered_part, modulus_part, groups_part, halves_part, claim_part, proof_text}
-use Rattle.gj_lex.specs.Parts.{BeginsWithLine}
+use Rattle.gj_forms.specs.Parts.{BeginsWithLine}
 use Rattle.gj_proof.specs.declared.claim.Claim.{Claim}
 use Rattle.gj_proof.specs.declared.claim.Claim.TheVariants as claims
 use Rattle.gj_proof.specs.declared.claim.ClaimWord.{ClaimWord}
@@ -35,7 +35,7 @@ use Rattle.gj_proof.specs.declared.numbers.Numbers.{Numbers}
 use Rattle.gj_proof.specs.declared.numbers.Numbers.TheVariants.{Whole, Residues}
 use Rattle.gj_proof.specs.declared.pivot.PivotRow.{PivotRow}
 use Rattle.gj_proof.proofs.StrictParts.{line_reads, line_found}
-use Rattle.gj_lex.proofs.WhereLaws.{other_line, begins_so}
+use Rattle.gj_forms.proofs.WhereLaws.{other_line, begins_so}
 use Rattle.gj_proof.proofs.ClearLines.{title_is_clear, claim_is_clear, violation_is_clear}
 use Rattle.gj_proof.proofs.CutRead.{gmic_words, rule_part_is_exact, gmic_read, table_read}
 use Rattle.gj_proof.proofs.CutTexts.{BeginsEnd, rows_are_exact, rows_are_printed}

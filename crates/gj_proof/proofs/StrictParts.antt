@@ -3,9 +3,10 @@ use Rattle.std.proofs.Common.{◌≡◌, ℕ, List, [], ◌∷◌, ◌++◌, All
 use Rattle.std.specs.List.{join_with_byte}
 use Rattle.std.proofs.lemmas.List.{append_assoc}
 use Rattle.gj_lex.specs.declared.spelling.Spelling.TheVariants.{Strict}
-use Rattle.gj_lex.specs.TextLines.{HasStrictLine}
-use Rattle.gj_lex.specs.Parts.{LineRule, line_part}
-use Rattle.gj_lex.proofs.StrictLines.{IsPlain, plain_line}
+use Rattle.gj_forms.specs.TextLines.{HasStrictLine}
+use Rattle.gj_forms.specs.Parts.{LineRule, line_part}
+use Rattle.gj_lex.proofs.WordBytes.{IsPlain}
+use Rattle.gj_forms.proofs.StrictLines.{plain_line}
 use Rattle.gj_function_lines.specs.FunctionLines.{line}
 
 -- ---- lines and their words

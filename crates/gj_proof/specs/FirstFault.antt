@@ -1,7 +1,7 @@
 -- The first fault of a text that is no proof text: its line and its reason (own).
 use Rattle.std.specs.Prelude.{ℕ, List}
 use Rattle.gj_lex.specs.declared.reason.Reason.{Reason}
-use Rattle.gj_lex.specs.Parts.{IsFirstFaultIn}
+use Rattle.gj_forms.specs.Parts.{IsFirstFaultIn}
 use Rattle.gj_proof.specs.ProofGrammar.{proof_text}
 use Rattle.gj_proof.specs.declared.faults.ProofFault.{ProofFault}
 use Rattle.gj_proof.specs.declared.faults.ProofFault.TheVariants.{Refused, Memory}

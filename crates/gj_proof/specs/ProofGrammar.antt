@@ -4,7 +4,7 @@ use Rattle.gj_frac.specs.declared.Frac.{Frac}
 use Rattle.gj_frac.specs.Fraction.{Fits}
 use Rattle.gj_lex.specs.Name.{IsName}
 use Rattle.gj_lex.specs.declared.spelling.Spelling.TheVariants.{Strict}
-use Rattle.gj_lex.specs.Parts.{Part, words_rule, line_part, empty_part, then_part, made_part, end_part}
+use Rattle.gj_forms.specs.Parts.{Part, words_rule, line_part, empty_part, then_part, made_part, end_part}
 use Rattle.gj_shape.specs.declared.extremality.CoverLine.{CoverLine}
 use Rattle.gj_shape.specs.declared.extremality.Halves.{Halves}
 use Rattle.gj_shape.specs.declared.extremality.RowName.{RowName}
@@ -16,7 +16,7 @@ use Rattle.gj_function_lines.specs.FunctionGrammar.{function_part}
 use Rattle.gj_forms.specs.LineForms.{Field, LineForm, form_of, rule_of}
 use Rattle.gj_forms.specs.ListParts.{while_part, until_part, times_part}
 use Rattle.gj_proof.specs.ProofText.{title_fields, claim_fields, violation_fields, row_fields, term_fields, modulus_fields, row_name_fields, column_fields, halves_fields, pair_fields, IsCoverLineBelow, IsRowNameBelow, extreme_claim}
-use Rattle.gj_lex.specs.Parts.{BeginsWithLine, BeginsWithWord, where_part}
+use Rattle.gj_forms.specs.Parts.{BeginsWithLine, BeginsWithWord, where_part}
 use Rattle.gj_proof.specs.declared.claim.Claim.{Claim}
 use Rattle.gj_proof.specs.declared.claim.Claim.TheVariants as claim
 use Rattle.gj_proof.specs.declared.claim.ClaimWord.{ClaimWord}

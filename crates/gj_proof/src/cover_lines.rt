@@ -2,7 +2,7 @@
 ghost use Rattle.std.specs.Prelude.{◌≡◌, ◌≢◌, ◌≤◌, ◌++◌, [], ◌∷◌, ℕ, codes, IfOk, IfErr, IfSome};
 ghost use Rattle.std.specs.Prelude.{◌<◌, IfNone, decimal};
 ghost use Rattle.gj_lex.specs.Words.{word_texts};
-ghost use Rattle.gj_lex.specs.Parts.{IsFaultOf};
+ghost use Rattle.gj_forms.specs.Parts.{IsFaultOf};
 ghost use Rattle.gj_forms.specs.LineForms.{AreOfForm, AreLine, BreaksForm};
 ghost use Rattle.gj_shape.specs.Limits.{greatest_order};
 ghost use Rattle.gj_shape.specs.declared.faces.FaceKind.{FaceKind};
@@ -12,8 +12,9 @@ ghost use Rattle.gj_proof.specs.ProofText.{IsCoverLineBelow};
 ghost use Rattle.gj_proof.specs.ProofGrammar.{cover_form, form_part, covered_part};
 
 use crate::fields::{count_below, five_fields_of, split_at_byte};
+use gj_forms::{PartFault, behind_text, line_at};
 use gj_function_lines::face_word;
-use gj_lex::{PartFault, Reason, Spelling, behind_byte, behind_text, line_at, printed_number};
+use gj_lex::{Reason, Spelling, behind_byte, printed_number};
 use gj_shape::{CoverLine, Face, FaceKind};
 use std::alloc::Global;
 

@@ -1,12 +1,12 @@
 //! The lines of cuts, read.
 ghost use Rattle.std.specs.Prelude.{ℕ, List, ◌≡◌, ◌++◌, codes, IfOk, IfErr, IfSome, IfNone, OnSome};
 ghost use Rattle.gj_frac.specs.declared.Frac.{Frac};
-ghost use Rattle.gj_lex.specs.LineFaults.{IsRefusedFor};
+ghost use Rattle.gj_forms.specs.LineFaults.{IsRefusedFor};
 ghost use Rattle.gj_lex.specs.Name.{IsName};
 ghost use Rattle.gj_lex.specs.NumberText.{fraction_text};
 ghost use Rattle.gj_lex.specs.Words.{word_texts};
-ghost use Rattle.gj_lex.specs.Parts.{BeginsWithWord, IsFaultOf};
-ghost use Rattle.gj_lex.specs.TextLines.{HasLine};
+ghost use Rattle.gj_forms.specs.Parts.{BeginsWithWord, IsFaultOf};
+ghost use Rattle.gj_forms.specs.TextLines.{HasLine};
 ghost use Rattle.gj_lex.specs.declared.spelling.Spelling.TheVariants.{Strict};
 ghost use Rattle.gj_lex.specs.declared.reason.Reason.TheVariants.{Number};
 ghost use Rattle.gj_forms.specs.LineForms.{AreOfForm, AreLine, BreaksForm};
@@ -18,12 +18,13 @@ ghost use Rattle.gj_proof.specs.declared.cut.SkipReason.{SkipReason};
 
 use crate::cut::{CutLine, CutRule, CutTerm, SkipReason};
 use crate::fields::{number_of, split_at_byte, three_fields_of};
+use gj_forms::{
+    LineFault, PartFault, TextLine, begins_with_line, behind_text, line_at, line_with_word,
+    name_of, two_fields_of, words_at,
+};
 use gj_frac::Frac;
 use gj_function_lines::function_at;
-use gj_lex::{
-    LineFault, Name, PartFault, Reason, Spelling, TextLine, begins_with_line, behind_byte,
-    behind_text, line_at, line_with_word, name_of, printed_fraction, two_fields_of, words_at,
-};
+use gj_lex::{Name, Reason, Spelling, behind_byte, printed_fraction};
 use gj_shape::List;
 use std::alloc::Global;
 

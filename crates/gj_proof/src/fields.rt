@@ -9,8 +9,9 @@ ghost use Rattle.gj_lex.specs.NumberText.{fraction_text};
 ghost use Rattle.gj_lex.specs.Words.{word_texts};
 ghost use Rattle.gj_lex.specs.declared.reason.Reason.TheVariants.{Number};
 
+use gj_forms::{behind_name, only_word, split_word};
 use gj_frac::Frac;
-use gj_lex::{Reason, Spelling, behind_name, fraction_of, only_word, read_count, split_word};
+use gj_lex::{Reason, Spelling, fraction_of, read_count};
 
 /// Fewer digits than these spell a count below 2^32.
 const FEW_DIGITS: usize = 10;

@@ -3,7 +3,7 @@ ghost use Rattle.std.specs.Prelude.{◌≡◌, ◌++◌, ℤ, List, map, decimal
 ghost use Rattle.std.specs.Fmt.{signed_decimal};
 ghost use Rattle.gj_frac.specs.Fraction.{Fits};
 ghost use Rattle.gj_lex.specs.Words.{word_texts};
-ghost use Rattle.gj_lex.specs.Parts.{IsFaultOf};
+ghost use Rattle.gj_forms.specs.Parts.{IsFaultOf};
 ghost use Rattle.gj_forms.specs.LineForms.{AreLine, BreaksForm};
 ghost use Rattle.gj_proof.specs.ProofText.{pair_line};
 ghost use Rattle.gj_proof.specs.ProofGrammar.{IsHeadInBounds, halves_form, pair_form, form_part};
@@ -12,10 +12,8 @@ ghost use Rattle.gj_proof.specs.declared.halves.HalvesHead.{HalvesHead};
 
 use crate::bounds::is_head_in_bounds;
 use crate::fields::whole_of;
-use gj_lex::{
-    PartFault, Reason, Spelling, behind_byte, behind_text, count_of, line_at, printed_whole,
-    two_fields_of,
-};
+use gj_forms::{PartFault, behind_text, line_at, two_fields_of};
+use gj_lex::{Reason, Spelling, behind_byte, count_of, printed_whole};
 use gj_shape::{Halves, List};
 use std::alloc::Global;
 

@@ -1,7 +1,7 @@
 //! Laws of proof texts.
 
 ghost use Rattle.std.specs.Prelude.{◌≡◌, ◌↔◌, ◌+◌, ◌≤◌, [], ◌++◌, ℕ, List, length};
-ghost use Rattle.gj_lex.specs.TextLines.{line_feeds};
+ghost use Rattle.gj_forms.specs.TextLines.{line_feeds};
 ghost use Rattle.gj_lex.specs.declared.reason.Reason.{Reason};
 ghost use Rattle.gj_shape.specs.FunctionData.{FunctionData, IsWithinBounds};
 ghost use Rattle.gj_shape.specs.declared.extremality.CoverLine.{CoverLine};

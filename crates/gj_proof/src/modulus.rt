@@ -1,13 +1,14 @@
 //! The line of the modulus, read.
 ghost use Rattle.std.specs.Prelude.{IfOk, IfErr};
 ghost use Rattle.gj_lex.specs.Words.{word_texts};
-ghost use Rattle.gj_lex.specs.Parts.{IsFaultOf};
+ghost use Rattle.gj_forms.specs.Parts.{IsFaultOf};
 ghost use Rattle.gj_forms.specs.LineForms.{AreLine, BreaksForm};
 ghost use Rattle.gj_proof.specs.ProofGrammar.{modulus_form, form_part, modulus_part};
 
 use crate::fields::whole_of;
 use crate::numbers::{MODULUS, Numbers};
-use gj_lex::{PartFault, Reason, Spelling, field_of, line_at};
+use gj_forms::{PartFault, field_of, line_at};
+use gj_lex::{Reason, Spelling};
 
 /// What follows the line of the modulus in a text by residues; the text itself in one by whole
 /// numbers, which has none. It takes no memory.

@@ -1,7 +1,7 @@
 //! The groups of a row, its steps and its pivot, read.
 ghost use Rattle.std.specs.Prelude.{◌≡◌, ◌≤◌, [], ◌∷◌, codes, IfOk, IfErr};
 ghost use Rattle.gj_lex.specs.Words.{word_texts};
-ghost use Rattle.gj_lex.specs.Parts.{IsFaultOf};
+ghost use Rattle.gj_forms.specs.Parts.{IsFaultOf};
 ghost use Rattle.gj_lex.specs.declared.reason.Reason.TheVariants.{Number};
 ghost use Rattle.gj_forms.specs.LineForms.{AreLine, BreaksForm};
 ghost use Rattle.gj_shape.specs.Limits.{greatest_order};
@@ -10,10 +10,10 @@ ghost use Rattle.gj_proof.specs.ProofGrammar.{group_part, groups_part};
 
 use crate::fields::count_below;
 use crate::pivot::PivotRow;
-use gj_lex::{
-    PartFault, Reason, Spelling, begins_with_line, begins_with_word, field_of, has_words, line_at,
-    two_fields_of,
+use gj_forms::{
+    PartFault, begins_with_line, begins_with_word, field_of, has_words, line_at, two_fields_of,
 };
+use gj_lex::{Reason, Spelling};
 use gj_shape::{GREATEST_ORDER, List, RowName};
 use std::alloc::Global;
 

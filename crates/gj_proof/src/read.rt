@@ -2,7 +2,7 @@
 
 ghost use Rattle.std.specs.Prelude.{◌≡◌, [], IfOk, IfErr, IfSome, IfNone, MatchResult};
 ghost use Rattle.gj_lex.specs.Words.{word_texts};
-ghost use Rattle.gj_lex.specs.Parts.{IsFaultOf};
+ghost use Rattle.gj_forms.specs.Parts.{IsFaultOf};
 ghost use Rattle.gj_forms.specs.LineForms.{AreOfForm, AreLine};
 ghost use Rattle.gj_proof.specs.ProofText.{IsBounded, IsProofText, extreme_claim};
 ghost use Rattle.gj_proof.specs.ProofGrammar.{title_form, claim_form, form_part, claim_part};
@@ -22,10 +22,9 @@ use crate::numbers::Numbers;
 use crate::pivot::PivotRow;
 use crate::pivot_rows::groups_at;
 use crate::violations::violation_at;
+use gj_forms::{PartFault, end_at, field_of, has_words, line_at, line_number, words_at};
 use gj_function_lines::function_at;
-use gj_lex::{
-    PartFault, Reason, Spelling, end_at, field_of, has_words, line_at, line_number, words_at,
-};
+use gj_lex::{Reason, Spelling};
 use gj_shape::{CoverLine, List, Shape};
 use std::alloc::Global;
 

@@ -2,12 +2,13 @@
 
 ghost use Rattle.std.specs.Prelude.{IfOk, IfErr};
 ghost use Rattle.gj_lex.specs.Words.{word_texts};
-ghost use Rattle.gj_lex.specs.Parts.{IsFaultOf};
+ghost use Rattle.gj_forms.specs.Parts.{IsFaultOf};
 ghost use Rattle.gj_forms.specs.LineForms.{AreLine, BreaksForm};
 ghost use Rattle.gj_proof.specs.ProofGrammar.{violation_form, form_part};
 
 use crate::fields::number_of;
-use gj_lex::{PartFault, Reason, Spelling, field_of, has_words, line_at, two_fields_of};
+use gj_forms::{PartFault, field_of, has_words, line_at, two_fields_of};
+use gj_lex::{Reason, Spelling};
 use gj_shape::Violation;
 
 /// The violation in the first line of the text, and what follows the line. It takes no memory.

@@ -8,9 +8,10 @@ ghost use Rattle.gj_proof.specs.ProofText.{terms_of, row_text};
 ghost use Rattle.gj_proof.specs.declared.cut.CutLine.TheVariants.{Cut, Skip};
 
 use crate::cut::{CutLine, CutRule, CutTerm, SkipReason};
+use gj_forms::{write_pair, write_word};
 use gj_frac::Frac;
 use gj_function_lines::push_function_lines;
-use gj_lex::{Name, write_pair, write_spaced, write_word};
+use gj_lex::{Name, write_spaced};
 use std::alloc::{AllocError, Global};
 
 /// The length of the longest end of a line of a name and two fractions: the name, the fractions,

@@ -1,6 +1,6 @@
 -- What follows from the outcome of a run.
-use Rattle.std.proofs.Common.{◌≡◌, ◌≢◌, ◌⊎◌, inl, inr, ℕ, ◌+◌, ◌<◌, ◌≤◌, Bool, true, false, List, [], ◌++◌, length, IsTrue, IfSome, Option}
-use Rattle.std.proofs.Common.{None, Some, String, refl, sym, ap, subst, ◌∙◌, arith}
+use Rattle.std.proofs.Common.{◌≡◌, ◌≢◌, ◌⊎◌, inl, inr, ℕ, ◌+◌, ◌≤◌, Bool, true, false, List, [], ◌++◌, length, IsTrue, IfSome, Option}
+use Rattle.std.proofs.Common.{None, Some, String, refl, ap, subst, ◌∙◌, arith}
 use Rattle.std.proofs.lemmas.List.{drop_all}
 use Rattle.std.specs.declared.alloc.Global.{Global}
 use Rattle.gj_port.specs.Runs.{IsSourceFault, Gains}
@@ -21,7 +21,7 @@ use Rattle.gj_top.specs.Answer.IsAnswerTo.{too_long, refused, replied}
 use Rattle.gj_top.specs.Answer.IsUnanswered.{unread, so_far}
 use Rattle.gj_top.specs.Answer.IsAnswer.{no_request, read_fault, of_request}
 use Rattle.gj_top.specs.Causes.{IsTrueRun, IsDoneRun, IsInput, IsGoodInput, IsBadInput, ReadNothing, IsStatusOf, IsCause, IsStatusOfReply}
-use Rattle.gj_top.specs.Run.{Run, SourceFailed, SinkFailed, IsGiven, OfWritten, IsAnswerOf}
+use Rattle.gj_top.specs.Run.{Run, SourceFailed, SinkFailed, IsGiven, OfWritten}
 use Rattle.gj_top.specs.Outcome.{IsOutcome, IsUnsure}
 use Rattle.gj_top.specs.Outcome.IsOutcome.{silent, told, cut_off}
 use Rattle.gj_top.proofs.Commands.{one_named}

@@ -1,8 +1,8 @@
 -- Inputs by their lines, and as the readers find them.
 use Rattle.std.proofs.Common.{◌≡◌, inl, inr, codes, ℕ, List, [], ◌∷◌, ◌++◌, refl, sym, subst}
-use Rattle.gj_lex.specs.TextLines.{HasLines, HasNextLine}
+use Rattle.gj_forms.specs.TextLines.{HasLines, HasNextLine}
 use Rattle.gj_lex.specs.declared.spelling.Spelling.TheVariants.{Lenient}
-use Rattle.gj_lex.proofs.WhereLaws.{other_word}
+use Rattle.gj_forms.proofs.WhereLaws.{other_word}
 use Rattle.gj_shape.specs.FunctionData.{FunctionData}
 use Rattle.gj_function_text.specs.BreaksText.{end_words}
 use Rattle.gj_function_text.specs.FunctionText.{title_words, breaks_title_words, IsWholeFunctionText}

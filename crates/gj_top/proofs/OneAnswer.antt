@@ -1,5 +1,5 @@
--- The task of each request gives one answer to an input; only the text of the cuts of a problem may
--- differ.
+-- The task of each request gives one answer to an input. Of the text of the cuts of a problem this
+-- is not shown.
 use Rattle.std.proofs.Common.{◌≡◌, ◌≢◌, ◌⊎◌, inl, inr, ℕ, Bool, false, List, refl}
 use Rattle.gj_shape.specs.FunctionData.{FunctionData, IsContinuous}
 use Rattle.gj_words.specs.declared.requests.Command.{Command}
@@ -32,7 +32,7 @@ use Rattle.gj_top.proofs.OneTable.{one_group_reply}
 use Rattle.gj_top.proofs.OneVerdict.{of_functions as determined, one_continuous, one_verdict, one_extremality, check_is_determined}
 use Rattle.gj_top.proofs.Sound.{sound}
 
--- the texts of a command are determined
+-- it is shown that a text of the command that comes with Done is the only one
 abbrev pub IsExact : Command → Type 0
 IsExact c = c ≢ Problem
 

@@ -21,7 +21,7 @@ use Rattle.gj_mixed.specs.Slopes.{IsWeight, AreGmicSlopes}
 use Rattle.gj_mixed.specs.declared.cut.MixedCut.{MixedCut}
 use Rattle.gj_mixed.specs.declared.cut.MixedCut.TheVariants as mixed_cut
 use Rattle.gj_cut_text.specs.Columns.{continuous_columns}
-use Rattle.gj_cut_text.specs.MixedLines.{IsNamedTerm, IsMixedCutBy, NamesMixedCut, IsMixedLineFor, AreMixedCutsOf, MakesMixedCuts, mixed_row_text}
+use Rattle.gj_cut_text.specs.MixedLines.{IsNamedTerm, IsMixedCutBy, NamesMixedCut, IsMixedLineFor, AreMixedCutsOf, mixed_row_text}
 use Rattle.gj_cut_text.specs.declared.mixed_lines.MixedLine.{MixedLine}
 use Rattle.gj_check.proofs.FractionalParts.{one_part, part_inside, one_minus_some, one_gmic_value}
 use Rattle.gj_check.proofs.ValuesOfCuts.{one_value}

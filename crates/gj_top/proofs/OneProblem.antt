@@ -2,7 +2,6 @@
 use Rattle.std.proofs.Common.{◌≡◌, inl, inr, ℕ, List, refl, sym, subst}
 use Rattle.gj_function_text.proofs.FunctionTexts.{function_is_within}
 use Rattle.gj_proof.specs.ProofText.{IsBoundedRule}
-use Rattle.gj_proof.specs.declared.cut.CutRule.TheVariants.{Gmic, Table}
 use Rattle.gj_problem_text.specs.SafeInputs.{IsSafeInput}
 use Rattle.gj_problem_text.specs.declared.input.SafeInput.{SafeInput}
 use Rattle.gj_problem_text.proofs.InputParts.{one_input, one_fault}

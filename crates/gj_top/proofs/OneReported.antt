@@ -5,7 +5,7 @@ use Rattle.std.proofs.lemmas.List.Elements.{All-head, All-tail, All-append}
 use Rattle.gj_frac.specs.declared.Frac.{Frac}
 use Rattle.gj_frac.specs.Fraction.{IsRatio}
 use Rattle.gj_frac.proofs.SameValues.{same_from_is}
-use Rattle.gj_lex.proofs.LenientLines.{one_cut}
+use Rattle.gj_forms.proofs.LenientLines.{one_cut}
 use Rattle.gj_function_lines.specs.FunctionLines.{line}
 use Rattle.gj_shape.specs.FunctionData.{FunctionData, IsWithinBounds}
 use Rattle.gj_json.specs.JsonText.{IsPrintable, AreRatios, IsJsonText, IsReport, function_value, json_line, report_value}

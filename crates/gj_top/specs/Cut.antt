@@ -2,7 +2,7 @@
 -- its rows (Gomory and Johnson 1972; the form is own).
 use Rattle.std.specs.Prelude.{ℕ, ◌≡◌, List, [], ◌∷◌, ◌++◌, All, codes, decimal}
 use Rattle.std.specs.List.{AllZip}
-use Rattle.gj_lex.specs.TextLines.{HasLines}
+use Rattle.gj_forms.specs.TextLines.{HasLines}
 use Rattle.gj_lex.specs.declared.spelling.Spelling.TheVariants.{Lenient}
 use Rattle.gj_function_lines.specs.FunctionLines.{line}
 use Rattle.gj_function_text.specs.BreaksText.{end_words}

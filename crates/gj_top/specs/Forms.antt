@@ -2,7 +2,7 @@
 use Rattle.std.specs.Prelude.{ℕ, ◌≡◌, ◌⊎◌, Bool, true, false, List, ◌++◌, codes}
 use Rattle.gj_lex.specs.declared.reason.Reason.{Reason}
 use Rattle.gj_lex.specs.declared.spelling.Spelling.TheVariants.{Lenient}
-use Rattle.gj_lex.specs.TextLines.{HasNothing}
+use Rattle.gj_forms.specs.TextLines.{HasNothing}
 use Rattle.gj_shape.specs.FunctionData.{FunctionData}
 use Rattle.gj_function_lines.specs.FunctionLines.{line}
 use Rattle.gj_function_text.specs.FirstFault.{IsFirstFaultOfWhole}

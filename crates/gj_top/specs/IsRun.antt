@@ -1,11 +1,10 @@
 -- What holds of each run of the program, beside the headline (own).
-use Rattle.std.specs.Prelude.{ℕ, ◌≡◌, ◌≢◌, ◌⊎◌, ◌≤◌, Bool, List, [], length, IsTrue, Option, Some, IfSome}
+use Rattle.std.specs.Prelude.{ℕ, ◌≡◌, ◌≢◌, ◌⊎◌, ◌≤◌, Bool, List, [], length, IsTrue, Some, IfSome}
 use Rattle.gj_port.specs.Runs.{Gains}
 use Rattle.gj_shape.specs.FunctionData.{FunctionData}
 use Rattle.gj_shape.specs.Table.{IsMinimal}
 use Rattle.gj_shape.specs.TwoSlopes.{HasTwoSlopes}
 use Rattle.gj_words.specs.declared.requests.Request.{Request}
-use Rattle.gj_top.specs.declared.status.Status.{Status}
 use Rattle.gj_top.specs.declared.status.Status.TheVariants.{Done, Words, Input, ReadFault, WriteFault, Memory, Wide, NotContinuous}
 use Rattle.gj_top.specs.Command.{IsNamed, NameNone, promise_for, task_for}
 use Rattle.gj_top.specs.Promise.{reads}

@@ -88,8 +88,8 @@ pub fn one_proof_in_a_report()
 {}
 
 /// To words and an input there is one status, and one text: words name at most one request, and a
-/// request has one answer to an input. If that ends with Done it is the reply. Only the text of
-/// the cuts of a problem may differ, as in numbers that do not fit.
+/// request has one answer to an input. If that ends with Done it is the reply. Of the text of the
+/// cuts of a problem it is not said that there is only one.
 pub fn one_answer()
     ensures request { (words : List (String Global)) (r q : Request) → IsNamed words r →
         IsNamed words q → r ≡ q }

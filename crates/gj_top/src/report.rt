@@ -1,5 +1,5 @@
 //! Proof texts, as they are or reported in JSON.
-ghost use Rattle.std.specs.Prelude.{List, ℕ, IfOk};
+ghost use Rattle.std.specs.Prelude.{IfOk};
 ghost use Rattle.gj_proof.specs.ProofText.{IsBounded, IsProofText};
 ghost use Rattle.gj_top.specs.Report.{Tells};
 

@@ -1,6 +1,6 @@
 use Rattle.std.proofs.Common.{◌∙◌, ◌↔◌, IsTrue, pos, subst₂}
 use Rattle.gj_frac.specs.Fraction.{IsRatio}
-use Rattle.gj_check.proofs.TestsInTurn.{in_other_words}
+use Rattle.gj_check_minimal.proofs.TestsInTurn.{in_other_words}
 use Rattle.gj_check.proofs.FractionalParts.{part_is_fraction}
 use Rattle.gj_check.proofs.cut_values.has_place.Goals as goal
 

@@ -1,6 +1,6 @@
 use Rattle.std.proofs.Common.{◌*◌, ◌≤◌, subst, arith}
 use Rattle.std.proofs.Math.Nat.{mul_comm, mul-le-mul_right}
-use Rattle.gj_check.proofs.TestsInTurn.{in_other_words}
+use Rattle.gj_check_minimal.proofs.TestsInTurn.{in_other_words}
 use Rattle.gj_check.proofs.FractionalParts.{are_parts, place_some, gmic_rising, gmic_falling}
 use Rattle.gj_check.proofs.cut_values.is_gmic_coefficient.Goals as goal
 

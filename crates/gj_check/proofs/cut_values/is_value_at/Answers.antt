@@ -1,6 +1,6 @@
 use Rattle.std.proofs.Common.{◌∙◌, ◌*◌, ap, arith}
 use Rattle.std.proofs.lemmas.Int.{ints}
-use Rattle.gj_check.proofs.TestsInTurn.{in_other_words}
+use Rattle.gj_check_minimal.proofs.TestsInTurn.{in_other_words}
 use Rattle.gj_check.proofs.ValuesOfCuts.{minimal_numbers, piece_decides}
 use Rattle.gj_check.proofs.cut_values.is_value_at.Goals as goal
 

@@ -1,4 +1,4 @@
-use Rattle.gj_check.proofs.TestsInTurn.{first_passes}
+use Rattle.gj_check_minimal.proofs.TestsInTurn.{first_passes}
 use Rattle.gj_check.proofs.Multiples.{one_read}
 use Rattle.gj_check.proofs.denominators.is_coordinate.Goals as goal
 

@@ -5,7 +5,7 @@ use Rattle.gj_check_groups.specs.Groups.{IsGroupsOutcome}
 use Rattle.gj_check.specs.declared.rules.CheckRule.TheVariants.{Cover, Rank}
 use Rattle.gj_check.specs.CoverLines.{IsCoverOutcome}
 use Rattle.gj_check.specs.FirstFailure.{IsFirstFailure}
-use Rattle.gj_check.proofs.TestsInTurn.{denied}
+use Rattle.gj_check_minimal.proofs.TestsInTurn.{denied}
 use Rattle.gj_check.proofs.ExtremeDemands.{extreme_not_minimal, extreme_not_continuous, extreme_cover_broken, extreme_group_fails, extreme_rank_fails, extreme_meets}
 use Rattle.gj_proof.proofs.LineCounts.{length-covered}
 use Rattle.gj_check.proofs.OwnLineNumbers.{function_lines}

@@ -4,7 +4,7 @@ use Rattle.gj_proof.specs.Rules.{IsMinimalHalf}
 use Rattle.gj_check.specs.declared.rules.CheckRule.TheVariants.{Scale, First, Second, Same}
 use Rattle.gj_check.specs.FirstFailure.{IsFirstFailure}
 use Rattle.gj_check.specs.HalvesRules.{AreDifferent}
-use Rattle.gj_check.proofs.TestsInTurn.{denied}
+use Rattle.gj_check_minimal.proofs.TestsInTurn.{denied}
 use Rattle.gj_check.proofs.HalvesTests.{scale_met}
 use Rattle.gj_check.proofs.HalvesDemands.{halves_not_minimal, halves_not_continuous, halves_scale_fails, halves_pair_fails, halves_first_fails, halves_second_fails, halves_same_fails, halves_meet}
 use Rattle.gj_check.proofs.OwnLineNumbers.{function_lines, behind_function}

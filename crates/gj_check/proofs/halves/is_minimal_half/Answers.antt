@@ -1,8 +1,8 @@
 use Rattle.std.proofs.Common.{◌↔◌, ◌*◌, length, unsigned_abs, IsTrue, IfOk, subst₂, sym}
 use Rattle.gj_shape.specs.FunctionData.{at}
 use Rattle.gj_shape.specs.Table.{IsMinimalTable}
-use Rattle.gj_check.specs.Tables.{IsTableInRange}
-use Rattle.gj_check.proofs.TestsInTurn.{in_other_words_ok}
+use Rattle.gj_check_minimal.specs.Tables.{IsTableInRange}
+use Rattle.gj_check_minimal.proofs.TestsInTurn.{in_other_words_ok}
 use Rattle.gj_check.proofs.HalvesTests.{halves_scale_read, half_in_range, half_by}
 use Rattle.gj_check.proofs.halves.is_minimal_half.Goals as goal
 

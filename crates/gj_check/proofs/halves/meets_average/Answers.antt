@@ -1,7 +1,7 @@
 use Rattle.std.proofs.Common.{◌≡◌, ◌↔◌, ◌*ℤ◌, ◌*◌, pos, IsTrue, subst, arith}
 use Rattle.std.proofs.lemmas.Int.{ints}
 use Rattle.gj_shape.specs.Table.{table}
-use Rattle.gj_check.proofs.TestsInTurn.{in_other_words}
+use Rattle.gj_check_minimal.proofs.TestsInTurn.{in_other_words}
 use Rattle.gj_check.proofs.HalvesTests.{half_read, sum_of_halves, average_by}
 use Rattle.gj_check.proofs.halves.meets_average.Goals as goal
 

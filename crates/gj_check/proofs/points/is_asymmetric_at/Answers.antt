@@ -1,6 +1,6 @@
 use Rattle.std.proofs.Common.{◌≢◌, rules}
 use Rattle.gj_frac.specs.Fraction.{numerator, denominator}
-use Rattle.gj_check.proofs.TestsInTurn.{in_other_words}
+use Rattle.gj_check_minimal.proofs.TestsInTurn.{in_other_words}
 use Rattle.gj_check.proofs.ShownPoints.{one_fine, one_within, coordinate_small, opposite_fine, asymmetric_fits, asymmetric_shown}
 use Rattle.gj_check.proofs.points.is_asymmetric_at.Goals as goal
 

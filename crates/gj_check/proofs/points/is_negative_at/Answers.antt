@@ -1,6 +1,6 @@
 use Rattle.std.proofs.Common.{◌<ℤ◌, pos, rules}
 use Rattle.gj_frac.specs.Fraction.{numerator}
-use Rattle.gj_check.proofs.TestsInTurn.{in_other_words}
+use Rattle.gj_check_minimal.proofs.TestsInTurn.{in_other_words}
 use Rattle.gj_check.proofs.ShownPoints.{one_fine, one_within, negative_shown}
 use Rattle.gj_check.proofs.points.is_negative_at.Goals as goal
 

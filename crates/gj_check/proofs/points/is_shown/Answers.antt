@@ -1,5 +1,5 @@
 use Rattle.std.proofs.Common.{◌≢◌, pos, get_or, w64, FitsSigned, ap, rules}
-use Rattle.gj_check.proofs.TestsInTurn.{first_fails, first_passes, in_other_words}
+use Rattle.gj_check_minimal.proofs.TestsInTurn.{first_fails, first_passes, in_other_words}
 use Rattle.gj_check.proofs.ShownPoints.{point_read, zero_read}
 use Rattle.gj_check.proofs.points.is_shown.Goals as goal
 

@@ -1,6 +1,6 @@
 use Rattle.std.proofs.Common.{rules}
 use Rattle.gj_frac.specs.Fraction.{LessValue, fraction_of}
-use Rattle.gj_check.proofs.TestsInTurn.{in_other_words}
+use Rattle.gj_check_minimal.proofs.TestsInTurn.{in_other_words}
 use Rattle.gj_check.proofs.ShownPoints.{first_fine, second_fine, first_within, second_within, coordinates_fit_sum, values_fit, sum_fine, sum_small, superadditive_shown}
 use Rattle.gj_check.proofs.points.is_superadditive_at.Goals as goal
 

@@ -1,5 +1,5 @@
 use Rattle.std.proofs.Common.{inl}
-use Rattle.gj_lex.proofs.PartLaws.{line_refused}
+use Rattle.gj_forms.proofs.PartLaws.{line_refused}
 use Rattle.gj_function_lines.specs.FunctionGrammar.{point_rule}
 use Rattle.gj_function_lines.proofs.points.point_line_at.Goals as goal
 

@@ -2,8 +2,8 @@ use Rattle.std.proofs.Common.{codes}
 use Rattle.std.proofs.lemmas.Bool.{false≢true}
 use Rattle.std.proofs.lemmas.Result.{IfErr-weaker}
 use Rattle.gj_lex.specs.declared.spelling.Spelling.TheVariants.{Lenient}
-use Rattle.gj_lex.specs.Parts.{IsFaultOf, BeginsWithWord}
-use Rattle.gj_lex.proofs.WhereLaws.{fault_else}
+use Rattle.gj_forms.specs.Parts.{IsFaultOf, BeginsWithWord}
+use Rattle.gj_forms.proofs.WhereLaws.{fault_else}
 use Rattle.gj_function_lines.specs.FunctionGrammar.{function_part}
 use Rattle.gj_function_text.specs.FunctionText.{family_part, body_part}
 use Rattle.gj_function_text.proofs.body.body_at.Goals as goal

@@ -1,6 +1,6 @@
 use Rattle.std.proofs.Common.{inl}
 use Rattle.gj_lex.specs.declared.spelling.Spelling.TheVariants.{Lenient}
-use Rattle.gj_lex.proofs.PartLaws.{line_refused}
+use Rattle.gj_forms.proofs.PartLaws.{line_refused}
 use Rattle.gj_function_text.specs.BreaksText.{break_rule}
 use Rattle.gj_function_text.proofs.BreaksRead.{break_refused}
 use Rattle.gj_function_text.proofs.breaks.break_at.Goals as goal

@@ -1,7 +1,7 @@
 use Rattle.std.proofs.lemmas.Result.{IfOk-weaker, IfErr-weaker}
 use Rattle.gj_lex.specs.declared.spelling.Spelling.TheVariants.{Lenient}
-use Rattle.gj_lex.specs.Parts.{line_part, loop_part, IsFaultOf}
-use Rattle.gj_lex.proofs.PartLaws.{fault_in_next}
+use Rattle.gj_forms.specs.Parts.{line_part, loop_part, IsFaultOf}
+use Rattle.gj_forms.proofs.PartLaws.{fault_in_next}
 use Rattle.gj_function_text.specs.BreaksText.{start_rule, next_break, breaks_part}
 use Rattle.gj_function_text.proofs.breaks.breaks_at.Goals as goal
 

@@ -1,7 +1,7 @@
 use Rattle.std.proofs.Common.{inl, refl}
 use Rattle.std.proofs.lemmas.Bool.{false≢true}
 use Rattle.gj_lex.specs.declared.spelling.Spelling.TheVariants.{Lenient}
-use Rattle.gj_lex.proofs.PartLaws.{line_refused}
+use Rattle.gj_forms.proofs.PartLaws.{line_refused}
 use Rattle.gj_function_text.specs.BreaksText.{end_rule}
 use Rattle.gj_function_text.proofs.BreaksRead.{end_refused}
 use Rattle.gj_function_text.proofs.breaks.last_at.Goals as goal

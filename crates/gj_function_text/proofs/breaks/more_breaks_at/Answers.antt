@@ -2,10 +2,10 @@ use Rattle.std.proofs.Common.{refl}
 use Rattle.std.proofs.lemmas.Bool.{false≢true}
 use Rattle.std.proofs.lemmas.Result.{err_from_is_err_and, IfOk-weaker, IfErr-weaker}
 use Rattle.gj_lex.specs.declared.spelling.Spelling.TheVariants.{Lenient}
-use Rattle.gj_lex.specs.Parts.{line_part, loop_part, IsFaultOf}
-use Rattle.gj_lex.proofs.PartLaws.{passed_on}
-use Rattle.gj_lex.proofs.LoopRead.{leads_at_first}
-use Rattle.gj_lex.proofs.WhereLaws.{shorter_behind_line}
+use Rattle.gj_forms.specs.Parts.{line_part, loop_part, IsFaultOf}
+use Rattle.gj_forms.proofs.PartLaws.{passed_on}
+use Rattle.gj_forms.proofs.LoopRead.{leads_at_first}
+use Rattle.gj_forms.proofs.WhereLaws.{shorter_behind_line}
 use Rattle.gj_function_text.specs.BreaksText.{break_rule, end_rule, next_break}
 use Rattle.gj_function_text.proofs.BreaksRead.{break_on, breaks_end, fault_in_break, fault_at_end}
 use Rattle.gj_function_text.proofs.breaks.more_breaks_at.Goals as goal

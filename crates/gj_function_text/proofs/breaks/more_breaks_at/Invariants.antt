@@ -1,5 +1,5 @@
 use Rattle.std.proofs.Common.{length}
-use Rattle.gj_lex.proofs.LoopRead.{LeadsOn}
+use Rattle.gj_forms.proofs.LoopRead.{LeadsOn}
 use Rattle.gj_function_text.specs.BreaksText.{next_break}
 use Rattle.gj_function_text.proofs.breaks.more_breaks_at.Given as goal
 

@@ -1,7 +1,7 @@
 use Rattle.std.proofs.lemmas.Result.{IfErr-weaker}
 use Rattle.gj_lex.specs.declared.spelling.Spelling.TheVariants.{Lenient}
-use Rattle.gj_lex.specs.Parts.{words_rule, line_part, IsFaultOf}
-use Rattle.gj_lex.proofs.PartLaws.{fault_in_next}
+use Rattle.gj_forms.specs.Parts.{words_rule, line_part, IsFaultOf}
+use Rattle.gj_forms.proofs.PartLaws.{fault_in_next}
 use Rattle.gj_function_text.specs.BreaksText.{breaks_part}
 use Rattle.gj_function_text.specs.FunctionText.{breaks_title_words, breaks_text}
 use Rattle.gj_function_text.proofs.read.breaks_text_at.Goals as goal

@@ -1,8 +1,8 @@
 use Rattle.std.proofs.lemmas.Bool.{false≢true}
 use Rattle.std.proofs.lemmas.Result.{IfErr-weaker}
 use Rattle.gj_lex.specs.declared.spelling.Spelling.TheVariants.{Lenient}
-use Rattle.gj_lex.specs.Parts.{BeginsWithLine, IsFaultOf}
-use Rattle.gj_lex.proofs.WhereLaws.{fault_else}
+use Rattle.gj_forms.specs.Parts.{BeginsWithLine, IsFaultOf}
+use Rattle.gj_forms.proofs.WhereLaws.{fault_else}
 use Rattle.gj_function_text.specs.FunctionText.{breaks_title_words, points_text, breaks_text, function_text}
 use Rattle.gj_function_text.proofs.read.function_text_at.Goals as goal
 

@@ -1,6 +1,6 @@
 use Rattle.std.proofs.lemmas.Result.{err_from_is_err_and}
-use Rattle.gj_lex.specs.Parts.{IsFaultOf}
-use Rattle.gj_lex.proofs.PartLaws.{passed_on}
+use Rattle.gj_forms.specs.Parts.{IsFaultOf}
+use Rattle.gj_forms.proofs.PartLaws.{passed_on}
 use Rattle.gj_function_text.specs.FunctionText.{points_text}
 use Rattle.gj_function_text.proofs.FunctionTexts.{fault_in_body, fault_in_end}
 use Rattle.gj_function_text.proofs.read.points_text_at.Goals as goal

@@ -1,4 +1,4 @@
-use Rattle.gj_lex.proofs.LineNumbers.{no_fault_of, first_fault_of}
+use Rattle.gj_forms.proofs.LineNumbers.{no_fault_of, first_fault_of}
 use Rattle.gj_function_text.specs.FunctionText.{whole_function_text}
 use Rattle.gj_function_text.proofs.OneText.{whole_function_text_is_exact, one_whole_function}
 use Rattle.gj_function_text.proofs.read.read_whole_function.Goals as goal

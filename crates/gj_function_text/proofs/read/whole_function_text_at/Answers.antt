@@ -1,7 +1,7 @@
 use Rattle.std.proofs.lemmas.Result.{err_from_is_err_and}
 use Rattle.gj_lex.specs.declared.spelling.Spelling.TheVariants.{Lenient}
-use Rattle.gj_lex.specs.Parts.{IsFaultOf, end_part}
-use Rattle.gj_lex.proofs.PartLaws.{passed_on, fault_in_first, fault_in_next, tail_refused}
+use Rattle.gj_forms.specs.Parts.{IsFaultOf, end_part}
+use Rattle.gj_forms.proofs.PartLaws.{passed_on, fault_in_first, fault_in_next, tail_refused}
 use Rattle.gj_function_text.specs.FunctionText.{function_text, whole_function_text}
 use Rattle.gj_function_text.proofs.FunctionTexts.{whole_text}
 use Rattle.gj_function_text.proofs.read.whole_function_text_at.Goals as goal

@@ -1,5 +1,5 @@
 use Rattle.std.proofs.Common.{◌∙◌, sym, subst, arith}
-use Rattle.gj_lex.proofs.LineNumbers.{rest_at_length, rest_not_longer, no_fault_of, first_fault_of}
+use Rattle.gj_forms.proofs.LineNumbers.{rest_at_length, rest_not_longer, no_fault_of, first_fault_of}
 use Rattle.gj_function_text.specs.RuleText.{rule_text, IsRuleText}
 use Rattle.gj_function_text.proofs.RuleTexts.{rule_text_is_exact, one_end}
 use Rattle.gj_function_text.proofs.rule.read_rule.Goals as goal

@@ -1,6 +1,6 @@
 use Rattle.std.proofs.lemmas.Result.{err_from_is_err_and}
-use Rattle.gj_lex.specs.Parts.{IsFaultOf}
-use Rattle.gj_lex.proofs.PartLaws.{passed_on}
+use Rattle.gj_forms.specs.Parts.{IsFaultOf}
+use Rattle.gj_forms.proofs.PartLaws.{passed_on}
 use Rattle.gj_function_text.specs.RuleText.{rule_text}
 use Rattle.gj_function_text.proofs.RuleTexts.{fault_in_name, fault_in_last}
 use Rattle.gj_function_text.proofs.rule.rule_text_at.Goals as goal

@@ -1,4 +1,4 @@
-use Rattle.gj_lex.specs.TextLines.{is_line_feed}
+use Rattle.gj_lex.specs.Lines.{is_line_feed}
 use Rattle.gj_lex.proofs.LineEnds.{line_at}
 use Rattle.gj_lex.proofs.Places.{first_from}
 use Rattle.gj_lex.proofs.cursor.line_end.Goals as goal

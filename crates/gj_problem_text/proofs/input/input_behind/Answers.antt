@@ -1,8 +1,8 @@
 use Rattle.std.proofs.Common.{◌≡◌, ◌-◌, ℕ, List, drop, take, length, subst, arith}
 use Rattle.std.proofs.lemmas.List.{length-drop, take_all}
-use Rattle.gj_lex.specs.Parts.{IsFaultOf}
-use Rattle.gj_lex.specs.declared.fault.PartFault.TheVariants.{Refused}
-use Rattle.gj_lex.proofs.LineNumbers.{first_fault_of}
+use Rattle.gj_forms.specs.Parts.{IsFaultOf}
+use Rattle.gj_forms.specs.declared.fault.PartFault.TheVariants.{Refused}
+use Rattle.gj_forms.proofs.LineNumbers.{first_fault_of}
 use Rattle.gj_problem_text.specs.SafeInputs.{unruled_text, safe_input}
 use Rattle.gj_problem_text.proofs.InputParts.{behind_read, behind_fault, safe_input_is_exact}
 use Rattle.gj_problem_text.proofs.input.input_behind.Goals as goal

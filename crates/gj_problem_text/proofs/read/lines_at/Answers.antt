@@ -2,9 +2,9 @@ use Rattle.std.proofs.Common.{refl}
 use Rattle.std.proofs.lemmas.Bool.{false≢true}
 use Rattle.std.proofs.lemmas.Result.{err_from_is_err_and}
 use Rattle.gj_lex.specs.declared.spelling.Spelling.TheVariants.{Lenient}
-use Rattle.gj_lex.specs.Parts.{IsFaultOf}
-use Rattle.gj_lex.proofs.PartLaws.{passed_on}
-use Rattle.gj_lex.proofs.WhereLaws.{shorter_behind_line}
+use Rattle.gj_forms.specs.Parts.{IsFaultOf}
+use Rattle.gj_forms.proofs.PartLaws.{passed_on}
+use Rattle.gj_forms.proofs.WhereLaws.{shorter_behind_line}
 use Rattle.gj_problem_text.specs.ProblemText.{lines_part}
 use Rattle.gj_problem_text.specs.Tasks.{task_rule}
 use Rattle.gj_problem_text.proofs.LinesOfProblem.{line_on, fault_in_line, lines_end, fault_at_end}

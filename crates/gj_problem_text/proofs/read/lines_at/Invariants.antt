@@ -1,5 +1,5 @@
 use Rattle.std.proofs.Common.{◌≡◌, ◌≤◌, length}
-use Rattle.gj_lex.proofs.LoopRead.{LeadsOn}
+use Rattle.gj_forms.proofs.LoopRead.{LeadsOn}
 use Rattle.gj_problem_text.specs.ProblemText.{no_task, next_line}
 use Rattle.gj_problem_text.specs.Tasks.{most_columns}
 use Rattle.gj_problem_text.proofs.read.lines_at.Given as goal

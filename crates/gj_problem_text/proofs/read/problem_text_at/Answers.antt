@@ -1,6 +1,6 @@
 use Rattle.std.proofs.lemmas.Result.{err_from_is_err_and}
-use Rattle.gj_lex.specs.Parts.{IsFaultOf}
-use Rattle.gj_lex.proofs.PartLaws.{passed_on}
+use Rattle.gj_forms.specs.Parts.{IsFaultOf}
+use Rattle.gj_forms.proofs.PartLaws.{passed_on}
 use Rattle.gj_problem_text.specs.ProblemText.{problem_text}
 use Rattle.gj_problem_text.proofs.TextParts.{fault_in_rule, fault_in_lines, fault_behind, whole_text}
 use Rattle.gj_problem_text.proofs.read.problem_text_at.Goals as goal

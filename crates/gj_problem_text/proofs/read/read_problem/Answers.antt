@@ -1,4 +1,4 @@
-use Rattle.gj_lex.proofs.LineNumbers.{no_fault_of, first_fault_of}
+use Rattle.gj_forms.proofs.LineNumbers.{no_fault_of, first_fault_of}
 use Rattle.gj_problem_text.specs.ProblemText.{problem_text}
 use Rattle.gj_problem_text.proofs.ExactText.{problem_text_is_exact, one_task}
 use Rattle.gj_problem_text.proofs.ReadyTasks.{ready_text}

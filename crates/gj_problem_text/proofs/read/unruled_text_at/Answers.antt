@@ -1,6 +1,6 @@
 use Rattle.std.proofs.lemmas.Result.{err_from_is_err_and}
-use Rattle.gj_lex.specs.Parts.{IsFaultOf}
-use Rattle.gj_lex.proofs.PartLaws.{passed_on}
+use Rattle.gj_forms.specs.Parts.{IsFaultOf}
+use Rattle.gj_forms.proofs.PartLaws.{passed_on}
 use Rattle.gj_problem_text.specs.SafeInputs.{unruled_text}
 use Rattle.gj_problem_text.proofs.InputParts.{fault_in_lines, fault_behind, whole_text}
 use Rattle.gj_problem_text.proofs.read.unruled_text_at.Goals as goal

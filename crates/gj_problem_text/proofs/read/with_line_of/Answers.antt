@@ -1,9 +1,9 @@
 use Rattle.std.proofs.Common.{◌≤◌, [], ◌∷◌, inr, length, length-append, subst, sym, arith}
 use Rattle.std.proofs.lemmas.Result.{IfOk-weaker, IfErr-weaker}
-use Rattle.gj_lex.specs.LineFaults.{IsRefusedFor}
+use Rattle.gj_forms.specs.LineFaults.{IsRefusedFor}
 use Rattle.gj_lex.specs.Words.{word_texts}
-use Rattle.gj_lex.specs.declared.line_fault.LineFault.{LineFault}
-use Rattle.gj_lex.proofs.PartLaws.{refused_for}
+use Rattle.gj_forms.specs.declared.line_fault.LineFault.{LineFault}
+use Rattle.gj_forms.proofs.PartLaws.{refused_for}
 use Rattle.gj_problem_text.specs.LinesRead.{line_told}
 use Rattle.gj_problem_text.specs.ProblemLines.{ProblemLine, column, constraint, entry, upper, sum, grid}
 use Rattle.gj_problem_text.specs.Tasks.{Adds, Refuses, most_columns, task_rule}

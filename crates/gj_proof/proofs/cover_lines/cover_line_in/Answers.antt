@@ -2,7 +2,7 @@ use Rattle.std.proofs.Common.{inl, refl}
 use Rattle.std.proofs.lemmas.Result.{err_from_is_err_and}
 use Rattle.gj_lex.specs.Words.{word_texts}
 use Rattle.gj_forms.specs.LineForms.{BreaksForm}
-use Rattle.gj_lex.proofs.PartLaws.{passed_on}
+use Rattle.gj_forms.proofs.PartLaws.{passed_on}
 use Rattle.gj_forms.proofs.LineLaws.{no_such_numbers}
 use Rattle.gj_proof.specs.ProofGrammar.{cover_form}
 use Rattle.gj_proof.proofs.BrokenLines.{of_kind, no_cover}

@@ -1,7 +1,7 @@
 use Rattle.std.proofs.Common.{arith}
 use Rattle.std.proofs.lemmas.Result.{err_from_is_err_and}
-use Rattle.gj_lex.specs.Parts.{IsFaultOf}
-use Rattle.gj_lex.proofs.PartLaws.{passed_on}
+use Rattle.gj_forms.specs.Parts.{IsFaultOf}
+use Rattle.gj_forms.proofs.PartLaws.{passed_on}
 use Rattle.gj_proof.specs.ProofGrammar.{cover_form, form_part, covered_part}
 use Rattle.gj_forms.proofs.ListRead.{times_on, times_at_fault}
 use Rattle.gj_proof.proofs.cover_lines.cover_lines_at.Goals as goal

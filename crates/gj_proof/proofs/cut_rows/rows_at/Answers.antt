@@ -1,8 +1,8 @@
 use Rattle.std.proofs.lemmas.Bool.{false≢true}
 use Rattle.std.proofs.lemmas.Result.{err_from_is_err_and}
 use Rattle.std.proofs.Common.{refl}
-use Rattle.gj_lex.specs.Parts.{IsFaultOf}
-use Rattle.gj_lex.proofs.PartLaws.{passed_on}
+use Rattle.gj_forms.specs.Parts.{IsFaultOf}
+use Rattle.gj_forms.proofs.PartLaws.{passed_on}
 use Rattle.gj_proof.specs.ProofGrammar.{row_part, rows_part}
 use Rattle.gj_proof.proofs.CutTexts.{BeginsEnd, shorter_behind_row}
 use Rattle.gj_forms.proofs.ListRead.{until_on, until_end, until_at_fault}

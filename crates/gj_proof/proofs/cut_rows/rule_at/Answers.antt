@@ -1,7 +1,7 @@
 use Rattle.std.proofs.lemmas.Bool.{false≢true}
 use Rattle.std.proofs.lemmas.Result.{err_from_is_err_and}
-use Rattle.gj_lex.specs.Parts.{IsFaultOf}
-use Rattle.gj_lex.proofs.PartLaws.{passed_on}
+use Rattle.gj_forms.specs.Parts.{IsFaultOf}
+use Rattle.gj_forms.proofs.PartLaws.{passed_on}
 use Rattle.gj_proof.specs.ProofGrammar.{rule_part}
 use Rattle.gj_proof.proofs.CutRead.{fault_in_gmic, fault_in_table}
 use Rattle.gj_proof.proofs.cut_rows.rule_at.Goals as goal

@@ -1,8 +1,8 @@
 use Rattle.std.proofs.Common.{ℤ, [], ◌∷◌, ◌++◌, refl, ap, ◌∙◌, arith}
 use Rattle.std.proofs.lemmas.Result.{err_from_is_err_and}
-use Rattle.gj_lex.specs.Parts.{IsFaultOf}
+use Rattle.gj_forms.specs.Parts.{IsFaultOf}
 use Rattle.gj_lex.proofs.CanonicalTexts.{within_bits}
-use Rattle.gj_lex.proofs.PartLaws.{passed_on}
+use Rattle.gj_forms.proofs.PartLaws.{passed_on}
 use Rattle.gj_proof.specs.ProofGrammar.{pair_form, form_part, pairs_part}
 use Rattle.gj_proof.proofs.ExtremeRead.{pairs_on, pairs_end}
 use Rattle.gj_forms.proofs.ListRead.{times_at_fault}

@@ -1,6 +1,6 @@
 use Rattle.std.proofs.lemmas.Result.{err_from_is_err_and}
-use Rattle.gj_lex.specs.Parts.{IsFaultOf}
-use Rattle.gj_lex.proofs.PartLaws.{passed_on}
+use Rattle.gj_forms.specs.Parts.{IsFaultOf}
+use Rattle.gj_forms.proofs.PartLaws.{passed_on}
 use Rattle.gj_proof.specs.ProofGrammar.{group_part}
 use Rattle.gj_proof.proofs.ExtremeRead.{fault_in_steps, fault_in_pivot}
 use Rattle.gj_proof.proofs.pivot_rows.group_at.Goals as goal

@@ -1,5 +1,5 @@
 use Rattle.std.proofs.Common.{[], length}
-use Rattle.gj_lex.proofs.LoopRead.{LeadsOn}
+use Rattle.gj_forms.proofs.LoopRead.{LeadsOn}
 use Rattle.gj_forms.specs.ListParts.{next_until}
 use Rattle.gj_proof.specs.ProofGrammar.{group_part}
 use Rattle.gj_proof.proofs.CutTexts.{BeginsEnd}

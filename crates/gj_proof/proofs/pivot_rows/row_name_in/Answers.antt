@@ -3,7 +3,7 @@ use Rattle.std.proofs.lemmas.Result.{err_from_is_err_and}
 use Rattle.gj_lex.specs.Words.{word_texts}
 use Rattle.gj_lex.proofs.Decimals.{same_from_decimal}
 use Rattle.gj_forms.specs.LineForms.{BreaksForm}
-use Rattle.gj_lex.proofs.PartLaws.{passed_on}
+use Rattle.gj_forms.proofs.PartLaws.{passed_on}
 use Rattle.gj_forms.proofs.LineLaws.{no_such_numbers}
 use Rattle.gj_shape.specs.declared.extremality.RowName.TheVariants.{Pair}
 use Rattle.gj_proof.specs.ProofGrammar.{row_name_form}

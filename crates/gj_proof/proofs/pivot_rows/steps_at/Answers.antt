@@ -1,9 +1,9 @@
 use Rattle.gj_lex.specs.declared.spelling.Spelling.TheVariants.{Strict}
 use Rattle.std.proofs.lemmas.Bool.{false≢true}
 use Rattle.std.proofs.lemmas.Result.{err_from_is_err_and}
-use Rattle.gj_lex.specs.Parts.{IsFaultOf}
-use Rattle.gj_lex.proofs.PartLaws.{passed_on}
-use Rattle.gj_lex.proofs.WhereLaws.{shorter_behind_line}
+use Rattle.gj_forms.specs.Parts.{IsFaultOf}
+use Rattle.gj_forms.proofs.PartLaws.{passed_on}
+use Rattle.gj_forms.proofs.WhereLaws.{shorter_behind_line}
 use Rattle.gj_forms.specs.LineForms.{rule_of}
 use Rattle.gj_proof.specs.ProofGrammar.{form_part, steps_part}
 use Rattle.gj_proof.proofs.ExtremeTexts.{BeginsStep, reduce_form}

@@ -1,5 +1,5 @@
 use Rattle.std.proofs.Common.{[], length}
-use Rattle.gj_lex.proofs.LoopRead.{LeadsOn}
+use Rattle.gj_forms.proofs.LoopRead.{LeadsOn}
 use Rattle.gj_forms.specs.ListParts.{next_while}
 use Rattle.gj_proof.specs.ProofGrammar.{form_part}
 use Rattle.gj_proof.proofs.ExtremeTexts.{BeginsStep, reduce_form}

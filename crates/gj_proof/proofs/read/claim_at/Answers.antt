@@ -1,5 +1,5 @@
 use Rattle.std.proofs.Common.{IfErr, sym, subst}
-use Rattle.gj_lex.specs.Parts.{IsFaultOf}
+use Rattle.gj_forms.specs.Parts.{IsFaultOf}
 use Rattle.gj_proof.specs.ProofGrammar.{claim_part}
 use Rattle.gj_proof.specs.declared.claim.ClaimWord.{ClaimWord}
 use Rattle.gj_proof.proofs.read.claim_at.Goals as goal

@@ -1,8 +1,8 @@
 use Rattle.std.proofs.lemmas.Result.{err_from_is_err_and}
-use Rattle.gj_lex.specs.Parts.{IsFaultOf}
+use Rattle.gj_forms.specs.Parts.{IsFaultOf}
 use Rattle.gj_proof.specs.ProofGrammar.{claim_part}
 use Rattle.gj_proof.specs.declared.claim.ClaimWord.TheVariants.{Cut}
-use Rattle.gj_lex.proofs.PartLaws.{passed_on}
+use Rattle.gj_forms.proofs.PartLaws.{passed_on}
 use Rattle.gj_proof.proofs.CutRead.{fault_in_rule, fault_in_rows}
 use Rattle.gj_proof.proofs.read.cut_at.Goals as goal
 

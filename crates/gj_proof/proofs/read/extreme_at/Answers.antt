@@ -1,7 +1,7 @@
 use Rattle.std.proofs.lemmas.Result.{err_from_is_err_and}
-use Rattle.gj_lex.specs.Parts.{IsFaultOf}
+use Rattle.gj_forms.specs.Parts.{IsFaultOf}
 use Rattle.gj_proof.specs.ProofGrammar.{extreme_part}
-use Rattle.gj_lex.proofs.PartLaws.{passed_on}
+use Rattle.gj_forms.proofs.PartLaws.{passed_on}
 use Rattle.gj_proof.proofs.ExtremeRead.{fault_in_cover, fault_in_modulus, fault_in_groups, extreme_read}
 use Rattle.gj_proof.proofs.read.extreme_at.Goals as goal
 

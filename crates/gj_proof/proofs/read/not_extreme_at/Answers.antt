@@ -1,9 +1,9 @@
 use Rattle.std.proofs.Common.{refl}
 use Rattle.std.proofs.lemmas.Result.{err_from_is_err_and}
-use Rattle.gj_lex.specs.Parts.{IsFaultOf}
+use Rattle.gj_forms.specs.Parts.{IsFaultOf}
 use Rattle.gj_proof.specs.ProofGrammar.{claim_part}
 use Rattle.gj_proof.specs.declared.claim.ClaimWord.TheVariants.{NotExtreme}
-use Rattle.gj_lex.proofs.PartLaws.{passed_on}
+use Rattle.gj_forms.proofs.PartLaws.{passed_on}
 use Rattle.gj_proof.proofs.ExtremeRead.{fault_in_halves}
 use Rattle.gj_proof.proofs.read.not_extreme_at.Goals as goal
 

@@ -1,4 +1,4 @@
-use Rattle.gj_lex.proofs.LineNumbers as numbers
+use Rattle.gj_forms.proofs.LineNumbers as numbers
 use Rattle.gj_proof.specs.ProofGrammar.{proof_text}
 use Rattle.gj_proof.proofs.ReadTexts.{proof_text_is_exact, text_is_read, read_is_text}
 use Rattle.gj_proof.proofs.read.read_proof.Goals as goal

@@ -2,7 +2,7 @@ use Rattle.std.proofs.Common.{◌≡◌, inl, true, false, refl, sym, ◌∙◌}
 use Rattle.std.proofs.lemmas.Result.{err_from_is_err_and}
 use Rattle.gj_lex.specs.Words.{word_texts}
 use Rattle.gj_forms.specs.LineForms.{BreaksForm}
-use Rattle.gj_lex.proofs.PartLaws.{passed_on}
+use Rattle.gj_forms.proofs.PartLaws.{passed_on}
 use Rattle.gj_forms.proofs.LineLaws.{no_such_numbers}
 use Rattle.gj_shape.specs.declared.violations.Violation.TheVariants as violation
 use Rattle.gj_proof.specs.ProofGrammar.{violation_form}

@@ -1,0 +1,11 @@
+pub mod TestsInTurn
+pub mod ReadNumbers
+pub mod PassedTests
+pub mod NumeratorTests
+pub mod RowTests
+pub mod LanePieces
+pub mod TableTests
+pub mod MiddleEntries
+pub mod BendRows
+pub mod BendTests
+pub mod GridTests

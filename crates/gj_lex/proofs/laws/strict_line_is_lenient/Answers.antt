@@ -1,5 +1,0 @@
-use Rattle.gj_lex.proofs.StrictLines.{strict_line_is_lenient}
-use Rattle.gj_lex.proofs.laws.strict_line_is_lenient.Goals as goal
-
-pub returns : goal.returns
-returns c = strict_line_is_lenient
