@@ -430,7 +430,7 @@ static int heap_is_enough(const struct example *examples, int count) {
         {"extreme --json", repeated("{\"value\":[", "1,", 8000000, "1]}")},
         {"problem", problem(100, 1000, 6, 5, 7)},
         {"problem", problem(10, 10000, 6, 10, 7)},
-        {"problem", problem(10, 10000, 250, 10, 7)},
+        {"problem", problem(10, 10000, 130, 10, 7)},
         {"problem", problem(8200, 0, 6, 100, 1)},
         {"problem", repeated("gj-problem 1\nrule gmic\n", "\n", 16777000, "end\n")},
     };
