@@ -34,7 +34,8 @@ use Rattle.gj_top.specs.declared.status.Status.{Status}
 use Rattle.gj_top.specs.declared.status.Status.TheVariants.{Done}
 use Rattle.gj_top.specs.Causes.{IsInput, IsDoneRun}
 use Rattle.gj_top.specs.Command.{IsNamed, promise_for, task_for}
-use Rattle.gj_top.specs.Cut.{AreCutsOf, CutInput, SpellsCutInput}
+use Rattle.gj_top.specs.Cut.{AreCutsOf, SpellsCutInput}
+use Rattle.gj_top.specs.declared.cut_input.CutInput.{CutInput}
 use Rattle.gj_problem_text.specs.SafeInputs.{IsSafeInput}
 use Rattle.gj_problem_text.specs.declared.input.SafeInput.{SafeInput}
 use Rattle.gj_top.specs.Problem.{AreProblemCuts}
