@@ -1,5 +1,6 @@
 """What once went wrong in the package, in the header and on the page of the library."""
 import inspect
+import json
 import multiprocessing
 import os
 import pickle
@@ -220,7 +221,10 @@ class Room(unittest.TestCase):
         self.assertGreater(self.assert_room("faces", zero, 28_100_000), 27_000_000)
         values = "".join(f"point {-2**20 + 1}/2147483647\n" for _ in range(1000))
         function = f"gj-function 1\norder 1000\nf 1/2\n{values}end\n"
-        self.assert_room("show --json", function, 100_000)
+        self.assert_room("show", function, 100_000)
+        values = [f"{-2**20 + 1}/2147483647"] * 1000
+        given = json.dumps({"order": 1000, "f": "1/2", "value": values})
+        self.assert_room("show --json", given, 100_000)
         name = "x" * 250
         columns = ",".join(f"c:{name}{i}" for i in range(10))
         row = ",".join(
