@@ -13,7 +13,6 @@ use Rattle.gj_forms.specs.LineForms.Field.{word, fraction}
 use Rattle.gj_forms.proofs.FieldWords.{AreGood, head_and_tail, joined_words, words_are_plain}
 use Rattle.gj_forms.proofs.PlainWords.{apart, known, name_is_plain}
 use Rattle.gj_problem.specs.declared.problem.Entry.{Entry}
-use Rattle.gj_problem.specs.declared.problem.Inequality.{Inequality}
 use Rattle.gj_safe_cut.specs.declared.cut.SafeCut.{SafeCut}
 use Rattle.gj_safe_cut.specs.declared.cut.SafeCut.TheVariants.{Cut, Integral, OtherFraction, Free, Wide}
 use Rattle.gj_problem_text.specs.CutText.{name_at, cut_term_line, cut_lines, AreNames, HasColumnsBelow}
@@ -241,16 +240,18 @@ module _ (names : List (List ℕ)) (are : AreNames names) where
 
   good_lines : (cs : List SafeCut) → All IsKnownCut cs → AreGoodLines (flat_map (lines_of names) cs)
   good_lines [] h = tt
-  good_lines (Cut q ∷ cs) h =
-      ((known (codes "cut") refl, tt),
-      good_terms q.entries (flat_map (lines_of names) cs) (All-head IsKnownCut (Cut q) cs h) (good_lines cs (All-tail IsKnownCut (Cut q) cs h)))
+  good_lines (Cut q ∷ cs) h = (
+    (known (codes "cut") refl, tt),
+    good_terms q.entries (flat_map (lines_of names) cs) (All-head IsKnownCut (Cut q) cs h) (good_lines cs (All-tail IsKnownCut (Cut q) cs h)),
+  )
   good_lines (Integral ∷ cs) h =
       ((known (codes "skip") refl, known (codes "integral") refl), good_lines cs (All-tail IsKnownCut Integral cs h))
   good_lines (OtherFraction ∷ cs) h =
       ((known (codes "skip") refl, known (codes "other") refl), good_lines cs (All-tail IsKnownCut OtherFraction cs h))
-  good_lines (Free j ∷ cs) h =
-      ((known (codes "skip") refl, (known (codes "free") refl, good_name j (All-head IsKnownCut (Free j) cs h))),
-      good_lines cs (All-tail IsKnownCut (Free j) cs h))
+  good_lines (Free j ∷ cs) h = (
+    (known (codes "skip") refl, (known (codes "free") refl, good_name j (All-head IsKnownCut (Free j) cs h))),
+    good_lines cs (All-tail IsKnownCut (Free j) cs h),
+  )
   good_lines (Wide ∷ cs) h =
       ((known (codes "skip") refl, known (codes "wide") refl), good_lines cs (All-tail IsKnownCut Wide cs h))
 
