@@ -13,7 +13,6 @@ use Rattle.gj_forms.specs.LineForms.Field.{word, fraction}
 use Rattle.gj_forms.proofs.FieldWords.{AreGood, head_and_tail, joined_words, words_are_plain}
 use Rattle.gj_forms.proofs.PlainWords.{apart, known, name_is_plain}
 use Rattle.gj_problem.specs.declared.problem.Entry.{Entry}
-use Rattle.gj_problem.specs.declared.problem.Inequality.{Inequality}
 use Rattle.gj_safe_cut.specs.declared.cut.SafeCut.{SafeCut}
 use Rattle.gj_safe_cut.specs.declared.cut.SafeCut.TheVariants.{Cut, Integral, OtherFraction, Free, Wide}
 use Rattle.gj_problem_text.specs.CutText.{name_at, cut_term_line, cut_lines, AreNames, HasColumnsBelow}

@@ -14,7 +14,7 @@ use Rattle.gj_safe_cut.specs.declared.cut.SafeCut.TheVariants.{Cut, Integral, Ot
 use Rattle.gj_safe_cut.proofs.HeldCuts.{gmic_terms, rule_terms}
 use Rattle.gj_proof.specs.declared.cut.CutRule.{CutRule}
 use Rattle.gj_proof.specs.declared.cut.CutRule.TheVariants.{Gmic, Table}
-use Rattle.gj_problem_text.specs.Cuts.{IsRoundedTo, IsOnGridOf, IsCutBy, IsAnswer, AreAnswers}
+use Rattle.gj_problem_text.specs.Cuts.{IsRoundedTo, IsOnGridOf, IsCutBy, AreAnswers}
 use Rattle.gj_problem_text.specs.declared.task.Request.{Request}
 use Rattle.gj_problem_text.specs.declared.task.Request.TheVariants.{Upper, Sum}
 use Rattle.gj_problem_text.specs.declared.task.Task.{Task}
