@@ -163,8 +163,8 @@ pub fn run_command<S: Source, K: Sink>(
         given.tableau text)
         words.now result (S.left source.old) (K.written sink.old) (K.written sink.new) }
 
-    // What `problem` writes has a cut for each sum of the program that the input spells, or why there
-    // is none, and each cut holds at all feasible points of the program.
+    // What `problem` writes has a cut, or why there is none, as often as the input has lines `sum`.
+    // Each cut holds at all feasible points of the program that the input spells.
     ensures problem { HasWritten (codes "problem" ∷ [])
         (λ input text. (asked : SafeInput) × IsSafeInput input asked × AreProblemCuts asked text)
         words.now result (S.left source.old) (K.written sink.old) (K.written sink.new) }

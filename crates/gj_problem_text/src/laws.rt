@@ -11,8 +11,8 @@ ghost use Rattle.gj_problem_text.specs.declared.task.Task.{Task};
 ghost use Rattle.gj_problem_text.specs.ProblemText.{IsProblemText, IsFirstFault};
 ghost use Rattle.gj_problem_text.specs.SafeInputs.{IsSafeInput, IsFirstFaultOfInput};
 
-/// A problem text tells one problem with its rows, and has no fault; another text has one first
-/// fault.
+/// A problem text tells one problem with its rows, and has no fault; another text has at most one
+/// first fault.
 pub fn one_problem_text()
     ensures task { (text : List ℕ) (s t : Task) → IsProblemText text s → IsProblemText text t →
         s ≡ t }

@@ -35,8 +35,8 @@ multipliers_of [] = []
 multipliers_of (Upper j ∷ requests) = multipliers_of requests
 multipliers_of (Sum multipliers ∷ requests) = multipliers ∷ multipliers_of requests
 
--- the headline: the text has the lines of the rule and a cut for each row, in their order, or why
--- there is none, and each cut holds at all feasible points of the problem
+-- the headline: behind the lines of the rule the text has a cut, or why there is none, as often as
+-- there are rows, and each cut holds at all feasible points of the problem
 pub record AreProblemCuts (asked : SafeInput) (text : List ℕ) : Type 0 where
   pub cuts : List SafeCut
   pub count : length cuts ≡ length (multipliers_of asked.task.requests)

@@ -1,5 +1,5 @@
 //! The program `gjcut`: the words after its name, standard input and standard output, handed to the
-//! top call.
+//! call that has a theorem for each command.
 #![tactic(auto)]
 
 use gj_commands::run_command;
