@@ -46,9 +46,10 @@ enum gjcut_status {
  * call sets. What stands after it in `output` stays as it was.
  *
  * If the answer is longer than `output_length`, the status is GJCUT_NO_ROOM, the output is full of
- * its front, and `*written` is the length of the whole answer, so more than `output_length`. A
- * second call with the same words and input and an output of that length always suffices. It does
- * the whole work again: `gjcut_room` says which room to try first. Nothing is kept from one call to
+ * its front, and `*written` is the length of the whole answer, so more than `output_length`. Then
+ * call again with the same words and input and an output of that length: it has room. (That is
+ * proved but for the cuts of `problem`, of which it is tested.) The second call does the whole work
+ * again: `gjcut_room` says which room to try first. Nothing is kept from one call to
  * the next, and what a call takes of the heap it gives back before it returns.
  *
  * What a caller owes, since nothing tests it:
