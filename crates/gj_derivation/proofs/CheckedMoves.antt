@@ -24,6 +24,7 @@ use Rattle.gj_derivation.specs.Moves.{HasLower, HasUpper, IsMovedBy, AreMovedBy}
 use Rattle.gj_derivation.specs.Derivations.{IsWholeTerm, AreWholeTerms, IsRoundedUp}
 use Rattle.gj_derivation.specs.Checks.{IsUnmovable, IsFirstUnmovable, IsMovedRight, scaled, claimed_at}
 use Rattle.gj_derivation.specs.declared.moves.Moved.TheVariants as moved
+use Rattle.gj_derivation.proofs.ClaimsHold.{at_most_zero}
 use Rattle.gj_derivation.proofs.CheckedSums.{dot_unit}
 
 -- ---- whole terms
@@ -65,18 +66,11 @@ greater x y change is low =
 turned_change : (x y : Rational) → whole (pos 0) -ℚ (y -ℚ x) ≡ x -ℚ y
 turned_change x y = by_ring_q (x ∷ y ∷ []) (search ring_q depth 40) refl
 
-at_most_zero : (m : Frac) → numerator m ≤ℤ pos 0 → rational m ≤ℚ whole (pos 0)
-unfolding whole
-at_most_zero m h = record { crosswise = omega (arith, ints) }
-
 lesser : (x y change : Frac) → rational change ≡ rational y -ℚ rational x → numerator change ≤ℤ pos 0 → rational y ≤ℚ rational x
 lesser x y change is high =
     at_most_from_difference (rational y) (rational x)
     (subst IsNonnegativeQ (ap (λ w. whole (pos 0) -ℚ w) is ∙ turned_change (rational x) (rational y))
     (difference_nonnegative (rational change) (whole (pos 0)) (at_most_zero change high)))
-
-turned_sign : (x y : Rational) → whole (pos 0) -ℚ (y -ℚ x) ≡ x -ℚ y
-turned_sign x y = by_ring_q (x ∷ y ∷ []) (search ring_q depth 40) refl
 
 sign_of_lesser : (m : Frac) → rational m ≤ℚ whole (pos 0) → numerator m ≤ℤ pos 0
 unfolding whole
@@ -87,7 +81,7 @@ not_lesser x y change is some below =
     let low : numerator change ≤ℤ pos 0 =
     sign_of_lesser change
     (at_most_from_difference (rational change) (whole (pos 0))
-    (subst IsNonnegativeQ (sym (ap (λ w. whole (pos 0) -ℚ w) is ∙ turned_sign (rational x) (rational y)))
+    (subst IsNonnegativeQ (sym (ap (λ w. whole (pos 0) -ℚ w) is ∙ turned_change (rational x) (rational y)))
     (difference_nonnegative (rational y) (rational x) below))) in
     omega (arith, ints)
 

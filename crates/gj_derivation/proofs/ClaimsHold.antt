@@ -94,7 +94,7 @@ moves_low (c ∷ columns) (v ∷ point) xs ys total meets (shift, rest, moved, m
 
 -- ---- sums of constraints
 
-at_most_zero : (m : Frac) → numerator m ≤ℤ pos 0 → rational m ≤ℚ whole (pos 0)
+pub at_most_zero : (m : Frac) → numerator m ≤ℤ pos 0 → rational m ≤ℚ whole (pos 0)
 unfolding whole
 at_most_zero m h = record { crosswise = omega (arith, ints) }
 
