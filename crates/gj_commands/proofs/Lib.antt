@@ -1,1 +1,3 @@
 pub mod ByCommand
+pub mod NamesOfMixedCuts
+pub mod OneListOfMixedCuts

@@ -39,8 +39,11 @@ ghost use Rattle.gj_commands.specs.CommandTexts.{TellsMinimality, TellsExtremali
 ghost use Rattle.gj_commands.specs.CommandTexts.{ShowsNotMinimal, ShowsNotExtreme};
 ghost use Rattle.gj_commands.specs.CommandTexts.{IsTextOfCutLines, IsTextOfMixedLines};
 
+mod laws;
+
 use gj_port::{Sink, Source};
 use gj_top::{Status, run};
+pub use laws::one_list_of_mixed_cuts;
 use std::alloc::Global;
 
 /// Runs as [`run`] does. Each clause is a theorem about one command: if its words were given and
