@@ -1,13 +1,11 @@
 //! Checks of derivations whose steps are linear.
-ghost use Rattle.std.specs.Prelude.{◌≡◌, ◌↔◌, ◌⊎◌, pos, ◌<ℤ◌, None, All, IfOk, IsTrue, MatchOption};
-ghost use Rattle.gj_frac.specs.Fraction.{numerator};
+ghost use Rattle.std.specs.Prelude.{◌≡◌, ◌↔◌, ◌⊎◌, None, All, IfOk, IsTrue, MatchOption};
 ghost use Rattle.gj_problem.specs.Problems.{Holds};
 ghost use Rattle.gj_derivation.specs.Derivations.{with_claim, Follows, IsDerivation};
 ghost use Rattle.gj_derivation.specs.StepLists.{IsAgainst, IsWideFailure, IsChecked};
 
 use crate::check::{Verdict, check_linear};
 use crate::step::{Step, StepRule};
-use gj_frac::Frac;
 use gj_problem::{Constraint, Inequality, Problem, Sense};
 use gj_shape::List;
 use std::alloc::{AllocError, Global};
@@ -90,7 +88,7 @@ fn objection_to(
     if !is_linear(step.rule) {
         return Ok(Some(Objection::Rule));
     }
-    if !is_above_zero(step.factor) {
+    if step.factor.num() <= 0 {
         return Ok(Some(Objection::Factor));
     }
     match check_linear(alloc, problem, step)? {
@@ -108,13 +106,6 @@ fn is_linear(rule: StepRule) -> bool
         StepRule::Gmic => false,
         StepRule::Function => false,
     }
-}
-
-/// Whether the number is above 0.
-fn is_above_zero(x: Frac) -> bool
-    ensures { IsTrue result ↔ (pos 0 <ℤ numerator x) }
-{
-    x.num() > 0
 }
 
 /// The problem with the claim as one more constraint.
