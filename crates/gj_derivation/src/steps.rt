@@ -17,7 +17,7 @@ pub enum Objection {
     Rule,
     /// Its factor is not above 0.
     Factor,
-    /// What [`check_linear`] answers. It is not `Accepted`.
+    /// The verdict of [`check_linear`]. It is not `Accepted`.
     Verdict(Verdict),
 }
 
@@ -43,9 +43,9 @@ pub enum Checked {
 ///
 /// The steps are checked in their order. The claim of an accepted step becomes one more constraint
 /// of the problem, so that later steps may name it by its line. So each claim of accepted steps
-/// holds at all feasible points. A derivation whose steps are all linear is accepted, unless a
-/// number does not fit. A step with another rule, or with a factor that is not above 0, has an
-/// answer of its own: steps that are read from a text may have any, and the caller need not look
+/// holds at all feasible points. A derivation whose steps are all linear is accepted, unless the
+/// verdict on a step is `Wide`. A step with another rule, or with a factor that is not above 0, has
+/// an answer of its own: steps that are read from a text may have any, and the caller need not look
 /// first. The only error is want of memory.
 pub fn check_linear_steps(
     alloc: Global,
