@@ -22,7 +22,7 @@ use Rattle.gj_problem.proofs.GridParts.{below_from_floor}
 use Rattle.gj_problem.proofs.HeldInequalities.{whole_frac}
 use Rattle.gj_derivation.specs.Moves.{HasLower, HasUpper, IsMovedBy, AreMovedBy}
 use Rattle.gj_derivation.specs.Derivations.{IsWholeTerm, AreWholeTerms, IsRoundedUp}
-use Rattle.gj_derivation.specs.Checks.{IsUnmovable, IsFirstUnmovable, IsMovedRight, scaled, claimed_at}
+use Rattle.gj_derivation.specs.Checks.{IsUnmovable, IsFirstUnmovable, IsMovedRight, line_of_sum, scaled, claimed_at, IsWideMoved, IsWideMoving}
 use Rattle.gj_derivation.specs.declared.moves.Moved.TheVariants as moved
 use Rattle.gj_derivation.proofs.ClaimsHold.{at_most_zero}
 use Rattle.gj_derivation.proofs.CheckedSums.{dot_unit}
@@ -292,3 +292,24 @@ all_up_to columns factor sum claimed i right b w end shown h =
           inr (λ is. let t = whole.1 is in absurd (cc), k.1 ∙ h.right_is))
           shown,
     )
+
+pub wide_at : (columns : List Column) (factor : Frac) (sum : Sum) (claimed : List Frac) (i : ℕ) (c : Column) (coefficient y right : Frac) (w : Bool) →
+    i < length columns → length sum.coefficients.items ≡ length columns → length claimed ≡ length columns → c ≡ get_or columns i c →
+    coefficient ≡ get_or sum.coefficients.items i coefficient → y ≡ get_or claimed i y → IsWideMoved c factor coefficient y right →
+    IsMovedUpTo columns factor sum claimed i right w → IsWideMoving columns factor (line_of_sum sum) (claimed_at claimed)
+wide_at columns factor sum claimed i c coefficient y right w below count claims here c_here y_here wide h =
+    inr (inl (record {
+      index = i;
+      below = below;
+      column = c;
+      is = here;
+      coefficient = coefficient;
+      coefficient_is = claimed_is sum.coefficients.items i coefficient (omega arith) c_here;
+      claimed = y;
+      claimed_is = claimed_is claimed i y (omega arith) y_here;
+      total = h.total;
+      moved_before = h.moved;
+      right = right;
+      right_is = h.right_is;
+      wide = wide;
+    }))

@@ -1,5 +1,5 @@
 -- What a check answers of a step.
-use Rattle.std.proofs.Common.{◌≡◌, ℕ, List, None, pos, ◌<ℤ◌, refl, sym, ap, subst, subst₂}
+use Rattle.std.proofs.Common.{◌≡◌, inr, ℕ, List, None, pos, ◌<ℤ◌, refl, sym, ap, ap₂, subst, subst₂}
 use Rattle.gj_frac.specs.declared.Frac.{Frac}
 use Rattle.gj_frac.specs.Fraction.{numerator}
 use Rattle.gj_problem.specs.Rational.{Rational, rational, ◌+ℚ◌, ◌*ℚ◌}
@@ -12,8 +12,8 @@ use Rattle.gj_derivation.specs.declared.step.Step.{Step}
 use Rattle.gj_derivation.specs.declared.step.StepRule.{StepRule}
 use Rattle.gj_derivation.specs.declared.step.StepRule.TheVariants.{Linear}
 use Rattle.gj_derivation.specs.Moves.{AreMovedBy}
-use Rattle.gj_derivation.specs.Derivations.{unit, coefficient_in, added, added_coefficient, added_right, IsBase, AreWholeTerms, IsRightFor, IsShown}
-use Rattle.gj_derivation.specs.Checks.{IsSumOf, IsFirstUnmovable, IsMovedRight, scaled, claimed_at}
+use Rattle.gj_derivation.specs.Derivations.{Line, unit, coefficient_in, added, added_coefficient, added_right, IsBase, AreWholeTerms, IsRightFor, IsShown}
+use Rattle.gj_derivation.specs.Checks.{IsSumOf, IsFirstUnmovable, IsMovedRight, line_of_sum, scaled, claimed_at, IsWideMoving, IsWideStep}
 
 -- the claimed coefficients are those of the claim
 abbrev pub AreClaimed : Step → List Frac → Type 0
@@ -51,3 +51,18 @@ shown_step p s sum claimed columns b are linear positive h claims (total, moves,
           (subst₂ (λ (w : Rational) (zs : ℕ → Rational). IsRightFor (AreWholeTerms columns zs) (rational s.factor *ℚ w +ℚ total) (rational b))
           h.right (claims_are s claimed claims) right);
     }
+
+line_is : (p : Problem) (s : Step) (sum : Sum) → IsSumOf p s.multipliers sum → line_of_sum sum ≡ added p s.multipliers
+line_is p s sum h =
+    let line : (ℕ → Rational) → Rational → Line = λ xs r. record { coefficient = xs; right = r } in
+    let same : (line_of_sum sum).coefficient ≡ added_coefficient p s.multipliers = λ k j. h.coefficients j k in
+    ap₂ line same h.right
+
+pub wide_step : (p : Problem) (s : Step) (sum : Sum) (claimed : List Frac) (columns : List Column) → columns ≡ p.columns →
+    IsSumOf p s.multipliers sum → AreClaimed s claimed → IsWideMoving columns s.factor (line_of_sum sum) (claimed_at claimed) → IsWideStep p s
+wide_step p s sum claimed columns are h claims wide =
+    inr (
+      h.signed,
+      inr (subst (λ (cs : List Column). IsWideMoving cs s.factor (added p s.multipliers) (coefficient_in s.claim.entries)) are
+          (subst₂ (λ (l : Line) (ys : ℕ → Rational). IsWideMoving columns s.factor l ys) (line_is p s sum h) (claims_are s claimed claims) wide)),
+    )

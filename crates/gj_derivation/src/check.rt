@@ -1,9 +1,10 @@
 //! Checks of linear steps.
-ghost use Rattle.std.specs.Prelude.{◌≡◌, ◌↔◌, ◌⊎◌, ℕ, pos, ◌<ℤ◌, false, None, length, IfOk, IsTrue, List};
+ghost use Rattle.std.specs.Prelude.{◌≡◌, ◌↔◌, ◌⊎◌, ℕ, pos, ◌<ℤ◌, false, None, length, IfOk, IsTrue, List, OnErr};
 ghost use Rattle.gj_frac.specs.Fraction.{numerator};
 ghost use Rattle.gj_problem.specs.Rows.{dot, IsSignFor};
 ghost use Rattle.gj_derivation.specs.Derivations.{unit, coefficient_in, Follows};
 ghost use Rattle.gj_derivation.specs.Checks.{IsSigned, IsAdded, IsSumOf, IsBaseOf, IsVerdict};
+ghost use Rattle.gj_derivation.specs.Checks.{IsWideAdded, IsWideBase, IsWideClaim, IsWideStep};
 
 use crate::moves::{Moved, is_at_most, moved_right};
 use crate::step::{Multiplier, Step, StepRule};
@@ -23,7 +24,7 @@ pub enum Verdict {
     Bound(u32),
     /// The right side of the claim is above this one, which is shown.
     Right(Frac),
-    /// A number does not fit 128 bits. No clause says when.
+    /// A number does not fit 128 bits, or an entry has no column.
     Wide,
 }
 
@@ -38,8 +39,9 @@ pub(crate) enum Base {
 
 /// Checks a linear step over the problem with the earlier claims as constraints.
 ///
-/// If a number does not fit, the answer is `Wide`. No clause says that it comes only then. Each
-/// other answer is `Accepted` exactly if the step follows. The only error is want of memory.
+/// `Wide` comes only where a number of the sum, of the claim or of the moves does not fit, or an
+/// entry has no column. Else the answer is `Accepted` exactly if the step follows. The only error is
+/// want of memory.
 pub fn check_linear(alloc: Global, problem: &Problem, step: &Step) -> Result<Verdict, AllocError>
     requires linear { step.now.rule ≡ StepRule.Linear }
     requires factor { pos 0 <ℤ numerator step.now.factor }
@@ -58,7 +60,8 @@ pub fn check_linear(alloc: Global, problem: &Problem, step: &Step) -> Result<Ver
 fn linear_verdict(alloc: Global, problem: &Problem, step: &Step) -> Result<Verdict, Fault>
     requires linear { step.now.rule ≡ StepRule.Linear }
     requires factor { pos 0 <ℤ numerator step.now.factor }
-    ensures { IfOk result (IsVerdict problem.now step.now) }
+    ensures is { IfOk result (IsVerdict problem.now step.now) }
+    ensures wide { result ≡ Err Fault.Wide → IsWideStep problem.now step.now }
 {
     match base_of(alloc, problem, step.multipliers.as_slice())? {
         Base::Line(sum) => compared(alloc, problem, step, &sum),
@@ -71,7 +74,8 @@ fn compared(alloc: Global, problem: &Problem, step: &Step, sum: &Sum) -> Result<
     requires linear { step.now.rule ≡ StepRule.Linear }
     requires factor { pos 0 <ℤ numerator step.now.factor }
     requires sum { IsSumOf problem.now step.now.multipliers sum.now }
-    ensures { IfOk result (IsVerdict problem.now step.now) }
+    ensures is { IfOk result (IsVerdict problem.now step.now) }
+    ensures wide { result ≡ Err Fault.Wide → IsWideStep problem.now step.now }
 {
     let columns = problem.columns.as_slice();
     let claimed = claimed_terms(alloc, columns.len(), &step.claim)?;
@@ -92,6 +96,7 @@ fn claimed_terms(alloc: Global, columns: usize, claim: &Inequality) -> Result<Su
     ensures count { IfOk result (λ sum. length sum.coefficients.items ≡ columns) }
     ensures terms { IfOk result (λ sum. (j : ℕ) →
         dot sum.coefficients.items (unit j) ≡ coefficient_in claim.now.entries j) }
+    ensures wide { result ≡ Err Fault.Wide → IsWideClaim columns claim.now }
 {
     let mut sum = Sum::of_none(alloc, columns, Frac::ratio(0, 1))?;
     sum.add(Frac::ratio(1, 1), claim.entries.as_slice(), claim.right)?;
@@ -100,7 +105,8 @@ fn claimed_terms(alloc: Global, columns: usize, claim: &Inequality) -> Result<Su
 
 /// The sum of the constraints, each times its multiplier.
 fn base_of(alloc: Global, problem: &Problem, multipliers: &[Multiplier]) -> Result<Base, Fault>
-    ensures { IfOk result (IsBaseOf problem.now multipliers.now) }
+    ensures is { IfOk result (IsBaseOf problem.now multipliers.now) }
+    ensures wide { result ≡ Err Fault.Wide → IsWideBase problem.now multipliers.now }
 {
     let mut sum = Sum::of_none(alloc, problem.columns.as_slice().len(), Frac::ratio(0, 1))?;
     for multiplier in multipliers {
@@ -117,6 +123,7 @@ fn add_constraint(problem: &Problem, multiplier: Multiplier, sum: &mut Sum) -> R
     ensures added { IfOk result (λ done. IsTrue done →
         IsAdded problem.now multiplier sum.old sum.new) }
     ensures unsigned { IfOk result (λ done. done ≡ false → IsSigned problem.now multiplier → ⊥) }
+    ensures wide { OnErr result (IsWideAdded problem.now multiplier sum.old) }
 {
     let Some(constraint) = problem.constraints.as_slice().get(multiplier.line as usize) else {
         return Ok(false);

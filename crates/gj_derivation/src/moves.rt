@@ -1,10 +1,11 @@
 //! Coefficients moved by the bounds of their columns.
-ghost use Rattle.std.specs.Prelude.{◌≡◌, ◌⊎◌, ◌↔◌, pos, ◌<ℤ◌, true, false, None, length, IfOk, IsTrue, MatchOption};
+ghost use Rattle.std.specs.Prelude.{◌≡◌, ◌⊎◌, ◌↔◌, pos, ◌<ℤ◌, true, false, None, length, IfOk, IsTrue, MatchOption, OnErr};
 ghost use Rattle.gj_problem.specs.Rational.{rational, ◌*ℚ◌, ◌≤ℚ◌};
 ghost use Rattle.gj_frac.specs.Fraction.{IsWhole, numerator};
 ghost use Rattle.gj_derivation.specs.Derivations.{IsWholeTerm, IsRoundedUp};
 ghost use Rattle.gj_derivation.specs.Moves.{HasLower, HasUpper, IsMovedBy};
-ghost use Rattle.gj_derivation.specs.Checks.{IsUnmovable, IsMovedRight};
+ghost use Rattle.gj_derivation.specs.Checks.{IsUnmovable, IsMovedRight, line_of_sum, claimed_at};
+ghost use Rattle.gj_derivation.specs.Checks.{IsWideTimesBound, IsWideShift, IsWideMoving};
 
 use gj_frac::{Frac, Wide};
 use gj_problem::{Column, Sum, lower_bound, rounded_down, upper_bound};
@@ -28,13 +29,15 @@ pub(crate) fn moved_right(
 ) -> Result<Moved, Wide>
     requires sum { length sum.now.coefficients.items ≡ length columns.now }
     requires claimed { length claimed.now ≡ length columns.now }
-    ensures { IfOk result (IsMovedRight columns.now factor sum.now claimed.now) }
+    ensures is { IfOk result (IsMovedRight columns.now factor sum.now claimed.now) }
+    ensures wide { OnErr result (IsWideMoving columns.now factor (line_of_sum sum.now)
+        (claimed_at claimed.now)) }
 {
     let mut right = factor.checked_mul(sum.right)?;
     let mut is_whole = true;
     for (j, column) in columns.iter().enumerate() {
-        let x = factor.checked_mul(sum.coefficients[j])?;
         let y = claimed[j];
+        let x = factor.checked_mul(sum.coefficients[j])?;
         let Some(shift) = shift(*column, x, y)? else {
             let Ok(index) = u32::try_from(j) else {
                 return Err(Wide);
@@ -50,10 +53,11 @@ pub(crate) fn moved_right(
 /// What the right side changes by if the coefficient x of a column becomes y; none if the column
 /// lacks the bound for it.
 fn shift(column: Column, x: Frac, y: Frac) -> Result<Option<Frac>, Wide>
-    ensures { IfOk result (λ made. MatchOption made
+    ensures is { IfOk result (λ made. MatchOption made
         (IsUnmovable column (rational x) (rational y))
         (λ s. IsMovedBy (HasLower column) (HasUpper column)
         (rational x) (rational y) (rational s))) }
+    ensures wide { OnErr result (IsWideShift column x y) }
 {
     let change = y.checked_add(-x)?;
     if is_zero(change) {
@@ -67,8 +71,9 @@ fn shift(column: Column, x: Frac, y: Frac) -> Result<Option<Frac>, Wide>
 
 /// The change times the lower bound of the column.
 fn times_lower(column: Column, change: Frac) -> Result<Option<Frac>, Wide>
-    ensures { IfOk result (λ made. MatchOption made (column.lower ≡ None)
+    ensures is { IfOk result (λ made. MatchOption made (column.lower ≡ None)
         (λ s. (b : Frac) × HasLower column b × (rational s ≡ rational change *ℚ rational b))) }
+    ensures wide { OnErr result (IsWideTimesBound (HasLower column) change) }
 {
     let Some(lower) = column.lower else {
         return Ok(None);
@@ -80,8 +85,9 @@ fn times_lower(column: Column, change: Frac) -> Result<Option<Frac>, Wide>
 
 /// The change times the upper bound of the column.
 fn times_upper(column: Column, change: Frac) -> Result<Option<Frac>, Wide>
-    ensures { IfOk result (λ made. MatchOption made (column.upper ≡ None)
+    ensures is { IfOk result (λ made. MatchOption made (column.upper ≡ None)
         (λ s. (b : Frac) × HasUpper column b × (rational s ≡ rational change *ℚ rational b))) }
+    ensures wide { OnErr result (IsWideTimesBound (HasUpper column) change) }
 {
     let Some(upper) = column.upper else {
         return Ok(None);

@@ -20,8 +20,8 @@ loop-multiplier-preserved c =
     c.add_constraint.new.sum c.loop-multiplier-test.true c.multiplier-item.is c.loop-multiplier.invariant c.in_ok-add_constraint.ensures.count
     (c.in_ok-add_constraint.ensures.added (is_true c.in_ok-add_constraint.field-0 c.if-not-branch.false))
 
-pub returns-then-not-branch : goal.returns-then-not-branch
-returns-then-not-branch c = record {
+pub returns-then-not-branch-clause-is : goal.returns-then-not-branch-clause-is
+returns-then-not-branch-clause-is c = record {
   before = take c.loop-multiplier.multiplier-index c.args.multipliers.now;
   multiplier = c.multiplier-item.result;
   after = drop (c.loop-multiplier.multiplier-index + 1) c.args.multipliers.now;
@@ -31,7 +31,18 @@ returns-then-not-branch c = record {
   line = refl;
 }
 
-pub returns : goal.returns
-returns c =
+pub returns-clause-is : goal.returns-clause-is
+returns-clause-is c =
     subst (λ (ms : List Multiplier). IsSumOf c.args.problem.now ms c.loop-multiplier.sum)
     (take_all c.loop-multiplier.multiplier-index c.args.multipliers.now c.loop-multiplier-test.false) c.loop-multiplier.invariant
+
+pub returns-in_err-add_constraint-clause-wide : goal.returns-in_err-add_constraint-clause-wide
+returns-in_err-add_constraint-clause-wide c = λ fault. record {
+  before = take c.loop-multiplier.multiplier-index c.args.multipliers.now;
+  next = c.multiplier-item.result;
+  after = drop (c.loop-multiplier.multiplier-index + 1) c.args.multipliers.now;
+  place = split_at c.args.multipliers.now c.loop-multiplier.multiplier-index c.multiplier-item.result c.loop-multiplier-test.true c.multiplier-item.is;
+  sum = c.loop-multiplier.sum;
+  sum_is = c.loop-multiplier.invariant;
+  wide = c.in_err-add_constraint.ensures.wide;
+}
