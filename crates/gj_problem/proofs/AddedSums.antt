@@ -104,7 +104,7 @@ entry_added cs point j old e factor value below here sum_is =
 
 -- ---- more entries
 
-last_entry : (x : Rational) → x +ℚ whole (pos 0) ≡ whole (pos 0) +ℚ x
+pub last_entry : (x : Rational) → x +ℚ whole (pos 0) ≡ whole (pos 0) +ℚ x
 last_entry x = add_comm_q x (whole (pos 0))
 
 pub sum_at_append : (point : List Rational) (es : List Entry) (e : Entry) →
@@ -194,7 +194,7 @@ pub whole_ratio : (x : Frac) (n : ℤ) → x.num *ℤ pos 1 ≡ n *ℤ x.den →
 unfolding whole
 whole_ratio x n h = equal_q (rational x) (whole n) h
 
-zero_step : (v : Rational) → whole (pos 0) *ℚ v +ℚ whole (pos 0) ≡ whole (pos 0)
+pub zero_step : (v : Rational) → whole (pos 0) *ℚ v +ℚ whole (pos 0) ≡ whole (pos 0)
 zero_step v = by_ring_q (v ∷ []) (search ring_q depth 30) refl
 
 pub dot_zero : (n : ℕ) (z : Frac) (point : List Rational) → rational z ≡ whole (pos 0) → dot (replicate n z) point ≡ whole (pos 0)

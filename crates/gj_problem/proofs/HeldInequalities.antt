@@ -72,7 +72,7 @@ pub column_at : (p : Problem) (point : List Rational) (j : ℕ) (c : Column) →
 column_at p point j c is feasible =
     subst (λ (d : Column). MeetsColumn d (value_at point j)) is.is (meets_at p.columns point j c feasible.columns is.below)
 
-if_some : {A : Type 0} (P : A → Type 0) (o : Option A) (x : A) → o ≡ Some x → IfSome o P → P x
+pub if_some : {A : Type 0} (P : A → Type 0) (o : Option A) (x : A) → o ≡ Some x → IfSome o P → P x
 if_some P o x e h = subst (λ o. IfSome o P) e h
 
 pub lower_at : (p : Problem) (point : List Rational) (j : ℕ) (c : Column) (l : Frac) → IsColumn p j c → c.lower ≡ Some l → IsFeasible p point →
@@ -128,13 +128,13 @@ whole_surplus p q h point feasible =
 
 -- ---- rounding
 
-raised : (d x b : Rational) → d *ℚ (x -ℚ b) ≡ d *ℚ x -ℚ d *ℚ b
+pub raised : (d x b : Rational) → d *ℚ (x -ℚ b) ≡ d *ℚ x -ℚ d *ℚ b
 raised d x b = by_ring_q (d ∷ x ∷ b ∷ []) (search ring_q depth 40) refl
 
-lowered : (e f x b : Rational) → (e -ℚ f) *ℚ (b -ℚ x) ≡ (f -ℚ e) *ℚ x -ℚ (f -ℚ e) *ℚ b
+pub lowered : (e f x b : Rational) → (e -ℚ f) *ℚ (b -ℚ x) ≡ (f -ℚ e) *ℚ x -ℚ (f -ℚ e) *ℚ b
 lowered e f x b = by_ring_q (e ∷ f ∷ x ∷ b ∷ []) (search ring_q depth 40) refl
 
-kept_change : (e x : Rational) → whole (pos 0) ≡ (e -ℚ e) *ℚ x -ℚ whole (pos 0)
+pub kept_change : (e x : Rational) → whole (pos 0) ≡ (e -ℚ e) *ℚ x -ℚ whole (pos 0)
 kept_change e x = by_ring_q (e ∷ x ∷ []) (search ring_q depth 40) refl
 
 kept_low : (e f : Entry) (x shift : Rational) → IsKept e f shift → IsNonnegativeQ ((rational f.value -ℚ rational e.value) *ℚ x -ℚ shift)
@@ -162,10 +162,10 @@ change_low p point e f shift feasible change =
     (upper_at p point e.column h.column h.bound h.is h.bound_is feasible))))
     change
 
-no_change : whole (pos 0) ≡ (whole (pos 0) -ℚ whole (pos 0)) -ℚ whole (pos 0)
+pub no_change : whole (pos 0) ≡ (whole (pos 0) -ℚ whole (pos 0)) -ℚ whole (pos 0)
 no_change = by_ring_q [] (search ring_q depth 40) refl
 
-change_step : (e f x s r q t : Rational) → ((f -ℚ e) *ℚ x -ℚ s) +ℚ ((q -ℚ r) -ℚ t) ≡ ((f *ℚ x +ℚ q) -ℚ (e *ℚ x +ℚ r)) -ℚ (s +ℚ t)
+pub change_step : (e f x s r q t : Rational) → ((f -ℚ e) *ℚ x -ℚ s) +ℚ ((q -ℚ r) -ℚ t) ≡ ((f *ℚ x +ℚ q) -ℚ (e *ℚ x +ℚ r)) -ℚ (s +ℚ t)
 change_step e f x s r q t = by_ring_q (e ∷ f ∷ x ∷ s ∷ r ∷ q ∷ t ∷ []) (search ring_q depth 60 fits 3000) refl
 
 changes_low : (p : Problem) (point : List Rational) (es fs : List Entry) (shifts : List Rational) → IsFeasible p point →

@@ -160,7 +160,7 @@ none_free_in p n (e ∷ es) (f ∷ fs) (s ∷ shifts) h =
 
 -- ---- a coefficient that goes up
 
-double_neg : (x : Rational) → neg_ℚ (neg_ℚ x) ≡ x
+pub double_neg : (x : Rational) → neg_ℚ (neg_ℚ x) ≡ x
 double_neg x = by_ring_q (x ∷ []) (search ring_q depth 30) refl
 
 pub raised_to : (n : ℕ) (x y z value l m shift : Frac) (upper : Option Frac) → rational y ≡ neg_ℚ (rational x) →

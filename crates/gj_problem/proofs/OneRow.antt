@@ -24,14 +24,14 @@ use Rattle.gj_problem.proofs.TurnedColumns.{none_free}
 rational_injective : (x y : Frac) → rational x ≡ rational y → x ≡ y
 rational_injective x y e = same_parts_same x y (ap (λ (q : Rational). q.top) e) (ap (λ (q : Rational). q.bottom) e)
 
-dot_none : (cs : List Frac) → dot cs [] ≡ whole (pos 0)
+pub dot_none : (cs : List Frac) → dot cs [] ≡ whole (pos 0)
 dot_none [] = refl
 dot_none (c ∷ cs) = refl
 
-one_time : (c : Rational) → c *ℚ whole (pos 1) +ℚ whole (pos 0) ≡ c
+pub one_time : (c : Rational) → c *ℚ whole (pos 1) +ℚ whole (pos 0) ≡ c
 one_time c = by_ring_q (c ∷ []) (search ring_q depth 30) refl
 
-no_time : (c d : Rational) → c *ℚ whole (pos 0) +ℚ d ≡ d
+pub no_time : (c d : Rational) → c *ℚ whole (pos 0) +ℚ d ≡ d
 no_time c d = by_ring_q (c ∷ d ∷ []) (search ring_q depth 30) refl
 
 head_at : (c : Frac) (cs : List Frac) → dot (c ∷ cs) (whole (pos 1) ∷ []) ≡ rational c

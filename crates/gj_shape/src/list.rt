@@ -1,5 +1,5 @@
 //! Vectors that compare and that contracts see as their list.
-ghost use Rattle.std.specs.Prelude.{◌≡◌};
+ghost use Rattle.std.specs.Prelude.{◌≡◌, ◌++◌, ◌∷◌, [], OnOk};
 
 use std::alloc::AllocError;
 use std::marker::Model;
@@ -38,6 +38,16 @@ impl<T> List<T> {
         ensures { result.items ≡ self }
     {
         self.items
+    }
+}
+
+impl<T: Drop> List<T> {
+    /// Appends an item. An error says that memory ran out.
+    pub fn push(&mut self, item: T) -> Result<(), AllocError>
+        ensures { OnOk result (self.new ≡ self.old ++ item ∷ []) }
+    {
+        self.items.push(item)?;
+        Ok(())
     }
 }
 
