@@ -21,7 +21,7 @@ use Rattle.gj_problem.proofs.TurnedColumns.{none_free}
 
 -- ---- one sum
 
-rational_injective : (x y : Frac) → rational x ≡ rational y → x ≡ y
+pub rational_injective : (x y : Frac) → rational x ≡ rational y → x ≡ y
 rational_injective x y e = same_parts_same x y (ap (λ (q : Rational). q.top) e) (ap (λ (q : Rational). q.bottom) e)
 
 pub dot_none : (cs : List Frac) → dot cs [] ≡ whole (pos 0)
@@ -38,7 +38,7 @@ head_at : (c : Frac) (cs : List Frac) → dot (c ∷ cs) (whole (pos 1) ∷ []) 
 head_at c cs = ap (λ w. rational c *ℚ whole (pos 1) +ℚ w) (dot_none cs) ∙ one_time (rational c)
 
 -- sums that are equal at all points have equal coefficients
-same_coefficients : (cs ds : List Frac) → length cs ≡ length ds → ((point : List Rational) → dot cs point ≡ dot ds point) → cs ≡ ds
+pub same_coefficients : (cs ds : List Frac) → length cs ≡ length ds → ((point : List Rational) → dot cs point ≡ dot ds point) → cs ≡ ds
 same_coefficients [] [] n h = refl
 same_coefficients [] (d ∷ ds) n h = absurd (omega arith)
 same_coefficients (c ∷ cs) [] n h = absurd (omega arith)
@@ -54,7 +54,7 @@ turned_twice r = by_ring_q (r ∷ []) (search ring_q depth 40) refl
 right_at : (cs : List Frac) (r : Frac) → rational r ≡ whole (pos 0) -ℚ (dot cs [] -ℚ rational r)
 right_at cs r = turned_twice (rational r) ∙ ap (λ w. whole (pos 0) -ℚ (w -ℚ rational r)) (sym (dot_none cs))
 
-one_sum : (p : Problem) (ws : List Weighted) (cs ds : List Frac) (r s : Frac) → IsAggregate p ws cs r → IsAggregate p ws ds s →
+pub one_sum : (p : Problem) (ws : List Weighted) (cs ds : List Frac) (r s : Frac) → IsAggregate p ws cs r → IsAggregate p ws ds s →
     (cs ≡ ds) × (r ≡ s)
 one_sum p ws cs ds r s h k =
     let both : (point : List Rational) → dot cs point -ℚ rational r ≡ dot ds point -ℚ rational s = λ point. h.adds point ∙ sym (k.adds point) in
