@@ -10,22 +10,22 @@ use Rattle.gj_problem_text.specs.Tasks.{task_rule}
 use Rattle.gj_problem_text.proofs.LinesOfProblem.{line_on, fault_in_line, lines_end, fault_at_end}
 use Rattle.gj_problem_text.proofs.read.lines_at.Goals as goal
 
-pub returns-in_err-longer-clause-fault : goal.returns-in_err-longer-clause-fault
-returns-in_err-longer-clause-fault c =
+pub returns-in_err-one_more_at-clause-fault : goal.returns-in_err-one_more_at-clause-fault
+returns-in_err-one_more_at-clause-fault c =
     let p = err_from_is_err_and c.from_residual.result c.from_residual.ensures.1 in
     passed_on (IsFaultOf lines_part c.args.text.now) _ _ _ p.1 p.2
     (fault_in_line c.args.text.now _ _ c.loop-alloc.invariant.leads _ (λ is. false≢true (c.loop-alloc-test.ensures.1 is))
-    c.in_err-longer.ensures.fault)
+    c.in_err-one_more_at.ensures.fault)
 
 pub loop-alloc-smaller : goal.loop-alloc-smaller
-loop-alloc-smaller c = shorter_behind_line Lenient (task_rule c.loop-alloc.task) _ _ _ c.in_ok-longer.ensures.found
+loop-alloc-smaller c = shorter_behind_line Lenient (task_rule c.loop-alloc.task) _ _ _ c.in_ok-one_more_at.ensures.found
 
 pub loop-alloc-preserved : goal.loop-alloc-preserved
 loop-alloc-preserved c = record {
-  few = c.in_ok-longer.ensures.few;
-  places = c.in_ok-longer.ensures.places;
+  few = c.in_ok-one_more_at.ensures.few;
+  places = c.in_ok-one_more_at.ensures.places;
   leads = line_on c.args.text.now _ _ c.loop-alloc.invariant.leads _ _ (λ is. false≢true (c.loop-alloc-test.ensures.1 is))
-      c.in_ok-longer.ensures.found;
+      c.in_ok-one_more_at.ensures.found;
 }
 
 pub returns-in_err-rest-clause-fault : goal.returns-in_err-rest-clause-fault
