@@ -123,10 +123,12 @@ begins_as_function f function behind text canonical is =
     let rest = canonical.lines ++ (line (codes "end") ++ behind) in
     let whole : text ≡ line (codes "gj-function 1") ++ rest =
     is ∙ ap (λ (t : List ℕ). t ++ behind) canonical.spelled
-    ∙ first_line (line (codes "gj-function 1")) canonical.lines (line (codes "end")) behind in
-    (codes "1" ∷ [], begins_so Lenient text rest (codes "gj-function" ∷ codes "1" ∷ [])
-    (words_line Lenient (codes "gj-function") (codes "1" ∷ []) text rest refl (λ z. omega arith)
-    whole))
+    ∙ first_line (line (codes "gj-function 1")) canonical.lines (line (codes "end")) behind in (
+      codes "1" ∷ [],
+      begins_so Lenient text rest (codes "gj-function" ∷ codes "1" ∷ [])
+          (words_line Lenient (codes "gj-function") (codes "1" ∷ []) text rest refl (λ z. omega arith)
+          whole),
+    )
 
 -- by a function
 function_is_read : (f : FunctionData) (s : Task) (function lines text : List ℕ) →

@@ -70,6 +70,7 @@ no_place names name differs =
   where
     test : List ℕ → Bool
     test = pointwise nat_eq name
+
     last : position_or_len test names ≡ length names
     last = position_or_len_is test names (length names) [] (omega arith)
         (λ k below. false_from_ne_true (test (name_at names k))
@@ -83,6 +84,7 @@ own_place names j are below = rw (first, lt-ltb j (length names) below) refl
   where
     test : List ℕ → Bool
     test = pointwise nat_eq (name_at names j)
+
     first : position_or_len test names ≡ j
     first = position_or_len_is test names j [] (omega arith)
         (λ k before. false_from_ne_true (test (name_at names k)) (λ is.
@@ -172,12 +174,16 @@ adds_columns s (name ∷ names) (c ∷ columns) are count few =
     let joined = sym (append_assoc s.names (name ∷ []) names) in
     let is_name = name_is s.names name names are in
     let more = adds_columns next names columns (subst AreNames joined are) (omega arith)
-    (subst (λ (all : List (List ℕ)). length all ≤ most_columns) joined few) in
-    (
+    (subst (λ (all : List (List ℕ)). length all ≤ most_columns) joined few) in (
       next,
       (
-        (known (codes "column") refl, (name_is_plain name is_name,
-        (kind_is_plain c.is_whole, (bound_is_plain c.lower, bound_is_plain c.upper)))),
+        (
+          known (codes "column") refl,
+          (
+            name_is_plain name is_name,
+            (kind_is_plain c.is_whole, (bound_is_plain c.lower, bound_is_plain c.upper)),
+          ),
+        ),
         tt,
       ),
       record {
@@ -237,12 +243,17 @@ adds_entries s others last (e ∷ entries) are before is known_columns few =
         constraints = others ++ record last { entries = joined i } ∷ [];
       };
       entries = count i;
-    } in
-    (
+    } in (
       next,
       (
-        (known (codes "entry") refl, (name_is_plain (name_at s.names e.column)
-        (name_at_is s.names e.column are below), tt)),
+        (
+          known (codes "entry") refl,
+          (
+            name_is_plain (name_at s.names e.column)
+                (name_at_is s.names e.column are below),
+            tt,
+          ),
+        ),
         tt,
       ),
       record {
@@ -289,18 +300,19 @@ adds_constraint : (s : Task) (name : List ℕ) (c : Constraint) → AreNames s.n
     s.entries + length c.entries ≤ most_entries →
     AddsAll s (constraint_told s.names name c)
     (with_entries (with_bare s c) s.problem.constraints (bare c) c.entries)
-adds_constraint s name c are before is_name few known_columns within =
+adds_constraint s name c are before is_name few known_columns within = (
+  with_bare s c,
+  (
     (
-      with_bare s c,
-      (
-        (known (codes "constraint") refl,
-        (name_is_plain name is_name, (sense_is_plain c.sense, tt))),
-        tt,
-      ),
-      record { before = before; is_name = is_name; few = few; added = refl },
-      adds_entries (with_bare s c) s.problem.constraints (bare c) c.entries are before refl
-          known_columns within,
-    )
+      known (codes "constraint") refl,
+      (name_is_plain name is_name, (sense_is_plain c.sense, tt)),
+    ),
+    tt,
+  ),
+  record { before = before; is_name = is_name; few = few; added = refl },
+  adds_entries (with_bare s c) s.problem.constraints (bare c) c.entries are before refl
+      known_columns within,
+)
 
 constraints_joined : (s : Task) (c : Constraint) (constraints : List Constraint) →
     with_constraints (with_entries (with_bare s c) s.problem.constraints (bare c) c.entries)
@@ -353,13 +365,12 @@ adds_constraints s (name ∷ names) (c ∷ constraints) are before all count few
 adds_grid : (s : Task) (n : Option ℕ) → s.grid ≡ None → IfSome n IsGrid →
     AddsAll s (grid_told n) (record s { grid = n })
 adds_grid s None none is = λ i. record s { grid = none i }
-adds_grid s (Some n) none is =
-    (
-      record s { grid = Some n },
-      ((known (codes "grid") refl, (let below = is.1 in omega arith)), is),
-      record { none = none; added = refl },
-      refl,
-    )
+adds_grid s (Some n) none is = (
+  record s { grid = Some n },
+  ((known (codes "grid") refl, (let below = is.1 in omega arith)), is),
+  record { none = none; added = refl },
+  refl,
+)
 
 numbers_are_good : (numbers : List Frac) (w : List ℕ) → IsPlain w →
     AreGood (word w ∷ map fraction numbers)
@@ -379,8 +390,10 @@ adds_request : (s : Task) (r : Request) → AreNames s.names →
     × Adds s (request_told s.names r) (with_requests s (r ∷ []))
 adds_request s (Upper j) are below = (
   (
-    (known (codes "upper") refl,
-    name_is_plain (name_at s.names j) (name_at_is s.names j are below)),
+    (
+      known (codes "upper") refl,
+      name_is_plain (name_at s.names j) (name_at_is s.names j are below),
+    ),
     tt,
   ),
   record { index = j; index_is = own_place s.names j are below; added = refl },
@@ -400,8 +413,7 @@ adds_requests s (r ∷ requests) are all =
     let next = with_requests s (r ∷ []) in
     let more = adds_requests next requests are (All-tail Is r requests all) in
     let same : with_requests next requests ≡ with_requests s (r ∷ requests) =
-    λ i. record s { requests = append_assoc s.requests (r ∷ []) requests i } in
-    (
+    λ i. record s { requests = append_assoc s.requests (r ∷ []) requests i } in (
       next,
       one.0,
       one.1,
