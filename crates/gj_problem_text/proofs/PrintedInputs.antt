@@ -22,7 +22,7 @@ use Rattle.gj_problem_text.specs.PrintedInput.{task_told, IsPrintable, HasFront,
 use Rattle.gj_problem_text.specs.PrintedProblem.{printed}
 use Rattle.gj_problem_text.specs.ProblemLines.{ProblemLine, column, constraint, entry, upper, sum}
 use Rattle.gj_problem_text.specs.ProblemLines.{grid, problem_fields, problem_form}
-use Rattle.gj_problem_text.specs.ProblemText.{title_words, rule_words, no_task, next_line, lines_part}
+use Rattle.gj_problem_text.specs.ProblemText.{no_task, next_line, lines_part}
 use Rattle.gj_problem_text.specs.SafeInputs.{BeginsAsFunction, IsSafeInput}
 use Rattle.gj_problem_text.specs.Tasks.{Adds}
 use Rattle.gj_problem_text.specs.declared.input.SafeInput.{SafeInput}
@@ -69,11 +69,13 @@ line_is_read s u l text rest (good, has) adds is =
 
 -- they are read up to the line `end`
 lines_are_read : (s t : Task) (lines : List ProblemLine) (rest : List ℕ) → AddsAll s lines t →
-    ReadsInTurn (λ u. (next_line u).Reads) t rest s (printed lines ++ (line (codes "end") ++ rest))
+    ReadsInTurn (λ u. (next_line u).Reads) t rest s
+    (printed lines ++ (line (codes "end") ++ rest))
 lines_are_read s t [] rest same =
     let text = line (codes "end") ++ rest in
     let end = words_line Lenient (codes "end") [] text rest refl (λ is. omega arith) refl in
-    last s text (inl (([], begins_so Lenient text rest end_words end), (tt, end, ap inr (sym same))))
+    last s text
+    (inl (([], begins_so Lenient text rest end_words end), (tt, end, ap inr (sym same))))
 lines_are_read s t (l ∷ lines) rest (u, good, adds, more) =
     let behind = printed lines ++ (line (codes "end") ++ rest) in
     let text = printed (l ∷ lines) ++ (line (codes "end") ++ rest) in
@@ -90,13 +92,15 @@ regrouped title head lines end = simp (append_assoc, append-nil)
 -- by the line `rule gmic`
 gmic_is_read : (s : Task) (lines text : List ℕ) →
     lines_part.Reads (lines ++ (line (codes "end") ++ [])) s [] →
-    text ≡ (line (codes "gj-problem 1") ++ line (codes "rule gmic")) ++ lines ++ line (codes "end") →
+    text
+    ≡ (line (codes "gj-problem 1") ++ line (codes "rule gmic")) ++ lines ++ line (codes "end") →
     IsSafeInput text (record { «rule» = Gmic; task = s })
 gmic_is_read s lines text read is =
     let behind = lines ++ (line (codes "end") ++ []) in
     let middle = line (codes "rule gmic") ++ behind in
     let whole = is
-    ∙ regrouped (line (codes "gj-problem 1")) (line (codes "rule gmic")) lines (line (codes "end")) in
+    ∙ regrouped (line (codes "gj-problem 1")) (line (codes "rule gmic")) lines
+    (line (codes "end")) in
     let title = words_line Lenient (codes "gj-problem") (codes "1" ∷ []) text middle refl
     (λ z. omega arith) whole in
     let head = words_line Lenient (codes "rule") (codes "gmic" ∷ []) middle behind refl
@@ -113,8 +117,8 @@ first_line : (title lines end behind : List ℕ) →
     (title ++ lines ++ end) ++ behind ≡ title ++ (lines ++ (end ++ behind))
 first_line title lines end behind = simp append_assoc
 
-begins_as_function : (f : FunctionData) (function behind text : List ℕ) → IsCanonicalText function f →
-    text ≡ function ++ behind → BeginsAsFunction text
+begins_as_function : (f : FunctionData) (function behind text : List ℕ) →
+    IsCanonicalText function f → text ≡ function ++ behind → BeginsAsFunction text
 begins_as_function f function behind text canonical is =
     let rest = canonical.lines ++ (line (codes "end") ++ behind) in
     let whole : text ≡ line (codes "gj-function 1") ++ rest =
@@ -122,7 +126,8 @@ begins_as_function f function behind text canonical is =
     ∙ first_line (line (codes "gj-function 1")) canonical.lines (line (codes "end")) behind in (
       codes "1" ∷ [],
       begins_so Lenient text rest (codes "gj-function" ∷ codes "1" ∷ [])
-          (words_line Lenient (codes "gj-function") (codes "1" ∷ []) text rest refl (λ z. omega arith) whole),
+          (words_line Lenient (codes "gj-function") (codes "1" ∷ []) text rest refl (λ z. omega arith)
+          whole),
     )
 
 -- by a function
@@ -146,11 +151,13 @@ function_is_read f s front lines text (function, within, canonical, front_is) re
 
 by_rule : (r : CutRule) (s : Task) (front lines text : List ℕ) → HasFront r front →
     lines_part.Reads (lines ++ (line (codes "end") ++ [])) s [] →
-    text ≡ front ++ lines ++ line (codes "end") → IsSafeInput text (record { «rule» = r; task = s })
+    text ≡ front ++ lines ++ line (codes "end") →
+    IsSafeInput text (record { «rule» = r; task = s })
 by_rule Gmic s front lines text is read whole =
     gmic_is_read s lines text read
     (whole ∙ ap (λ (t : List ℕ). t ++ lines ++ line (codes "end")) is)
-by_rule (Table f) s front lines text is read whole = function_is_read f s front lines text is read whole
+by_rule (Table f) s front lines text is read whole =
+    function_is_read f s front lines text is read whole
 
 pub printed_is_read : (asked : SafeInput) (text : List ℕ) → IsPrintedInput asked text →
     IsSafeInput text asked

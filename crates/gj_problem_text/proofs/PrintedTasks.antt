@@ -1,6 +1,7 @@
 -- The lines of a task as they are printed make it, one after another.
-use Rattle.std.proofs.Common.{◌≡◌, ◌≢◌, ◌<◌, ◌≤◌, ℕ, ◌+◌, Option, Some, None, IfSome, cond, codes, nat_eq, arith}
-use Rattle.std.proofs.Common.{Bool, true, false, List, [], ◌∷◌, ◌++◌, All, flat_map, map, length, get_or}
+use Rattle.std.proofs.Common.{◌≡◌, ◌≢◌, ◌<◌, ◌≤◌, ℕ, ◌+◌, Option, Some, None, IfSome, codes}
+use Rattle.std.proofs.Common.{Bool, true, false, nat_eq, List, [], ◌∷◌, ◌++◌, All, flat_map, map}
+use Rattle.std.proofs.Common.{length, arith}
 use Rattle.std.proofs.Common.{append_assoc, append-nil, length-append, refl, sym, ap, subst, ◌∙◌}
 use Rattle.std.specs.Cmp.Lexicographic.{pointwise, bytes_decides}
 use Rattle.std.specs.List.{position, position_or_len}
@@ -64,14 +65,16 @@ adds_behind s u t (l ∷ ls) ms (v, good, one, more) h =
 no_place : (names : List (List ℕ)) (name : List ℕ) →
     ((i : ℕ) → i < length names → name_at names i ≢ name) →
     position (pointwise nat_eq name) names ≡ None
-no_place names name differs = rw (le-ltb (position_or_len test names) (length names) (omega (arith, last))) refl
+no_place names name differs =
+    rw (le-ltb (position_or_len test names) (length names) (omega (arith, last))) refl
   where
     test : List ℕ → Bool
     test = pointwise nat_eq name
 
     last : position_or_len test names ≡ length names
     last = position_or_len_is test names (length names) [] (omega arith)
-        (λ k below. false_from_ne_true _ (λ is. differs k below (sym ((bytes_decides name (name_at names k)).0 is))))
+        (λ k below. false_from_ne_true (test (name_at names k))
+        (λ is. differs k below (sym ((bytes_decides name (name_at names k)).0 is))))
         (λ below. absurd (omega arith))
 
 -- one of different names has its own place
@@ -84,8 +87,9 @@ own_place names j are below = rw (first, lt-ltb j (length names) below) refl
 
     first : position_or_len test names ≡ j
     first = position_or_len_is test names j [] (omega arith)
-        (λ k before. false_from_ne_true _ (λ is.
-        let same = are.different j k below (omega arith) ((bytes_decides (name_at names j) (name_at names k)).0 is) in
+        (λ k before. false_from_ne_true (test (name_at names k)) (λ is.
+        let same : j ≡ k = are.different j k below (omega arith)
+        ((bytes_decides (name_at names j) (name_at names k)).0 is) in
         omega arith))
         (λ is. (bytes_decides (name_at names j) (name_at names j)).1 refl)
 
@@ -192,7 +196,8 @@ adds_columns s (name ∷ names) (c ∷ columns) are count few =
         new = no_place s.names name (next_differs s.names name names are);
         added = refl;
       },
-      subst (AddsAll next (columns_told names columns)) (columns_joined s name names c columns) more,
+      subst (AddsAll next (columns_told names columns)) (columns_joined s name names c columns)
+          more,
     )
 
 -- ---- entries of the last constraint
@@ -214,20 +219,20 @@ adds_entries : (s : Task) (others : List Constraint) (last : Constraint) (entrie
     AreNames s.names → s.requests ≡ [] → s.problem.constraints ≡ others ++ last ∷ [] →
     All (λ e. e.column < length s.names) entries → s.entries + length entries ≤ most_entries →
     AddsAll s (map (entry_told s.names) entries) (with_entries s others last entries)
-adds_entries s others last [] are before is known few =
+adds_entries s others last [] are before is known_columns few =
     let constraints : s.problem.constraints ≡ others ++ with_more last [] ∷ [] =
     is ∙ ap (λ (es : List Entry). others ++ record last { entries = es } ∷ [])
     (sym (append-nil last.entries)) in
-    let count : s.entries ≡ s.entries + length [] = omega arith in
+    let count : s.entries ≡ s.entries + 0 = omega arith in
     λ i. record s {
       problem = record (s.problem) { constraints = constraints i };
       entries = count i;
     }
-adds_entries s others last (e ∷ entries) are before is known few =
+adds_entries s others last (e ∷ entries) are before is known_columns few =
     let next = with_entries s others last (e ∷ []) in
-    let below = All-head (λ (d : Entry). d.column < length s.names) e entries known in
+    let below = All-head (λ (d : Entry). d.column < length s.names) e entries known_columns in
     let more = adds_entries next others (with_more last (e ∷ [])) entries are before refl
-    (All-tail (λ (d : Entry). d.column < length s.names) e entries known) (omega arith) in
+    (All-tail (λ (d : Entry). d.column < length s.names) e entries known_columns) (omega arith) in
     let joined = append_assoc last.entries (e ∷ []) entries in
     let count : (s.entries + length (e ∷ [])) + length entries ≡ s.entries + length (e ∷ entries) =
     omega arith in
@@ -289,8 +294,8 @@ with_bare s c = record s {
 }
 
 -- one constraint
-adds_constraint : (s : Task) (name : List ℕ) (c : Constraint) → AreNames s.names → s.requests ≡ [] →
-    IsName name → length s.problem.constraints < most_constraints →
+adds_constraint : (s : Task) (name : List ℕ) (c : Constraint) → AreNames s.names →
+    s.requests ≡ [] → IsName name → length s.problem.constraints < most_constraints →
     All (λ e. e.column < length s.names) c.entries →
     s.entries + length c.entries ≤ most_entries →
     AddsAll s (constraint_told s.names name c)
@@ -298,7 +303,10 @@ adds_constraint : (s : Task) (name : List ℕ) (c : Constraint) → AreNames s.n
 adds_constraint s name c are before is_name few known_columns within = (
   with_bare s c,
   (
-    (known (codes "constraint") refl, (name_is_plain name is_name, (sense_is_plain c.sense, tt))),
+    (
+      known (codes "constraint") refl,
+      (name_is_plain name is_name, (sense_is_plain c.sense, tt)),
+    ),
     tt,
   ),
   record { before = before; is_name = is_name; few = few; added = refl },
@@ -307,8 +315,8 @@ adds_constraint s name c are before is_name few known_columns within = (
 )
 
 constraints_joined : (s : Task) (c : Constraint) (constraints : List Constraint) →
-    with_constraints (with_entries (with_bare s c) s.problem.constraints (bare c) c.entries) constraints
-    ≡ with_constraints s (c ∷ constraints)
+    with_constraints (with_entries (with_bare s c) s.problem.constraints (bare c) c.entries)
+    constraints ≡ with_constraints s (c ∷ constraints)
 constraints_joined s c constraints =
     let joined = append_assoc s.problem.constraints (c ∷ []) constraints in
     let count : (s.entries + length c.entries) + length (entries_of constraints)
@@ -324,7 +332,8 @@ pub adds_constraints : (s : Task) (names : List (List ℕ)) (constraints : List 
     length s.problem.constraints + length constraints ≤ most_constraints →
     All (λ e. e.column < length s.names) (entries_of constraints) →
     s.entries + length (entries_of constraints) ≤ most_entries →
-    AddsAll s (each_told (constraint_told s.names) names constraints) (with_constraints s constraints)
+    AddsAll s (each_told (constraint_told s.names) names constraints)
+    (with_constraints s constraints)
 adds_constraints s [] [] are before all count few known_columns within =
     let same : s.entries ≡ s.entries + 0 = omega arith in
     λ i. record s {
@@ -336,14 +345,15 @@ adds_constraints s [] (c ∷ constraints) are before all count few known_columns
 adds_constraints s (name ∷ names) [] are before all count few known_columns within =
     absurd (omega arith)
 adds_constraints s (name ∷ names) (c ∷ constraints) are before all count few known_columns within =
+    let Known = λ (e : Entry). e.column < length s.names in
     let sum = length-append c.entries (entries_of constraints) in
     let next = with_entries (with_bare s c) s.problem.constraints (bare c) c.entries in
     let first = adds_constraint s name c are before (All-head IsName name names all) (omega arith)
-    (All-front (λ (e : Entry). e.column < length s.names) c.entries (entries_of constraints) known_columns)
+    (All-front Known c.entries (entries_of constraints) known_columns)
     (omega (arith, sum)) in
     let more = adds_constraints next names constraints are before (All-tail IsName name names all)
     (omega arith) (omega (arith, length-append s.problem.constraints (c ∷ [])))
-    (All-back (λ (e : Entry). e.column < length s.names) c.entries (entries_of constraints) known_columns)
+    (All-back Known c.entries (entries_of constraints) known_columns)
     (omega (arith, sum)) in
     adds_behind s next (with_constraints s (c ∷ constraints)) (constraint_told s.names name c)
     (each_told (constraint_told s.names) names constraints) first
@@ -376,9 +386,16 @@ with_requests s requests = record s { requests = s.requests ++ requests }
 
 adds_request : (s : Task) (r : Request) → AreNames s.names →
     IsRequestOf (length s.names) (length s.problem.constraints) r →
-    IsPrintedLine (request_told s.names r) × Adds s (request_told s.names r) (with_requests s (r ∷ []))
+    IsPrintedLine (request_told s.names r)
+    × Adds s (request_told s.names r) (with_requests s (r ∷ []))
 adds_request s (Upper j) are below = (
-  ((known (codes "upper") refl, name_is_plain (name_at s.names j) (name_at_is s.names j are below)), tt),
+  (
+    (
+      known (codes "upper") refl,
+      name_is_plain (name_at s.names j) (name_at_is s.names j are below),
+    ),
+    tt,
+  ),
   record { index = j; index_is = own_place s.names j are below; added = refl },
 )
 adds_request s (Sum multipliers) are count = (
@@ -411,12 +428,12 @@ task_is_told names s h =
     let columned = with_columns no_task s.names s.problem.columns in
     let constrained = with_constraints columned s.problem.constraints in
     let gridded = record constrained { grid = s.grid } in
-    let columns = adds_columns no_task s.names s.problem.columns h.names h.columns h.columns_few in
-    let constraints = adds_constraints columned names s.problem.constraints h.names refl
-    h.constraint_names h.constraints (omega (arith, h.constraints, h.constraints_few)) h.known
+    let columns = adds_columns no_task s.names s.problem.columns h.column_names h.columns h.columns_few in
+    let constraints = adds_constraints columned names s.problem.constraints h.column_names refl
+    h.are_names h.constraints (omega (arith, h.constraints, h.constraints_few)) h.known
     (omega (arith, h.entries, h.entries_few)) in
     let grid = adds_grid constrained s.grid refl h.grid in
-    let requests = adds_requests gridded s.requests h.names
+    let requests = adds_requests gridded s.requests h.column_names
     (subst (λ (m : ℕ). All (IsRequestOf (length s.names) m) s.requests) h.constraints h.requests) in
     let count : 0 + length (all_entries s.problem) ≡ s.entries = omega (arith, h.entries) in
     let same : with_requests gridded s.requests ≡ s = λ i. record s { entries = count i } in
@@ -424,6 +441,7 @@ task_is_told names s h =
     let behind = each_told (constraint_told s.names) names s.problem.constraints in
     adds_behind no_task gridded s (problem_told s.names names s.problem ++ grid_told s.grid)
     (map (request_told s.names) s.requests)
-    (adds_behind no_task constrained gridded (problem_told s.names names s.problem) (grid_told s.grid)
-    (adds_behind no_task columned constrained told behind columns constraints) grid)
+    (adds_behind no_task constrained gridded (problem_told s.names names s.problem)
+    (grid_told s.grid) (adds_behind no_task columned constrained told behind columns constraints)
+    grid)
     (subst (AddsAll gridded (map (request_told s.names) s.requests)) same requests)

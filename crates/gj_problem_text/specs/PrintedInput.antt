@@ -1,5 +1,6 @@
 -- A problem with its rule as it is printed: in one order, each number in its one spelling (own).
-use Rattle.std.specs.Prelude.{ℕ, ◌≡◌, ◌<◌, ◌≤◌, Option, Some, None, IfSome, List, [], ◌∷◌, ◌++◌, All, codes, flat_map, length, map}
+use Rattle.std.specs.Prelude.{ℕ, ◌≡◌, ◌<◌, ◌≤◌, Option, Some, None, IfSome, codes}
+use Rattle.std.specs.Prelude.{List, [], ◌∷◌, ◌++◌, All, flat_map, length, map}
 use Rattle.gj_lex.specs.Name.{IsName}
 use Rattle.gj_shape.specs.FunctionData.{IsWithinBounds}
 use Rattle.gj_function_lines.specs.FunctionLines.{line}
@@ -30,7 +31,8 @@ request_told names (Sum multipliers) = sum multipliers
 -- the problem, the grid and the requests, in their order
 abbrev pub task_told : List (List ℕ) → Task → List ProblemLine
 task_told constraint_names s =
-    problem_told s.names constraint_names s.problem ++ grid_told s.grid ++ map (request_told s.names) s.requests
+    problem_told s.names constraint_names s.problem ++ grid_told s.grid
+    ++ map (request_told s.names) s.requests
 
 -- the entries of all constraints
 abbrev pub all_entries : Problem → List Entry
@@ -44,10 +46,10 @@ IsRequestOf n m (Sum multipliers) = length multipliers ≡ m
 -- the task has names for its columns, all different, and these are names for its constraints; it is
 -- within the limits, and speaks of its own columns alone
 pub record IsPrintable (constraint_names : List (List ℕ)) (s : Task) : Type 0 where
-  pub names : AreNames s.names
+  pub column_names : AreNames s.names
   pub columns : length s.names ≡ length s.problem.columns
   pub columns_few : length s.names ≤ most_columns
-  pub constraint_names : All IsName constraint_names
+  pub are_names : All IsName constraint_names
   pub constraints : length constraint_names ≡ length s.problem.constraints
   pub constraints_few : length constraint_names ≤ most_constraints
   pub known : All (λ e. e.column < length s.names) (all_entries s.problem)
@@ -61,7 +63,8 @@ pub record IsPrintable (constraint_names : List (List ℕ)) (s : Task) : Type 0 
 abbrev pub HasFront : CutRule → List ℕ → Type 0
 HasFront Gmic front = front ≡ line (codes "gj-problem 1") ++ line (codes "rule gmic")
 HasFront (Table f) front =
-    (text : List ℕ) × IsWithinBounds f × IsCanonicalText text f × (front ≡ text ++ line (codes "gj-problem 1"))
+    (text : List ℕ) × IsWithinBounds f × IsCanonicalText text f
+    × (front ≡ text ++ line (codes "gj-problem 1"))
 
 -- the text is the printed one of the problem with its rule
 pub record IsPrintedInput (asked : SafeInput) (text : List ℕ) : Type 0 where
@@ -69,4 +72,5 @@ pub record IsPrintedInput (asked : SafeInput) (text : List ℕ) : Type 0 where
   pub printable : IsPrintable constraint_names asked.task
   pub front : List ℕ
   pub front_is : HasFront asked.rule front
-  pub text_is : text ≡ front ++ printed (task_told constraint_names asked.task) ++ line (codes "end")
+  pub text_is : text
+      ≡ front ++ printed (task_told constraint_names asked.task) ++ line (codes "end")

@@ -28,7 +28,8 @@ abbrev pub constraint_told : List (List ℕ) → List ℕ → Constraint → Lis
 constraint_told names name c = constraint name c.sense c.right ∷ map (entry_told names) c.entries
 
 -- what is told of each thing with its name, one behind another
-abbrev pub each_told : {A : Type 0} → (List ℕ → A → List ProblemLine) → List (List ℕ) → List A → List ProblemLine
+abbrev pub each_told : {A : Type 0} → (List ℕ → A → List ProblemLine) → List (List ℕ) → List A →
+    List ProblemLine
 each_told told (name ∷ names) (thing ∷ things) = told name thing ++ each_told told names things
 each_told told names things = []
 
