@@ -8,4 +8,3 @@ pub mod Cuts
 pub mod CutText
 pub mod AnswersMade
 pub mod SafeInputs
-pub mod CutRules
