@@ -11,13 +11,12 @@ ghost use Rattle.gj_problem_text.specs.Cuts.{IsRoundedTo, IsOnGridOf, IsCutBy, I
 ghost use Rattle.gj_problem_text.specs.Cuts.{AreAnswers, none_turned};
 ghost use Rattle.gj_problem_text.specs.Ready.{HasMultipliers, IsReady};
 
-use crate::function_cuts::function_cut;
 use crate::print::push_cut;
 use crate::task::{Request, Task};
 use gj_frac::Frac;
 use gj_problem::{Inequality, Problem, RoundedCut, rounded};
 use gj_proof::CutRule;
-use gj_safe_cut::{SafeCut, gmic_safe_cut};
+use gj_safe_cut::{SafeCut, function_safe_cut, gmic_safe_cut};
 use std::alloc::{AllocError, Global};
 
 /// Appends the lines of the cuts that the task asks for by the rule. A cut is made and printed
@@ -157,7 +156,7 @@ fn unrounded(
 {
     match rule {
         CutRule::Gmic => gmic_safe_cut(alloc, problem, multipliers, at_upper),
-        CutRule::Table(shape) => function_cut(alloc, shape, problem, multipliers, at_upper),
+        CutRule::Table(shape) => function_safe_cut(alloc, shape, problem, multipliers, at_upper),
     }
 }
 
