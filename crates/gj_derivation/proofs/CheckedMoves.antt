@@ -20,6 +20,7 @@ use Rattle.gj_problem.specs.RoundedCuts.{IsBelowOnGrid}
 use Rattle.gj_problem.proofs.AddedSums.{zero_frac, add_zero_q}
 use Rattle.gj_problem.proofs.GridParts.{below_from_floor}
 use Rattle.gj_problem.proofs.HeldInequalities.{whole_frac}
+use Rattle.gj_problem.proofs.MovedEntries.{double_neg}
 use Rattle.gj_derivation.specs.Moves.{HasLower, HasUpper, IsMovedBy, AreMovedBy}
 use Rattle.gj_derivation.specs.Derivations.{IsWholeTerm, AreWholeTerms, IsRoundedUp}
 use Rattle.gj_derivation.specs.Checks.{IsUnmovable, IsFirstUnmovable, IsMovedRight, line_of_sum, scaled, claimed_at, IsWideMoved, IsWideMoving}
@@ -202,9 +203,6 @@ above_if_greater x y r is fits h =
 
 -- ---- rounding up
 
-double_neg : (x : Rational) → neg_ℚ (neg_ℚ x) ≡ x
-double_neg x = by_ring_q (x ∷ []) (search ring_q depth 30) refl
-
 ratio_of_whole : (y : Frac) (n : ℤ) → rational y ≡ whole n → IsRatio y n (pos 1)
 ratio_of_whole y n is =
     ap₂ (λ v w. v *ℤ w) (ap (λ (q : Rational). q.top) is ∙ whole_top n) (sym (ap (λ (q : Rational). q.bottom) is ∙ whole_bottom n))
@@ -214,10 +212,6 @@ pub rounded_from_floor : (x m down r : Frac) → rational m ≡ neg_ℚ (rationa
 rounded_from_floor x m down r m_is (n, floor, down_is) r_is =
     subst₂ (IsBelowOnGrid 1) m_is (sym (ap neg_ℚ r_is ∙ double_neg (rational down)))
     (below_from_floor 1 m down m n (omega arith) (sym (one_mul_q (rational m))) floor (ratio_of_whole down n down_is))
-
-pub is_true : (b : Bool) → b ≡ true → IsTrue b
-is_true true e = search rules
-is_true false e = absurd (cc)
 
 -- ---- over all columns
 

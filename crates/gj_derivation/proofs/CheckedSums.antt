@@ -4,7 +4,7 @@ use Rattle.std.proofs.lemmas.List.{take_more}
 use Rattle.std.proofs.lemmas.List.Elements.{All-nil, All-push}
 use Rattle.gj_frac.specs.declared.Frac.{Frac}
 use Rattle.gj_problem.specs.Rational.{Rational, whole, rational, ◌+ℚ◌, ◌*ℚ◌, ◌-ℚ◌}
-use Rattle.gj_problem.proofs.RationalLaws.{add_assoc_q, add_comm_q}
+use Rattle.gj_problem.proofs.RationalLaws.{add_assoc_q}
 use Rattle.gj_problem.proofs.RationalRing.{by_ring_q, ring_q}
 use Rattle.gj_problem.specs.declared.problem.Constraint.{Constraint}
 use Rattle.gj_problem.specs.declared.problem.Entry.{Entry}
@@ -12,23 +12,15 @@ use Rattle.gj_problem.specs.declared.problem.Problem.{Problem}
 use Rattle.gj_problem.specs.declared.sums.Sum.{Sum}
 use Rattle.gj_problem.specs.Problems.{sum_at, IsConstraint}
 use Rattle.gj_problem.specs.Rows.{dot}
+use Rattle.gj_problem.proofs.AddedSums.{last_entry}
 use Rattle.gj_problem.proofs.OneColumn.{nothing_sum}
+use Rattle.gj_problem.proofs.OneRow.{dot_none, one_time, no_time}
 use Rattle.gj_derivation.specs.declared.step.Multiplier.{Multiplier}
 use Rattle.gj_derivation.specs.Derivations.{unit, coefficient_in, coefficient_at, right_at, added_coefficient, added_right}
 use Rattle.gj_derivation.specs.Checks.{IsSigned, IsAdded, IsSumOf}
 use Rattle.gj_derivation.proofs.ClaimsHold.{in_constraint}
 
 -- ---- coefficients of sums
-
-dot_none : (cs : List Frac) → dot cs [] ≡ whole (pos 0)
-dot_none [] = refl
-dot_none (c ∷ cs) = refl
-
-one_time : (c : Rational) → c *ℚ whole (pos 1) +ℚ whole (pos 0) ≡ c
-one_time c = by_ring_q (c ∷ []) (search ring_q depth 30) refl
-
-no_time : (c d : Rational) → c *ℚ whole (pos 0) +ℚ d ≡ d
-no_time c d = by_ring_q (c ∷ d ∷ []) (search ring_q depth 30) refl
 
 pub dot_unit : (cs : List Frac) (j : ℕ) (d : Frac) → j < length cs → dot cs (unit j) ≡ rational (get_or cs j d)
 dot_unit [] j d below = absurd (omega arith)
@@ -87,19 +79,16 @@ constraint_added p m c old new signed is h = record {
       (sym (in_constraint (λ (d : Constraint). coefficient_in d.entries j) p m.line c (whole (pos 0)) is));
 }
 
-last_term : (x : Rational) → x +ℚ whole (pos 0) ≡ whole (pos 0) +ℚ x
-last_term x = add_comm_q x (whole (pos 0))
-
 added_coefficient_more : (p : Problem) (ms : List Multiplier) (m : Multiplier) (j : ℕ) →
     added_coefficient p (ms ++ m ∷ []) j ≡ added_coefficient p ms j +ℚ rational m.value *ℚ coefficient_at p m.line j
-added_coefficient_more p [] m j = last_term (rational m.value *ℚ coefficient_at p m.line j)
+added_coefficient_more p [] m j = last_entry (rational m.value *ℚ coefficient_at p m.line j)
 added_coefficient_more p (n ∷ ms) m j =
     ap (λ w. rational n.value *ℚ coefficient_at p n.line j +ℚ w) (added_coefficient_more p ms m j)
     ∙ sym (add_assoc_q (rational n.value *ℚ coefficient_at p n.line j) (added_coefficient p ms j) (rational m.value *ℚ coefficient_at p m.line j))
 
 added_right_more : (p : Problem) (ms : List Multiplier) (m : Multiplier) →
     added_right p (ms ++ m ∷ []) ≡ added_right p ms +ℚ rational m.value *ℚ right_at p m.line
-added_right_more p [] m = last_term (rational m.value *ℚ right_at p m.line)
+added_right_more p [] m = last_entry (rational m.value *ℚ right_at p m.line)
 added_right_more p (n ∷ ms) m =
     ap (λ w. rational n.value *ℚ right_at p n.line +ℚ w) (added_right_more p ms m)
     ∙ sym (add_assoc_q (rational n.value *ℚ right_at p n.line) (added_right p ms) (rational m.value *ℚ right_at p m.line))

@@ -8,7 +8,7 @@ use Rattle.gj_frac.specs.declared.Frac.{Frac}
 use Rattle.gj_frac.specs.Fraction.{numerator}
 use Rattle.gj_problem.specs.Rational.{Rational, whole, rational, ◌+ℚ◌, ◌*ℚ◌, neg_ℚ, ◌-ℚ◌, ◌≤ℚ◌, IsWholeNumber}
 use Rattle.gj_problem.proofs.RationalLaws.{zero_mul_q}
-use Rattle.gj_problem.proofs.RationalOrder.{IsNonnegativeQ, nonnegative_whole, nonnegative_add, nonnegative_mul, difference_nonnegative, at_most_from_difference, at_most_turned}
+use Rattle.gj_problem.proofs.RationalOrder.{IsNonnegativeQ, nonnegative_whole, nonnegative_add, nonnegative_mul, difference_nonnegative, at_most_from_difference, at_most_trans, at_most_turned}
 use Rattle.gj_problem.proofs.RationalRing.{by_ring_q, ring_q}
 use Rattle.gj_problem.specs.declared.problem.Column.{Column}
 use Rattle.gj_problem.specs.declared.problem.Constraint.{Constraint}
@@ -20,7 +20,7 @@ use Rattle.gj_problem.specs.Problems.{sum_at, Meets, MeetsColumn, MeetsConstrain
 use Rattle.gj_problem.specs.Rows.{IsSignFor}
 use Rattle.gj_problem.specs.RoundedCuts.{IsBelowOnGrid}
 use Rattle.gj_problem.proofs.TurnedColumns.{lower_rounded, upper_rounded}
-use Rattle.gj_problem.proofs.HeldInequalities.{constraint_at, whole_sum, whole_product}
+use Rattle.gj_problem.proofs.HeldInequalities.{constraint_at, whole_sum, whole_product, if_some, raised, lowered, kept_change, no_change, change_step}
 use Rattle.gj_safe_cut.specs.declared.cut.SafeCut.TheVariants.{Cut}
 use Rattle.gj_safe_cut.proofs.HeldCuts.{holds_by_gmic, holds_by_rule}
 use Rattle.gj_derivation.specs.declared.step.Multiplier.{Multiplier}
@@ -32,9 +32,6 @@ use Rattle.gj_derivation.specs.Derivations.{Line, coefficient_in, line_of, coeff
 use Rattle.gj_derivation.proofs.ColumnSums.{column_sum, line_at, column_sum_zero, column_sum_more, column_sum_times, sum_by_columns}
 
 -- ---- bounds of columns
-
-if_some : {A : Type 0} (P : A → Type 0) (o : Option A) (x : A) → o ≡ Some x → IfSome o P → P x
-if_some P o x e h = subst (λ o. IfSome o P) e h
 
 above_lower : (c : Column) (x : Rational) (b : Frac) → MeetsColumn c x → HasLower c b → IsNonnegativeQ (x -ℚ rational b)
 above_lower c x b meets (l, is, rounded) =
@@ -48,46 +45,31 @@ below_upper c x b meets (u, is, rounded) =
 
 -- ---- moved coefficients
 
-unmoved : (x v : Rational) → whole (pos 0) ≡ (x -ℚ x) *ℚ v -ℚ whole (pos 0)
-unmoved x v = by_ring_q (x ∷ v ∷ []) (search ring_q depth 40) refl
-
-moved_up : (d v b : Rational) → d *ℚ (v -ℚ b) ≡ d *ℚ v -ℚ d *ℚ b
-moved_up d v b = by_ring_q (d ∷ v ∷ b ∷ []) (search ring_q depth 40) refl
-
-moved_down : (x y v b : Rational) → (x -ℚ y) *ℚ (b -ℚ v) ≡ (y -ℚ x) *ℚ v -ℚ (y -ℚ x) *ℚ b
-moved_down x y v b = by_ring_q (x ∷ y ∷ v ∷ b ∷ []) (search ring_q depth 40) refl
-
 move_low : (c : Column) (v x y shift : Rational) → MeetsColumn c v → IsMovedBy (HasLower c) (HasUpper c) x y shift →
     IsNonnegativeQ ((y -ℚ x) *ℚ v -ℚ shift)
 move_low c v x y shift meets =
     ⊎_elim
     (λ (h : IsUnmoved x y shift).
-    subst IsNonnegativeQ (unmoved x v ∙ ap₂ (λ a b. (a -ℚ x) *ℚ v -ℚ b) (sym h.same) (sym h.shift_is)) (nonnegative_whole (pos 0) (omega (arith, ints))))
+    subst IsNonnegativeQ (kept_change x v ∙ ap₂ (λ a b. (a -ℚ x) *ℚ v -ℚ b) (sym h.same) (sym h.shift_is)) (nonnegative_whole (pos 0) (omega (arith, ints))))
     (⊎_elim
     (λ (h : IsMovedUp (HasLower c) x y shift).
-    subst IsNonnegativeQ (moved_up (y -ℚ x) v (rational h.bound) ∙ ap (λ w. (y -ℚ x) *ℚ v -ℚ w) (sym h.shift_is))
+    subst IsNonnegativeQ (raised (y -ℚ x) v (rational h.bound) ∙ ap (λ w. (y -ℚ x) *ℚ v -ℚ w) (sym h.shift_is))
     (nonnegative_mul (y -ℚ x) (v -ℚ rational h.bound) (difference_nonnegative x y h.greater) (above_lower c v h.bound meets h.bound_is)))
     (λ (h : IsMovedDown (HasUpper c) x y shift).
-    subst IsNonnegativeQ (moved_down x y v (rational h.bound) ∙ ap (λ w. (y -ℚ x) *ℚ v -ℚ w) (sym h.shift_is))
+    subst IsNonnegativeQ (lowered x y v (rational h.bound) ∙ ap (λ w. (y -ℚ x) *ℚ v -ℚ w) (sym h.shift_is))
     (nonnegative_mul (x -ℚ y) (rational h.bound -ℚ v) (difference_nonnegative y x h.lesser) (below_upper c v h.bound meets h.bound_is))))
-
-none_moved : whole (pos 0) ≡ (whole (pos 0) -ℚ whole (pos 0)) -ℚ whole (pos 0)
-none_moved = by_ring_q [] (search ring_q depth 40) refl
-
-one_moved : (x y v s f g r : Rational) → ((y -ℚ x) *ℚ v -ℚ s) +ℚ ((g -ℚ f) -ℚ r) ≡ ((y *ℚ v +ℚ g) -ℚ (x *ℚ v +ℚ f)) -ℚ (s +ℚ r)
-one_moved x y v s f g r = by_ring_q (x ∷ y ∷ v ∷ s ∷ f ∷ g ∷ r ∷ []) (search ring_q depth 60 fits 3000) refl
 
 pub moves_low : (columns : List Column) (point : List Rational) (xs ys : ℕ → Rational) (total : Rational) → AllZip MeetsColumn columns point →
     AreMovedBy columns xs ys total → IsNonnegativeQ ((column_sum point ys -ℚ column_sum point xs) -ℚ total)
 moves_low [] [] xs ys total meets h =
-    subst IsNonnegativeQ (none_moved ∙ ap (λ w. (whole (pos 0) -ℚ whole (pos 0)) -ℚ w) (sym h)) (nonnegative_whole (pos 0) (omega (arith, ints)))
+    subst IsNonnegativeQ (no_change ∙ ap (λ w. (whole (pos 0) -ℚ whole (pos 0)) -ℚ w) (sym h)) (nonnegative_whole (pos 0) (omega (arith, ints)))
 moves_low [] (v ∷ point) xs ys total meets h = absurd meets
 moves_low (c ∷ columns) [] xs ys total meets h = absurd meets
 moves_low (c ∷ columns) (v ∷ point) xs ys total meets (shift, rest, moved, more, total_is) =
     let f = column_sum point (λ j. xs (suc j)) in
     let g = column_sum point (λ j. ys (suc j)) in
     subst IsNonnegativeQ
-    (one_moved (xs zero) (ys zero) v shift f g rest
+    (change_step (xs zero) (ys zero) v shift f g rest
     ∙ ap (λ w. ((ys zero *ℚ v +ℚ g) -ℚ (xs zero *ℚ v +ℚ f)) -ℚ w) (sym total_is))
     (nonnegative_add _ _ (move_low c v (xs zero) (ys zero) shift meets.0 moved)
     (moves_low columns point (λ j. xs (suc j)) (λ j. ys (suc j)) rest meets.1 more))
@@ -206,14 +188,6 @@ right_low Whole x y sum h is_whole low =
     (λ (k : (Whole → ⊥) × (y ≡ x)). subst (λ w. w ≤ℚ sum) (sym k.1) low) h
 
 -- ---- steps
-
-in_between : (x y z : Rational) → (z -ℚ y) +ℚ (y -ℚ x) ≡ z -ℚ x
-in_between x y z = by_ring_q (x ∷ y ∷ z ∷ []) (search ring_q depth 40) refl
-
-pub at_most_trans : (x y z : Rational) → x ≤ℚ y → y ≤ℚ z → x ≤ℚ z
-at_most_trans x y z h k =
-    at_most_from_difference x z
-    (subst IsNonnegativeQ (in_between x y z) (nonnegative_add _ _ (difference_nonnegative y z k) (difference_nonnegative x y h)))
 
 shown_sum : (y f x t r : Rational) → ((y -ℚ f *ℚ x) -ℚ t) +ℚ f *ℚ (x -ℚ r) ≡ y -ℚ (f *ℚ r +ℚ t)
 shown_sum y f x t r = by_ring_q (y ∷ f ∷ x ∷ t ∷ r ∷ []) (search ring_q depth 60 fits 3000) refl

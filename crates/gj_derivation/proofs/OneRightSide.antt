@@ -1,10 +1,8 @@
 -- A step shows one right side.
-use Rattle.std.proofs.Common.{◌≡◌, ⊎_elim, inl, inr, ◌↔◌, ℕ, zero, suc, Option, Some, None, List, [], ◌∷◌, pos, refl, sym, ap, ap₂, subst, ◌∙◌, arith}
-use Rattle.std.proofs.lemmas.Int.{ints}
+use Rattle.std.proofs.Common.{◌≡◌, ⊎_elim, inl, inr, ◌↔◌, ℕ, zero, suc, Option, Some, None, List, [], ◌∷◌, pos, refl, sym, ap, ap₂, subst, ◌∙◌}
 use Rattle.gj_frac.specs.declared.Frac.{Frac}
 use Rattle.gj_problem.specs.Rational.{Rational, whole, rational, ◌+ℚ◌, ◌*ℚ◌, neg_ℚ, ◌-ℚ◌, ◌≤ℚ◌}
-use Rattle.gj_problem.proofs.RationalLaws.{equal_q}
-use Rattle.gj_problem.proofs.RationalOrder.{at_most_turned}
+use Rattle.gj_problem.proofs.RationalOrder.{at_most_both, at_most_turned}
 use Rattle.gj_problem.proofs.RationalRing.{by_ring_q, ring_q}
 use Rattle.gj_problem.proofs.OneRow.{one_lower, one_upper}
 use Rattle.gj_problem.specs.declared.problem.Column.{Column}
@@ -16,9 +14,6 @@ use Rattle.gj_derivation.specs.declared.step.StepRule.{StepRule}
 use Rattle.gj_derivation.specs.declared.step.StepRule.TheVariants.{Linear, Gmic, Function}
 use Rattle.gj_derivation.specs.Moves.{IsUnmoved, IsMovedUp, IsMovedDown, IsMovedBy, HasLower, HasUpper, AreMovedBy, IsGridCoefficient, IsGiven}
 use Rattle.gj_derivation.specs.Derivations.{Line, coefficient_in, Given, IsBase, AreWholeTerms, IsRoundedUp, IsRightFor, IsShown, Follows}
-
-pub at_most_both : (x y : Rational) → x ≤ℚ y → y ≤ℚ x → x ≡ y
-at_most_both x y h k = equal_q x y (let a = h.crosswise in let b = k.crosswise in omega (arith, ints))
 
 -- ---- one bound
 

@@ -8,5 +8,4 @@ pub mod Cuts
 pub mod CutText
 pub mod AnswersMade
 pub mod SafeInputs
-pub mod CutRules
 pub mod PrintedProblem

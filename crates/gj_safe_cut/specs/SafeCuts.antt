@@ -4,13 +4,14 @@ use Rattle.std.specs.Prelude.{◌≡◌, ◌⊎◌, ◌<◌, ◌^◌, ℕ, pos, 
 use Rattle.std.specs.List.{AllZip}
 use Rattle.gj_frac.specs.declared.Frac.{Frac}
 use Rattle.gj_frac.specs.Fraction.{IsWhole, HasDenominatorBelow}
+use Rattle.gj_shape.specs.FunctionData.{FunctionData}
 use Rattle.gj_shape.specs.Limits.{denominator_bound}
 use Rattle.gj_theory.specs.Cuts.{IsGmicValue}
 use Rattle.gj_rule.specs.Kind.{IsKindValue}
 use Rattle.gj_rule.specs.declared.kind.RuleKind.{RuleKind}
-use Rattle.gj_rule.specs.declared.kind.RuleKind.TheVariants.{Gmic}
+use Rattle.gj_rule.specs.declared.kind.RuleKind.TheVariants.{Gmic, Table}
 use Rattle.gj_cut.specs.RowCuts.{HasPart}
-use Rattle.gj_mixed.specs.Slopes.{IsWeight, AreGmicSlopes}
+use Rattle.gj_mixed.specs.Slopes.{IsWeight, AreGmicSlopes, AreSlopesAtZero}
 use Rattle.gj_problem.specs.declared.problem.Inequality.{Inequality}
 use Rattle.gj_problem.specs.declared.problem.Problem.{Problem}
 use Rattle.gj_problem.specs.declared.pieces.Piece.{Piece}
@@ -96,6 +97,11 @@ IsOfProblem IsOfRow p multipliers at_upper cut =
 -- the cut of the problem by the multipliers and the rule with these slopes
 abbrev pub IsSafeCutOf : RuleKind → Frac → Frac → Problem → List Frac → List Bool → SafeCut → Type 0
 IsSafeCutOf kind up down = IsOfProblem (IsCutOfRow kind up down)
+
+-- the cut of the problem by the multipliers and the function, with its slopes at 0
+abbrev pub IsFunctionSafeCutOf : FunctionData → Problem → List Frac → List Bool → SafeCut → Type 0
+IsFunctionSafeCutOf f p multipliers at_upper cut = (up : Frac) × (down : Frac)
+    × AreSlopesAtZero f up down × IsSafeCutOf (Table f) up down p multipliers at_upper cut
 
 -- the mixed-integer cut of a row for the fractional part f of its right side, or the right side is
 -- whole

@@ -3,10 +3,10 @@ use Rattle.std.proofs.lemmas.List.{take_all}
 use Rattle.gj_problem.specs.Rational.{rational}
 use Rattle.gj_problem.proofs.AddedSums.{whole_ratio}
 use Rattle.gj_problem.proofs.Prefixes.{split_at}
+use Rattle.gj_safe_cut.proofs.PointCuts.{is_true}
 use Rattle.gj_derivation.specs.declared.step.Multiplier.{Multiplier}
 use Rattle.gj_derivation.specs.Checks.{IsSumOf}
 use Rattle.gj_derivation.proofs.CheckedSums.{no_sum, sum_more}
-use Rattle.gj_derivation.proofs.CheckedMoves.{is_true}
 use Rattle.gj_derivation.proofs.check.base_of.Goals as goal
 
 pub loop-multiplier-init : goal.loop-multiplier-init

@@ -1,8 +1,8 @@
 use Rattle.std.proofs.Common.{None, sym, subst}
 use Rattle.gj_problem.specs.Rational.{rational}
+use Rattle.gj_safe_cut.proofs.PointCuts.{is_true}
 use Rattle.gj_derivation.specs.Derivations.{IsShown}
 use Rattle.gj_derivation.specs.Checks.{IsMovedRight}
-use Rattle.gj_derivation.proofs.CheckedMoves.{is_true}
 use Rattle.gj_derivation.proofs.CheckedSteps.{AreClaimed, stuck_step, shown_step, wide_step}
 use Rattle.gj_derivation.proofs.check.compared.Goals as goal
 

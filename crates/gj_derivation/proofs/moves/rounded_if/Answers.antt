@@ -1,6 +1,7 @@
 use Rattle.std.proofs.Common.{inl}
 use Rattle.gj_problem.proofs.AddedSums.{negation_value}
-use Rattle.gj_derivation.proofs.CheckedMoves.{is_true, rounded_from_floor}
+use Rattle.gj_safe_cut.proofs.PointCuts.{is_true}
+use Rattle.gj_derivation.proofs.CheckedMoves.{rounded_from_floor}
 use Rattle.gj_derivation.proofs.moves.rounded_if.Goals as goal
 
 pub returns : goal.returns

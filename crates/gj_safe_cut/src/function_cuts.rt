@@ -1,4 +1,4 @@
-//! The cut of a problem by a function.
+//! The cut of a problem by multipliers and a function.
 ghost use Rattle.std.specs.Prelude.{IfOk, ◌≡◌, length};
 ghost use Rattle.gj_shape.specs.FunctionData.{IsContinuous};
 ghost use Rattle.gj_shape.specs.Limits.{IsRowNumber};
@@ -7,20 +7,24 @@ ghost use Rattle.gj_theory.specs.Cuts.{IsValueOf};
 ghost use Rattle.gj_rule.specs.Kept.{Evaluates};
 ghost use Rattle.gj_rule.specs.declared.kind.RuleKind.TheVariants as kind;
 ghost use Rattle.gj_mixed.specs.Slopes.{AreSlopesAtZero, IsSlope, Weighs};
-ghost use Rattle.gj_proof.specs.declared.cut.CutRule.TheVariants.{Table};
-ghost use Rattle.gj_safe_cut.specs.SafeCuts.{SafeCutHolds};
-ghost use Rattle.gj_problem_text.specs.Cuts.{IsCutBy};
+ghost use Rattle.gj_safe_cut.specs.SafeCuts.{IsFunctionSafeCutOf, SafeCutHolds, SafeCutHasTerms};
 
+use crate::cut::SafeCut;
+use crate::problem_cuts::safe_cut;
 use gj_frac::Frac;
 use gj_mixed::{Slopes, SlopesAtZero};
 use gj_problem::Problem;
 use gj_rule::{Evaluator, Rule, RuleKind, table_value};
-use gj_safe_cut::{SafeCut, safe_cut};
 use gj_shape::Shape;
 use std::alloc::{AllocError, Global};
 
-/// The cut of the problem by the multipliers and a minimal continuous function.
-pub(crate) fn function_cut(
+/// The cut of the row that the multipliers make of the problem by a minimal continuous function and
+/// its slopes at 0, in the problem's columns.
+///
+/// There is a multiplier for each constraint, and nothing is asked of it. `at_upper` says of each
+/// column whether its upper bound is preferred. For what it answers see
+/// [`safe_cut`](crate::safe_cut). The only error is want of memory.
+pub fn function_safe_cut(
     alloc: Global,
     shape: &Shape,
     problem: &Problem,
@@ -32,8 +36,9 @@ pub(crate) fn function_cut(
     requires multipliers { length multipliers.now ≡ length problem.now.constraints }
     requires at_upper { length at_upper.now ≡ length problem.now.columns }
     ensures is { IfOk result
-        (IsCutBy (Table shape.now) problem.now multipliers.now at_upper.now) }
+        (IsFunctionSafeCutOf shape.now problem.now multipliers.now at_upper.now) }
     ensures holds { IfOk result (SafeCutHolds problem.now) }
+    ensures terms { IfOk result (SafeCutHasTerms problem.now) }
 {
     let kept = shape.copy(alloc)?;
     let at_zero = SlopesAtZero::of_function(shape);
@@ -74,8 +79,10 @@ fn cut_by<E: Evaluator, G: Evaluator>(
     requires slopes { AreSlopesAtZero shape at_zero.up at_zero.down }
     requires multipliers { length multipliers.now ≡ length problem.now.constraints }
     requires at_upper { length at_upper.now ≡ length problem.now.columns }
-    ensures is { IfOk result (IsCutBy (Table shape) problem.now multipliers.now at_upper.now) }
+    ensures is { IfOk result
+        (IsFunctionSafeCutOf shape problem.now multipliers.now at_upper.now) }
     ensures holds { IfOk result (SafeCutHolds problem.now) }
+    ensures terms { IfOk result (SafeCutHasTerms problem.now) }
 {
     let rule = Rule::new(RuleKind::Table(shape), eval);
     let slopes = Slopes::new(at_zero.up, at_zero.down, weigh);

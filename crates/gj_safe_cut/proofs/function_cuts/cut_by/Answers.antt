@@ -4,11 +4,9 @@ use Rattle.gj_frac.specs.declared.Frac.{Frac}
 use Rattle.gj_rule.specs.Kind.{IsMinimalKind}
 use Rattle.gj_rule.specs.declared.kind.RuleKind.{RuleKind}
 use Rattle.gj_mixed.specs.Slopes.{AreSlopesAtZero, AreSlopesOfKind}
-use Rattle.gj_proof.specs.declared.cut.CutRule.TheVariants.{Table}
-use Rattle.gj_safe_cut.specs.SafeCuts.{IsSafeCutOf, SafeCutHolds}
+use Rattle.gj_safe_cut.specs.SafeCuts.{IsSafeCutOf, IsFunctionSafeCutOf, SafeCutHolds}
 use Rattle.gj_safe_cut.specs.declared.cut.SafeCut.{SafeCut}
-use Rattle.gj_problem_text.specs.Cuts.{IsCutBy}
-use Rattle.gj_problem_text.proofs.function_cuts.cut_by.Goals as goal
+use Rattle.gj_safe_cut.proofs.function_cuts.cut_by.Goals as goal
 
 pub safe_cut-requires-clause-slopes : goal.safe_cut-requires-clause-slopes
 safe_cut-requires-clause-slopes g c =
@@ -27,7 +25,8 @@ returns-clause-is g c =
     let p = c.args.problem.now in
     let ms = c.args.multipliers.now in
     let ups = c.args.at_upper.now in
-    IfOk-weaker c.safe_cut.result (IsSafeCutOf c.new-rule.result.kind up down p ms ups) (IsCutBy (Table c.args.shape) p ms ups)
+    IfOk-weaker c.safe_cut.result (IsSafeCutOf c.new-rule.result.kind up down p ms ups)
+    (IsFunctionSafeCutOf c.args.shape p ms ups)
     (λ (cut : SafeCut) h. (
       up,
       down,
