@@ -14,7 +14,7 @@ use Rattle.gj_problem.specs.declared.problem.Problem.{Problem}
 use Rattle.gj_problem.specs.declared.problem.Sense.{Sense}
 use Rattle.gj_problem.specs.declared.problem.Sense.TheVariants.{AtLeast}
 use Rattle.gj_problem.specs.Problems.{value_at, sum_at, IsConstraint}
-use Rattle.gj_problem.specs.Rows.{IsSignFor}
+use Rattle.gj_problem.specs.Rows.{dot, IsSignFor}
 use Rattle.gj_problem.specs.RoundedCuts.{IsBelowOnGrid}
 use Rattle.gj_safe_cut.specs.declared.cut.SafeCut.{SafeCut}
 use Rattle.gj_safe_cut.specs.declared.cut.SafeCut.TheVariants.{Cut}
@@ -89,7 +89,7 @@ multiplier_of (m ∷ ms) i = rational m.value *ℚ value_at (unit i) m.line +ℚ
 -- one for each constraint
 pub record AreMultipliers (p : Problem) (named : List Multiplier) (multipliers : List Frac) : Type 0 where
   pub count : length multipliers ≡ length p.constraints
-  pub are : (i : ℕ) → slice_index_or (map rational multipliers) i (whole (pos 0)) ≡ multiplier_of named i
+  pub are : (i : ℕ) → dot multipliers (unit i) ≡ multiplier_of named i
 
 -- each column is turned by its upper bound if it is named
 pub record AreAtUpper (p : Problem) (named : List ℕ) (at_upper : List Bool) : Type 0 where
@@ -141,18 +141,22 @@ IsRoundedUp x y = IsBelowOnGrid 1 (neg_ℚ x) (neg_ℚ y)
 abbrev pub IsRightFor : Type 0 → Rational → Rational → Type 0
 IsRightFor Whole x y = (Whole × IsRoundedUp x y) ⊎ ((Whole → ⊥) × (y ≡ x))
 
--- the right side that a line, times the factor, shows for coefficients
-pub record IsRightOf (columns : List Column) (factor : Rational) (base : Line) (ys : ℕ → Rational) (right : Rational) : Type 0 where
+-- the coefficients of a line, each times the factor
+abbrev pub times : Frac → Line → ℕ → Rational
+times factor base j = rational factor *ℚ base.coefficient j
+
+-- the right side that a line, times the factor, shows for other coefficients
+pub record IsRightOf (columns : List Column) (factor : Frac) (base : Line) (ys : ℕ → Rational) (right : Rational) : Type 0 where
   pub shift : Rational
-  pub moved : AreMovedBy columns (λ j. factor *ℚ base.coefficient j) ys shift
-  pub right_is : IsRightFor (AreWholeTerms columns ys) (factor *ℚ base.right +ℚ shift) right
+  pub moved : AreMovedBy columns (times factor base) ys shift
+  pub right_is : IsRightFor (AreWholeTerms columns ys) (rational factor *ℚ base.right +ℚ shift) right
 
 -- the right side that the step shows for the terms of its claim
 pub record IsShown (f : Option FunctionData) (p : Problem) (s : Step) (right : Rational) : Type 0 where
   pub base : Line
   pub base_is : IsBase f p s.combination base
   pub factor_positive : pos 0 <ℤ numerator s.combination.factor
-  pub right_is : IsRightOf p.columns (rational s.combination.factor) base (coefficient_in s.claim.entries) right
+  pub right_is : IsRightOf p.columns s.combination.factor base (coefficient_in s.claim.entries) right
 
 -- the claim follows: its right side is at most the one shown
 abbrev pub Follows : Option FunctionData → Problem → Step → Type 0
