@@ -1,0 +1,6 @@
+pub mod TightAt
+pub mod Terms
+pub mod Lanes
+pub mod TightLimits
+pub mod RowJoins
+pub mod Joins
