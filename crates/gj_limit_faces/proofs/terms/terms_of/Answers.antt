@@ -3,7 +3,9 @@ use Rattle.gj_limit_faces.proofs.terms.terms_of.Goals as goal
 
 pub returns-in-Vertical-default-clause-value : goal.returns-in-Vertical-default-clause-value
 returns-in-Vertical-default-clause-value c f a b =
-    let h = c.in-Vertical-default in ?
+    let low = rw c.in-Vertical-default.is-0 at c.requires in
+    rw (c.made_of-in-Vertical-default.ensures, c.in-Vertical-default.is-0)
+    (vertical_second f a b c.args.corner low c.in-Vertical-default.is-1.1)
 
 pub returns-in-Lower-eq0-clause-value : goal.returns-in-Lower-eq0-clause-value
 returns-in-Lower-eq0-clause-value c f a b =
@@ -11,7 +13,9 @@ returns-in-Lower-eq0-clause-value c f a b =
 
 pub returns-in-Lower-default-clause-value : goal.returns-in-Lower-default-clause-value
 returns-in-Lower-default-clause-value c f a b =
-    let h = c.in-Lower-default in ?
+    let low = rw c.in-Lower-default.is-0 at c.requires in
+    rw (c.made_of-in-Lower-default.ensures, c.in-Lower-default.is-0)
+    (lower_third f a b c.args.corner low c.in-Lower-default.is-1.0.1 c.in-Lower-default.is-1.1)
 
 pub returns-in-Upper-eq1-clause-value : goal.returns-in-Upper-eq1-clause-value
 returns-in-Upper-eq1-clause-value c f a b =
