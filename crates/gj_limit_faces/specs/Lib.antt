@@ -1,4 +1,3 @@
-pub mod TightAt
 pub mod Terms
 pub mod Lanes
 pub mod TightLimits

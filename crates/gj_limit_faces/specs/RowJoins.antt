@@ -5,7 +5,7 @@ use Rattle.gj_loops.specs.IndexSets.{has, no_set}
 use Rattle.gj_shape.specs.FunctionData.{FunctionData}
 use Rattle.gj_shape.specs.declared.faces.FaceKind.{FaceKind}
 use Rattle.gj_shape.specs.declared.faces.FaceKind.TheVariants.{Horizontal, Diagonal, Lower, Upper}
-use Rattle.gj_limit_faces.specs.TightAt.{IsTightAt}
+use Rattle.gj_jumps.specs.LimitCover.{IsTightAt}
 use Rattle.gj_limit_faces.specs.declared.row_joins.RowJoins.{RowJoins}
 
 -- both of these corners of a face are tight: T says of a face's kind, its square and a corner, from 0

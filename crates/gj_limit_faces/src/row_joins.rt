@@ -2,7 +2,7 @@
 ghost use Rattle.std.specs.Prelude.{ℕ, ◌≡◌, ◌↔◌, ◌<◌, length, IsTrue};
 ghost use Rattle.gj_loops.specs.IndexSets.{has};
 ghost use Rattle.gj_shape.specs.Faces.{corners_of};
-ghost use Rattle.gj_limit_faces.specs.TightAt.{IsTightAt};
+ghost use Rattle.gj_jumps.specs.LimitCover.{IsTightAt};
 ghost use Rattle.gj_limit_faces.specs.RowJoins.{AreRowJoins, IsTightAlong};
 ghost use Rattle.gj_limit_faces.specs.TightLimits.{AreTightLimitsOf};
 

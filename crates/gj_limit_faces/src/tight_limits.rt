@@ -16,7 +16,7 @@ pub struct TightLimits {
 impl TightLimits {
     ghost use Rattle.std.specs.Prelude.{ℕ, ◌↔◌, ◌<◌, length, IfOk, IsTrue};
     ghost use Rattle.gj_shape.specs.Faces.{corners_of};
-    ghost use Rattle.gj_limit_faces.specs.TightAt.{IsTightAt};
+    ghost use Rattle.gj_jumps.specs.LimitCover.{IsTightAt};
     ghost use Rattle.gj_loops.specs.IndexSets.{has};
     ghost use Rattle.gj_limit_faces.specs.TightLimits.{AreTightLimitsOf};
 

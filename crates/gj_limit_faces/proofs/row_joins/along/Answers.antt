@@ -1,5 +1,5 @@
 use Rattle.gj_loops.specs.IndexSets.{has}
-use Rattle.gj_limit_faces.specs.TightAt.{IsTightAt}
+use Rattle.gj_jumps.specs.LimitCover.{IsTightAt}
 use Rattle.gj_limit_faces.proofs.RowSets.{tells_both}
 use Rattle.gj_limit_faces.proofs.row_joins.along.Goals as goal
 

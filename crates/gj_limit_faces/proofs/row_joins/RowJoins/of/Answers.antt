@@ -2,7 +2,7 @@ use Rattle.std.proofs.Common.{◌≡◌, ◌&&◌, ◌||◌, ltb, ap, sym, ◌�
 use Rattle.gj_loops.specs.IndexSets.{has}
 use Rattle.gj_shape.specs.declared.faces.FaceKind.TheVariants.{Horizontal, Diagonal, Lower, Upper}
 use Rattle.gj_limit_faces.specs.RowJoins.{IsTightAlong}
-use Rattle.gj_limit_faces.specs.TightAt.{IsTightAt}
+use Rattle.gj_jumps.specs.LimitCover.{IsTightAt}
 use Rattle.gj_limit_faces.proofs.RowSets.{tells_both, tells_three, tells_three_back, tells_any, tells_horizontal}
 use Rattle.gj_limit_faces.proofs.row_joins.RowJoins.of.Goals as goal
 
