@@ -53,7 +53,7 @@ direct_number q T p j some h end direct = elim (number_cases (number_at p.compon
   | inr at ↦ at
 ]
 
-covered_number : (q : ℕ) (T : FaceKind → ℕ → ℕ → ℕ → Type 0) (p : Progress) (i : ℕ) → i < q → IsProgress q T p →
+pub covered_number : (q : ℕ) (T : FaceKind → ℕ → ℕ → ℕ → Type 0) (p : Progress) (i : ℕ) → i < q → IsProgress q T p →
     IsComplete q T p.lines.items → IsCovered q T i → (n : ℕ) × (number_at p.component.items i ≡ Some n)
 covered_number q T p i below h end (j, direct, list) =
     let some : 0 < q = omega arith in

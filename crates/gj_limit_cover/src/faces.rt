@@ -41,22 +41,30 @@ fn first_joining(shape: &Shape, i: u32, j: u32, is_asked: bool) -> Option<Face>
     ensures none { IfNone result ((kind : FaceKind) (a b : ℕ) →
         JoinsAs shape.now.order (IsTightAt shape.now) is_asked i j kind a b → ⊥) }
 {
+    let order = shape.order();
     let mut found = None;
-    add_links(shape, &mut found, i, j, is_asked);
-    add_links(shape, &mut found, j, i, is_asked);
+    add_links(shape, &mut found, i, j, difference(j, i, order), is_asked);
+    add_links(shape, &mut found, j, i, difference(i, j, order), is_asked);
     found
 }
 
-/// Makes a face that was found the first of it and those that link i to j.
-fn add_links(shape: &Shape, found: &mut Option<Face>, i: u32, j: u32, is_asked: bool)
+/// Makes a face that was found the first of it and those that link i to j, which is the step away.
+fn add_links(
+    shape: &Shape,
+    found: &mut Option<Face>,
+    i: u32,
+    j: u32,
+    step: u32,
+    is_asked: bool,
+)
     requires start { i < shape.now.order }
     requires end { j < shape.now.order }
+    requires below { step < shape.now.order }
+    requires step { (i + step) % shape.now.order ≡ j }
     ensures { AddsFirst (IsSquareBelow shape.now.order)
         (LinksAs shape.now.order (IsTightAt shape.now) is_asked i j) found.old found.new }
 {
-    let order = shape.order();
-    let step = difference(j, i, order);
-    let short = difference(step, 1, order);
+    let short = difference(step, 1, shape.order());
     add_three(shape, found, FaceKind::Horizontal, (i, step), (i, short), i, j, is_asked);
     add_three(shape, found, FaceKind::Vertical, (step, i), (short, i), i, j, is_asked);
     add_three(shape, found, FaceKind::Diagonal, (i, j), (i, j), i, j, is_asked);

@@ -62,7 +62,7 @@ impl Progress {
     {
         let mut progress = Progress::new(alloc, shape)?;
         while let Some(next) = progress.next_line(shape, table) {
-            progress.add(shape, next.line, &next.joined)?;
+            progress.add(shape, table, next.line, &next.joined)?;
         }
         Ok(progress)
     }
@@ -156,7 +156,14 @@ impl Progress {
     }
 
     /// Adds the next line, if these intervals are joined to its own.
-    fn add(&mut self, shape: &Shape, line: CoverLine, joined: &IndexSet) -> Result<(), AllocError>
+    fn add(
+        &mut self,
+        shape: &Shape,
+        table: &Table,
+        line: CoverLine,
+        joined: &IndexSet,
+    ) -> Result<(), AllocError>
+        requires table { IsTableOf shape.now table.now }
         requires progress { IsProgress shape.now.order (IsTightAt shape.now) self.old }
         requires next { IsNextLine shape.now.order
             (IsTightAt shape.now) self.old.lines.items line }

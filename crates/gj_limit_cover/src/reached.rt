@@ -29,7 +29,7 @@ impl Reached {
             IsTrue (has result i) ↔ ((i < shape.now.order) × IsInClassOf shape.now.order
             (IsTightAt shape.now) start i) }
     {
-        let mut found = Reached::new(shape, start);
+        let mut found = Reached::new(shape, table, start);
         while let Some(interval) = found.waiting.first() {
             found.reach(shape, table, free, interval as u32);
         }
@@ -37,8 +37,9 @@ impl Reached {
     }
 
     /// The start alone.
-    fn new(shape: &Shape, start: u32) -> Reached
-        requires { start < shape.now.order }
+    fn new(shape: &Shape, table: &Table, start: u32) -> Reached
+        requires table { IsTableOf shape.now table.now }
+        requires start { start < shape.now.order }
         ensures { AreReached shape.now.order (IsTightAt shape.now) start result }
     {
         let mut reached = IndexSet::empty();

@@ -1,5 +1,5 @@
 //! The joins of a function as sets, and the intervals that are joined to one.
-ghost use Rattle.std.specs.Prelude.{ℕ, ◌≡◌, ◌↔◌, ◌<◌, length, IfOk, IsTrue};
+ghost use Rattle.std.specs.Prelude.{ℕ, ◌≡◌, ◌↔◌, ◌<◌, ◌&&◌, ◌==◌, IfOk, IsTrue};
 ghost use Rattle.gj_loops.specs.IndexSets.{has};
 ghost use Rattle.gj_jumps.specs.LimitCover.{IsTightAt};
 ghost use Rattle.gj_limit_faces.specs.Joins.{AreJoinsOf};
@@ -7,7 +7,7 @@ ghost use Rattle.gj_limit_cover.specs.LimitCover.{IsDirectlyCovered};
 ghost use Rattle.gj_limit_cover.specs.Links.{IsLink, AreLinkedRows, IsDirectInRow};
 
 use gj_limit_faces::{Joins, TightLimits};
-use gj_loops::IndexSet;
+use gj_loops::{IndexSet, LIMIT};
 use gj_shape::Shape;
 use std::alloc::{AllocError, Global};
 
@@ -61,9 +61,8 @@ impl Table {
     {
         let mut set = IndexSet::empty();
         for j in 0..shape.order() {
-            if self.linked[j as usize].contains(i as usize) {
-                set.insert(j as usize);
-            }
+            let is_linked = self.linked[j as usize].contains(i as usize);
+            set.put(j as usize, is_linked);
         }
         set
     }
@@ -119,9 +118,16 @@ fn direct_in_row(shape: &Shape, joins: &Joins, a: u32) -> IndexSet
     let lower_sums = row.lower.turned(a as usize, order);
     let upper_sums = row.upper.turned(a as usize + 1, order);
     let sums = lower_sums.or(&upper_sums);
-    let mut direct = triangles.or(&sums);
-    if !triangles.is_empty() {
-        direct.insert(a as usize);
-    }
-    direct
+    let others = triangles.or(&sums);
+    others.or(&one_if(a as usize, triangles.first().is_some()))
+}
+
+/// The set of the index alone, if that is wanted, and else of none.
+fn one_if(i: usize, is_wanted: bool) -> IndexSet
+    requires { i < LIMIT }
+    ensures { (j : ℕ) → has result j ≡ (is_wanted && j == i) }
+{
+    let mut set = IndexSet::empty();
+    set.put(i, is_wanted);
+    set
 }

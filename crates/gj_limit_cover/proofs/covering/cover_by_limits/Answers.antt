@@ -1,4 +1,4 @@
-use Rattle.std.proofs.Common.{sym, subst}
+use Rattle.std.proofs.Common.{◌↔◌, ap, sym, subst}
 use Rattle.gj_jumps.specs.LimitCover.{IsTightAt, IsCoveredByLimits}
 use Rattle.gj_shape.specs.Cover.{HasCoverLine}
 use Rattle.gj_limit_cover.specs.CoverOf.{IsCoverOf}
@@ -23,3 +23,10 @@ returns-clause-cover c =
       component = components t.order (IsTightAt t) p progress complete;
       «class» = c.in_ok-class.ensures;
     })
+
+pub returns-clause-covered : goal.returns-clause-covered
+returns-clause-covered c i below =
+    let t = c.args.shape.now in
+    subst (λ lines. HasCoverLine lines i ↔ IsCoveredByLimits t i)
+    (ap (λ cover. cover.lines) (sym c.with_class.ensures))
+    (covered_by_lines t c.in_ok-found.found c.in_ok-found.ensures.progress c.in_ok-found.ensures.complete i below)

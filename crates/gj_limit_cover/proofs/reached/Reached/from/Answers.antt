@@ -2,8 +2,8 @@ use Rattle.gj_jumps.specs.LimitCover.{IsTightAt}
 use Rattle.gj_limit_cover.proofs.Classes.{reached_on, reached_all}
 use Rattle.gj_limit_cover.proofs.reached.Reached.from.Goals as goal
 
-pub new-found-requires : goal.new-found-requires
-new-found-requires c = c.requires.uncovered.within c.args.start c.requires.start
+pub new-found-requires-clause-start : goal.new-found-requires-clause-start
+new-found-requires-clause-start c = c.requires.uncovered.within c.args.start c.requires.start
 
 pub reach-requires-clause-within : goal.reach-requires-clause-within
 reach-requires-clause-within c =
