@@ -167,7 +167,7 @@ linked_row q T complex i j r t d level slope i_below r_is t_is d_is level_told s
             let at = (slope_told j).0 (sym d_is ∙ e) in
             (at.0, link_of_diagonal q T complex i j i_below at.0 at.1)
       ],
-      λ (j_below, kind, a, b, links). r_is ∙ (elim (found q T complex i j i_below j_below kind a b links) [
+      λ (j_below, (kind, a, b, links)). r_is ∙ (elim (found q T complex i j i_below j_below kind a b links) [
         | inl (k, low, sum, join) ↦ or_left t d (turned.1 (k, low, sum, (level_told k).1 (low, join)))
         | inr join ↦ or_right t d (d_is ∙ (slope_told j).1 (j_below, join))
       ]),

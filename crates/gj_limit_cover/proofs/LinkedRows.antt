@@ -61,12 +61,12 @@ pub both_ways : (q : ℕ) (T : FaceKind → ℕ → ℕ → ℕ → Type 0) (i j
     (x ≡ true) ↔ AreJoined q T i j
 both_ways q T i j x y z below is first second = (
   λ yes'. elim (or_cases y z (sym is ∙ yes')) [
-    | inl e ↦ let (low, kind, a, b, l) = first.0 e in (kind, a, b, inl l)
-    | inr e ↦ let (low, kind, a, b, l) = second.0 e in (kind, a, b, inr l)
+    | inl e ↦ let (low, (kind, a, b, l)) = first.0 e in (kind, a, b, inl l)
+    | inr e ↦ let (low, (kind, a, b, l)) = second.0 e in (kind, a, b, inr l)
   ],
   λ (kind, a, b, h). is ∙ (elim h [
-    | inl l ↦ or_left y z (first.1 (below, kind, a, b, l))
-    | inr l ↦ or_right y z (second.1 (below, kind, a, b, l))
+    | inl l ↦ or_left y z (first.1 (below, (kind, a, b, l)))
+    | inr l ↦ or_right y z (second.1 (below, (kind, a, b, l)))
   ]),
 )
 

@@ -166,13 +166,13 @@ module _ (q : ℕ) (T : FaceKind → ℕ → ℕ → ℕ → Type 0) (a i : ℕ)
               | inl l ↦
                   let (k, k_low, sum, at) = lows.0 l in
                   let low = sum_low a k sum in
-                  (low, Lower, k, k_low, (((lower_told k).0 at).1, inr (inr (sum ∙ sym (mod-eq_of_lt low)))))
+                  (low, (Lower, k, k_low, (((lower_told k).0 at).1, inr (inr (sum ∙ sym (mod-eq_of_lt low))))))
               | inr l ↦
                   let (k, k_low, sum, at) = highs.0 l in
                   let low = sum_low (a + 1) k sum in
                   let order : a + k + 1 ≡ a + 1 + k = omega arith in
-                  (low, Upper, k, k_low, (((upper_told k).0 at).1,
-                  inr (inr (ap (λ n. n % q) order ∙ sum ∙ sym (mod-eq_of_lt low)))))
+                  (low, (Upper, k, k_low, (((upper_told k).0 at).1,
+                  inr (inr (ap (λ n. n % q) order ∙ sum ∙ sym (mod-eq_of_lt low))))))
             ]
           ]
           | inr e ↦
@@ -184,7 +184,7 @@ module _ (q : ℕ) (T : FaceKind → ℕ → ℕ → ℕ → Type 0) (a i : ℕ)
               let first : a % q ≡ i % q = ap (λ n. n % q) (sym same) in
               (low, covered_by at.0 (triangle_below at.0 here') (inl first) (inl first) here')
         ],
-        λ (low, kind, b, b_low, h). elim (row_cases kind b b_low low a_low h) [
+        λ (low, (kind, b, b_low, h)). elim (row_cases kind b b_low low a_low h) [
           | inl (same, at) ↦
               x_is ∙ or_right others own (own_is
               ∙ and_from any (eqb i a) (all b (triangles_is b ∙ at)) (eq-eqb i a (sym same)))
@@ -198,6 +198,29 @@ module _ (q : ℕ) (T : FaceKind → ℕ → ℕ → ℕ → Type 0) (a i : ℕ)
         ],
       )
 
+-- the squares that are looked at are those of all triangles of the row that cover the interval
+pub all_listed : (q n : ℕ) (T : FaceKind → ℕ → ℕ → ℕ → Type 0) (a i : ℕ) (lower upper triangles onto : ℕ → Bool)
+    (squares : IndexSet) → n ≡ q →
+    ((b : ℕ) → (lower b ≡ true) ↔ ((b < q) × IsTightTriangle T Lower a b)) →
+    ((b : ℕ) → (upper b ≡ true) ↔ ((b < q) × IsTightTriangle T Upper a b)) →
+    ((b : ℕ) → triangles b ≡ (lower b || upper b)) → ((b : ℕ) → has squares b ≡ (triangles b && onto b)) →
+    ((b : ℕ) → b < n → (onto b ≡ true) ↔ (ProjectsOn n a b (a + b) i ⊎ ProjectsOn n a b (a + b + 1) i)) →
+    (kind : FaceKind) (k : ℕ) → k < q → Covers q T kind a k i → has squares k ≡ true
+all_listed q n T a i lower upper triangles onto squares same lower_told upper_told triangles_is squares_is told kind k low d =
+    square_has q T a i lower upper lower_told upper_told kind k (has squares k) (onto k) low
+    (squares_is k ∙ ap (λ x. x && onto k) (triangles_is k))
+    (subst (λ m. (onto k ≡ true) ↔ (ProjectsOn m a k (a + k) i ⊎ ProjectsOn m a k (a + k + 1) i)) same
+    (told k (let lt : k < n = omega arith in lt))) d
+
+pub squares_below : (q : ℕ) (T : FaceKind → ℕ → ℕ → ℕ → Type 0) (a i : ℕ) (lower upper triangles onto : ℕ → Bool)
+    (squares : IndexSet) → ((b : ℕ) → (lower b ≡ true) ↔ ((b < q) × IsTightTriangle T Lower a b)) →
+    ((b : ℕ) → (upper b ≡ true) ↔ ((b < q) × IsTightTriangle T Upper a b)) →
+    ((b : ℕ) → triangles b ≡ (lower b || upper b)) → ((b : ℕ) → has squares b ≡ (triangles b && onto b)) →
+    (k : ℕ) → has squares k ≡ true → k < q
+squares_below q T a i lower upper triangles onto squares lower_told upper_told triangles_is squares_is k e =
+    triangle_below q T a i lower upper lower_told upper_told k
+    (sym (triangles_is k) ∙ (and_parts (triangles k) (onto k) (sym (squares_is k) ∙ e)).0)
+
 -- ---- rows one after another
 
 -- the intervals that triangles of the first n rows cover
@@ -207,18 +230,18 @@ AreDirectBefore q T n set =
 
 pub direct_none : (q : ℕ) (T : FaceKind → ℕ → ℕ → ℕ → Type 0) (set : ℕ → Bool) → ((i : ℕ) → set i ≡ false) →
     AreDirectBefore q T 0 set
-direct_none q T set none i = (λ yes'. let no' = none i in absurd (cc (yes', no')), λ (low, a, a_low, h). absurd (omega arith))
+direct_none q T set none i = (λ yes'. let no' = none i in absurd (cc (yes', no')), λ (low, (a, a_low, h)). absurd (omega arith))
 
 pub direct_more : (q : ℕ) (T : FaceKind → ℕ → ℕ → ℕ → Type 0) (n : ℕ) (old row new : ℕ → Bool) →
     AreDirectBefore q T n old → ((i : ℕ) → (row i ≡ true) ↔ ((i < q) × IsDirectInRow q T n i)) →
     ((i : ℕ) → new i ≡ (old i || row i)) → AreDirectBefore q T (n + 1) new
 direct_more q T n old row new h told is i = (
   λ yes'. elim (or_cases (old i) (row i) (sym (is i) ∙ yes')) [
-    | inl e ↦ let (low, a, a_low, d) = (h i).0 e in (low, a, (let lt : a < n + 1 = omega arith in lt), d)
-    | inr e ↦ let (low, d) = (told i).0 e in (low, n, (let lt : n < n + 1 = omega arith in lt), d)
+    | inl e ↦ let (low, (a, a_low, d)) = (h i).0 e in (low, (a, (let lt : a < n + 1 = omega arith in lt), d))
+    | inr e ↦ let (low, d) = (told i).0 e in (low, (n, (let lt : n < n + 1 = omega arith in lt), d))
   ],
-  λ (low, a, a_low, d). is i ∙ (elim (cases_lt a n) [
-    | inl before ↦ or_left (old i) (row i) ((h i).1 (low, a, before, d))
+  λ (low, (a, a_low, d)). is i ∙ (elim (cases_lt a n) [
+    | inl before ↦ or_left (old i) (row i) ((h i).1 (low, (a, before, d)))
     | inr last ↦
         let same : a ≡ n = omega arith in
         or_right (old i) (row i) ((told i).1 (low, subst (λ k. IsDirectInRow q T k i) same d))
@@ -228,9 +251,9 @@ direct_more q T n old row new h told is i = (
 pub direct_all : (q : ℕ) (T : FaceKind → ℕ → ℕ → ℕ → Type 0) (set : ℕ → Bool) → IsComplex q T → 0 < q →
     AreDirectBefore q T q set → (i : ℕ) → (set i ≡ true) ↔ ((i < q) × IsDirectlyCovered q T i)
 direct_all q T set complex some h i = (
-  λ yes'. let (low, a, a_low, kind, b, b_low, d) = (h i).0 yes' in (low, kind, a, b, d),
-  λ (low, kind, a, b, d).
-      (h i).1 (low, a % q, mod-lt a some, kind, b % q, mod-lt b some, covers_reduced q T complex kind a b i d),
+  λ yes'. let (low, (a, a_low, (kind, b, b_low, d))) = (h i).0 yes' in (low, (kind, a, b, d)),
+  λ (low, (kind, a, b, d)).
+      (h i).1 (low, (a % q, mod-lt a some, (kind, b % q, mod-lt b some, covers_reduced q T complex kind a b i d))),
 )
 
 -- ---- the first triangle that covers an interval
@@ -294,7 +317,7 @@ lower_found q T a i b low h d = record {
   first = λ kind c k (same, below) e.
       let e' = subst (λ n. Covers q T kind n k i) same e in
       elim (cases_order k b) [
-        | inl at ↦ inr (sym same, inr (sym at, least kind e'))
+        | inl at ↦ inr (sym same, inr (sym at, least kind k e'))
         | inr other ↦ elim other [
           | inl before ↦ absurd (h kind k before below e')
           | inr behind ↦ inr (sym same, inl behind)
@@ -302,15 +325,15 @@ lower_found q T a i b low h d = record {
       ];
 }
   where
-    least : (kind : FaceKind) {k : ℕ} → Covers q T kind a k i →
+    least : (kind : FaceKind) (k : ℕ) → Covers q T kind a k i →
         Rattle.gj_shape.specs.WalkOrder.position_of_kind Lower
         ≤ Rattle.gj_shape.specs.WalkOrder.position_of_kind kind
-    least Vertex e = absurd e
-    least Horizontal e = absurd e
-    least Vertical e = absurd e
-    least Diagonal e = absurd e
-    least Lower e = omega arith
-    least Upper e = omega arith
+    least Vertex k e = absurd e
+    least Horizontal k e = absurd e
+    least Vertical k e = absurd e
+    least Diagonal k e = absurd e
+    least Lower k e = omega arith
+    least Upper k e = omega arith
 
 pub upper_found : (q : ℕ) (T : FaceKind → ℕ → ℕ → ℕ → Type 0) (a i b : ℕ) → b < q → NoneBefore q T a i b →
     (Covers q T Lower a b i → ⊥) → Covers q T Upper a b i →

@@ -6,8 +6,8 @@ use Rattle.gj_limit_cover.proofs.Ends.{uncovered, components, cover_lines}
 use Rattle.gj_limit_cover.proofs.CoveredByLines.{covered_by_lines}
 use Rattle.gj_limit_cover.proofs.covering.cover_by_limits.Goals as goal
 
-pub least_class-class-requires-clause-uncovered : goal.least_class-class-requires-clause-uncovered
-least_class-class-requires-clause-uncovered c =
+pub least_class-requires-clause-uncovered : goal.least_class-requires-clause-uncovered
+least_class-requires-clause-uncovered c =
     let t = c.args.shape.now in
     uncovered t.order (IsTightAt t) c.in_ok-found.found c.in_ok-found.ensures.progress c.in_ok-found.ensures.complete
 

@@ -1,4 +1,4 @@
-use Rattle.std.proofs.Common.{◌≡◌, ◌<◌, ◌&&◌, ◌+◌, ◌×◌, ℕ, ltb, true, Option, Some, None, MatchOption, ap, refl, subst, sym, ◌∙◌, arith}
+use Rattle.std.proofs.Common.{◌≡◌, ◌<◌, ◌&&◌, ◌+◌, ℕ, ltb, true, Option, Some, None, MatchOption, ap, refl, subst, sym, ◌∙◌, arith}
 use Rattle.std.specs.Option.{is_some}
 use Rattle.gj_loops.specs.IndexSets.{has, IsFirst}
 use Rattle.gj_loops.specs.declared.index_set.IndexSet.{IndexSet}

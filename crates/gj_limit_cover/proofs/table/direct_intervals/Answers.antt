@@ -19,8 +19,8 @@ loop-a-preserved c =
 pub returns : goal.returns
 returns c =
     let f = c.args.shape.now in
-    let limits = c.order.ensures.limits in
-    let all : c.loop-a.a ≡ f.order = omega (arith, c.order.ensures.value) in
+    let limits = c.order-a-end.ensures.limits in
+    let all : c.loop-a.a ≡ f.order = omega (arith, c.order-a-end.ensures.value) in
     direct_all f.order (IsTightAt f) (has c.loop-a.direct) (complex_of f limits)
     (omega (arith, limits.order_low))
     (subst (λ n. AreDirectBefore f.order (IsTightAt f) n (has c.loop-a.direct)) all c.loop-a.invariant)

@@ -17,7 +17,7 @@ loop-j-preserved c =
     let j = c.loop-j.j in
     let i = c.args.i in
     let count = c.requires.table.linked.count in
-    let order = c.order.ensures.value in
+    let order = c.order-j-end.ensures.value in
     let low : j < f.order = omega (arith, c.loop-j-test.true) in
     let within : j < length c.args.self.now.linked.items = omega arith in
     let row : c.index.result.now ≡ get_or c.args.self.now.linked.items j no_set =
@@ -32,5 +32,5 @@ loop-j-preserved c =
 pub returns : goal.returns
 returns c =
     let f = c.args.shape.now in
-    let all : c.loop-j.j ≡ f.order = omega (arith, c.order.ensures.value) in
+    let all : c.loop-j.j ≡ f.order = omega (arith, c.order-j-end.ensures.value) in
     subst (λ n. AreLinking f.order (IsTightAt f) c.args.i n (has c.loop-j.set)) all c.loop-j.invariant
