@@ -91,7 +91,7 @@ joined_on q T old new l m h next more other count =
         is_count = count ∙ h.count ∙ sym (opened_joining old.lines.items l other);
         few = omega arith;
         classes = rw count (joined_classes q T old.component.items old.count l m h.component_length h.classes to.within to.free j);
-        })
+      })
       | inr o ↦ absurd (other o.same)
     ]
 
@@ -109,7 +109,7 @@ opened_on q T old new l m h next more same count =
         is_count = count ∙ ap (λ n. n + 1) h.count ∙ sym (opened_opening old.lines.items l same);
         few = omega arith;
         classes = rw count (opened_classes q T old.component.items old.count l m h.component_length h.classes to.within to.free o);
-        })
+      })
     ]
 
 -- the state with one more line, from what is read and written

@@ -8,7 +8,7 @@ use Rattle.gj_jumps.specs.LimitCover.{IsTightAt, Links, IsCoveredByLimits}
 use Rattle.gj_jumps.specs.LimitCover.Links.{horizontal, vertical, diagonal, lower_horizontal, lower_vertical, lower_diagonal, upper_horizontal, upper_vertical, upper_diagonal}
 use Rattle.gj_jumps.specs.LimitCover.IsCoveredByLimits.{lower, upper, to, from, turned}
 use Rattle.gj_cover.proofs.LineLists.{line_number, number_line}
-use Rattle.gj_limit_cover.specs.LimitCover.{LinksBy, AreJoined, Covers, IsDirectlyCovered, LeadsTo, here, onward, IsCovered}
+use Rattle.gj_limit_cover.specs.LimitCover.{LinksBy, AreJoined, Covers, LeadsTo, here, onward, IsCovered}
 use Rattle.gj_limit_cover.specs.Progress.{IsProgress, IsComplete}
 use Rattle.gj_limit_cover.specs.declared.progress.Progress.{Progress}
 use Rattle.gj_limit_cover.proofs.Ends.{covered_number}

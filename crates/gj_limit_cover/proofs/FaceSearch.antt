@@ -1,8 +1,8 @@
 -- The first of the faces that join two intervals.
-use Rattle.std.proofs.Common.{◌≡◌, ℕ, ◌+◌, ◌%◌, ◌<◌, ◌⊎◌, Bool, true, false, IsTrue, Option, Some, None, IfSome, IfNone, inl, inr, refl, sym, ap, subst, ◌∙◌, arith}
+use Rattle.std.proofs.Common.{◌≡◌, ℕ, ◌+◌, ◌%◌, ◌<◌, ◌⊎◌, Bool, true, false, Option, Some, None, IfSome, IfNone, inl, inr, refl, sym, ap, subst, ◌∙◌, arith}
 use Rattle.std.proofs.Math.Nat.{mod-lt, mod-mod, mod-eq_of_lt}
 use Rattle.gj_faces.proofs.Periods.{same_sum}
-use Rattle.gj_cover.specs.FirstFound.{AddsFirst, IsThis, IsFaceReached}
+use Rattle.gj_cover.specs.FirstFound.{AddsFirst, IsFaceReached}
 use Rattle.gj_cover.proofs.Adding.{EitherOf}
 use Rattle.gj_cover.proofs.WalkPlaces.{first_face}
 use Rattle.gj_shape.specs.Cover.{IsFirstFace}
@@ -10,7 +10,7 @@ use Rattle.gj_shape.specs.declared.faces.Face.{Face}
 use Rattle.gj_shape.specs.declared.faces.FaceKind.{FaceKind}
 use Rattle.gj_shape.specs.declared.faces.FaceKind.TheVariants.{Vertex, Horizontal, Vertical, Diagonal, Lower, Upper}
 use Rattle.gj_limit_cover.specs.FirstFaces.{LinksAs, IsOneOfThree, IsSquareBelow}
-use Rattle.gj_limit_cover.specs.LimitCover.{LinksBy, Joins, JoinsAs, AreJoined, IsJoiningFace}
+use Rattle.gj_limit_cover.specs.LimitCover.{LinksBy, JoinsAs, AreJoined, IsJoiningFace}
 use Rattle.gj_limit_cover.proofs.Complexes.{IsComplex}
 use Rattle.gj_limit_cover.proofs.LinkRows.{one_place}
 use Rattle.gj_limit_cover.proofs.Reductions.{joins_reduced}

@@ -1,5 +1,5 @@
 -- Joined intervals, and the lists of joined ones that lead from one to another.
-use Rattle.std.proofs.Common.{◌≡◌, ℕ, ◌%◌, ◌⊎◌, inl, inr, refl, sym, ◌∙◌}
+use Rattle.std.proofs.Common.{◌≡◌, ℕ, ◌%◌, inl, inr, refl, sym, ◌∙◌}
 use Rattle.gj_shape.specs.declared.faces.FaceKind.{FaceKind}
 use Rattle.gj_shape.specs.declared.faces.FaceKind.TheVariants.{Vertex, Horizontal, Vertical, Diagonal, Lower, Upper}
 use Rattle.gj_limit_cover.specs.LimitCover.{LinksBy, Joins, AreJoined, Covers, IsDirectlyCovered, LeadsTo, here, onward, IsCovered, ProjectsOn}

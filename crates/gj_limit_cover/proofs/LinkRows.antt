@@ -1,5 +1,5 @@
 -- The joins of one row of squares, and the intervals to which edges link the row's interval.
-use Rattle.std.proofs.Common.{◌≡◌, ◌↔◌, ◌⊎◌, ℕ, ◌+◌, ◌-◌, ◌%◌, ◌<◌, ◌≤◌, ◌&&◌, ◌||◌, ltb, leb, Bool, true, cond, inl, inr, refl, sym, ap, subst, ◌∙◌, arith}
+use Rattle.std.proofs.Common.{◌≡◌, ◌↔◌, ◌⊎◌, ℕ, ◌+◌, ◌-◌, ◌%◌, ◌<◌, ◌≤◌, ◌&&◌, ◌||◌, ltb, leb, Bool, true, inl, inr, refl, sym, ap, subst, ◌∙◌, arith}
 use Rattle.std.proofs.Math.Nat.{mod-lt, mod-mod, mod-eq_of_lt, mod-eq-sub-mod}
 use Rattle.std.proofs.lemmas.Bool.{and_parts, and_from, or_cases, or_left, or_right, lt-ltb, ltb-true, leb-true, leb-false, cases_lt, cond_both}
 use Rattle.gj_faces.proofs.Periods.{same_sum}
@@ -81,9 +81,17 @@ module _ (q : ℕ) (T : FaceKind → ℕ → ℕ → ℕ → Type 0) (complex : 
   link_of_horizontal k sum (inr (inr (c, low, next, along))) =
       let order : i + c + 1 ≡ i + (c + 1) = omega arith in
       let rest : (c + 1) % q ≡ k % q =
-      next ∙ sym (mod-eq_of_lt (subst (λ n. n < q) next (mod-lt (c + 1) (omega arith)))) in
-      (Upper, i, c, inl (along.0, along.1, refl,
-      ap (λ n. n % q) order ∙ same_sum q i (c + 1) i k refl rest ∙ sum ∙ sym j_is))
+      next ∙ sym (mod-eq_of_lt (subst (λ n. n < q) next (mod-lt (c + 1) (omega arith)))) in (
+        Upper,
+        i,
+        c,
+        inl (
+          along.0,
+          along.1,
+          refl,
+          ap (λ n. n % q) order ∙ same_sum q i (c + 1) i k refl rest ∙ sum ∙ sym j_is,
+        ),
+      )
 
   pub link_of_diagonal : IsDiagonalJoin T i j → IsLink q T i j
   link_of_diagonal (inl along) = (Diagonal, i, j, (along.0, along.1, refl, refl))
@@ -116,18 +124,30 @@ module _ (q : ℕ) (T : FaceKind → ℕ → ℕ → ℕ → Type 0) (complex : 
   by_horizontal : (a b : ℕ) → T Horizontal a b 0 → T Horizontal a b 1 → a % q ≡ i % q →
       (a + b) % q ≡ j % q → Found
   by_horizontal a b x y e g =
-      inl (b % q, mod-lt b some, sum_in_row a b e g,
-      inl (in_row Horizontal a b 0 e x, in_row Horizontal a b 1 e y))
+      inl (
+        b % q,
+        mod-lt b some,
+        sum_in_row a b e g,
+        inl (in_row Horizontal a b 0 e x, in_row Horizontal a b 1 e y),
+      )
 
   by_lower : (a b : ℕ) → T Lower a b 0 → T Lower a b 1 → a % q ≡ i % q → (a + b) % q ≡ j % q → Found
   by_lower a b x y e g =
-      inl (b % q, mod-lt b some, sum_in_row a b e g,
-      inr (inl (in_row Lower a b 0 e x, in_row Lower a b 1 e y)))
+      inl (
+        b % q,
+        mod-lt b some,
+        sum_in_row a b e g,
+        inr (inl (in_row Lower a b 0 e x, in_row Lower a b 1 e y)),
+      )
 
   by_upper : (a b : ℕ) → T Upper a b 1 → T Upper a b 2 → a % q ≡ i % q → (a + b + 1) % q ≡ j % q → Found
   by_upper a b x y e g =
-      inl ((b % q + 1) % q, mod-lt (b % q + 1) some, next_in_row a b e g,
-      inr (inr (b % q, mod-lt b some, refl, (in_row Upper a b 1 e x, in_row Upper a b 2 e y))))
+      inl (
+        (b % q + 1) % q,
+        mod-lt (b % q + 1) some,
+        next_in_row a b e g,
+        inr (inr (b % q, mod-lt b some, refl, (in_row Upper a b 1 e x, in_row Upper a b 2 e y))),
+      )
 
   pub found : (kind : FaceKind) (a b : ℕ) → LinksBy q T kind a b i j → Found
   found Vertex a b h = absurd h

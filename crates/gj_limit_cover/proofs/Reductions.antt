@@ -1,5 +1,5 @@
 -- Faces at indices modulo the order.
-use Rattle.std.proofs.Common.{◌≡◌, ℕ, ◌+◌, ◌%◌, Bool, IsTrue, inl, inr, refl, ◌∙◌, arith}
+use Rattle.std.proofs.Common.{◌≡◌, ℕ, ◌+◌, ◌%◌, Bool, inl, inr, refl, ◌∙◌}
 use Rattle.std.proofs.Math.Nat.{mod-mod}
 use Rattle.gj_faces.proofs.Periods.{same_sum}
 use Rattle.gj_shape.specs.declared.faces.FaceKind.{FaceKind}

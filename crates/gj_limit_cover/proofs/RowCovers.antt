@@ -1,11 +1,11 @@
 -- The triangles of one row of squares, and the intervals that they cover.
-use Rattle.std.proofs.Common.{◌≡◌, ◌≢◌, ◌↔◌, ◌⊎◌, ℕ, ◌+◌, ◌%◌, ◌<◌, ◌≤◌, ◌&&◌, ◌||◌, ltb, eqb, Bool, true, false, IsTrue, Option, Some, None, IfSome, IfNone, inl, inr, refl, sym, ap, subst, ◌∙◌, arith}
+use Rattle.std.proofs.Common.{◌≡◌, ◌≢◌, ◌↔◌, ◌⊎◌, ℕ, ◌+◌, ◌%◌, ◌<◌, ◌≤◌, ◌&&◌, ◌||◌, ltb, eqb, Bool, true, false, Some, None, inl, inr, refl, sym, ap, subst, ◌∙◌, arith}
 use Rattle.std.proofs.Math.Nat.{mod-lt, mod-mod, mod-eq_of_lt}
-use Rattle.std.proofs.lemmas.Bool.{and_parts, and_from, or_cases, or_left, or_right, lt-ltb, eq-eqb, eqb-true, cases_lt, cases_eq, cases_order}
+use Rattle.std.proofs.lemmas.Bool.{and_parts, and_from, or_cases, or_left, or_right, eq-eqb, eqb-true, cases_lt, cases_order}
 use Rattle.gj_faces.proofs.Periods.{same_sum}
 use Rattle.gj_loops.specs.IndexSets.{has, IsFirst}
 use Rattle.gj_loops.specs.declared.index_set.IndexSet.{IndexSet}
-use Rattle.gj_cover.specs.FirstFound.{IsNotBefore, IsFirstOf, FindsFirst}
+use Rattle.gj_cover.specs.FirstFound.{FindsFirst}
 use Rattle.gj_cover.proofs.Turns.{place_of}
 use Rattle.gj_cover.proofs.WalkPlaces.{first_face}
 use Rattle.gj_shape.specs.Cover.{IsFirstFace}
@@ -76,7 +76,6 @@ onto_three q a i step short b x a_low i_low step_low short_low more b_low other 
 module _ (q : ℕ) (T : FaceKind → ℕ → ℕ → ℕ → Type 0) (a i : ℕ) (lower upper : ℕ → Bool)
     (lower_told : (b : ℕ) → (lower b ≡ true) ↔ ((b < q) × IsTightTriangle T Lower a b))
     (upper_told : (b : ℕ) → (upper b ≡ true) ↔ ((b < q) × IsTightTriangle T Upper a b)) where
-
   -- a triangle that covers the interval is in its set
   pub triangle_has : (kind : FaceKind) (b : ℕ) → b < q → Covers q T kind a b i → (lower b || upper b) ≡ true
   triangle_has Vertex b low h = absurd h
@@ -170,9 +169,18 @@ module _ (q : ℕ) (T : FaceKind → ℕ → ℕ → ℕ → Type 0) (a i : ℕ)
               | inr l ↦
                   let (k, k_low, sum, at) = highs.0 l in
                   let low = sum_low (a + 1) k sum in
-                  let order : a + k + 1 ≡ a + 1 + k = omega arith in
-                  (low, (Upper, k, k_low, (((upper_told k).0 at).1,
-                  inr (inr (ap (λ n. n % q) order ∙ sum ∙ sym (mod-eq_of_lt low))))))
+                  let order : a + k + 1 ≡ a + 1 + k = omega arith in (
+                    low,
+                    (
+                      Upper,
+                      k,
+                      k_low,
+                      (
+                        ((upper_told k).0 at).1,
+                        inr (inr (ap (λ n. n % q) order ∙ sum ∙ sym (mod-eq_of_lt low))),
+                      ),
+                    ),
+                  )
             ]
           ]
           | inr e ↦

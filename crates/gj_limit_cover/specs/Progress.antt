@@ -2,7 +2,7 @@
 use Rattle.std.specs.Prelude.{ℕ, ◌≡◌, ◌↔◌, ◌+◌, ◌<◌, ◌≤◌, List, ◌∷◌, ◌++◌, Option, Some, None, length, IsTrue}
 use Rattle.gj_shape.specs.declared.faces.FaceKind.{FaceKind}
 use Rattle.gj_shape.specs.Cover.{components_in}
-use Rattle.gj_limit_cover.specs.LimitCover.{AreJoined, IsDirectlyCovered, LeadsTo, IsCovered, JoinsLines, IsOpen, IsNextLine}
+use Rattle.gj_limit_cover.specs.LimitCover.{AreJoined, LeadsTo, IsCovered, JoinsLines, IsOpen, IsNextLine}
 use Rattle.gj_shape.specs.declared.extremality.CoverLine.{CoverLine}
 use Rattle.gj_loops.specs.IndexSets.{has}
 use Rattle.gj_loops.specs.declared.index_set.IndexSet.{IndexSet}

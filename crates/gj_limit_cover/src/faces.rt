@@ -49,14 +49,7 @@ fn first_joining(shape: &Shape, i: u32, j: u32, is_asked: bool) -> Option<Face>
 }
 
 /// Makes a face that was found the first of it and those that link i to j, which is the step away.
-fn add_links(
-    shape: &Shape,
-    found: &mut Option<Face>,
-    i: u32,
-    j: u32,
-    step: u32,
-    is_asked: bool,
-)
+fn add_links(shape: &Shape, found: &mut Option<Face>, i: u32, j: u32, step: u32, is_asked: bool)
     requires start { i < shape.now.order }
     requires end { j < shape.now.order }
     requires below { step < shape.now.order }
@@ -65,9 +58,36 @@ fn add_links(
         (LinksAs shape.now.order (IsTightAt shape.now) is_asked i j) found.old found.new }
 {
     let short = difference(step, 1, shape.order());
-    add_three(shape, found, FaceKind::Horizontal, (i, step), (i, short), i, j, is_asked);
-    add_three(shape, found, FaceKind::Vertical, (step, i), (short, i), i, j, is_asked);
-    add_three(shape, found, FaceKind::Diagonal, (i, j), (i, j), i, j, is_asked);
+    add_three(
+        shape,
+        found,
+        FaceKind::Horizontal,
+        (i, step),
+        (i, short),
+        i,
+        j,
+        is_asked,
+    );
+    add_three(
+        shape,
+        found,
+        FaceKind::Vertical,
+        (step, i),
+        (short, i),
+        i,
+        j,
+        is_asked,
+    );
+    add_three(
+        shape,
+        found,
+        FaceKind::Diagonal,
+        (i, j),
+        (i, j),
+        i,
+        j,
+        is_asked,
+    );
 }
 
 /// Makes a face that was found the first of it and three faces, if they link i to j: the edge of this
@@ -89,9 +109,30 @@ fn add_three(
     ensures { AddsFirst (IsOneOfThree kind square.0 square.1 other.0 other.1)
         (LinksAs shape.now.order (IsTightAt shape.now) is_asked i j) found.old found.new }
 {
-    add_face(shape, found, face_of(kind, square.0, square.1), i, j, is_asked);
-    add_face(shape, found, face_of(FaceKind::Lower, square.0, square.1), i, j, is_asked);
-    add_face(shape, found, face_of(FaceKind::Upper, other.0, other.1), i, j, is_asked);
+    add_face(
+        shape,
+        found,
+        face_of(kind, square.0, square.1),
+        i,
+        j,
+        is_asked,
+    );
+    add_face(
+        shape,
+        found,
+        face_of(FaceKind::Lower, square.0, square.1),
+        i,
+        j,
+        is_asked,
+    );
+    add_face(
+        shape,
+        found,
+        face_of(FaceKind::Upper, other.0, other.1),
+        i,
+        j,
+        is_asked,
+    );
 }
 
 /// The face of this kind of the square (a, b).
@@ -102,14 +143,7 @@ fn face_of(kind: FaceKind, a: u32, b: u32) -> Face
 }
 
 /// Makes a face that was found the first of it and this face, if it links i to j.
-fn add_face(
-    shape: &Shape,
-    found: &mut Option<Face>,
-    face: Face,
-    i: u32,
-    j: u32,
-    is_asked: bool,
-)
+fn add_face(shape: &Shape, found: &mut Option<Face>, face: Face, i: u32, j: u32, is_asked: bool)
     requires first { face.a < shape.now.order }
     requires second { face.b < shape.now.order }
     requires start { i < shape.now.order }

@@ -59,7 +59,10 @@ impl Reached {
         ensures { IsReachedFrom shape.now.order
             (IsTightAt shape.now) interval free.now self.old self.new }
     {
-        let more = table.joined(shape, interval).and(free).and_not(&self.reached);
+        let more = table
+            .joined(shape, interval)
+            .and(free)
+            .and_not(&self.reached);
         self.reached = self.reached.or(&more);
         self.waiting = self.waiting.or(&more);
         self.waiting.remove(interval as usize);

@@ -1,5 +1,5 @@
 -- Sets of places below an order, and what is said of the places in them.
-use Rattle.std.proofs.Common.{◌≡◌, ◌↔◌, ◌⊎◌, ℕ, ◌+◌, ◌-◌, ◌%◌, ◌<◌, ◌≤◌, ◌&&◌, ◌||◌, ltb, eqb, cond, Bool, true, false, IsTrue, inl, inr, refl, sym, ap, subst, ◌∙◌, arith}
+use Rattle.std.proofs.Common.{◌≡◌, ◌↔◌, ◌⊎◌, ℕ, ◌+◌, ◌-◌, ◌%◌, ◌<◌, ◌≤◌, ◌&&◌, ◌||◌, ltb, eqb, cond, Bool, true, inl, inr, sym, ap, subst, ◌∙◌, arith}
 use Rattle.std.proofs.Math.Nat.{mod-eq_of_lt, mod_self}
 use Rattle.std.proofs.lemmas.Bool.{ltb-true}
 use Rattle.std.proofs.lemmas.Bool.{and_parts, and_from, or_cases, or_left, or_right, lt-ltb, eq-eqb, ne_eqb, cases_eq}
@@ -135,11 +135,14 @@ tells_horizontal q b r any two x y z set A B P some few r_is any_is two_is h k t
       | inr e ↦ inr (inr ((tells_turned q b z set P some few low told z_is).0 e))
     ] in
     tells_within r any b q (A ⊎ B ⊎ ((c : ℕ) × (c < q) × ((c + 1) % q ≡ b) × P c)) r_is
-    (λ low. (λ yes'. on yes' low, λ p. any_is ∙ (elim p [
-      | inl a ↦ or_left two z (two_is ∙ or_left x y (h.1 (low, a)))
-      | inr other ↦ elim other [
-        | inl a ↦ or_left two z (two_is ∙ or_right x y (k.1 (low, a)))
-        | inr a ↦ or_right two z ((tells_turned q b z set P some few low told z_is).1 a)
-      ]
-    ])))
+    (λ low. (
+      λ yes'. on yes' low,
+      λ p. any_is ∙ (elim p [
+        | inl a ↦ or_left two z (two_is ∙ or_left x y (h.1 (low, a)))
+        | inr other ↦ elim other [
+          | inl a ↦ or_left two z (two_is ∙ or_right x y (k.1 (low, a)))
+          | inr a ↦ or_right two z ((tells_turned q b z set P some few low told z_is).1 a)
+        ]
+      ]),
+    ))
     on

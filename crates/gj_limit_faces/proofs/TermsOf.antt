@@ -1,5 +1,5 @@
 -- The limits of the slack at the corners of a face, and their terms.
-use Rattle.std.proofs.Common.{◌≡◌, ◌≢◌, ℕ, zero, suc, ◌+◌, ◌<◌, ℤ, pos, List, get_or, refl, ap₂, ◌∙◌, arith}
+use Rattle.std.proofs.Common.{◌≡◌, ◌≢◌, ℕ, zero, suc, ◌+◌, ◌<◌, ℤ, pos, List, get_or, refl, arith}
 use Rattle.gj_shape.specs.Faces.{limits_of, slack_from}
 use Rattle.gj_shape.specs.FunctionData.{FunctionData, at}
 use Rattle.gj_shape.specs.declared.faces.FaceKind.TheVariants.{Vertical, Lower, Upper}

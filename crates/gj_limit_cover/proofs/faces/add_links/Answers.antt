@@ -1,4 +1,4 @@
-use Rattle.std.proofs.Common.{◌<◌, arith}
+use Rattle.std.proofs.Common.{arith}
 use Rattle.gj_jumps.specs.LimitCover.{IsTightAt}
 use Rattle.gj_shape.specs.declared.faces.FaceKind.TheVariants.{Horizontal, Vertical, Diagonal}
 use Rattle.gj_cover.proofs.Adding.{EitherOf, both_added}

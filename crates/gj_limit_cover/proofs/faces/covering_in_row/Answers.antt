@@ -1,8 +1,7 @@
-use Rattle.std.proofs.Common.{◌≡◌, ◌<◌, ℕ, true, sym, subst, arith}
+use Rattle.std.proofs.Common.{◌<◌, sym, subst, arith}
 use Rattle.gj_loops.specs.IndexSets.{has}
 use Rattle.gj_jumps.specs.LimitCover.{IsTightAt}
 use Rattle.gj_shape.specs.declared.faces.Face.{Face}
-use Rattle.gj_shape.specs.declared.faces.FaceKind.TheVariants.{Lower, Upper}
 use Rattle.gj_cover.specs.FirstFound.{IsFirstOf}
 use Rattle.gj_limit_cover.specs.LimitCover.{Covers}
 use Rattle.gj_limit_cover.proofs.RowCovers.{IsInRow, all_listed, squares_below, none_more, none_next, none_in_row, lower_found, upper_found}

@@ -1,4 +1,4 @@
-use Rattle.std.proofs.Common.{◌≡◌, ◌<◌, ◌||◌, ◌%◌, eqb, inl, ap, ◌∙◌, arith}
+use Rattle.std.proofs.Common.{◌<◌, ◌||◌, ◌%◌, eqb, inl, ap, ◌∙◌, arith}
 use Rattle.std.proofs.lemmas.Bool.{lt-ltb}
 use Rattle.gj_loops.specs.IndexSets.{has}
 use Rattle.gj_limit_cover.proofs.RowCovers.{onto_three}

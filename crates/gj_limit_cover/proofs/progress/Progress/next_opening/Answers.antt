@@ -1,4 +1,4 @@
-use Rattle.std.proofs.Common.{◌&&◌, sym, ◌∙◌}
+use Rattle.std.proofs.Common.{sym, ◌∙◌}
 use Rattle.std.proofs.lemmas.Bool.{and_parts}
 use Rattle.gj_loops.specs.IndexSets.{has}
 use Rattle.gj_jumps.specs.LimitCover.{IsTightAt}

@@ -1,4 +1,4 @@
-use Rattle.std.proofs.Common.{◌≡◌, ◌&&◌, ◌||◌, ltb, ap, sym, ◌∙◌, subst, arith}
+use Rattle.std.proofs.Common.{◌≡◌, ◌&&◌, ◌||◌, ltb, ap, ◌∙◌, subst}
 use Rattle.gj_loops.specs.IndexSets.{has}
 use Rattle.gj_shape.specs.declared.faces.FaceKind.TheVariants.{Horizontal, Diagonal, Lower, Upper}
 use Rattle.gj_limit_faces.specs.RowJoins.{IsTightAlong}
