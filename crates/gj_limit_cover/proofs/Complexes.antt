@@ -21,7 +21,8 @@ turned_slack : (xs ys zs : List ℤ) (a b s t : ℕ) → s ≡ t →
     slack_from (at xs a) (at ys b) (at zs s) ≡ slack_from (at ys b) (at xs a) (at zs t)
 turned_slack xs ys zs a b s t e = let same = ap (at zs) e in omega (arith, ints)
 
-upright_limits : (f : FunctionData) (a b : ℕ) → limits_of f Vertical a b ≡ limits_of f Horizontal b a
+upright_limits : (f : FunctionData) (a b : ℕ) →
+    limits_of f Vertical a b ≡ limits_of f Horizontal b a
 upright_limits f a b =
     ap₂ (λ (x y : ℤ). x ∷ y ∷ [])
     (turned_slack f.value f.right f.right a b (a + b) (b + a) (omega arith))
@@ -32,7 +33,8 @@ complex_of f bounds = record {
   reduced = λ kind a b c t. tight_reduced f bounds kind a b c t;
   upright = λ a b c t. subst (λ xs. get_or xs c (pos 1) ≡ pos 0) (upright_limits f a b) t;
   lower_first = λ a b t.
-      subst (λ x. x ≡ pos 0) (turned_slack f.right f.right f.right a b (a + b) (b + a) (omega arith)) t;
+      subst (λ x. x ≡ pos 0) (turned_slack f.right f.right f.right a b (a + b) (b + a)
+      (omega arith)) t;
   lower_third = λ a b t.
       subst (λ x. x ≡ pos 0)
       (turned_slack f.right f.left f.left a (b + 1) (a + b + 1) (b + a + 1) (omega arith)) t;
@@ -41,5 +43,6 @@ complex_of f bounds = record {
       (turned_slack f.left f.right f.right (a + 1) b (a + b + 1) (b + a + 1) (omega arith)) t;
   upper_third = λ a b t.
       subst (λ x. x ≡ pos 0)
-      (turned_slack f.left f.left f.left (a + 1) (b + 1) (a + b + 1 + 1) (b + a + 1 + 1) (omega arith)) t;
+      (turned_slack f.left f.left f.left (a + 1) (b + 1) (a + b + 1 + 1) (b + a + 1 + 1)
+      (omega arith)) t;
 }

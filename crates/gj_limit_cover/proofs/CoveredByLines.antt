@@ -44,9 +44,11 @@ module _ (f : FunctionData) where
   linked Vertical a b i j (x, y, e, g) = linked_at b (a + b) i j (vertical a b x y) e g
   linked Diagonal a b i j (x, y, e, g) = linked_at a b i j (diagonal a b x y) e g
   linked Lower a b i j (inl (x, y, e, g)) = linked_at a (a + b) i j (lower_horizontal a b x y) e g
-  linked Lower a b i j (inr (inl (x, y, e, g))) = linked_at b (a + b) i j (lower_vertical a b x y) e g
+  linked Lower a b i j (inr (inl (x, y, e, g))) = linked_at b (a + b) i j (lower_vertical a b x y) e
+      g
   linked Lower a b i j (inr (inr (x, y, e, g))) = linked_at a b i j (lower_diagonal a b x y) e g
-  linked Upper a b i j (inl (x, y, e, g)) = linked_at a (a + b + 1) i j (upper_horizontal a b x y) e g
+  linked Upper a b i j (inl (x, y, e, g)) = linked_at a (a + b + 1) i j (upper_horizontal a b x y) e
+      g
   linked Upper a b i j (inr (inl (x, y, e, g))) =
       linked_at b (a + b + 1) i j (upper_vertical a b x y) e g
   linked Upper a b i j (inr (inr (x, y, e, g))) = linked_at a b i j (upper_diagonal a b x y) e g
@@ -106,7 +108,8 @@ module _ (f : FunctionData) where
       let (k, direct, list) = from_limits i covered in
       (k, direct, leads_on q T j i k list (here i e))
 
-  pub covered_by_lines : (p : Progress) → IsProgress q T p → IsComplete q T p.lines.items → (i : ℕ) →
+  pub covered_by_lines : (p : Progress) → IsProgress q T p → IsComplete q T p.lines.items →
+      (i : ℕ) →
       i < q → HasCoverLine p.lines.items i ↔ IsCoveredByLimits f i
   covered_by_lines p h end i below = (
     λ line.

@@ -15,7 +15,8 @@ use Rattle.gj_limit_cover.proofs.Complexes.{IsComplex}
 use Rattle.gj_limit_cover.proofs.LinkRows.{one_place}
 use Rattle.gj_limit_cover.proofs.Reductions.{joins_reduced}
 
-abbrev IsFrom : (FaceKind → ℕ → ℕ → Type 0) → (FaceKind → ℕ → ℕ → Type 0) → Option Face → Option Face → Type 0
+abbrev IsFrom : (FaceKind → ℕ → ℕ → Type 0) → (FaceKind → ℕ → ℕ → Type 0) → Option Face →
+    Option Face → Type 0
 IsFrom S P x y = IfSome y (λ f. (x ≡ Some f) ⊎ (S f.kind f.a f.b × P f.kind f.a f.b))
 
 from_squares : (S P : FaceKind → ℕ → ℕ → Type 0) (q : ℕ) (x y : Option Face) →
@@ -50,7 +51,8 @@ pub record AreSteps (q i j step short : ℕ) : Type 0 where
 
 abbrev pub IsOneOfNine : ℕ → ℕ → ℕ → ℕ → FaceKind → ℕ → ℕ → Type 0
 IsOneOfNine i j step short =
-    EitherOf (EitherOf (IsOneOfThree Horizontal i step i short) (IsOneOfThree Vertical step i short i))
+    EitherOf (EitherOf (IsOneOfThree Horizontal i step i short) (IsOneOfThree Vertical step i short
+    i))
     (IsOneOfThree Diagonal i j i j)
 
 three_below : (q a b c d e f : ℕ) (kind other : FaceKind) → a < q → b < q → c < q → d < q →
@@ -97,15 +99,22 @@ turned_sum q a b j e = let order : b + a ≡ a + b = omega arith in ap (λ n. n 
 turned_next : (q a b j : ℕ) → (a + b + 1) % q ≡ j → (b + a + 1) % q ≡ j
 turned_next q a b j e = let order : b + a + 1 ≡ a + b + 1 = omega arith in ap (λ n. n % q) order ∙ e
 
-pub nine_back : (q i j step short : ℕ) (T : FaceKind → ℕ → ℕ → ℕ → Type 0) → AreSteps q i j step short →
-    (kind : FaceKind) (a b : ℕ) → a < q → b < q → LinksBy q T kind a b i j → IsOneOfNine i j step short kind a b
+pub nine_back : (q i j step short : ℕ) (T : FaceKind → ℕ → ℕ → ℕ → Type 0) →
+    AreSteps q i j step short →
+    (kind : FaceKind) (a b : ℕ) → a < q → b < q → LinksBy q T kind a b i j →
+    IsOneOfNine i j step short kind a b
 nine_back q i j step short T s Vertex a b a_low b_low h = absurd h
 nine_back q i j step short T s Horizontal a b a_low b_low (x, y, e, g) =
     let at = index_is q a i a_low s.start e in
     inl (inl (inl (inl (refl, at, step_is q i j step short a b s a_low b_low at g))))
 nine_back q i j step short T s Vertical a b a_low b_low (x, y, e, g) =
     let at = index_is q b i b_low s.start e in
-    inl (inr (inl (inl (refl, step_is q i j step short b a s b_low a_low at (turned_sum q a b (j % q) g), at))))
+    inl (inr (inl (inl (
+      refl,
+      step_is q i j step short b a s b_low a_low at
+          (turned_sum q a b (j % q) g),
+      at,
+    ))))
 nine_back q i j step short T s Diagonal a b a_low b_low (x, y, e, g) =
     inr (inl (inl (refl, index_is q a i a_low s.start e, index_is q b j b_low s.end g)))
 nine_back q i j step short T s Lower a b a_low b_low (inl (x, y, e, g)) =
@@ -113,7 +122,12 @@ nine_back q i j step short T s Lower a b a_low b_low (inl (x, y, e, g)) =
     inl (inl (inl (inr (refl, at, step_is q i j step short a b s a_low b_low at g))))
 nine_back q i j step short T s Lower a b a_low b_low (inr (inl (x, y, e, g))) =
     let at = index_is q b i b_low s.start e in
-    inl (inr (inl (inr (refl, step_is q i j step short b a s b_low a_low at (turned_sum q a b (j % q) g), at))))
+    inl (inr (inl (inr (
+      refl,
+      step_is q i j step short b a s b_low a_low at
+          (turned_sum q a b (j % q) g),
+      at,
+    ))))
 nine_back q i j step short T s Lower a b a_low b_low (inr (inr (x, y, e, g))) =
     inr (inl (inr (refl, index_is q a i a_low s.start e, index_is q b j b_low s.end g)))
 nine_back q i j step short T s Upper a b a_low b_low (inl (x, y, e, g)) =
@@ -121,13 +135,19 @@ nine_back q i j step short T s Upper a b a_low b_low (inl (x, y, e, g)) =
     inl (inl (inr (refl, at, short_is q i j step short a b s a_low b_low at g)))
 nine_back q i j step short T s Upper a b a_low b_low (inr (inl (x, y, e, g))) =
     let at = index_is q b i b_low s.start e in
-    inl (inr (inr (refl, short_is q i j step short b a s b_low a_low at (turned_next q a b (j % q) g), at)))
+    inl (inr (inr (
+      refl,
+      short_is q i j step short b a s b_low a_low at (turned_next q a b (j % q)
+          g),
+      at,
+    )))
 nine_back q i j step short T s Upper a b a_low b_low (inr (inr (x, y, e, g))) =
     inr (inr (refl, index_is q a i a_low s.start e, index_is q b j b_low s.end g))
 
 -- ---- both ways
 
-source : (q : ℕ) (T : FaceKind → ℕ → ℕ → ℕ → Type 0) (asked : Bool) (i j : ℕ) (x : Option Face) (f : Face) →
+source : (q : ℕ) (T : FaceKind → ℕ → ℕ → ℕ → Type 0) (asked : Bool) (i j : ℕ) (x : Option Face)
+    (f : Face) →
     AddsFirst (IsSquareBelow q) (LinksAs q T asked i j) None x →
     AddsFirst (IsSquareBelow q) (LinksAs q T asked j i) x (Some f) →
     ((f.a < q) × (f.b < q)) × JoinsAs q T asked i j f.kind f.a f.b
@@ -141,22 +161,27 @@ source q T asked i j x f h k = elim k.from [
 
 reached : (q : ℕ) (T : FaceKind → ℕ → ℕ → ℕ → Type 0) (asked : Bool) (i j : ℕ) (x y : Option Face) →
     AddsFirst (IsSquareBelow q) (LinksAs q T asked i j) None x →
-    AddsFirst (IsSquareBelow q) (LinksAs q T asked j i) x y → (kind : FaceKind) (a b : ℕ) → a < q → b < q →
+    AddsFirst (IsSquareBelow q) (LinksAs q T asked j i) x y → (kind : FaceKind) (a b : ℕ) → a < q →
+    b < q →
     JoinsAs q T asked i j kind a b → IsFaceReached y kind a b
 reached q T asked i j x y h k kind a b a_low b_low (p, inl l) =
     k.behind kind a b (h.first kind a b (a_low, b_low) (p, l))
-reached q T asked i j x y h k kind a b a_low b_low (p, inr l) = k.first kind a b (a_low, b_low) (p, l)
+reached q T asked i j x y h k kind a b a_low b_low (p, inr l) = k.first kind a b (a_low, b_low)
+    (p, l)
 
-pub joining_found : (q : ℕ) (T : FaceKind → ℕ → ℕ → ℕ → Type 0) (asked : Bool) (i j : ℕ) (x y : Option Face) →
+pub joining_found : (q : ℕ) (T : FaceKind → ℕ → ℕ → ℕ →
+    Type 0) (asked : Bool) (i j : ℕ) (x y : Option Face) →
     AddsFirst (IsSquareBelow q) (LinksAs q T asked i j) None x →
-    AddsFirst (IsSquareBelow q) (LinksAs q T asked j i) x y → IfSome y (IsFirstFace q (JoinsAs q T asked i j))
+    AddsFirst (IsSquareBelow q) (LinksAs q T asked j i) x y →
+    IfSome y (IsFirstFace q (JoinsAs q T asked i j))
 joining_found q T asked i j x None h k = tt
 joining_found q T asked i j x (Some f) h k =
     let at = source q T asked i j x f h k in
     first_face q (JoinsAs q T asked i j) f at.0.0 at.0.1 at.1
     (λ kind a b a_low b_low p. reached q T asked i j x (Some f) h k kind a b a_low b_low p)
 
-pub joining_none : (q : ℕ) (T : FaceKind → ℕ → ℕ → ℕ → Type 0) → IsComplex q T → 0 < q → (asked : Bool) (i j : ℕ) (x y : Option Face) →
+pub joining_none : (q : ℕ) (T : FaceKind → ℕ → ℕ → ℕ → Type 0) → IsComplex q T → 0 < q →
+    (asked : Bool) (i j : ℕ) (x y : Option Face) →
     AddsFirst (IsSquareBelow q) (LinksAs q T asked i j) None x →
     AddsFirst (IsSquareBelow q) (LinksAs q T asked j i) x y →
     IfNone y ((kind : FaceKind) (a b : ℕ) → JoinsAs q T asked i j kind a b → ⊥)

@@ -38,7 +38,8 @@ pub joined_turned : (q : ℕ) (T : FaceKind → ℕ → ℕ → ℕ → Type 0) 
     AreJoined q T j i
 joined_turned q T i j (kind, a, b, h) = (kind, a, b, joins_turned q T kind a b i j h)
 
-projects_same : (q a b sum i k : ℕ) → i % q ≡ k % q → ProjectsOn q a b sum i → ProjectsOn q a b sum k
+projects_same : (q a b sum i k : ℕ) → i % q ≡ k % q → ProjectsOn q a b sum i →
+    ProjectsOn q a b sum k
 projects_same q a b sum i k e (inl h) = inl (h ∙ e)
 projects_same q a b sum i k e (inr (inl h)) = inr (inl (h ∙ e))
 projects_same q a b sum i k e (inr (inr h)) = inr (inr (h ∙ e))

@@ -19,7 +19,8 @@ once_more q j below =
     mod-eq-sub-mod {n = j + q} {m = q} (omega arith) ∙ ap (λ n. n % q) less ∙ mod-eq_of_lt below
 
 -- where an index is that was turned to j by s
-pub turned_place : (q s j : ℕ) → s ≤ q → j < q → (place_of q s j < q) × ((s + place_of q s j) % q ≡ j)
+pub turned_place : (q s j : ℕ) → s ≤ q → j < q →
+    (place_of q s j < q) × ((s + place_of q s j) % q ≡ j)
 turned_place q s j s_most j_below =
     cond_both (leb s j) (j - s) (j + (q - s)) (λ k. (k < q) × ((s + k) % q ≡ j))
     (λ e.
@@ -32,7 +33,8 @@ turned_place q s j s_most j_below =
     (omega arith, ap (λ n. n % q) sum ∙ once_more q j j_below))
 
 -- a sum of two indices that are below the order, or the first of which is the order
-sum_cases : (q s k : ℕ) → s ≤ q → k < q → (((s + k) % q ≡ s + k) × (s + k < q)) ⊎ ((s + k) % q + q ≡ s + k)
+sum_cases : (q s k : ℕ) → s ≤ q → k < q →
+    (((s + k) % q ≡ s + k) × (s + k < q)) ⊎ ((s + k) % q + q ≡ s + k)
 sum_cases q s k s_most k_below = elim (cases_lt (s + k) q) [
   | inl low ↦ inl (mod-eq_of_lt low, low)
   | inr high ↦
@@ -44,12 +46,20 @@ sum_cases q s k s_most k_below = elim (cases_lt (s + k) q) [
 -- the index with such a sum is one alone
 pub one_place : (q s k l j : ℕ) → s ≤ q → k < q → l < q → (s + k) % q ≡ j → (s + l) % q ≡ j → k ≡ l
 one_place q s k l j s_most k_below l_below e g = elim (sum_cases q s k s_most k_below) [
-  | inl (x, low) ↦ elim (sum_cases q s l s_most l_below) [ inl (y, low') ↦ omega arith | inr y ↦ omega arith ]
-  | inr x ↦ elim (sum_cases q s l s_most l_below) [ inl (y, low) ↦ omega arith | inr y ↦ omega arith ]
+  | inl (x, low) ↦ elim (sum_cases q s l s_most l_below) [
+    | inl (y, low') ↦ omega arith
+    | inr y ↦
+        omega arith
+  ]
+  | inr x ↦ elim (sum_cases q s l s_most l_below) [
+    | inl (y, low) ↦ omega arith
+    | inr y ↦ omega arith
+  ]
 ]
 
 -- a set that is turned by s has j if the set had an index whose sum with s is j
-pub turned_has : (q s j : ℕ) (set : ℕ → Bool) (t : Bool) → s ≤ q → t ≡ (ltb j q && set (place_of q s j)) →
+pub turned_has : (q s j : ℕ) (set : ℕ → Bool) (t : Bool) → s ≤ q →
+    t ≡ (ltb j q && set (place_of q s j)) →
     (t ≡ true) ↔ ((k : ℕ) × (k < q) × ((s + k) % q ≡ j) × (set k ≡ true))
 turned_has q s j set t s_most is = (
   λ yes'.
@@ -108,7 +118,8 @@ module _ (q : ℕ) (T : FaceKind → ℕ → ℕ → ℕ → Type 0) (complex : 
   in_row : (kind : FaceKind) (a b c : ℕ) → a % q ≡ i % q → T kind a b c → T kind i (b % q) c
   in_row kind a b c e t = subst (λ n. T kind n (b % q) c) (e ∙ i_is) (complex.reduced kind a b c t)
 
-  in_square : (kind : FaceKind) (a b c : ℕ) → a % q ≡ i % q → b % q ≡ j % q → T kind a b c → T kind i j c
+  in_square : (kind : FaceKind) (a b c : ℕ) → a % q ≡ i % q → b % q ≡ j % q → T kind a b c →
+      T kind i j c
   in_square kind a b c e g t = subst (λ n. T kind i n c) (g ∙ j_is) (in_row kind a b c e t)
 
   sum_in_row : (a b : ℕ) → a % q ≡ i % q → (a + b) % q ≡ j % q → (i + b % q) % q ≡ j
@@ -140,7 +151,8 @@ module _ (q : ℕ) (T : FaceKind → ℕ → ℕ → ℕ → Type 0) (complex : 
         inr (inl (in_row Lower a b 0 e x, in_row Lower a b 1 e y)),
       )
 
-  by_upper : (a b : ℕ) → T Upper a b 1 → T Upper a b 2 → a % q ≡ i % q → (a + b + 1) % q ≡ j % q → Found
+  by_upper : (a b : ℕ) → T Upper a b 1 → T Upper a b 2 → a % q ≡ i % q → (a + b + 1) % q ≡ j % q →
+      Found
   by_upper a b x y e g =
       inl (
         (b % q + 1) % q,
@@ -154,25 +166,31 @@ module _ (q : ℕ) (T : FaceKind → ℕ → ℕ → ℕ → Type 0) (complex : 
   found Horizontal a b (x, y, e, g) = by_horizontal a b x y e g
   found Vertical a b (x, y, e, g) =
       let order : b + a ≡ a + b = omega arith in
-      by_horizontal b a (complex.upright a b 0 x) (complex.upright a b 1 y) e (ap (λ n. n % q) order ∙ g)
+      by_horizontal b a (complex.upright a b 0 x) (complex.upright a b 1 y) e (ap (λ n. n % q) order
+      ∙ g)
   found Diagonal a b (x, y, e, g) =
       inr (inl (in_square Diagonal a b 0 e g x, in_square Diagonal a b 1 e g y))
   found Lower a b (inl (x, y, e, g)) = by_lower a b x y e g
   found Lower a b (inr (inl (x, y, e, g))) =
       let order : b + a ≡ a + b = omega arith in
-      by_lower b a (complex.lower_first a b x) (complex.lower_third a b y) e (ap (λ n. n % q) order ∙ g)
+      by_lower b a (complex.lower_first a b x) (complex.lower_third a b y) e (ap (λ n. n % q) order
+      ∙ g)
   found Lower a b (inr (inr (x, y, e, g))) =
       inr (inr (inl (in_square Lower a b 1 e g x, in_square Lower a b 2 e g y)))
   found Upper a b (inl (x, y, e, g)) = by_upper a b x y e g
   found Upper a b (inr (inl (x, y, e, g))) =
       let order : b + a + 1 ≡ a + b + 1 = omega arith in
-      by_upper b a (complex.upper_first a b x) (complex.upper_third a b y) e (ap (λ n. n % q) order ∙ g)
+      by_upper b a (complex.upper_first a b x) (complex.upper_third a b y) e (ap (λ n. n % q) order
+      ∙ g)
   found Upper a b (inr (inr (x, y, e, g))) =
       inr (inr (inr (in_square Upper a b 0 e g x, in_square Upper a b 1 e g y)))
 
--- the turned horizontal joins of row i and its diagonal ones are the intervals to which edges link i
-pub linked_row : (q : ℕ) (T : FaceKind → ℕ → ℕ → ℕ → Type 0) → IsComplex q T → (i j : ℕ) (r t d : Bool)
-    (level slope : ℕ → Bool) → i < q → r ≡ (t || d) → t ≡ (ltb j q && level (place_of q i j)) → d ≡ slope j →
+-- the turned horizontal joins of row i and its diagonal ones are the intervals to which edges link
+-- i
+pub linked_row : (q : ℕ) (T : FaceKind → ℕ → ℕ → ℕ → Type 0) → IsComplex q T →
+    (i j : ℕ) (r t d : Bool)
+    (level slope : ℕ → Bool) → i < q → r ≡ (t || d) → t ≡ (ltb j q && level (place_of q i j)) →
+    d ≡ slope j →
     ((b : ℕ) → (level b ≡ true) ↔ ((b < q) × IsHorizontalJoin q T i b)) →
     ((b : ℕ) → (slope b ≡ true) ↔ ((b < q) × IsDiagonalJoin T i b)) →
     (r ≡ true) ↔ ((j < q) × IsLink q T i j)
@@ -181,14 +199,19 @@ linked_row q T complex i j r t d level slope i_below r_is t_is d_is level_told s
       λ yes'. elim (or_cases t d (sym r_is ∙ yes')) [
         | inl e ↦
             let (k, low, sum, at) = turned.0 e in
-            let j_below : j < q = subst (λ n. n < q) sum (mod-lt (i + k) (omega arith)) in
-            (j_below, link_of_horizontal q T complex i j i_below j_below k sum ((level_told k).0 at).1)
+            let j_below : j < q = subst (λ n. n < q) sum (mod-lt (i + k) (omega arith)) in (
+              j_below,
+              link_of_horizontal q T complex i j i_below j_below k sum
+                  ((level_told k).0 at).1,
+            )
         | inr e ↦
             let at = (slope_told j).0 (sym d_is ∙ e) in
             (at.0, link_of_diagonal q T complex i j i_below at.0 at.1)
       ],
-      λ (j_below, (kind, a, b, links)). r_is ∙ (elim (found q T complex i j i_below j_below kind a b links) [
-        | inl (k, low, sum, join) ↦ or_left t d (turned.1 (k, low, sum, (level_told k).1 (low, join)))
-        | inr join ↦ or_right t d (d_is ∙ (slope_told j).1 (j_below, join))
-      ]),
+      λ (j_below, (kind, a, b, links)). r_is
+          ∙ (elim (found q T complex i j i_below j_below kind a b links) [
+            | inl (k, low, sum, join) ↦ or_left t d
+                (turned.1 (k, low, sum, (level_told k).1 (low, join)))
+            | inr join ↦ or_right t d (d_is ∙ (slope_told j).1 (j_below, join))
+          ]),
     )

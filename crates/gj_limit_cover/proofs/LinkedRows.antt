@@ -10,7 +10,8 @@ use Rattle.gj_jumps.specs.LimitCover.{IsTightAt}
 use Rattle.gj_limit_cover.specs.LimitCover.{AreJoined}
 use Rattle.gj_limit_cover.specs.Links.{IsLink, AreLinkedRows}
 
-pub row_more : (f : FunctionData) (rows : List IndexSet) (n : ℕ) (row : IndexSet) → AreLinkedRows f n rows →
+pub row_more : (f : FunctionData) (rows : List IndexSet) (n : ℕ) (row : IndexSet) →
+    AreLinkedRows f n rows →
     ((j : ℕ) → IsTrue (has row j) ↔ ((j < f.order) × IsLink f.order (IsTightAt f) n j)) →
     AreLinkedRows f (n + 1) (rows ++ row ∷ [])
 row_more f rows n row h here' =
@@ -18,13 +19,16 @@ row_more f rows n row h here' =
       count = length_push rows row ∙ ap (λ k. k + 1) h.count;
       each = λ i j below. elim (cases_lt i n) [
         | inl before ↦
-            subst (λ (r : IndexSet). IsTrue (has r j) ↔ ((j < f.order) × IsLink f.order (IsTightAt f) i j))
+            subst (λ (r : IndexSet). IsTrue (has r j) ↔
+            ((j < f.order) × IsLink f.order (IsTightAt f) i j))
             (sym (get_or_append_left rows (row ∷ []) no_set i (omega arith))) (h.each i j before)
         | inr last ↦
             let e : i ≡ n = omega arith in
-            subst (λ (r : IndexSet). IsTrue (has r j) ↔ ((j < f.order) × IsLink f.order (IsTightAt f) i j))
+            subst (λ (r : IndexSet). IsTrue (has r j) ↔
+            ((j < f.order) × IsLink f.order (IsTightAt f) i j))
             (sym (get_or_push rows row no_set i (omega arith)))
-            (subst (λ k. IsTrue (has row j) ↔ ((j < f.order) × IsLink f.order (IsTightAt f) k j)) (sym e) (here' j))
+            (subst (λ k. IsTrue (has row j) ↔ ((j < f.order) × IsLink f.order (IsTightAt f) k j))
+            (sym e) (here' j))
       ];
     }
 
@@ -37,7 +41,8 @@ pub linking_none : (q : ℕ) (T : FaceKind → ℕ → ℕ → ℕ → Type 0) (
 linking_none q T i set none k =
     (λ yes'. let no' = none k in absurd (cc (yes', no')), λ (low, l). absurd (omega arith))
 
-pub linking_more : (q : ℕ) (T : FaceKind → ℕ → ℕ → ℕ → Type 0) (i n : ℕ) (old new : ℕ → Bool) (wanted : Bool) →
+pub linking_more : (q : ℕ) (T : FaceKind → ℕ → ℕ → ℕ → Type 0) (i n : ℕ) (old new : ℕ →
+    Bool) (wanted : Bool) →
     AreLinking q T i n old → ((k : ℕ) → new k ≡ cond (eqb k n) wanted (old k)) →
     ((wanted ≡ true) ↔ IsLink q T n i) → AreLinking q T i (n + 1) new
 linking_more q T i n old new wanted h is told k = elim (cases_eq k n) [
@@ -51,12 +56,14 @@ linking_more q T i n old new wanted h is told k = elim (cases_eq k n) [
       )
   | inr other ↦
       let here' = is k ∙ ap (λ t. cond t wanted (old k)) (ne_eqb k n other) in (
-        λ yes'. let at = (h k).0 (sym here' ∙ yes') in ((let lt : k < n + 1 = omega (arith, at.0) in lt), at.1),
+        λ yes'. let at = (h k).0 (sym here'
+            ∙ yes') in ((let lt : k < n + 1 = omega (arith, at.0) in lt), at.1),
         λ (low, l). here' ∙ (h k).1 ((let lt : k < n = omega arith in lt), l),
       )
 ]
 
-pub both_ways : (q : ℕ) (T : FaceKind → ℕ → ℕ → ℕ → Type 0) (i j : ℕ) (x y z : Bool) → j < q → x ≡ (y || z) →
+pub both_ways : (q : ℕ) (T : FaceKind → ℕ → ℕ → ℕ → Type 0) (i j : ℕ) (x y z : Bool) → j < q →
+    x ≡ (y || z) →
     ((y ≡ true) ↔ ((j < q) × IsLink q T i j)) → ((z ≡ true) ↔ ((j < q) × IsLink q T j i)) →
     (x ≡ true) ↔ AreJoined q T i j
 both_ways q T i j x y z below is first second = (
@@ -70,8 +77,10 @@ both_ways q T i j x y z below is first second = (
   ]),
 )
 
-pub joined_below : (q : ℕ) (T : FaceKind → ℕ → ℕ → ℕ → Type 0) (i j : ℕ) (x y z : Bool) → x ≡ (y || z) →
-    ((y ≡ true) ↔ ((j < q) × IsLink q T i j)) → ((z ≡ true) ↔ ((j < q) × IsLink q T j i)) → x ≡ true → j < q
+pub joined_below : (q : ℕ) (T : FaceKind → ℕ → ℕ → ℕ → Type 0) (i j : ℕ) (x y z : Bool) →
+    x ≡ (y || z) →
+    ((y ≡ true) ↔ ((j < q) × IsLink q T i j)) → ((z ≡ true) ↔ ((j < q) × IsLink q T j i)) →
+    x ≡ true → j < q
 joined_below q T i j x y z is first second yes' = elim (or_cases y z (sym is ∙ yes')) [
   | inl e ↦ (first.0 e).0
   | inr e ↦ (second.0 e).0

@@ -31,24 +31,75 @@ module _ (q : ℕ) (T : FaceKind → ℕ → ℕ → ℕ → Type 0) (complex : 
   links_reduced : (kind : FaceKind) (a b i j : ℕ) → LinksBy q T kind a b i j →
       LinksBy q T kind (a % q) (b % q) i j
   links_reduced Vertex a b i j h = absurd h
-  links_reduced Horizontal a b i j (x, y, e, g) =
-      (complex.reduced Horizontal a b 0 x, complex.reduced Horizontal a b 1 y, mod-mod a q ∙ e, sum_same a b ∙ g)
-  links_reduced Vertical a b i j (x, y, e, g) =
-      (complex.reduced Vertical a b 0 x, complex.reduced Vertical a b 1 y, mod-mod b q ∙ e, sum_same a b ∙ g)
-  links_reduced Diagonal a b i j (x, y, e, g) =
-      (complex.reduced Diagonal a b 0 x, complex.reduced Diagonal a b 1 y, mod-mod a q ∙ e, mod-mod b q ∙ g)
+  links_reduced Horizontal a b i j (x, y, e, g) = (
+    complex.reduced Horizontal a b 0 x,
+    complex.reduced Horizontal a b 1 y,
+    mod-mod a q
+        ∙ e,
+    sum_same a b ∙ g,
+  )
+  links_reduced Vertical a b i j (x, y, e, g) = (
+    complex.reduced Vertical a b 0 x,
+    complex.reduced Vertical a b 1 y,
+    mod-mod b q
+        ∙ e,
+    sum_same a b ∙ g,
+  )
+  links_reduced Diagonal a b i j (x, y, e, g) = (
+    complex.reduced Diagonal a b 0 x,
+    complex.reduced Diagonal a b 1 y,
+    mod-mod a q
+        ∙ e,
+    mod-mod b q ∙ g,
+  )
   links_reduced Lower a b i j (inl (x, y, e, g)) =
-      inl (complex.reduced Lower a b 0 x, complex.reduced Lower a b 1 y, mod-mod a q ∙ e, sum_same a b ∙ g)
+      inl (
+        complex.reduced Lower a b 0 x,
+        complex.reduced Lower a b 1 y,
+        mod-mod a q
+            ∙ e,
+        sum_same a b ∙ g,
+      )
   links_reduced Lower a b i j (inr (inl (x, y, e, g))) =
-      inr (inl (complex.reduced Lower a b 0 x, complex.reduced Lower a b 2 y, mod-mod b q ∙ e, sum_same a b ∙ g))
+      inr (inl (
+        complex.reduced Lower a b 0 x,
+        complex.reduced Lower a b 2 y,
+        mod-mod b q
+            ∙ e,
+        sum_same a b ∙ g,
+      ))
   links_reduced Lower a b i j (inr (inr (x, y, e, g))) =
-      inr (inr (complex.reduced Lower a b 1 x, complex.reduced Lower a b 2 y, mod-mod a q ∙ e, mod-mod b q ∙ g))
+      inr (inr (
+        complex.reduced Lower a b 1 x,
+        complex.reduced Lower a b 2 y,
+        mod-mod a q
+            ∙ e,
+        mod-mod b q ∙ g,
+      ))
   links_reduced Upper a b i j (inl (x, y, e, g)) =
-      inl (complex.reduced Upper a b 1 x, complex.reduced Upper a b 2 y, mod-mod a q ∙ e, next_same a b ∙ g)
+      inl (
+        complex.reduced Upper a b 1 x,
+        complex.reduced Upper a b 2 y,
+        mod-mod a q
+            ∙ e,
+        next_same a b ∙ g,
+      )
   links_reduced Upper a b i j (inr (inl (x, y, e, g))) =
-      inr (inl (complex.reduced Upper a b 0 x, complex.reduced Upper a b 2 y, mod-mod b q ∙ e, next_same a b ∙ g))
+      inr (inl (
+        complex.reduced Upper a b 0 x,
+        complex.reduced Upper a b 2 y,
+        mod-mod b q
+            ∙ e,
+        next_same a b ∙ g,
+      ))
   links_reduced Upper a b i j (inr (inr (x, y, e, g))) =
-      inr (inr (complex.reduced Upper a b 0 x, complex.reduced Upper a b 1 y, mod-mod a q ∙ e, mod-mod b q ∙ g))
+      inr (inr (
+        complex.reduced Upper a b 0 x,
+        complex.reduced Upper a b 1 y,
+        mod-mod a q
+            ∙ e,
+        mod-mod b q ∙ g,
+      ))
 
   pub joins_reduced : (asked : Bool) (i j : ℕ) (kind : FaceKind) (a b : ℕ) →
       JoinsAs q T asked i j kind a b → JoinsAs q T asked i j kind (a % q) (b % q)
@@ -69,7 +120,13 @@ module _ (q : ℕ) (T : FaceKind → ℕ → ℕ → ℕ → Type 0) (complex : 
   covers_reduced Horizontal a b i h = absurd h
   covers_reduced Vertical a b i h = absurd h
   covers_reduced Diagonal a b i h = absurd h
-  covers_reduced Lower a b i (t, h) =
-      (additive_reduced Lower a b t, projects_reduced a b i (a + b) (a % q + b % q) (sum_same a b) h)
-  covers_reduced Upper a b i (t, h) =
-      (additive_reduced Upper a b t, projects_reduced a b i (a + b + 1) (a % q + b % q + 1) (next_same a b) h)
+  covers_reduced Lower a b i (t, h) = (
+    additive_reduced Lower a b t,
+    projects_reduced a b i (a + b) (a % q + b % q) (sum_same a b)
+        h,
+  )
+  covers_reduced Upper a b i (t, h) = (
+    additive_reduced Upper a b t,
+    projects_reduced a b i (a + b + 1) (a % q + b % q + 1)
+        (next_same a b) h,
+  )

@@ -22,11 +22,13 @@ use Rattle.gj_limit_cover.proofs.Reductions.{covers_reduced}
 -- ---- the squares of a row with a triangle that projects on an interval
 
 -- the places at which one set, another or a third has an interval
-pub onto_three : (q a i step short b : ℕ) (x : Bool) → a < q → i < q → step < q → short < q → 1 < q → b < q →
+pub onto_three : (q a i step short b : ℕ) (x : Bool) → a < q → i < q → step < q → short < q →
+    1 < q → b < q →
     a ≢ i → (a + step) % q ≡ i → (1 + short) % q ≡ step →
     x ≡ (((false || eqb b i) || eqb b step) || eqb b short) →
     (x ≡ true) ↔ (ProjectsOn q a b (a + b) i ⊎ ProjectsOn q a b (a + b + 1) i)
-onto_three q a i step short b x a_low i_low step_low short_low more b_low other step_is short_is is =
+onto_three q a i step short b x a_low i_low step_low short_low more b_low other step_is short_is
+    is =
     let at_a = mod-eq_of_lt a_low in
     let at_b = mod-eq_of_lt b_low in
     let at_i = mod-eq_of_lt i_low in
@@ -34,7 +36,8 @@ onto_three q a i step short b x a_low i_low step_low short_low more b_low other 
     let two = (false || eqb b i) || eqb b step in
     let by_step : (a + b) % q ≡ i % q → x ≡ true = λ e.
     let same = one_place q a b step i (omega arith) b_low step_low (e ∙ at_i) step_is in
-    is ∙ or_left two (eqb b short) (or_right (false || eqb b i) (eqb b step) (eq-eqb b step same)) in
+    is ∙ or_left two (eqb b short) (or_right (false || eqb b i) (eqb b step) (eq-eqb b step same))
+    in
     let by_first : b % q ≡ i % q → x ≡ true = λ e.
     is ∙ or_left two (eqb b short) (or_left (false || eqb b i) (eqb b step)
     (or_right false (eqb b i) (eq-eqb b i (sym at_b ∙ e ∙ at_i)))) in
@@ -42,8 +45,10 @@ onto_three q a i step short b x a_low i_low step_low short_low more b_low other 
     let order : a + (b + 1) ≡ a + b + 1 = omega arith in
     let turned : 1 + b ≡ b + 1 = omega arith in
     let next = one_place q a ((b + 1) % q) step i (omega arith) (mod-lt (b + 1) some) step_low
-    (same_sum q a ((b + 1) % q) a (b + 1) refl (mod-mod (b + 1) q) ∙ ap (λ n. n % q) order ∙ e ∙ at_i) step_is in
-    let same = one_place q 1 b short step (omega arith) b_low short_low (ap (λ n. n % q) turned ∙ next) short_is in
+    (same_sum q a ((b + 1) % q) a (b + 1) refl (mod-mod (b + 1) q) ∙ ap (λ n. n % q) order ∙ e
+    ∙ at_i) step_is in
+    let same = one_place q 1 b short step (omega arith) b_low short_low (ap (λ n. n % q) turned
+    ∙ next) short_is in
     is ∙ or_right two (eqb b short) (eq-eqb b short same) in (
       λ yes'. elim (or_cases two (eqb b short) (sym is ∙ yes')) [
         | inl e ↦ elim (or_cases (false || eqb b i) (eqb b step) e) [
@@ -51,7 +56,8 @@ onto_three q a i step short b x a_low i_low step_low short_low more b_low other 
             | inl no' ↦ cc
             | inr at ↦ inl (inr (inl (ap (λ n. n % q) (eqb-true b i at))))
           ]
-          | inr at ↦ inl (inr (inr (ap (λ n. (a + n) % q) (eqb-true b step at) ∙ step_is ∙ sym at_i)))
+          | inr at ↦ inl (inr (inr (ap (λ n. (a + n) % q) (eqb-true b step at) ∙ step_is
+              ∙ sym at_i)))
         ]
         | inr at ↦
             let order : a + b + 1 ≡ a + (b + 1) = omega arith in
@@ -59,7 +65,8 @@ onto_three q a i step short b x a_low i_low step_low short_low more b_low other 
             let next : (b + 1) % q ≡ step % q =
             ap (λ n. n % q) turned ∙ ap (λ n. (1 + n) % q) (eqb-true b short at) ∙ short_is
             ∙ sym (mod-eq_of_lt step_low) in
-            inr (inr (inr (ap (λ n. n % q) order ∙ same_sum q a (b + 1) a step refl next ∙ step_is ∙ sym at_i)))
+            inr (inr (inr (ap (λ n. n % q) order ∙ same_sum q a (b + 1) a step refl next ∙ step_is
+            ∙ sym at_i)))
       ],
       λ h. elim h [
         | inl lower ↦ elim lower [
@@ -77,7 +84,8 @@ module _ (q : ℕ) (T : FaceKind → ℕ → ℕ → ℕ → Type 0) (a i : ℕ)
     (lower_told : (b : ℕ) → (lower b ≡ true) ↔ ((b < q) × IsTightTriangle T Lower a b))
     (upper_told : (b : ℕ) → (upper b ≡ true) ↔ ((b < q) × IsTightTriangle T Upper a b)) where
   -- a triangle that covers the interval is in its set
-  pub triangle_has : (kind : FaceKind) (b : ℕ) → b < q → Covers q T kind a b i → (lower b || upper b) ≡ true
+  pub triangle_has : (kind : FaceKind) (b : ℕ) → b < q → Covers q T kind a b i →
+      (lower b || upper b) ≡ true
   triangle_has Vertex b low h = absurd h
   triangle_has Horizontal b low h = absurd h
   triangle_has Vertical b low h = absurd h
@@ -101,11 +109,13 @@ module _ (q : ℕ) (T : FaceKind → ℕ → ℕ → ℕ → Type 0) (a i : ℕ)
   projects Upper b (t, h) = inr h
 
   -- and so is its square in that of the squares that are looked at
-  pub square_has : (kind : FaceKind) (b : ℕ) (x onto : Bool) → b < q → x ≡ ((lower b || upper b) && onto) →
+  pub square_has : (kind : FaceKind) (b : ℕ) (x onto : Bool) → b < q →
+      x ≡ ((lower b || upper b) && onto) →
       ((onto ≡ true) ↔ (ProjectsOn q a b (a + b) i ⊎ ProjectsOn q a b (a + b + 1) i)) →
       Covers q T kind a b i → x ≡ true
   square_has kind b x onto low is told h =
-      is ∙ and_from (lower b || upper b) onto (triangle_has kind b low h) (told.1 (projects kind b h))
+      is ∙ and_from (lower b || upper b) onto (triangle_has kind b low h)
+      (told.1 (projects kind b h))
 
   -- ---- the intervals that the triangles cover
 
@@ -117,7 +127,11 @@ module _ (q : ℕ) (T : FaceKind → ℕ → ℕ → ℕ → Type 0) (a i : ℕ)
   row_cases Vertical b low i_low a_low h = absurd h
   row_cases Diagonal b low i_low a_low h = absurd h
   row_cases Lower b low i_low a_low (t, inl e) =
-      inl (sym (mod-eq_of_lt a_low) ∙ e ∙ mod-eq_of_lt i_low, or_left (lower b) (upper b) ((lower_told b).1 (low, t)))
+      inl (
+        sym (mod-eq_of_lt a_low) ∙ e
+            ∙ mod-eq_of_lt i_low,
+        or_left (lower b) (upper b) ((lower_told b).1 (low, t)),
+      )
   row_cases Lower b low i_low a_low (t, inr (inl e)) =
       let same : b ≡ i = sym (mod-eq_of_lt low) ∙ e ∙ mod-eq_of_lt i_low in
       inr (inl (subst (λ n. (lower n || upper n) ≡ true) same
@@ -125,7 +139,11 @@ module _ (q : ℕ) (T : FaceKind → ℕ → ℕ → ℕ → Type 0) (a i : ℕ)
   row_cases Lower b low i_low a_low (t, inr (inr e)) =
       inr (inr (inl ((lower_told b).1 (low, t), e ∙ mod-eq_of_lt i_low)))
   row_cases Upper b low i_low a_low (t, inl e) =
-      inl (sym (mod-eq_of_lt a_low) ∙ e ∙ mod-eq_of_lt i_low, or_right (lower b) (upper b) ((upper_told b).1 (low, t)))
+      inl (
+        sym (mod-eq_of_lt a_low) ∙ e
+            ∙ mod-eq_of_lt i_low,
+        or_right (lower b) (upper b) ((upper_told b).1 (low, t)),
+      )
   row_cases Upper b low i_low a_low (t, inr (inl e)) =
       let same : b ≡ i = sym (mod-eq_of_lt low) ∙ e ∙ mod-eq_of_lt i_low in
       inr (inl (subst (λ n. (lower n || upper n) ≡ true) same
@@ -142,17 +160,22 @@ module _ (q : ℕ) (T : FaceKind → ℕ → ℕ → ℕ → Type 0) (a i : ℕ)
   ]
 
   -- the set of an interval in the row, one of the sums of the triangles, or the row's own interval
-  pub direct_row : (x others sums low_sums high_sums own any : Bool) (triangles : ℕ → Bool) → a < q →
+  pub direct_row : (x others sums low_sums high_sums own any : Bool) (triangles : ℕ → Bool) →
+      a < q →
       x ≡ (others || own) → others ≡ (triangles i || sums) → sums ≡ (low_sums || high_sums) →
-      low_sums ≡ (ltb i q && lower (place_of q a i)) → high_sums ≡ (ltb i q && upper (place_of q (a + 1) i)) →
+      low_sums ≡ (ltb i q && lower (place_of q a i)) →
+      high_sums ≡ (ltb i q && upper (place_of q (a + 1) i)) →
       own ≡ (any && eqb i a) → ((b : ℕ) → triangles b ≡ (lower b || upper b)) →
-      ((any ≡ true) → (b : ℕ) × (triangles b ≡ true)) → ((b : ℕ) → triangles b ≡ true → any ≡ true) →
+      ((any ≡ true) → (b : ℕ) × (triangles b ≡ true)) → ((b : ℕ) → triangles b ≡ true →
+      any ≡ true) →
       (x ≡ true) ↔ ((i < q) × IsDirectInRow q T a i)
-  direct_row x others sums low_sums high_sums own any triangles a_low x_is others_is sums_is lows_is highs_is own_is triangles_is found all =
+  direct_row x others sums low_sums high_sums own any triangles a_low x_is others_is sums_is lows_is
+      highs_is own_is triangles_is found all =
       let lows = turned_has q a i lower low_sums (omega arith) lows_is in
       let highs = turned_has q (a + 1) i upper high_sums (omega arith) highs_is in
       let some : 0 < q = omega arith in
-      let sum_low : (s k : ℕ) → (s + k) % q ≡ i → i < q = λ s k e. subst (λ n. n < q) e (mod-lt (s + k) some) in
+      let sum_low : (s k : ℕ) → (s + k) % q ≡ i →
+      i < q = λ s k e. subst (λ n. n < q) e (mod-lt (s + k) some) in
       let put_sums : sums ≡ true → x ≡ true = λ e.
       x_is ∙ or_left others own (others_is ∙ or_right (triangles i) sums e) in (
         λ yes'. elim (or_cases others own (sym x_is ∙ yes')) [
@@ -164,8 +187,19 @@ module _ (q : ℕ) (T : FaceKind → ℕ → ℕ → ℕ → Type 0) (a i : ℕ)
             | inr t ↦ elim (or_cases low_sums high_sums (sym sums_is ∙ t)) [
               | inl l ↦
                   let (k, k_low, sum, at) = lows.0 l in
-                  let low = sum_low a k sum in
-                  (low, (Lower, k, k_low, (((lower_told k).0 at).1, inr (inr (sum ∙ sym (mod-eq_of_lt low))))))
+                  let low = sum_low a k sum in (
+                    low,
+                    (
+                      Lower,
+                      k,
+                      k_low,
+                      (
+                        ((lower_told k).0 at).1,
+                        inr (inr (sum
+                            ∙ sym (mod-eq_of_lt low))),
+                      ),
+                    ),
+                  )
               | inr l ↦
                   let (k, k_low, sum, at) = highs.0 l in
                   let low = sum_low (a + 1) k sum in
@@ -197,35 +231,46 @@ module _ (q : ℕ) (T : FaceKind → ℕ → ℕ → ℕ → Type 0) (a i : ℕ)
               x_is ∙ or_right others own (own_is
               ∙ and_from any (eqb i a) (all b (triangles_is b ∙ at)) (eq-eqb i a (sym same)))
           | inr rest ↦ elim rest [
-            | inl at ↦ x_is ∙ or_left others own (others_is ∙ or_left (triangles i) sums (triangles_is i ∙ at))
+            | inl at ↦ x_is ∙ or_left others own (others_is
+                ∙ or_left (triangles i) sums (triangles_is i ∙ at))
             | inr sum ↦ elim sum [
-              | inl (at, e) ↦ put_sums (sums_is ∙ or_left low_sums high_sums (lows.1 (b, b_low, e, at)))
-              | inr (at, e) ↦ put_sums (sums_is ∙ or_right low_sums high_sums (highs.1 (b, b_low, e, at)))
+              | inl (at, e) ↦ put_sums (sums_is
+                  ∙ or_left low_sums high_sums (lows.1 (b, b_low, e, at)))
+              | inr (at, e) ↦ put_sums (sums_is
+                  ∙ or_right low_sums high_sums (highs.1 (b, b_low, e, at)))
             ]
           ]
         ],
       )
 
 -- the squares that are looked at are those of all triangles of the row that cover the interval
-pub all_listed : (q n : ℕ) (T : FaceKind → ℕ → ℕ → ℕ → Type 0) (a i : ℕ) (lower upper triangles onto : ℕ → Bool)
+pub all_listed : (q n : ℕ) (T : FaceKind → ℕ → ℕ → ℕ →
+    Type 0) (a i : ℕ) (lower upper triangles onto : ℕ → Bool)
     (squares : IndexSet) → n ≡ q →
     ((b : ℕ) → (lower b ≡ true) ↔ ((b < q) × IsTightTriangle T Lower a b)) →
     ((b : ℕ) → (upper b ≡ true) ↔ ((b < q) × IsTightTriangle T Upper a b)) →
-    ((b : ℕ) → triangles b ≡ (lower b || upper b)) → ((b : ℕ) → has squares b ≡ (triangles b && onto b)) →
-    ((b : ℕ) → b < n → (onto b ≡ true) ↔ (ProjectsOn n a b (a + b) i ⊎ ProjectsOn n a b (a + b + 1) i)) →
+    ((b : ℕ) → triangles b ≡ (lower b || upper b)) →
+    ((b : ℕ) → has squares b ≡ (triangles b && onto b)) →
+    ((b : ℕ) → b < n → (onto b ≡ true) ↔
+    (ProjectsOn n a b (a + b) i ⊎ ProjectsOn n a b (a + b + 1) i)) →
     (kind : FaceKind) (k : ℕ) → k < q → Covers q T kind a k i → has squares k ≡ true
-all_listed q n T a i lower upper triangles onto squares same lower_told upper_told triangles_is squares_is told kind k low d =
+all_listed q n T a i lower upper triangles onto squares same lower_told upper_told triangles_is
+    squares_is told kind k low d =
     square_has q T a i lower upper lower_told upper_told kind k (has squares k) (onto k) low
     (squares_is k ∙ ap (λ x. x && onto k) (triangles_is k))
-    (subst (λ m. (onto k ≡ true) ↔ (ProjectsOn m a k (a + k) i ⊎ ProjectsOn m a k (a + k + 1) i)) same
+    (subst (λ m. (onto k ≡ true) ↔ (ProjectsOn m a k (a + k) i ⊎ ProjectsOn m a k (a + k + 1) i))
+    same
     (told k (let lt : k < n = omega arith in lt))) d
 
-pub squares_below : (q : ℕ) (T : FaceKind → ℕ → ℕ → ℕ → Type 0) (a i : ℕ) (lower upper triangles onto : ℕ → Bool)
+pub squares_below : (q : ℕ) (T : FaceKind → ℕ → ℕ → ℕ →
+    Type 0) (a i : ℕ) (lower upper triangles onto : ℕ → Bool)
     (squares : IndexSet) → ((b : ℕ) → (lower b ≡ true) ↔ ((b < q) × IsTightTriangle T Lower a b)) →
     ((b : ℕ) → (upper b ≡ true) ↔ ((b < q) × IsTightTriangle T Upper a b)) →
-    ((b : ℕ) → triangles b ≡ (lower b || upper b)) → ((b : ℕ) → has squares b ≡ (triangles b && onto b)) →
+    ((b : ℕ) → triangles b ≡ (lower b || upper b)) →
+    ((b : ℕ) → has squares b ≡ (triangles b && onto b)) →
     (k : ℕ) → has squares k ≡ true → k < q
-squares_below q T a i lower upper triangles onto squares lower_told upper_told triangles_is squares_is k e =
+squares_below q T a i lower upper triangles onto squares lower_told upper_told triangles_is
+    squares_is k e =
     triangle_below q T a i lower upper lower_told upper_told k
     (sym (triangles_is k) ∙ (and_parts (triangles k) (onto k) (sym (squares_is k) ∙ e)).0)
 
@@ -236,16 +281,21 @@ abbrev pub AreDirectBefore : ℕ → (FaceKind → ℕ → ℕ → ℕ → Type 
 AreDirectBefore q T n set =
     (i : ℕ) → (set i ≡ true) ↔ ((i < q) × ((a : ℕ) × (a < n) × IsDirectInRow q T a i))
 
-pub direct_none : (q : ℕ) (T : FaceKind → ℕ → ℕ → ℕ → Type 0) (set : ℕ → Bool) → ((i : ℕ) → set i ≡ false) →
+pub direct_none : (q : ℕ) (T : FaceKind → ℕ → ℕ → ℕ → Type 0) (set : ℕ → Bool) →
+    ((i : ℕ) → set i ≡ false) →
     AreDirectBefore q T 0 set
-direct_none q T set none i = (λ yes'. let no' = none i in absurd (cc (yes', no')), λ (low, (a, a_low, h)). absurd (omega arith))
+direct_none q T set none i = (
+  λ yes'. let no' = none i in absurd (cc (yes', no')),
+  λ (low, (a, a_low, h)). absurd (omega arith),
+)
 
 pub direct_more : (q : ℕ) (T : FaceKind → ℕ → ℕ → ℕ → Type 0) (n : ℕ) (old row new : ℕ → Bool) →
     AreDirectBefore q T n old → ((i : ℕ) → (row i ≡ true) ↔ ((i < q) × IsDirectInRow q T n i)) →
     ((i : ℕ) → new i ≡ (old i || row i)) → AreDirectBefore q T (n + 1) new
 direct_more q T n old row new h told is i = (
   λ yes'. elim (or_cases (old i) (row i) (sym (is i) ∙ yes')) [
-    | inl e ↦ let (low, (a, a_low, d)) = (h i).0 e in (low, (a, (let lt : a < n + 1 = omega arith in lt), d))
+    | inl e ↦ let (low, (a, a_low, d)) = (h i).0 e in
+        (low, (a, (let lt : a < n + 1 = omega arith in lt), d))
     | inr e ↦ let (low, d) = (told i).0 e in (low, (n, (let lt : n < n + 1 = omega arith in lt), d))
   ],
   λ (low, (a, a_low, d)). is i ∙ (elim (cases_lt a n) [
@@ -256,12 +306,26 @@ direct_more q T n old row new h told is i = (
   ]),
 )
 
-pub direct_all : (q : ℕ) (T : FaceKind → ℕ → ℕ → ℕ → Type 0) (set : ℕ → Bool) → IsComplex q T → 0 < q →
+pub direct_all : (q : ℕ) (T : FaceKind → ℕ → ℕ → ℕ → Type 0) (set : ℕ → Bool) → IsComplex q T →
+    0 < q →
     AreDirectBefore q T q set → (i : ℕ) → (set i ≡ true) ↔ ((i < q) × IsDirectlyCovered q T i)
 direct_all q T set complex some h i = (
   λ yes'. let (low, (a, a_low, (kind, b, b_low, d))) = (h i).0 yes' in (low, (kind, a, b, d)),
   λ (low, (kind, a, b, d)).
-      (h i).1 (low, (a % q, mod-lt a some, (kind, b % q, mod-lt b some, covers_reduced q T complex kind a b i d))),
+      (h i).1 (
+        low,
+        (
+          a % q,
+          mod-lt a some,
+          (
+            kind,
+            b % q,
+            mod-lt b some,
+            covers_reduced q T complex
+                kind a b i d,
+          ),
+        ),
+      ),
 )
 
 -- ---- the first triangle that covers an interval
@@ -316,9 +380,11 @@ none_in_row q T a i from set h none all kind c b (same, below) d =
           absurd (cc (not, yes'))
     ]
 
-pub lower_found : (q : ℕ) (T : FaceKind → ℕ → ℕ → ℕ → Type 0) (a i b : ℕ) → b < q → NoneBefore q T a i b →
+pub lower_found : (q : ℕ) (T : FaceKind → ℕ → ℕ → ℕ → Type 0) (a i b : ℕ) → b < q →
+    NoneBefore q T a i b →
     Covers q T Lower a b i →
-    FindsFirst (IsInRow q a) (λ kind c d. Covers q T kind c d i) (Some (record { kind = Lower; a = a; b = b }))
+    FindsFirst (IsInRow q a) (λ kind c d. Covers q T kind c d i)
+    (Some (record { kind = Lower; a = a; b = b }))
 lower_found q T a i b low h d = record {
   square = (refl, low);
   holds = d;
@@ -343,16 +409,25 @@ lower_found q T a i b low h d = record {
     least Lower k e = omega arith
     least Upper k e = omega arith
 
-pub upper_found : (q : ℕ) (T : FaceKind → ℕ → ℕ → ℕ → Type 0) (a i b : ℕ) → b < q → NoneBefore q T a i b →
+pub upper_found : (q : ℕ) (T : FaceKind → ℕ → ℕ → ℕ → Type 0) (a i b : ℕ) → b < q →
+    NoneBefore q T a i b →
     (Covers q T Lower a b i → ⊥) → Covers q T Upper a b i →
-    FindsFirst (IsInRow q a) (λ kind c d. Covers q T kind c d i) (Some (record { kind = Upper; a = a; b = b }))
+    FindsFirst (IsInRow q a) (λ kind c d. Covers q T kind c d i)
+    (Some (record { kind = Upper; a = a; b = b }))
 upper_found q T a i b low h not d = record {
   square = (refl, low);
   holds = d;
   first = λ kind c k (same, below) e.
       let e' = subst (λ n. Covers q T kind n k i) same e in
       elim (cases_order k b) [
-        | inl at ↦ inr (sym same, inr (sym at, greatest kind (subst (λ n. Covers q T kind a n i) at e')))
+        | inl at ↦ inr (
+          sym same,
+          inr (
+            sym at,
+            greatest kind (subst (λ n. Covers q T kind a n i) at
+                e'),
+          ),
+        )
         | inr other ↦ elim other [
           | inl before ↦ absurd (h kind k before below e')
           | inr behind ↦ inr (sym same, inl behind)
@@ -381,7 +456,8 @@ none_in_rows q T i n h none kind a b low below d = elim (cases_lt a n) [
   | inr last ↦ none kind a b ((let same : a ≡ n = omega arith in same), below) d
 ]
 
-pub row_found : (q : ℕ) (T : FaceKind → ℕ → ℕ → ℕ → Type 0) (i n : ℕ) (f : Face) → n < q → NoneInRows q T i n →
+pub row_found : (q : ℕ) (T : FaceKind → ℕ → ℕ → ℕ → Type 0) (i n : ℕ) (f : Face) → n < q →
+    NoneInRows q T i n →
     FindsFirst (IsInRow q n) (λ kind c b. Covers q T kind c b i) (Some f) →
     IsFirstFace q (λ kind a b. Covers q T kind a b i) f
 row_found q T i n f low h found =

@@ -1,6 +1,6 @@
--- The cover of a function that may jump: its components, their number, its cover lines and the class
--- of the least uncovered interval (Basu, Hildebrand and Koeppe, Equivariant Perturbation I; the
--- order of the lines is own).
+-- The cover of a function that may jump: its components, their number, its cover lines and the
+-- class of the least uncovered interval (Basu, Hildebrand and Koeppe, Equivariant Perturbation I;
+-- the order of the lines is own).
 use Rattle.std.specs.Prelude.{ℕ, ◌≡◌, ◌↔◌, ◌<◌, List, [], Option, Some, None, Contains, length}
 use Rattle.std.specs.List.Sorted.{IsStrictlyIncreasing}
 use Rattle.gj_shape.specs.declared.faces.FaceKind.{FaceKind}
@@ -12,12 +12,14 @@ use Rattle.gj_cover.specs.CoverOf.{number_at}
 use Rattle.gj_cover.specs.declared.covered.Cover.{Cover}
 
 -- the list has the number of each interval's component, by the lines, and None if it is uncovered
-pub record AreComponents (q : ℕ) (T : FaceKind → ℕ → ℕ → ℕ → Type 0) (lines : List CoverLine) (component : List (Option ℕ)) : Type 0 where
+pub record AreComponents (q : ℕ) (T : FaceKind → ℕ → ℕ → ℕ →
+    Type 0) (lines : List CoverLine) (component : List (Option ℕ)) : Type 0 where
   pub length : length component ≡ q
   pub numbers : (i n : ℕ) → i < q → (number_at component i ≡ Some n) ↔ HasComponent lines n i
   pub uncovered : (i : ℕ) → i < q → (number_at component i ≡ None) ↔ (IsCovered q T i → ⊥)
   pub same : (i j : ℕ) → i < q → j < q →
-      ((n : ℕ) × (number_at component i ≡ Some n) × (number_at component j ≡ Some n)) ↔ AreInOneComponent q T i j
+      ((n : ℕ) × (number_at component i ≡ Some n) × (number_at component j ≡ Some n)) ↔
+      AreInOneComponent q T i j
   pub below : (i n : ℕ) → number_at component i ≡ Some n → n < components_in lines
 
 -- the list has the intervals of the class of the least uncovered interval in ascending order, and

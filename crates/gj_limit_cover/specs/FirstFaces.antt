@@ -10,8 +10,8 @@ abbrev pub LinksAs : ℕ → (FaceKind → ℕ → ℕ → ℕ → Type 0) → B
 LinksAs q T asked i j kind a b =
     (IsTrue asked → IsAdditiveFace T kind a b) × LinksBy q T kind a b i j
 
--- the face is the one of this kind or the lower triangle of the square (a, b), or the upper triangle
--- of the square (c, d)
+-- the face is the one of this kind or the lower triangle of the square (a, b), or the upper
+-- triangle of the square (c, d)
 abbrev pub IsOneOfThree : FaceKind → ℕ → ℕ → ℕ → ℕ → FaceKind → ℕ → ℕ → Type 0
 IsOneOfThree kind a b c d other e f =
     (IsThis kind a b other e f ⊎ IsThis Lower a b other e f) ⊎ IsThis Upper c d other e f

@@ -12,7 +12,8 @@ use Rattle.gj_shape.specs.declared.faces.FaceKind.{FaceKind}
 use Rattle.gj_shape.specs.declared.faces.FaceKind.TheVariants.{Vertex, Horizontal, Vertical, Diagonal, Lower, Upper}
 
 -- the corners c and d of a face are tight, and the edge between them links the intervals i and j
-abbrev pub LinksAlong : ℕ → (FaceKind → ℕ → ℕ → ℕ → Type 0) → FaceKind → ℕ → ℕ → ℕ → ℕ → ℕ → ℕ → ℕ → ℕ → Type 0
+abbrev pub LinksAlong : ℕ → (FaceKind → ℕ → ℕ → ℕ → Type 0) → FaceKind → ℕ → ℕ → ℕ → ℕ → ℕ → ℕ → ℕ →
+    ℕ → Type 0
 LinksAlong q T kind a b c d near far i j =
     T kind a b c × T kind a b d × (near % q ≡ i % q) × (far % q ≡ j % q)
 
@@ -82,7 +83,8 @@ IsInClassOf q T i j = LeadsTo q T j i
 -- ---- cover lines
 
 -- an interval without a line that is joined to one with a line
-pub record JoinsLines (q : ℕ) (T : FaceKind → ℕ → ℕ → ℕ → Type 0) (lines : List CoverLine) (i j : ℕ) :
+pub record JoinsLines (q : ℕ) (T : FaceKind → ℕ → ℕ → ℕ →
+    Type 0) (lines : List CoverLine) (i j : ℕ) :
     Type 0 where
   pub first_within : i < q
   pub second_within : j < q

@@ -11,20 +11,27 @@ use Rattle.gj_cover.specs.Progress.{AreNumbered, AreFree, unnumbered}
 use Rattle.gj_limit_cover.specs.declared.progress.Progress.{Progress}
 
 -- each line is the next behind those before it
-pub record AreInTurn (q : ℕ) (T : FaceKind → ℕ → ℕ → ℕ → Type 0) (lines : List CoverLine) : Type 0 where
-  pub each : (before : List CoverLine) (l : CoverLine) (after : List CoverLine) → lines ≡ before ++ l ∷ after → IsNextLine q T before l
+pub record AreInTurn (q : ℕ) (T : FaceKind → ℕ → ℕ → ℕ →
+    Type 0) (lines : List CoverLine) : Type 0 where
+  pub each : (before : List CoverLine) (l : CoverLine) (after : List CoverLine) →
+      lines ≡ before ++ l ∷ after → IsNextLine q T before l
 
 -- the numbers below the count are those of components: only the last may be joined to an interval
 -- without a number
-pub record AreClasses (q : ℕ) (T : FaceKind → ℕ → ℕ → ℕ → Type 0) (component : List (Option ℕ)) (count : ℕ) : Type 0 where
-  pub one : (i j m n : ℕ) → AreJoined q T i j → number_at component i ≡ Some m → number_at component j ≡ Some n → m ≡ n
-  pub last : (i j n : ℕ) → j < q → AreJoined q T i j → number_at component i ≡ Some n → number_at component j ≡ None → n + 1 ≡ count
-  pub linked : (i j n : ℕ) → number_at component i ≡ Some n → number_at component j ≡ Some n → LeadsTo q T j i
+pub record AreClasses (q : ℕ) (T : FaceKind → ℕ → ℕ → ℕ →
+    Type 0) (component : List (Option ℕ)) (count : ℕ) : Type 0 where
+  pub one : (i j m n : ℕ) → AreJoined q T i j → number_at component i ≡ Some m →
+      number_at component j ≡ Some n → m ≡ n
+  pub last : (i j n : ℕ) → j < q → AreJoined q T i j → number_at component i ≡ Some n →
+      number_at component j ≡ None → n + 1 ≡ count
+  pub linked : (i j n : ℕ) → number_at component i ≡ Some n → number_at component j ≡ Some n →
+      LeadsTo q T j i
   pub below : (i n : ℕ) → number_at component i ≡ Some n → n < count
   pub covered : (i n : ℕ) → number_at component i ≡ Some n → IsCovered q T i
 
 -- of the intervals without a number the set has those that are joined to one with a line
-pub record AreNear (q : ℕ) (T : FaceKind → ℕ → ℕ → ℕ → Type 0) (lines : List CoverLine) (component : List (Option ℕ)) (near : IndexSet) : Type 0 where
+pub record AreNear (q : ℕ) (T : FaceKind → ℕ → ℕ → ℕ →
+    Type 0) (lines : List CoverLine) (component : List (Option ℕ)) (near : IndexSet) : Type 0 where
   pub each : (i : ℕ) → i < q → number_at component i ≡ None →
       IsTrue (has near i) ↔ ((j : ℕ) × JoinsLines q T lines i j)
 
@@ -40,6 +47,7 @@ pub record IsProgress (q : ℕ) (T : FaceKind → ℕ → ℕ → ℕ → Type 0
   pub near : AreNear q T p.lines.items p.component.items p.near
 
 -- no line comes next: no interval without one is joined to one with a line, or directly covered
-pub record IsComplete (q : ℕ) (T : FaceKind → ℕ → ℕ → ℕ → Type 0) (lines : List CoverLine) : Type 0 where
+pub record IsComplete (q : ℕ) (T : FaceKind → ℕ → ℕ → ℕ →
+    Type 0) (lines : List CoverLine) : Type 0 where
   pub none_joins : (i j : ℕ) → JoinsLines q T lines i j → ⊥
   pub none_open : (i : ℕ) → IsOpen q T lines i → ⊥

@@ -18,7 +18,8 @@ unfinished r n = count_below (λ i. has r.waiting i || not (has r.reached i)) n
 
 -- each interval that was reached waits, or all that are joined to it were reached, and joined ones
 -- lead to it from the start
-pub record AreReached (q : ℕ) (T : FaceKind → ℕ → ℕ → ℕ → Type 0) (start : ℕ) (r : Reached) : Type 0 where
+pub record AreReached (q : ℕ) (T : FaceKind → ℕ → ℕ → ℕ →
+    Type 0) (start : ℕ) (r : Reached) : Type 0 where
   pub begun : IsTrue (has r.reached start)
   pub waiting : (i : ℕ) → IsTrue (has r.waiting i) → IsTrue (has r.reached i)
   pub closed : (i : ℕ) → IsTrue (has r.reached i) →
@@ -27,11 +28,14 @@ pub record AreReached (q : ℕ) (T : FaceKind → ℕ → ℕ → ℕ → Type 0
 
 -- all free intervals that are joined to the interval were reached too, and no others; the new ones
 -- wait, the interval does not
-pub record IsReachedFrom (q : ℕ) (T : FaceKind → ℕ → ℕ → ℕ → Type 0) (interval : ℕ) (free : IndexSet) (old new : Reached) : Type 0 where
+pub record IsReachedFrom (q : ℕ) (T : FaceKind → ℕ → ℕ → ℕ →
+    Type 0) (interval : ℕ) (free : IndexSet) (old new : Reached) : Type 0 where
   pub more : (i : ℕ) → IsTrue (has old.reached i) → IsTrue (has new.reached i)
-  pub joined : (i : ℕ) → i < q → IsTrue (has free i) → AreJoined q T i interval → IsTrue (has new.reached i)
+  pub joined : (i : ℕ) → i < q → IsTrue (has free i) → AreJoined q T i interval →
+      IsTrue (has new.reached i)
   pub only : (i : ℕ) → IsTrue (has new.reached i) →
       IsTrue (has old.reached i) ⊎ ((i < q) × AreJoined q T i interval × IsTrue (has new.waiting i))
   pub still : (i : ℕ) → IsTrue (has old.waiting i) → i ≢ interval → IsTrue (has new.waiting i)
-  pub known : (i : ℕ) → IsTrue (has new.waiting i) → IsTrue (has old.waiting i) ⊎ IsTrue (has new.reached i)
+  pub known : (i : ℕ) → IsTrue (has new.waiting i) →
+      IsTrue (has old.waiting i) ⊎ IsTrue (has new.reached i)
   pub fewer : unfinished new 1024 < unfinished old 1024

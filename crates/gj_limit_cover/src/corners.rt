@@ -25,8 +25,8 @@ pub(crate) struct Edge {
     pub(crate) second: u32,
 }
 
-/// Whether two corners of the face are tight, and the edge between them links these intervals, if it
-/// links `near` and `far`, modulo the order.
+/// Whether two corners of the face are tight, and the edge between them links these intervals, if
+/// it links `near` and `far`, modulo the order.
 fn links_along(shape: &Shape, face: Face, edge: Edge, near: u32, far: u32, i: u32, j: u32) -> bool
     requires first { face.a < shape.now.order }
     requires second { face.b < shape.now.order }
@@ -36,8 +36,8 @@ fn links_along(shape: &Shape, face: Face, edge: Edge, near: u32, far: u32, i: u3
     requires far { far < 2 * shape.now.order }
     requires start { i < shape.now.order }
     requires end { j < shape.now.order }
-    ensures { IsTrue result ↔ LinksAlong shape.now.order (IsTightAt shape.now) face.kind face.a face.b
-        edge.first edge.second near far i j }
+    ensures { IsTrue result ↔ LinksAlong shape.now.order (IsTightAt shape.now)
+        face.kind face.a face.b edge.first edge.second near far i j }
 {
     let order = shape.order();
     if wrapped(near, order) != i {
@@ -52,8 +52,8 @@ fn links_along(shape: &Shape, face: Face, edge: Edge, near: u32, far: u32, i: u3
     is_tight(shape, face, edge.second)
 }
 
-/// Whether one of the three edges of a triangle does so: the one with y fixed, the one with x fixed,
-/// or the one with x + y fixed.
+/// Whether one of the three edges of a triangle does so: the one with y fixed, the one with x
+/// fixed, or the one with x + y fixed.
 fn links_by_triangle(
     shape: &Shape,
     face: Face,
@@ -194,7 +194,8 @@ pub(crate) fn is_covering(shape: &Shape, face: Face, i: u32) -> bool
     requires first { face.a < shape.now.order }
     requires second { face.b < shape.now.order }
     requires interval { i < shape.now.order }
-    ensures { IsTrue result ↔ Covers shape.now.order (IsTightAt shape.now) face.kind face.a face.b i }
+    ensures { IsTrue result ↔ Covers shape.now.order (IsTightAt shape.now)
+        face.kind face.a face.b i }
 {
     let order = shape.order();
     let sum = face.a + face.b;

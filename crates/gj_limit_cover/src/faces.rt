@@ -17,8 +17,8 @@ use gj_limit_faces::Joins;
 use gj_loops::IndexSet;
 use gj_shape::{Face, FaceKind, Shape};
 
-/// The face of a line that joins two intervals: the first in walk order that joins them with all its
-/// corners tight or, if no face does so, the first that joins them.
+/// The face of a line that joins two intervals: the first in walk order that joins them with all
+/// its corners tight or, if no face does so, the first that joins them.
 pub(crate) fn joining_face(shape: &Shape, i: u32, j: u32) -> Option<Face>
     requires start { i < shape.now.order }
     requires end { j < shape.now.order }
@@ -31,8 +31,8 @@ pub(crate) fn joining_face(shape: &Shape, i: u32, j: u32) -> Option<Face>
     first_joining(shape, i, j, false)
 }
 
-/// The first face in walk order that joins the two intervals; with all its corners tight, if that is
-/// asked for.
+/// The first face in walk order that joins the two intervals; with all its corners tight, if that
+/// is asked for.
 fn first_joining(shape: &Shape, i: u32, j: u32, is_asked: bool) -> Option<Face>
     requires start { i < shape.now.order }
     requires end { j < shape.now.order }
@@ -90,8 +90,8 @@ fn add_links(shape: &Shape, found: &mut Option<Face>, i: u32, j: u32, step: u32,
     );
 }
 
-/// Makes a face that was found the first of it and three faces, if they link i to j: the edge of this
-/// kind and the lower triangle of one square, and the upper triangle of another.
+/// Makes a face that was found the first of it and three faces, if they link i to j: the edge of
+/// this kind and the lower triangle of one square, and the upper triangle of another.
 fn add_three(
     shape: &Shape,
     found: &mut Option<Face>,
@@ -249,8 +249,8 @@ fn covering_in_row(shape: &Shape, joins: &Joins, a: u32, i: u32) -> Option<Face>
     None
 }
 
-/// The indices b for which a triangle of the square (a, b) projects on the interval: all if a is the
-/// interval, and else three.
+/// The indices b for which a triangle of the square (a, b) projects on the interval: all if a is
+/// the interval, and else three.
 fn squares_onto(a: u32, i: u32, order: u32) -> IndexSet
     requires few { order ≤ 1_000 }
     requires within { a < order }

@@ -13,7 +13,8 @@ one_more f rows n row h here =
     let count = h.count in record {
       count = length_push rows row ∙ ap (λ k. k + 1) h.count;
       each = λ a below. elim (cases_lt a n) [
-        | inl before ↦ subst (AreRowJoins f a) (sym (get_or_append_left rows (row ∷ []) no_row a (omega arith)))
+        | inl before ↦ subst (AreRowJoins f a) (sym (get_or_append_left rows (row ∷ []) no_row a
+            (omega arith)))
             (h.each a before)
         | inr last ↦
             let e : a ≡ n = omega arith in

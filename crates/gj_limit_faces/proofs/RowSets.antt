@@ -82,7 +82,8 @@ tells_turned q b x set P some few low told is =
           let round : (q - 1 + 1) % q ≡ b =
           ap (λ k. k % q) (let e : q - 1 + 1 ≡ q = omega arith in e) ∙ mod_self q ∙ sym first in (
             λ yes'.
-                let both = and_parts (ltb b 1024) (set (cond (eqb b 0) (q - 1) (b - 1))) (sym is ∙ yes') in
+                let both = and_parts (ltb b 1024) (set (cond (eqb b 0) (q - 1) (b - 1))) (sym is
+                ∙ yes') in
                 let at = (told (q - 1)).0 (sym (ap set test) ∙ both.1) in
                 (q - 1, at.0, round, at.1),
             λ (c, c_low, next, p).
@@ -102,7 +103,8 @@ tells_turned q b x set P some few low told is =
           let round : (b - 1 + 1) % q ≡ b =
           ap (λ k. k % q) (let e : b - 1 + 1 ≡ b = omega arith in e) ∙ mod-eq_of_lt low in (
             λ yes'.
-                let both = and_parts (ltb b 1024) (set (cond (eqb b 0) (q - 1) (b - 1))) (sym is ∙ yes') in
+                let both = and_parts (ltb b 1024) (set (cond (eqb b 0) (q - 1) (b - 1))) (sym is
+                ∙ yes') in
                 let at = (told (b - 1)).0 (sym (ap set test) ∙ both.1) in
                 (b - 1, at.0, round, at.1),
             λ (c, c_low, next, p).
@@ -126,7 +128,8 @@ pub tells_horizontal : (q b : ℕ) (r any two x y z : Bool) (set : ℕ → Bool)
     z ≡ (ltb b 1024 && set (cond (eqb b 0) (q - 1) (b - 1))) →
     Tells r b q (A ⊎ B ⊎ ((c : ℕ) × (c < q) × ((c + 1) % q ≡ b) × P c))
 tells_horizontal q b r any two x y z set A B P some few r_is any_is two_is h k told z_is =
-    let on : any ≡ true → b < q → A ⊎ B ⊎ ((c : ℕ) × (c < q) × ((c + 1) % q ≡ b) × P c) = λ yes' low.
+    let on : any ≡ true → b < q →
+    A ⊎ B ⊎ ((c : ℕ) × (c < q) × ((c + 1) % q ≡ b) × P c) = λ yes' low.
     elim (or_cases two z (sym any_is ∙ yes')) [
       | inl e ↦ elim (or_cases x y (sym two_is ∙ e)) [
         | inl e' ↦ inl (h.0 e').1

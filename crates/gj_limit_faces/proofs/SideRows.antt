@@ -39,12 +39,13 @@ module _ {L : Type 0} (number : L → ℤ) (least : ℤ) (bound : ℕ) (f : Func
       +ℤ number first ≡ number (get_or (take (length sum - (a + t.right + t.above))
       (drop (a + t.right + t.above) sum)) b first))) →
       P ↔ ((b < f.order) × (limit_by f t a b ≡ pos 0))
-  row_by_sides t a b n x y sum first P right_low above_low below order x_is y_is sum_is first_is both = (
-    λ p. let there = both.0 p in
-        let inside : b < f.order = omega (arith, there.0) in
-        (inside, (tight inside).0 there.1),
-    λ pair. let inside = pair.0 in both.1 (omega arith, (tight inside).1 pair.1),
-  )
+  row_by_sides t a b n x y sum first P right_low above_low below order x_is y_is sum_is first_is
+      both = (
+        λ p. let there = both.0 p in
+            let inside : b < f.order = omega (arith, there.0) in
+            (inside, (tight inside).0 there.1),
+        λ pair. let inside = pair.0 in both.1 (omega arith, (tight inside).1 pair.1),
+      )
     where
       tight : b < f.order →
           (number (get_or (take (length y - t.above) (drop t.above y)) b first)
@@ -57,7 +58,8 @@ module _ {L : Type 0} (number : L → ℤ) (least : ℤ) (bound : ℕ) (f : Func
           let at_b = number_from t.y y t.above b first y_is inside (omega arith)
           ∙ ap (at (numbers_on f t.y)) up in
           let on : a + t.right + t.above + b ≡ a + t.right + (b + t.above) = omega arith in
-          let at_sum = number_from t.sum sum (a + t.right + t.above) b first sum_is inside (omega arith)
+          let at_sum = number_from t.sum sum (a + t.right + t.above) b first sum_is inside
+          (omega arith)
           ∙ ap (at (numbers_on f t.sum)) on in (
             λ tie. omega (arith, ints),
             λ tie. omega (arith, ints),

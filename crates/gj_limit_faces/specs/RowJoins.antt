@@ -8,8 +8,8 @@ use Rattle.gj_shape.specs.declared.faces.FaceKind.TheVariants.{Horizontal, Diago
 use Rattle.gj_jumps.specs.LimitCover.{IsTightAt}
 use Rattle.gj_limit_faces.specs.declared.row_joins.RowJoins.{RowJoins}
 
--- both of these corners of a face are tight: T says of a face's kind, its square and a corner, from 0
--- on, whether the limit of the slack from inside the face is 0 there
+-- both of these corners of a face are tight: T says of a face's kind, its square and a corner, from
+-- 0 on, whether the limit of the slack from inside the face is 0 there
 abbrev pub IsTightAlong : (FaceKind → ℕ → ℕ → ℕ → Type 0) → FaceKind → ℕ → ℕ → ℕ → ℕ → Type 0
 IsTightAlong T kind a b c d = T kind a b c × T kind a b d
 

@@ -152,8 +152,8 @@ fn pick<'a, L>(left: &'a [L], value: &'a [L], right: &'a [L], side: Side) -> &'a
     }
 }
 
-/// The indices b below the order for which the limit with these terms in the square (a, b) is 0, off
-/// lanes of one width.
+/// The indices b below the order for which the limit with these terms in the square (a, b) is 0,
+/// off lanes of one width.
 fn row_of<L: SignedLane>(
     shape: &Shape,
     left: &[L],

@@ -14,8 +14,8 @@ use gj_shape::{FaceKind, Shape};
 /// whose triangles have the slack 0.
 #[derive(Clone, Copy, Drop)]
 pub struct RowJoins {
-    /// Those for which the horizontal edge from (a, b) links the intervals a and a + b: the slack is
-    /// 0 on it, or tends to 0 at both of its ends from inside the triangle above it or below it.
+    /// Those for which the horizontal edge from (a, b) links the intervals a and a + b: the slack
+    /// is 0 on it, or tends to 0 at both of its ends from inside the triangle above it or below it.
     pub horizontal: IndexSet,
     /// Those for which the diagonal edge links the intervals a and b.
     pub diagonal: IndexSet,

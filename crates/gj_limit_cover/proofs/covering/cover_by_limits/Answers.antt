@@ -9,7 +9,8 @@ use Rattle.gj_limit_cover.proofs.covering.cover_by_limits.Goals as goal
 pub least_class-requires-clause-uncovered : goal.least_class-requires-clause-uncovered
 least_class-requires-clause-uncovered c =
     let t = c.args.shape.now in
-    uncovered t.order (IsTightAt t) c.in_ok-found.found c.in_ok-found.ensures.progress c.in_ok-found.ensures.complete
+    uncovered t.order (IsTightAt t) c.in_ok-found.found c.in_ok-found.ensures.progress
+    c.in_ok-found.ensures.complete
 
 pub returns-clause-cover : goal.returns-clause-cover
 returns-clause-cover c =
@@ -29,4 +30,5 @@ returns-clause-covered c i below =
     let t = c.args.shape.now in
     subst (λ lines. HasCoverLine lines i ↔ IsCoveredByLimits t i)
     (ap (λ cover. cover.lines) (sym c.with_class.ensures))
-    (covered_by_lines t c.in_ok-found.found c.in_ok-found.ensures.progress c.in_ok-found.ensures.complete i below)
+    (covered_by_lines t c.in_ok-found.found c.in_ok-found.ensures.progress
+    c.in_ok-found.ensures.complete i below)

@@ -32,7 +32,8 @@ returns c =
     let found = c.args.found.now in
     squares_added (IsOneOfNine i j step short) P q found c.add_three-3.new.found
     (nine_below q i j step short steps)
-    (λ kind a b a_low b_low p. nine_back q i j step short (IsTightAt f) steps kind a b a_low b_low p.1)
+    (λ kind a b a_low b_low p. nine_back q i j step short (IsTightAt f) steps kind a b a_low b_low
+    p.1)
     (both_added (EitherOf one two) three P found c.add_three-2.new.found c.add_three-3.new.found
     (both_added one two P found c.add_three.new.found c.add_three-2.new.found c.add_three.ensures
     c.add_three-2.ensures)

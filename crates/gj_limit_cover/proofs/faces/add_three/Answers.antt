@@ -9,7 +9,8 @@ use Rattle.gj_limit_cover.proofs.faces.add_three.Goals as goal
 
 pub returns : goal.returns
 returns c =
-    let P = LinksAs c.args.shape.now.order (IsTightAt c.args.shape.now) c.args.is_asked c.args.i c.args.j in
+    let P = LinksAs c.args.shape.now.order (IsTightAt c.args.shape.now) c.args.is_asked c.args.i
+    c.args.j in
     let found = c.args.found.now in
     let one = IsThis c.args.kind c.args.square.0 c.args.square.1 in
     let two = IsThis Lower c.args.square.0 c.args.square.1 in
@@ -18,7 +19,9 @@ returns c =
     (both_added one two P found c.add_face.new.found c.add_face-2.new.found
     (subst (λ (g : Face). AddsFirst (IsThis g.kind g.a g.b) P found c.add_face.new.found)
     c.face_of.ensures c.add_face.ensures)
-    (subst (λ (g : Face). AddsFirst (IsThis g.kind g.a g.b) P c.add_face.new.found c.add_face-2.new.found)
+    (subst (λ (g : Face). AddsFirst (IsThis g.kind g.a g.b) P c.add_face.new.found
+    c.add_face-2.new.found)
     c.face_of-2.ensures c.add_face-2.ensures))
-    (subst (λ (g : Face). AddsFirst (IsThis g.kind g.a g.b) P c.add_face-2.new.found c.add_face-3.new.found)
+    (subst (λ (g : Face). AddsFirst (IsThis g.kind g.a g.b) P c.add_face-2.new.found
+    c.add_face-3.new.found)
     c.face_of-3.ensures c.add_face-3.ensures)

@@ -7,13 +7,16 @@ use Rattle.gj_limit_cover.proofs.faces.covering_face.Goals as goal
 pub returns-in-Some-clause-found : goal.returns-in-Some-clause-found
 returns-in-Some-clause-found c =
     let f = c.args.shape.now in
-    let low : c.loop-a.a < f.order = omega (arith, c.loop-a-test.true, c.order-a-end.ensures.value) in
-    row_found f.order (IsTightAt f) c.args.i c.loop-a.a c.in-Some.face low c.loop-a.invariant c.in-Some.ensures
+    let low : c.loop-a.a < f.order = omega (arith, c.loop-a-test.true, c.order-a-end.ensures.value)
+    in
+    row_found f.order (IsTightAt f) c.args.i c.loop-a.a c.in-Some.face low c.loop-a.invariant
+    c.in-Some.ensures
 
 pub returns-clause-none : goal.returns-clause-none
 returns-clause-none c =
     let f = c.args.shape.now in
     let limits = c.order-a-end.ensures.limits in
     let all : c.loop-a.a ≡ f.order = omega (arith, c.order-a-end.ensures.value) in
-    not_direct f.order (IsTightAt f) c.args.i (complex_of f limits) (omega (arith, limits.order_low))
+    not_direct f.order (IsTightAt f) c.args.i (complex_of f limits)
+    (omega (arith, limits.order_low))
     (subst (NoneInRows f.order (IsTightAt f) c.args.i) all c.loop-a.invariant)

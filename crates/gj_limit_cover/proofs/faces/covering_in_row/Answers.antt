@@ -68,7 +68,8 @@ returns-then-is_covering c =
     let low = squares_below q T a i (has row.lower) (has row.upper) (has c.or-triangles.result)
     (has c.squares_onto.result) c.and-squares.result told.lower told.upper c.or-triangles.ensures
     c.and-squares.ensures b c.in-Some.ensures.found in
-    let none = none_more q T a i c.squares.from b c.and-squares.result c.squares.invariant c.in-Some.ensures
+    let none = none_more q T a i c.squares.from b c.and-squares.result c.squares.invariant
+    c.in-Some.ensures
     all in
     subst (λ (g : Face). IsFirstOf (IsInRow q a) (λ kind x y. Covers q T kind x y i) g)
     (sym c.face_of-lower.ensures)
@@ -93,7 +94,8 @@ returns-then-is_covering-2 c =
     let low = squares_below q T a i (has row.lower) (has row.upper) (has c.or-triangles.result)
     (has c.squares_onto.result) c.and-squares.result told.lower told.upper c.or-triangles.ensures
     c.and-squares.ensures b c.in-Some.ensures.found in
-    let none = none_more q T a i c.squares.from b c.and-squares.result c.squares.invariant c.in-Some.ensures
+    let none = none_more q T a i c.squares.from b c.and-squares.result c.squares.invariant
+    c.in-Some.ensures
     all in
     subst (λ (g : Face). IsFirstOf (IsInRow q a) (λ kind x y. Covers q T kind x y i) g)
     (sym c.face_of-upper.ensures)
@@ -122,7 +124,8 @@ squares-preserved c =
     let low = squares_below q T a i (has row.lower) (has row.upper) (has c.or-triangles.result)
     (has c.squares_onto.result) c.and-squares.result told.lower told.upper c.or-triangles.ensures
     c.and-squares.ensures b c.in-Some.ensures.found in
-    let none = none_more q T a i c.squares.from b c.and-squares.result c.squares.invariant c.in-Some.ensures
+    let none = none_more q T a i c.squares.from b c.and-squares.result c.squares.invariant
+    c.in-Some.ensures
     all in
     none_next q T a i b none
     (λ d.
@@ -147,4 +150,5 @@ returns c =
     (has c.or-triangles.result) (has c.squares_onto.result) c.and-squares.result
     c.order-order.ensures.value told.lower told.upper c.or-triangles.ensures c.and-squares.ensures
     c.squares_onto.ensures in
-    none_in_row q T a i c.squares.from c.and-squares.result c.squares.invariant c.in_default.ensures all
+    none_in_row q T a i c.squares.from c.and-squares.result c.squares.invariant c.in_default.ensures
+    all

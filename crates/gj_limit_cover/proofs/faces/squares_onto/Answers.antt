@@ -22,4 +22,5 @@ returns c b below =
     c.difference-step.ensures.below c.difference-short.ensures.below more below c.if-a-i.false
     c.difference-step.ensures.value c.difference-short.ensures.value
     (c.insert-3.ensures b ∙ ap (λ x. x || eqb b short) (c.insert-2.ensures b
-    ∙ ap (λ x. x || eqb b step) (c.insert.ensures b ∙ ap (λ x. x || eqb b i) (c.empty-squares.ensures b))))
+    ∙ ap (λ x. x || eqb b step) (c.insert.ensures b
+    ∙ ap (λ x. x || eqb b i) (c.empty-squares.ensures b))))

@@ -8,7 +8,8 @@ use Rattle.gj_limit_cover.proofs.RowCovers.{direct_row}
 use Rattle.gj_limit_cover.proofs.table.direct_in_row.Goals as goal
 
 found : (set : IndexSet) (o : Option ℕ) (any : Rattle.std.proofs.Common.Bool) → any ≡ is_some o →
-    MatchOption o ((k : ℕ) → has set k ≡ Rattle.std.proofs.Common.false) (IsFirst set 0) → any ≡ true →
+    MatchOption o ((k : ℕ) → has set k ≡ Rattle.std.proofs.Common.false) (IsFirst set 0) →
+    any ≡ true →
     (b : ℕ) × (has set b ≡ true)
 found set None any is h yes' = absurd (cc (is, yes'))
 found set (Some k) any is h yes' = (k, h.found)
@@ -34,7 +35,8 @@ returns c i =
     (c.or-others.ensures i) (c.or-sums.ensures i)
     (subst (λ m. has c.turned-lower_sums.result i ≡ (ltb i m && has row.lower (place_of m a i))) n
     (c.turned-lower_sums.ensures i))
-    (subst (λ m. has c.turned-upper_sums.result i ≡ (ltb i m && has row.upper (place_of m (a + 1) i))) n
+    (subst (λ m. has c.turned-upper_sums.result i ≡ (ltb i m && has row.upper
+    (place_of m (a + 1) i))) n
     (c.turned-upper_sums.ensures i))
     (c.one_if.ensures i) c.or-triangles.ensures
     (found c.or-triangles.result c.first.result c.is_some.result c.is_some.ensures c.first.ensures)

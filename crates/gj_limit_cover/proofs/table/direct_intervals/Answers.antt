@@ -23,4 +23,5 @@ returns c =
     let all : c.loop-a.a ≡ f.order = omega (arith, c.order-a-end.ensures.value) in
     direct_all f.order (IsTightAt f) (has c.loop-a.direct) (complex_of f limits)
     (omega (arith, limits.order_low))
-    (subst (λ n. AreDirectBefore f.order (IsTightAt f) n (has c.loop-a.direct)) all c.loop-a.invariant)
+    (subst (λ n. AreDirectBefore f.order (IsTightAt f) n (has c.loop-a.direct)) all
+    c.loop-a.invariant)

@@ -9,7 +9,8 @@ returns-in-Vertical-default-clause-value c f a b =
 
 pub returns-in-Lower-eq0-clause-value : goal.returns-in-Lower-eq0-clause-value
 returns-in-Lower-eq0-clause-value c f a b =
-    rw (c.made_of-in-Lower-eq0.ensures, c.in-Lower-eq0.is-0, c.in-Lower-eq0.is-1) (lower_first f a b)
+    rw (c.made_of-in-Lower-eq0.ensures, c.in-Lower-eq0.is-0, c.in-Lower-eq0.is-1)
+    (lower_first f a b)
 
 pub returns-in-Lower-default-clause-value : goal.returns-in-Lower-default-clause-value
 returns-in-Lower-default-clause-value c f a b =
@@ -19,4 +20,5 @@ returns-in-Lower-default-clause-value c f a b =
 
 pub returns-in-Upper-eq1-clause-value : goal.returns-in-Upper-eq1-clause-value
 returns-in-Upper-eq1-clause-value c f a b =
-    rw (c.made_of-in-Upper-eq1.ensures, c.in-Upper-eq1.is-0, c.in-Upper-eq1.is-1) (upper_second f a b)
+    rw (c.made_of-in-Upper-eq1.ensures, c.in-Upper-eq1.is-0, c.in-Upper-eq1.is-1)
+    (upper_second f a b)

@@ -14,5 +14,6 @@ returns c =
       lines = c.new.result;
       count = 0;
     } in
-    begun c.args.shape.now.order c.order-order.result (IsTightAt c.args.shape.now) p c.order-order.ensures.value
+    begun c.args.shape.now.order c.order-order.result (IsTightAt c.args.shape.now) p
+    c.order-order.ensures.value
     none c.below.ensures c.empty.ensures c.new.ensures.items refl

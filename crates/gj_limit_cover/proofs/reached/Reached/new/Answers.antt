@@ -7,5 +7,7 @@ use Rattle.gj_limit_cover.proofs.reached.Reached.new.Goals as goal
 pub returns : goal.returns
 returns c =
     let r : Reached = record { reached = c.insert.new.self; waiting = c.insert.new.self } in
-    reached_start c.args.shape.now.order (IsTightAt c.args.shape.now) c.args.start r c.requires.start
-    (λ i. c.insert.ensures i ∙ ap (λ x. x || eqb i c.args.start) (c.empty-reached.ensures i)) (λ i. refl)
+    reached_start c.args.shape.now.order (IsTightAt c.args.shape.now) c.args.start r
+    c.requires.start
+    (λ i. c.insert.ensures i ∙ ap (λ x. x || eqb i c.args.start) (c.empty-reached.ensures i))
+    (λ i. refl)

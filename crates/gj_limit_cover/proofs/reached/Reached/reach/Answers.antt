@@ -12,7 +12,8 @@ returns c =
     let new : Reached = record { reached = c.or-self.result; waiting = c.remove.new.self } in
     let few = c.args.table.now.joins.few.1 in
     let order = c.requires.table.joins.order in
-    looked_at t.order (IsTightAt t) c.args.interval c.args.free.now c.joined.result c.and_not-more.result old new
+    looked_at t.order (IsTightAt t) c.args.interval c.args.free.now c.joined.result
+    c.and_not-more.result old new
     (let low : c.args.interval < 1024 = omega (arith, c.requires.within, few, order) in low)
     c.requires.reached c.requires.waits c.joined.ensures.within
     (λ k low other. c.joined.ensures.joined k low)

@@ -33,4 +33,5 @@ pub returns : goal.returns
 returns c =
     let f = c.args.shape.now in
     let all : c.loop-j.j ≡ f.order = omega (arith, c.order-j-end.ensures.value) in
-    subst (λ n. AreLinking f.order (IsTightAt f) c.args.i n (has c.loop-j.set)) all c.loop-j.invariant
+    subst (λ n. AreLinking f.order (IsTightAt f) c.args.i n (has c.loop-j.set)) all
+    c.loop-j.invariant
