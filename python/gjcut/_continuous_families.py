@@ -47,7 +47,7 @@ CYCLIC = (
     "Gomory, Some polyhedra related to combinatorial problems (Linear Algebra and its Applications "
     "2, 1969), for the facet; of such functions: " + DRLM
 )
-SEARCH = "Köppe and Zhou, found by a search of computers (cutgeneratingfunctionology)"
+SEARCH = "Köppe and Zhou, by computer search (in cutgeneratingfunctionology)"
 
 
 @family("0 < f < 1", source=GOMORY)

@@ -9,18 +9,18 @@ from ._family import family
 
 STRONG = (
     "Letchford and Lodi, Strengthening Chvátal-Gomory cuts and Gomory fractional cuts (Operations "
-    "Research Letters 30, 2002)"
+    "Research Letters 30, 2002); for the range, the compendium"
 )
 LIFTED = (
     "Richard, Li and Miller, Valid inequalities for MIPs and group polyhedra from approximate "
     "liftings (Mathematical Programming 118, 2009)"
 )
-HILDEBRAND = "Hildebrand, found by a search of computers (cutgeneratingfunctionology)"
+HILDEBRAND = "Hildebrand (unpublished; in cutgeneratingfunctionology)"
 FRACTIONAL = (
     "Gomory, Outline of an algorithm for integer solutions to linear programs (Bulletin of the "
     "American Mathematical Society 64, 1958)"
 )
-OWN = "own: the family `half` of function texts"
+OWN = "our own; the family `half` of function texts"
 ZERO, ONE = Fraction(0), Fraction(1)
 
 

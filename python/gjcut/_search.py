@@ -1,6 +1,7 @@
 """All extreme functions of an order."""
 import json
 import math
+import re
 import time
 from concurrent.futures import Executor
 from fractions import Fraction
@@ -10,10 +11,13 @@ from typing import Dict, Iterable, Iterator, List, NamedTuple, Optional, Sequenc
 from . import _files, _progress
 from ._arguments import Number, number, text as text_of, whole
 from ._asked import done
-from ._functions import Function, line, printed
+from ._functions import Function, line
 from ._map import answered, checked, in_parts
-from ._vertices import Table, extreme_tables, program_for
+from ._vertices import extreme_tables, program_for
 
+# The entries as they are printed: to compare these costs less than to compare fractions.
+Table = Tuple[str, ...]
+FRACTION = re.compile(r"\d+(/\d+)?")
 FORM = "gjcut search 1"
 # So many tables are decided by one task, and so many seconds lie between two writings of the file.
 PART, PAUSE = 100, 5.0
@@ -54,9 +58,8 @@ def search(
     taken as it is.
 
     >>> import gjcut
-    >>> found = gjcut.search(6, "1/2")
-    >>> [(len(each.tables), len(each.extreme)) for each in found]
-    [(2, 1), (1, 1), (1, 0)]
+    >>> [(len(each.tables), len(each.extreme)) for each in gjcut.search(8, "1/2")]
+    [(2, 2), (2, 1)]
     """
     order, progress = whole(order, "order"), _progress.asked(progress)
     if not 2 <= order <= 1000:
@@ -70,7 +73,8 @@ def search(
     try:
         for root in sorted({math.gcd(place, order) for place in places}):
             if root not in state.tables:
-                state.tables[root] = extreme_tables(order, root, program_for(program), progress)
+                listed = extreme_tables(order, root, program_for(program), progress)
+                state.tables[root] = [tuple(map(str, each)) for each in listed]
                 state.save()
         for place in places:
             found += _classes(order, place, state, executor, progress)
@@ -103,14 +107,16 @@ class _State:
             kept = json.loads(text)
             form, order = kept["form"], kept["order"]
             tables = {
-                int(root): [tuple(map(printed, each.split())) for each in tables]
-                for root, tables in kept["tables"].items()
+                int(root): [tuple(each.split()) for each in listed]
+                for root, listed in kept["tables"].items()
             }
             claims = {int(place): str(each) for place, each in kept["extreme"].items()}
-        except (ValueError, KeyError, TypeError, AttributeError, ZeroDivisionError):
+        except (ValueError, KeyError, TypeError, AttributeError):
             form, order, tables, claims = "", 0, {}, {}
-        lengths = {len(each) for listed in tables.values() for each in listed}
-        if form != FORM or lengths - {order} or set("".join(claims.values())) - {"0", "1"}:
+        every = {each for listed in tables.values() for each in listed}
+        is_whole = all(map(FRACTION.fullmatch, {word for each in every for word in each}))
+        is_whole = is_whole and {len(each) for each in every} <= {order}
+        if form != FORM or not is_whole or set("".join(claims.values())) - {"0", "1"}:
             raise ValueError(f"{self.file}: it is no file of a search, and is left as it is")
         if order != self.order:
             raise ValueError(f"{self.file}: it is of a search of order {order}, not {self.order}")
@@ -124,7 +130,7 @@ class _State:
             "form": FORM,
             "order": self.order,
             "tables": {
-                str(root): [" ".join(map(str, each)) for each in listed]
+                str(root): [" ".join(each) for each in listed]
                 for root, listed in self.tables.items()
             },
             "extreme": {str(place): each for place, each in self.claims.items()},
@@ -151,21 +157,21 @@ def _classes(
     tables = [_moved(each, back) for each in state.tables[root]]
     texts = [_text(order, place, each) for each in tables]
     _decide(place, texts, state, executor, progress)
-    is_extreme = dict(zip(tables, state.claims[place]))
-    text_of_table = dict(zip(tables, texts))
-    done_with: Set[Table] = set()
-    for table in sorted(tables):
-        if table in done_with:
+    number_of = {table: i for i, table in enumerate(tables)}
+    done_with: Set[int] = set()
+    for number, table in enumerate(tables):
+        if number in done_with:
             continue
-        members = sorted({_moved(table, u) for u in keeping})
+        members = sorted({number_of[_moved(table, u)] for u in keeping})
         done_with.update(members)
-        functions = [Function(text_of_table[each]) for each in members]
-        extreme = (each for each, table in zip(functions, members) if is_extreme[table] == "1")
-        yield TableClass(Fraction(place, order), tuple(functions), tuple(extreme))
+        functions = {i: Function(texts[i]) for i in members}
+        extreme = (each for i, each in functions.items() if state.claims[place][i] == "1")
+        yield TableClass(Fraction(place, order), tuple(functions.values()), tuple(extreme))
 
 
 def _moved(table: Table, unit: int) -> Table:
-    return tuple(table[unit * i % len(table)] for i in range(len(table)))
+    order = len(table)
+    return tuple([table[unit * i % order] for i in range(order)])
 
 
 def _text(order: int, place: int, table: Table) -> str:

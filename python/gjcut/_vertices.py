@@ -107,7 +107,9 @@ def _by_lrs(rows: List[Row], count: int) -> Iterator[Table]:
     lines = ["tables", "H-representation", "begin", f"{len(rows)} {count + 1} rational"]
     lines += [" ".join(map(str, row)) for row in rows] + ["end", ""]
     words = [shutil.which("lrs") or "lrs"]
-    lrs = subprocess.Popen(words, stdin=subprocess.PIPE, stdout=subprocess.PIPE, text=True)
+    # It writes blank lines to standard error, and what goes wrong to standard output.
+    streams = {"stdin": subprocess.PIPE, "stdout": subprocess.PIPE, "stderr": subprocess.DEVNULL}
+    lrs = subprocess.Popen(words, **streams, text=True)
     is_whole, last = False, ""
     try:
         lrs.stdin.write("\n".join(lines))

@@ -62,12 +62,16 @@ class Searches(unittest.TestCase):
     def test_order_6(self):
         found = claims(gjcut.search(6))
         self.assertEqual(set(found), set(facets_of_order_6()))
-        # The mixed-integer cut is extreme, and so is each multiple of one. Of the other functions
-        # of this order the one with the values 0, 2/3, 1/3, 1, 1/3, 2/3 is the known example of a
-        # minimal function with an average.
-        for (f, values), is_extreme in found.items():
-            if values == tuple(gjcut.family("gmic", f)(Fraction(i, 6)) for i in range(6)):
-                self.assertTrue(is_extreme)
+        for f in {f for f, _ in found}:
+            values = tuple(gjcut.family("gmic", f)(Fraction(i, 6)) for i in range(6))
+            self.assertTrue(found[f, values])
+
+    def test_each_table_of_a_class_is_decided(self):
+        # The values of the mixed-integer cut at 3 x: a plain program says that it is not extreme.
+        found = claims(gjcut.search(8, "1/2"))
+        values = tuple(Fraction(i, 4) for i in (0, 3, 2, 1, 4, 1, 2, 3))
+        cut = tuple(Fraction(i, 4) for i in (0, 1, 2, 3, 4, 3, 2, 1))
+        self.assertEqual((found[Fraction(1, 2), values], found[Fraction(1, 2), cut]), (False, True))
 
     def test_functions_with_two_slopes_are_found(self):
         found = claims(gjcut.search(8, "5/8"))
@@ -116,7 +120,7 @@ class Searches(unittest.TestCase):
             whole = file.read_bytes()
             # All is done, and nobody is asked.
             with mock.patch("gjcut._search.done", side_effect=AssertionError):
-                self.assertEqual(len(claims(gjcut.search(10, file=file))), 131)
+                self.assertEqual(len(claims(gjcut.search(10, file=file))), 4 * 12 + 4 * 7 + 16)
             self.assertEqual(file.read_bytes(), whole)
             with self.assertRaisesRegex(ValueError, "of order 10, not 9"):
                 gjcut.search(9, file=file)
@@ -305,7 +309,7 @@ class FromPiecewise(unittest.TestCase):
         for points, kind, said in (
             ({0: 0, Irrational(): 1, 1: 0}, ValueError, r"sqrt\(2\) is no fraction, and irrational"),
             ({0: 0, Fraction(1, 2): Irrational(), 1: 0}, ValueError, "limits.*the value.*irrational"),
-            ({0: 0, 0.5: 1, 1: 0}, TypeError, "end_points..1.: 0.5 is a float"),
+            ({0: 0, 0.5: 1, 1: 0}, TypeError, r"end_points\(\)\[1\]: 0.5 is a float"),
             ({0: 0, Fraction(1, 2): 1}, ValueError, "from 0 to 1"),
             ({0: 0, Fraction(1, 2): 1, 1: 1}, ValueError, "no period 1"),
         ):
