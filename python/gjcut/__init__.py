@@ -17,6 +17,7 @@ Functions of the package, each with an example in its help:
     safe_cut(columns, constraints, multipliers)   a cut of a mixed-integer program, a SafeCut
     fill(function), times(function, n, j), mirror(function), restrict(function, order)
                                     functions made of functions
+    plot(function), plot_faces(function)          a Picture of a function, also of a verdict
     call(words, text)               the answer to any command
 
 A Function f has f(x), f.slopes, f.breakpoints, f.is_continuous, f.order, f.text and f.breaks(), and
@@ -54,6 +55,8 @@ from ._functions import Function, Point, Rule
 from ._functions import function as _function, line as _line, printed as _printed
 from ._functions import text_of_rule as _text_of_rule
 from ._library import Answer, LibraryMissing, call
+from ._optional import PackageMissing
+from ._plot import Picture, plot, plot_faces
 from ._problems import Column, Constraint, SafeCut, safe_cut
 from ._refusals import RIGHT, Place, Refused
 from ._refusals import Row as _Row, always as _always
@@ -69,10 +72,11 @@ __version__ = _build.version()
 
 __all__ = [
     "Answer", "Column", "Constraint", "Cover", "Covered", "Cut", "Cuts", "Face", "Faces",
-    "Function", "Judgement", "LibraryMissing", "Number", "Place", "Point", "Refused", "SafeCut",
-    "TableVerdict", "Term", "Verdict", "Violation", "by_breakpoints", "by_text", "by_values",
-    "call", "check", "covered", "cut", "extreme", "faces", "family", "fill", "group", "minimal",
-    "mirror", "mixed", "restrict", "safe_cut", "times",
+    "Function", "Judgement", "LibraryMissing", "Number", "PackageMissing", "Picture", "Place",
+    "Point", "Refused", "SafeCut", "TableVerdict", "Term", "Verdict", "Violation",
+    "by_breakpoints", "by_text", "by_values", "call", "check", "covered", "cut", "extreme", "faces",
+    "family", "fill", "group", "minimal", "mirror", "mixed", "plot", "plot_faces", "restrict",
+    "safe_cut", "times",
 ]  # fmt: skip
 
 
