@@ -4,10 +4,11 @@ any program that draws. Each face is one of a faces text, and each component one
 Corners of polygons, edges and points are in steps of 1/order.
 """
 import collections
+import re
 from fractions import Fraction
 from typing import Dict, Iterable, Iterator, List, NamedTuple, Optional, Tuple
 
-from ._faces import Faces
+from ._faces import CORNERS
 from ._functions import Function
 
 Corner = Tuple[int, int]
@@ -83,28 +84,32 @@ def slopes_of(pieces: Iterable[Piece]) -> Dict[Component, Fraction]:
     return found
 
 
-def diagram_of(faces: Faces) -> Diagram:
-    """The faces, merged."""
-    components = components_of(faces.text)
-    by_kind: Dict[str, List[Corner]] = collections.defaultdict(list)
-    for kind, _, a, b in faces.faces:
-        by_kind[kind].append((a, b))
-    rows = {
-        component: _Rows(faces.order)
-        for component in dict.fromkeys(components[a] for k in TRIANGLES for a, _ in by_kind[k])
-    }
+def diagram_of(text: str) -> Diagram:
+    """The faces of a faces text, merged."""
+    components = components_of(text)
+    order = len(components)
+    by_kind = {kind: _squares_of(kind, text) for kind in CORNERS}
+    rows: Dict[Component, _Rows] = {}
     for kind in TRIANGLES:
         for a, b in by_kind[kind]:
-            getattr(rows[components[a]], kind)[b] |= 1 << a
+            component = components[a]
+            if component not in rows:
+                rows[component] = _Rows(order)
+            getattr(rows[component], kind)[b] |= 1 << a
     shadows = {component: each.projections() for component, each in rows.items()}
     return Diagram(
-        faces.order,
+        order,
         {component: tuple(_loops(each.border())) for component, each in rows.items()},
-        _edges(by_kind, components, _union(rows.values(), faces.order)),
-        tuple(_with_opposite(by_kind["vertex"], faces.order)),
+        _edges(by_kind, components, _union(rows.values(), order)),
+        tuple(_with_opposite(by_kind["vertex"], order)),
         tuple({c: tuple(_runs(each[i])) for c, each in shadows.items()} for i in range(3)),
     )
 
+
+def _squares_of(kind: str, text: str) -> List[Corner]:
+    """The squares of the faces of this kind."""
+    found = re.findall(rf"^{kind} (\d+) (\d+)$", text, re.M)
+    return [(int(a), int(b)) for a, b in found]
 
 
 class _Rows:

@@ -56,7 +56,7 @@ def _plot_file(chosen: argparse.Namespace) -> int:
     try:
         kind = _plot.suffix_of(chosen.output)
     except ValueError:
-        ends = " or ".join(_plot.SUFFIXES)
+        ends = " or ".join(f".{kind}" for kind in _plot.DATES)
         print(f"{chosen.output}: its name must end with {ends}")
         return NOT_UNDERSTOOD
     command = "extreme" if chosen.halves else "faces" if chosen.faces else "minimal"
@@ -126,7 +126,7 @@ def _entry_of(file: str) -> Tuple[_report.Entry, int]:
         return _report.Entry(file, asked.said), asked.status
     status, said = call(*asked[1:])
     result = _answered(asked, status, said)
-    words = result.said.replace("which --proof shows", "which this page has")
+    words = result.said.replace("which --proof shows", "which the proof has")
     if status == NOTHING:
         # It is minimal, and jumps. That it is minimal has a proof.
         status, said = call("minimal", asked.text)

@@ -5,16 +5,14 @@ halves. Nothing is decided here.
 """
 import colorsys
 import io
-import os
 from fractions import Fraction
 from pathlib import Path
 from typing import Callable, Dict, Iterable, List, NamedTuple, Optional, Sequence, Tuple, Union
 
 from . import _files
-from ._arguments import kind_of
+from ._arguments import whole, wrong
 from ._asked import of_function
 from ._diagram import Component, Diagram, Piece, components_of, diagram_of, pieces_of, slopes_of
-from ._faces import Faces, faces_of
 from ._functions import Function
 from ._library import LibraryMissing
 from ._optional import PackageMissing, needed
@@ -25,18 +23,19 @@ from ._verdicts import Verdict, Violation, function_of
 INK, SOFT, FAINT, PAPER, ALERT = "#1a1a1a", "#b4b4b4", "#e6e6e6", "#fefefe", "#c1121f"
 # Components from 0 on, apart for colour-blind eyes too; more have colours by their numbers.
 COLOURS = ("#0b6bb0", "#d1571a", "#0f8a62", "#a8468f", "#b58900", "#5b5bd6", "#8c564b")
-SUFFIXES = (".pdf", ".png", ".svg")
+# The kinds of files, each without the date, so that one function has one file.
+DATES = {"svg": {"Date": None}, "png": {"Software": None}, "pdf": {"CreationDate": None}}
 # Sizes in inches, of text in points, and of a digit in parts of that.
 WIDTH, SMALL, LABEL, DIGIT = 5.0, 7.5, 9.0, 0.64
 POINTS = 72
 # More of these are drawn as dots of a picture, also where the file has lines.
-MOST_CORNERS, MOST_MARKS = 30_000, 3_000
-# No label has a longer fraction, and no legend more components.
-MOST_DIGITS, MOST_COMPONENTS = 5, 6
-# More lines of the complex would be one grey.
-MOST_LINES, MOST_GRID_LINES, MOST_DOTS = 60, 48, 40
+MOST_CORNERS, MOST_MARKS = 20_000, 1_000
+# No label has more digits over or under a bar, or letters in a line, and no legend more components.
+MOST_DIGITS, MOST_LETTERS, MOST_COMPONENTS = 5, 9, 6
+# More lines of the complex would be one grey; more polygons and edges have thin lines.
+MOST_LINES, MOST_GRID_LINES, MANY = 60, 24, 200
 
-# The line of a half, where it lies on the other one.
+# A dashed line, as that of a half where it lies on the other one.
 DASHES = (0, (3, 2.5))
 
 Shown = Union[Function, Verdict]
@@ -46,8 +45,11 @@ Line = Union[str, Tuple[float, Tuple[float, float]]]
 class Picture:
     """A picture, which a notebook shows. `figure` is that of matplotlib, for changes."""
 
-    def __init__(self, figure):
-        self.figure = figure
+    def __init__(self, figure, words: str):
+        self.figure, self._words = figure, words
+
+    def __repr__(self) -> str:
+        return f"<picture: {self._words}>"
 
     def save(self, name: Union[str, Path], force: bool = False) -> None:
         """Writes a file, whose name ends with .svg, .png or .pdf. A file that is there already
@@ -55,11 +57,14 @@ class Picture:
         _files.write(name, self.bytes(suffix_of(name)[1:]), force)
 
     def bytes(self, kind: str, dots: int = 200) -> bytes:
-        """The picture as an `svg`, `png` or `pdf`, a png with so many dots an inch."""
-        dates = {"svg": {"Date": None}, "pdf": {"CreationDate": None}, "png": {"Software": None}}
+        """The picture as an "svg", "png" or "pdf"; a png has so many dots an inch."""
+        if kind not in DATES:
+            raise ValueError(f"kind: {kind!r} is none of {', '.join(DATES)}")
         made = io.BytesIO()
         with _style():
-            self.figure.savefig(made, format=kind, dpi=dots, metadata=dates[kind])
+            self.figure.savefig(
+                made, format=kind, dpi=whole(dots, "dots"), metadata=DATES[kind]
+            )
         return made.getvalue()
 
     def _repr_svg_(self) -> str:
@@ -71,10 +76,11 @@ class Picture:
 
 def suffix_of(name: Union[str, Path]) -> str:
     """The end of the name of a picture."""
-    suffix = Path(os.fspath(name)).suffix.lower()
-    if suffix not in SUFFIXES:
-        ends = ", ".join(SUFFIXES[:-1])
-        raise ValueError(f"name: {os.fspath(name)!r} ends with none of {ends} and {SUFFIXES[-1]}")
+    if not isinstance(name, (str, Path)):
+        raise wrong(name, "the name of a file", "name")
+    suffix = Path(name).suffix.lower()
+    if suffix[1:] not in DATES:
+        raise ValueError(f"name: {str(name)!r} ends with none of .{', .'.join(DATES)}")
     return suffix
 
 
@@ -89,7 +95,7 @@ def plot(shown: Shown, figure=None, width: float = WIDTH) -> Picture:
         gjcut.plot(gjcut.family("gmic", "3/5")).save("gmic.svg")
     """
     function, verdict = _function_and_verdict(shown)
-    _matplotlib()
+    _take_figure(figure, width)
     with _style():
         if verdict is not None and verdict.halves:
             return _draw_halves(function, verdict, figure, width)
@@ -97,19 +103,20 @@ def plot(shown: Shown, figure=None, width: float = WIDTH) -> Picture:
 
 
 def plot_faces(shown: Shown, figure=None, width: float = WIDTH) -> Picture:
-    """The diagram of the additive faces of a continuous function: in the square of all x and y the
-    maximal additive triangles, edges and points, with the colours of the components; at its borders
-    the projections of the triangles, by x above, by y on the left, and by x + y below and on the
-    right; outside of these the graph, twice. The complex is grey. Of a verdict `not-minimal` the
-    point of the violation is in it, if that is of two places.
+    """The diagram of the additive faces of a continuous function, or of that of a verdict.
+
+    In the square of all x and y stand the maximal additive triangles, edges and points, with the
+    colours of the components; at its borders the projections of the triangles, by x above, by y on
+    the left, and by x + y below and on the right; and outside of these the graph, twice. The
+    complex is grey. A violation at two places is a point in it. Figure and width are as for `plot`.
 
         gjcut.plot_faces(gjcut.family("gmic", "3/5")).save("faces.svg")
     """
     function, verdict = _function_and_verdict(shown)
-    _matplotlib()
-    faces = faces_of(of_function("faces", function))
+    _take_figure(figure, width)
+    text = of_function("faces", function)
     with _style():
-        return _draw_faces(function, faces, verdict, figure, width)
+        return _draw_faces(function, text, verdict, figure, width)
 
 
 def png_of(shown: Shown) -> Optional[bytes]:
@@ -125,7 +132,7 @@ def svg_of(shown: Shown) -> Optional[str]:
 def _shown(shown: Shown, way: Callable) -> "str | bytes | None":
     try:
         return way(plot(shown))
-    except PackageMissing:
+    except (PackageMissing, LibraryMissing):
         return None
 
 
@@ -133,19 +140,32 @@ def _function_and_verdict(shown: Shown) -> Tuple[Function, Optional[Verdict]]:
     if isinstance(shown, Verdict):
         return function_of(shown.text), shown
     if not isinstance(shown, Function):
-        raise TypeError(f"shown: it is {kind_of(shown)}: write a Function or a Verdict")
+        raise wrong(shown, "a Function or a Verdict", "shown")
     return shown, None
 
 
-def _matplotlib():
-    return needed("matplotlib", "pictures", "python3-matplotlib")
+def _take_figure(figure, width: float) -> None:
+    """Asks for matplotlib, and of what is drawn into, that it is what it should be."""
+    figures = _module("figure")
+    if figure is not None and not isinstance(figure, figures.FigureBase):
+        raise wrong(figure, "a Figure or a SubFigure of matplotlib", "figure")
+    if isinstance(width, bool) or not isinstance(width, (int, float)):
+        raise wrong(width, "a width in inches", "width")
+    if not 2 <= width <= 40:
+        raise ValueError(f"width: {width} is not from 2 to 40 inches")
+
+
+def _module(name: str):
+    """A module of matplotlib."""
+    needed("matplotlib", "pictures", "python3-matplotlib")
+    return needed(f"matplotlib.{name}", "pictures", "python3-matplotlib")
 
 
 class _style:
     """The settings of matplotlib, whatever those of the caller are."""
 
     def __enter__(self):
-        matplotlib = _matplotlib()
+        matplotlib = needed("matplotlib", "pictures", "python3-matplotlib")
         self.context = matplotlib.rc_context()
         self.context.__enter__()
         matplotlib.rcdefaults()
@@ -175,7 +195,7 @@ class _Sheet:
 
     def __init__(self, figure, width: float, height: float):
         if figure is None:
-            figure = needed("matplotlib.figure", "pictures", "").Figure(figsize=(width, height))
+            figure = _module("figure").Figure(figsize=(width, height))
         self.figure = figure
         # A part of a figure has no size in inches of its own.
         box, dots = figure.bbox, figure.dpi
@@ -187,11 +207,8 @@ class _Sheet:
         made.set_axisbelow(True)
         return made
 
-    def picture(self) -> Picture:
-        figure = self.figure
-        while hasattr(figure, "_parent"):
-            figure = figure._parent
-        return Picture(figure)
+    def picture(self, words: str, function: Function) -> Picture:
+        return Picture(self.figure.figure, f"{words}, f = {function.f}, order {function.order}")
 
 
 # ---- colours, labels and legends ----
@@ -215,7 +232,7 @@ def _components(function: Function) -> List[Component]:
         return []
     try:
         return components_of(of_function("faces", function))
-    except (Refused, LibraryMissing):
+    except Refused:
         return []
 
 
@@ -260,7 +277,7 @@ def _height_of(entries: Sequence[_Entry], width: float) -> float:
 def _add_legend(sheet: _Sheet, entries: Sequence[_Entry]) -> None:
     if not entries:
         return
-    lines = needed("matplotlib.lines", "pictures", "")
+    lines = _module("lines")
     handles = [
         lines.Line2D(
             [], [], color=entry.colour, linestyle=entry.line or "none", marker=entry.mark,
@@ -325,70 +342,96 @@ def _label_places(axis, function: Function, length: float, is_upright: bool = Fa
         axis.set_tick_params(which="minor", length=2)
 
 
-def _label_values(axes, values: Iterable[Fraction], length: float) -> float:
-    """The values at an axis upwards that has this length in inches; gives how far the labels go."""
-    low, high = axes.get_ylim()
+class _Heights(NamedTuple):
+    """What an axis upwards goes from and to, and the values that have labels at it."""
+
+    low: float
+    high: float
+    labels: Tuple[Fraction, ...]
+
+    @property
+    def room(self) -> float:
+        """How far the labels go to the left, in inches."""
+        longest = max(len(str(value)) for value in self.labels)
+        return (longest * DIGIT * LABEL + 10) / POINTS
+
+
+def _heights_of(values: Iterable[Fraction], length: float, least: Sequence[int]) -> _Heights:
+    """For an axis of this length in inches, with at least these values too."""
+    values = {*values, *map(Fraction, least)}
+    low, high = float(min(values)), float(max(values))
+    over = 0.04 * (high - low)
+    low, high = low - (over if low < 0 else 0), high + over
     room = 1.35 * LABEL / POINTS / length * (high - low)
-    first = [x for x in (Fraction(0), Fraction(1)) if low <= x <= high]
-    chosen = _chosen(values, lambda _x: room, first)
-    axes.set_yticks(list(map(float, chosen)), list(map(_flat, chosen)))
+    first = [Fraction(n) for n in (0, 1) if low <= n <= high]
+    short = [value for value in values if len(str(value)) <= MOST_LETTERS]
+    return _Heights(low, high, tuple(_chosen(short, lambda _x: room, first)))
+
+
+def _set_heights(axes, heights: _Heights) -> None:
+    axes.set_ylim(heights.low, heights.high)
+    axes.set_yticks(list(map(float, heights.labels)), list(map(_flat, heights.labels)))
     axes.tick_params(axis="y", length=3, pad=3, labelsize=LABEL)
-    return max((len(str(x)) for x in chosen), default=1) * DIGIT * LABEL / POINTS
+
+
+def _values_of(function: Function) -> List[Fraction]:
+    """All values and limits at breakpoints."""
+    return [value for point in function.breakpoints for value in point[1:]]
 
 
 # ---- the graph ----
 
 
+# In inches: what stands below a graph and its legend, above it and to the right of it.
+FOOT, HEAD, RIGHT = 0.56, 0.3, 0.18
+
+
 def _draw_graph(function: Function, verdict: Optional[Verdict], figure, width: float) -> Picture:
     pieces = pieces_of(function, _components(function))
     violation = None if verdict is None else verdict.violation
-    entries = _entries_of(pieces)
     marks = _marks_of(function, violation) if violation else []
+    entries = _entries_of(pieces)
     entries += [_Entry(mark.label, ALERT, line="", mark=mark.mark) for mark in marks]
-    foot = 0.56 + _height_of(entries, width)
-    sheet = _Sheet(figure, width, 0.52 * width + foot)
-    foot = 0.56 + _height_of(entries, sheet.width)
-    axes = sheet.axes(0.62, foot, sheet.width - 0.8, sheet.height - foot - 0.3)
-    _frame(axes, function, [y for piece in pieces for _, y in piece.corners], sheet)
+    sheet = _Sheet(figure, width, 0.52 * width + FOOT + _height_of(entries, width))
+    foot = FOOT + _height_of(entries, sheet.width)
+    height = sheet.height - foot - HEAD
+    heights = _heights_of(_values_of(function), height, (0, 1))
+    axes = sheet.axes(heights.room, foot, sheet.width - heights.room - RIGHT, height)
+    _set_heights(axes, heights)
+    _frame(axes, function)
+    _label_places(axes.xaxis, function, sheet.width - heights.room - RIGHT)
+    _mark_f(axes, function)
     _add_pieces(axes, pieces)
     _add_dots(axes, function)
-    for mark in marks:
+    for i, mark in enumerate(marks):
         axes.plot(
             [float(mark.x)], [float(mark.y)], mark.mark, color=ALERT, markersize=7,
-            markeredgecolor=PAPER, markeredgewidth=0.5, zorder=6, clip_on=False, gid="violation",
+            markeredgecolor=PAPER, markeredgewidth=0.5, zorder=6, clip_on=False, gid=f"violation-{i}",
         )  # fmt: skip
     _add_legend(sheet, entries)
-    return sheet.picture()
+    return sheet.picture("the graph", function)
 
 
-def _frame(axes, function: Function, heights: Sequence[Fraction], sheet: _Sheet) -> None:
-    """The axes of a graph with values of these heights, and where f is."""
-    values = {value for point in function.breakpoints for value in point[1:]}
-    low, high = float(min(*heights, 0)), float(max(*heights, 1))
-    over = 0.04 * (high - low)
+def _frame(axes, function: Function) -> None:
+    """A graph from 0 to 1, with a line at 0 and one at f."""
     axes.set_xlim(0, 1)
-    axes.set_ylim(low - (over if low < 0 else 0), high + over)
     axes.spines[["top", "right"]].set_visible(False)
-    if low < 0:
+    if axes.get_ylim()[0] < 0:
         axes.axhline(0, color=SOFT, linewidth=0.7, zorder=1)
-    box = axes.get_position()
-    _label_places(axes.xaxis, function, box.width * sheet.width)
-    _label_values(axes, values, box.height * sheet.height)
-    _mark_f(axes, function)
+    axes.axvline(float(function.f), color=SOFT, linewidth=0.8, linestyle=DASHES, zorder=1)
 
 
 def _mark_f(axes, function: Function) -> None:
-    x = float(function.f)
-    axes.axvline(x, color=SOFT, linewidth=0.8, linestyle=(0, (4, 3)), zorder=1, gid="f")
     axes.annotate(
-        "f", (x, 1), (0, 2), xycoords=axes.get_xaxis_transform(), textcoords="offset points",
-        ha="center", va="bottom", fontstyle="italic", annotation_clip=False,
+        "f", (float(function.f), 1), (0, 2), xycoords=axes.get_xaxis_transform(),
+        textcoords="offset points", ha="center", va="bottom", fontstyle="italic",
+        annotation_clip=False,
     )  # fmt: skip
 
 
 def _add_pieces(axes, pieces: Sequence[Piece], turned: bool = False, width: float = 1.8) -> None:
     """The graph; turned, with the places upwards and the values to the left."""
-    collections = needed("matplotlib.collections", "pictures", "")
+    collections = _module("collections")
     lines: Dict[Component, List[List[Tuple[float, float]]]] = {}
     for component, corners in pieces:
         line = [(float(y), float(x)) if turned else (float(x), float(y)) for x, y in corners]
@@ -396,7 +439,8 @@ def _add_pieces(axes, pieces: Sequence[Piece], turned: bool = False, width: floa
     for component, each in lines.items():
         drawn = collections.LineCollection(
             each, colors=colour_of(component), linewidths=width, capstyle="round",
-            joinstyle="round", zorder=3, clip_on=False, gid=_name("graph", component),
+            joinstyle="round", zorder=3, clip_on=False,
+            gid=_name("graph-on-the-left" if turned else "graph", component),
         )  # fmt: skip
         axes.add_collection(drawn, autolim=False)
 
@@ -416,7 +460,7 @@ def _add_dots(axes, function: Function) -> None:
             filled.append((float(end), float(value)))
             limits = {left, right} if x else {right if end == 0 else left}
             opened += [(float(end), float(limit)) for limit in sorted(limits - {value})]
-    size = 4.5 if len(filled) <= 60 else 2.5 if len(filled) <= 300 else 1.2
+    size = 4.5 if len(filled) <= 60 else 2.5 if len(filled) <= MANY else 1.2
     for dots, face, name in ((opened, PAPER, "limits"), (filled, INK, "values")):
         if dots:
             axes.plot(
@@ -462,45 +506,42 @@ def _marks_of(function: Function, violation: Violation) -> List[_Mark]:
 
 def _draw_halves(function: Function, verdict: Verdict, figure, width: float) -> Picture:
     first, second = verdict.halves
+    difference = first - second
     entries = [
         _Entry("π", SOFT, width=4.0),
         _Entry("first half", COLOURS[0]),
         _Entry("second half", COLOURS[1], line=DASHES),
         _Entry("first half less second", COLOURS[2]),
     ]
-    sheet = _Sheet(figure, width, 0.85 * width + 0.56 + _height_of(entries, width))
-    foot = 0.56 + _height_of(entries, sheet.width)
-    room = sheet.height - foot - 0.3
-    below = sheet.axes(0.62, foot, sheet.width - 0.8, 0.26 * room)
-    above = sheet.axes(0.62, foot + 0.34 * room, sheet.width - 0.8, 0.66 * room)
-    pieces = [pieces_of(each, []) for each in (function, first, second)]
-    heights = [y for each in pieces for piece in each for _, y in piece.corners]
-    _frame(above, function, heights, sheet)
+    sheet = _Sheet(figure, width, 0.85 * width + FOOT + _height_of(entries, width))
+    foot = FOOT + _height_of(entries, sheet.width)
+    height = sheet.height - foot - HEAD
+    values = [value for each in (function, first, second) for value in _values_of(each)]
+    upper = _heights_of(values, 0.66 * height, (0, 1))._replace(
+        labels=_heights_of(_values_of(function), 0.66 * height, (0, 1)).labels
+    )
+    lower = _heights_of(_values_of(difference), 0.26 * height, (0,))
+    room = max(upper.room, lower.room)
+    wide = sheet.width - room - RIGHT
+    below = sheet.axes(room, foot, wide, 0.26 * height)
+    above = sheet.axes(room, foot + 0.34 * height, wide, 0.66 * height)
+    for axes, heights in ((above, upper), (below, lower)):
+        _set_heights(axes, heights)
+        _frame(axes, function)
+        _label_places(axes.xaxis, function, wide)
     above.set_xticklabels([])
-    for each, colour, line, name in (
-        (function, SOFT, "-", "function"),
-        (first, COLOURS[0], "-", "first-half"),
-        (second, COLOURS[1], DASHES, "second-half"),
-    ):
-        _add_line(above, each, colour, line, name, 4.0 if each is function else 1.5)
+    _mark_f(above, function)
+    _add_line(above, function, SOFT, "-", "function", 4.0)
+    _add_line(above, first, COLOURS[0], "-", "first-half", 1.5)
+    _add_line(above, second, COLOURS[1], DASHES, "second-half", 1.5)
     _add_dots(above, function)
-    difference = first - second
-    values = {value for point in difference.breakpoints for value in point[1:]}
-    most = max(map(abs, values))
-    below.set_xlim(0, 1)
-    below.set_ylim(-1.12 * float(most), 1.12 * float(most))
-    below.spines[["top", "right"]].set_visible(False)
-    below.axhline(0, color=SOFT, linewidth=0.7, zorder=1)
     _add_line(below, difference, COLOURS[2], "-", "difference", 1.5)
-    _label_places(below.xaxis, function, sheet.width - 0.8)
-    _label_values(below, [-most, Fraction(0), most], 0.26 * room)
-    below.axvline(float(function.f), color=SOFT, linewidth=0.8, linestyle=(0, (4, 3)), zorder=1)
     _add_legend(sheet, entries)
-    return sheet.picture()
+    return sheet.picture("two halves", function)
 
 
 def _add_line(axes, function: Function, colour: str, line: Line, name: str, width: float) -> None:
-    collections = needed("matplotlib.collections", "pictures", "")
+    collections = _module("collections")
     lines = [
         [(float(x), float(y)) for x, y in piece.corners] for piece in pieces_of(function, [])
     ]
@@ -518,9 +559,9 @@ GRAPH, BAR, GAP = 0.72, 0.07, 0.05
 
 
 def _draw_faces(
-    function: Function, faces: Faces, verdict: Optional[Verdict], figure, width: float
+    function: Function, text: str, verdict: Optional[Verdict], figure, width: float
 ) -> Picture:
-    pieces, diagram = pieces_of(function, components_of(faces.text)), diagram_of(faces)
+    pieces, diagram = pieces_of(function, components_of(text)), diagram_of(text)
     entries = _entries_of(pieces)
     violation = None if verdict is None else verdict.violation
     point = violation if violation and violation.kind == "superadditive" else None
@@ -562,15 +603,16 @@ def _draw_faces(
         _add_pieces(axes, pieces, turned, 1.2)
     upper.axhline(0, color=SOFT, linewidth=0.6, zorder=1)
     lefter.axvline(0, color=SOFT, linewidth=0.6, zorder=1)
-    lefter.axhline(float(function.f), color=SOFT, linewidth=0.8, linestyle=(0, (4, 3)), zorder=1)
+    for line in (upper.axvline, lefter.axhline):
+        line(float(function.f), color=SOFT, linewidth=0.8, linestyle=DASHES, zorder=1)
     _mark_f(upper, function)
     _add_legend(sheet, entries)
-    return sheet.picture()
+    return sheet.picture("the additive faces", function)
 
 
 def _add_complex(axes, function: Function, order: int) -> None:
     """The lines on which x, y or x + y is a breakpoint, and, softer, a multiple of 1/order."""
-    collections = needed("matplotlib.collections", "pictures", "")
+    collections = _module("collections")
     places = sorted({point.place for point in function.breakpoints} | {function.f})
     grid = [Fraction(i, order) for i in range(order)] if order <= MOST_GRID_LINES else []
     lines = places if len(places) <= MOST_LINES else []
@@ -584,11 +626,8 @@ def _add_complex(axes, function: Function, order: int) -> None:
 
 def _add_diagram(axes, diagram: Diagram) -> None:
     """The merged faces."""
-    collections, paths = (
-        needed(f"matplotlib.{each}", "pictures", "") for each in ("collections", "path")
-    )
+    collections, paths = _module("collections"), _module("path")
     order = diagram.order
-    fine = order > 200
     for component, loops in diagram.polygons.items():
         colour = colour_of(component)
         corners, codes = [], []
@@ -597,14 +636,14 @@ def _add_diagram(axes, diagram: Diagram) -> None:
             codes += [paths.Path.MOVETO, *[paths.Path.LINETO] * (len(loop) - 1), paths.Path.CLOSEPOLY]
         drawn = collections.PathCollection(
             [paths.Path(corners, codes)], facecolors=[(*_rgb(colour), 0.42)], edgecolors=colour,
-            linewidths=0.3 if fine else 0.8, joinstyle="round", zorder=2,
+            linewidths=0.8 if len(loops) <= MANY else 0.3, joinstyle="round", zorder=2,
             gid=_name("triangles", component), rasterized=len(corners) > MOST_CORNERS,
         )  # fmt: skip
         axes.add_collection(drawn, autolim=False)
     for component, segments in diagram.edges.items():
         lines = [[(x / order, y / order) for x, y in segment] for segment in segments]
         drawn = collections.LineCollection(
-            lines, colors=colour_of(component), linewidths=0.8 if fine else 2.0, capstyle="round",
+            lines, colors=colour_of(component), linewidths=2.0 if len(lines) <= MANY else 0.7, capstyle="round",
             zorder=3, clip_on=False, gid=_name("edges", component), rasterized=len(lines) > MOST_CORNERS,
         )  # fmt: skip
         axes.add_collection(drawn, autolim=False)
@@ -612,7 +651,7 @@ def _add_diagram(axes, diagram: Diagram) -> None:
         count = len(diagram.points)
         axes.plot(
             *zip(*((x / order, y / order) for x, y in diagram.points)), "o", color=INK,
-            markersize=3.5 if count <= 200 else 1.5 if count <= 2_000 else 0.6, markeredgewidth=0,
+            markersize=3.5 if count <= MANY else 1.0, markeredgewidth=0,
             zorder=4, clip_on=False, gid="points", rasterized=count > MOST_MARKS,
         )  # fmt: skip
 
@@ -626,26 +665,27 @@ def _add_projections(sheet: _Sheet, diagram: Diagram, left: float, below: float,
     by_x, by_y, by_sum = diagram.projections
     far, near = size + GAP, -GAP - BAR
     # The words stand where nothing else does: at which end, by how many points beside it.
-    for runs, x, y, upright, name, end, beside, ha, va in (
-        (by_x, 0.0, far, False, "x", (1, 0.5), (4, 0), "left", "center"),
-        (by_y, near, 0.0, True, "y", (0.5, 1), (0, 4), "center", "bottom"),
-        (by_sum, 0.0, near, False, "x + y", (0, 0.5), (-4, 0), "right", "center"),
-        (by_sum, far, 0.0, True, "x + y", (0, 0), (0, -5), "left", "top"),
+    for name, runs, x, y, upright, word, end, beside, ha, va in (
+        ("above", by_x, 0.0, far, False, "x", (1, 0.5), (4, 0), "left", "center"),
+        ("left", by_y, near, 0.0, True, "y", (0.5, 1), (0, 4), "center", "bottom"),
+        ("below", by_sum, 0.0, near, False, "x + y", (0, 0.5), (-4, 0), "right", "center"),
+        ("right", by_sum, far, 0.0, True, "x + y", (0, 0), (0, -5), "left", "top"),
     ):
         across, along = (BAR, size) if upright else (size, BAR)
         axes = sheet.axes(left + x, below + y, across, along)
         axes.axis("off")
         axes.set(xlim=(0, 1), ylim=(0, 1))
         axes.annotate(
-            name, end, beside, textcoords="offset points", ha=ha, va=va, fontsize=SMALL,
+            word, end, beside, textcoords="offset points", ha=ha, va=va, fontsize=SMALL,
             fontstyle="italic", annotation_clip=False,
         )  # fmt: skip
         for component, each in runs.items():
-            spans = [(a / diagram.order, (b - a) / diagram.order) for a, b in each]
-            gid = _name(f"by-{name.replace(' + ', '-plus-')}", component)
-            colour = colour_of(component)
-            if upright:
-                for start, length in spans:
-                    axes.axhspan(start, start + length, color=colour, linewidth=0, gid=gid)
-            else:
-                axes.broken_barh(spans, (0, 1), color=colour, linewidth=0, gid=gid)
+            bars = []
+            for first, last in each:
+                u, v = first / diagram.order, last / diagram.order
+                bar = [(u, 0), (v, 0), (v, 1), (u, 1)]
+                bars.append([(j, i) for i, j in bar] if upright else bar)
+            drawn = _module("collections").PolyCollection(
+                bars, facecolors=colour_of(component), linewidths=0, gid=_name(name, component)
+            )
+            axes.add_collection(drawn, autolim=False)

@@ -13,7 +13,7 @@ from .explain import explained, function_in_words, violation_in_words
 # More lines than these are folded.
 MOST_LINES, MOST_BREAKPOINTS = 80, 40
 # Pictures that are narrow have letters of the size of the text, also on a phone.
-PICTURE_WIDTH = 4.4
+PICTURE_WIDTH = 3.8
 # The colours of pictures, on a light page and on a dark one.
 THEME: Dict[str, Tuple[str, str]] = {
     _plot.INK: ("ink", "#e8e8e8"),
@@ -52,6 +52,7 @@ figure svg { display: block; width: 100%%; height: auto; max-width: 34rem; margi
 figcaption { color: var(--muted); font-size: 0.9rem; }
 .pictures { display: grid; gap: 1.5rem; margin: 1rem 0;
   grid-template-columns: repeat(auto-fit, minmax(min(100%%, 22rem), 1fr)); }
+@media (min-width: 48rem) { .pictures figure:nth-child(2) { grid-row: span 2; } }
 .verdict { background: var(--panel); border-left: 4px solid var(--c0); padding: 0.6rem 0.8rem;
   font-weight: 600; white-space: pre-line; }
 .refused { border-color: var(--alert); font-weight: normal; }
