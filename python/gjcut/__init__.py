@@ -251,7 +251,7 @@ def faces(function: Function) -> Faces:
 
     >>> found = faces(family("gmic", "3/5"))
     >>> found.faces[0], len(found.covers), found.uncovered
-    (Face(kind='vertical', order=5, a=0, b=3), 5, ())
+    (Face(kind='lower', order=5, a=0, b=0), 5, ())
     """
     return _faces_of(_of_function("faces", function))
 

@@ -259,7 +259,8 @@ def _verdict(text: str, proof: str, violations: int) -> str:
         said = "not minimal: " + violation_in_words(function, kind, *map(printed, at))
         if violations > 1:
             more = itertools.islice(violations_of(function, lines_of_function(proof)), violations)
-            shown = [violation_in_words(function, *(x for x in each if x is not None)) for each in more]
+            parts = [[part for part in each if part is not None] for each in more]
+            shown = [violation_in_words(function, *each) for each in parts]
             said = "\n  ".join([f"not minimal, by {len(shown)} violations:", *shown])
         hint = told("minimal", text, 0, lines[-2])
         return f"{said}\n  {_said(hint)}" if hint else said

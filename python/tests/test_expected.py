@@ -201,7 +201,8 @@ class Refusals(unittest.TestCase):
         self.assertIn("write one line, with the limit from the left", said)
         said = self.refusal(gjcut.extreme, HALF)
         self.assertIn("whether it is extreme is not decided", said)
-        self.assertIn("let `extreme` or `minimal` write the proof", self.refusal(gjcut.check, GMIC.text))
+        said = self.refusal(gjcut.check, GMIC.text)
+        self.assertIn("let `extreme` or `minimal` write the proof", said)
         self.assertIn("take a smaller N", self.refusal(gjcut.times, SIX, 500))
 
     def test_a_place_below_0(self):
@@ -210,19 +211,18 @@ class Refusals(unittest.TestCase):
         self.assertNotIn("is not to the right", said)
 
     def test_where_it_jumps(self):
-        text = gjcut.times(HALF, 2, 1).text
-        _, said = terminal("faces", text="gj-function 2\nf 1/2\npoint 0 0\npoint 1/4 1/2 0 1/2\npoint 1/2 1\nend\n")
+        jumps = gjcut.by_breakpoints("1/2", [(0, 0), ("1/4", "1/2", 0, "1/2"), ("1/2", 1)])
+        _, said = terminal("faces", text=jumps.text)
         self.assertIn("The function jumps at 1/4, and", said)
         _, said = terminal("fill", text="gj-function 2\nf 3/5\npoint 0 0\npoint 3/5 -1\nend\n")
         self.assertIn("The values at 1/5 and 3/5 add up to less than that at 1/5 + 3/5", said)
-        self.assertIn("The function jumps at 0, and", terminal("faces", text=text)[1])
 
     def test_the_order_that_was_reached(self):
         said = self.refusal(gjcut.by_breakpoints, "3/5", [(0, 0), ("500/1009", 1)])
         self.assertIn("here the order is 5,045", said)
         self.assertIn("here the order is 1,001", self.refusal(gjcut.family, "gmic", "1/1001"))
-        signs = "+" * 600 + "-" * 600
-        self.assertIn("here the order is 1,200", self.refusal(gjcut.family, "two-slope", 600, signs))
+        said = self.refusal(gjcut.family, "two-slope", 600, "+" * 600 + "-" * 600)
+        self.assertIn("here the order is 1,200", said)
 
     def test_texts_that_are_no_proofs(self):
         for command, text, what in (

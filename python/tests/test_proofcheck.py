@@ -1,5 +1,7 @@
 """The checkers in plain Python, which need no library: on the examples of `check`, on a proof for a
 function that jumps, and on derivations made of the examples of `problem`."""
+import math
+import re
 import subprocess
 import sys
 import tempfile
@@ -204,7 +206,7 @@ class Derivations(unittest.TestCase):
             ("claim -20/3", "claim -19/3", "rejected line 12 right -20/3"),
             ("by first 3/5\nby second -1/5", "by first 1", "rejected line 12 integral"),
             ("z continuous 0 -", "z continuous - -", "rejected line 12 free z"),
-            # -6/5 * 5/3 - 2/5 * 5/2 - 1/2 * 2 is -4: up to -3 needs no upper bound, down to -5 does.
+            # The sum has -6/5 * 5/3 - 2/5 * 5/2 - 1/2 * 2 = -4 at x, which has no upper bound.
             ("term x -4\nterm y -5", "term x -5\nterm y -5", "rejected line 26 bound x"),
             ("term x -4\nterm y -5", "term x -3\nterm y -5", "accepted derivation"),
             ("by a 6/5", "by c 6/5", "refused line 27 place"),
@@ -266,51 +268,48 @@ class Derivations(unittest.TestCase):
         self.assertGreater(tried, 60)
 
 
+def cuts_in(said):
+    """The cuts in an answer of `problem`: the words of the first line of each, and its terms."""
+    found = []
+    for line in said.splitlines():
+        if line.startswith(("cut ", "skip ")):
+            found.append((line.split(), []))
+        elif line.startswith("term "):
+            found[-1][1].append(line)
+    return found
+
+
 def chains(text, said):
-    """Of each cut of a problem two derivations: one claims it, the other a little more."""
-    lines = text.splitlines()
-    names = (f"c{i}" for i in range(1000))
-    kept, sums, uppers = [], [], []
-    for line in lines:
-        words = line.split()
-        if not words or words[0][0] == "#" or words[0] in ("rule", "end"):
-            kept += [line] if words == ["end"] and not kept[-1:] == [] and "gj-problem 1" not in kept else []
-        elif words[0] == "constraint":
-            kept.append(" ".join(["constraint", next(names), *words[2:]]))
+    """Of each cut of a problem two derivations with one step: one claims it, the other more. They
+    have a name for each constraint."""
+    front, _, problem = text.partition("gj-problem 1\n")
+    program, sums, at_upper, names = ["gj-derivation 1"], [], [], []
+    for line in problem.splitlines():
+        words = line.split() or ["#"]
+        if words[0] == "constraint":
+            names.append(f"c{len(names)}")
+            words[1] = names[-1]
+        if words[0] in ("column", "constraint", "entry"):
+            program.append(" ".join(words))
         elif words[0] == "upper":
-            uppers.append(line)
+            at_upper.append(line)
         elif words[0] == "sum":
-            sums.append((words[1:], list(uppers)))
-        else:
-            kept.append(line)
-    kept = ["gj-derivation 1" if line == "gj-problem 1" else line for line in kept]
-    rule = "function" if kept[0].startswith("gj-function") else "gmic"
-    answers = said[said.index("\nrule gmic\n") + 11 :] if rule == "gmic" else said
-    found, current = [], None
-    for line in answers.splitlines():
-        words = line.split()
-        if words[0] in ("cut", "skip"):
-            current = [words, []]
-            found.append(current)
-        elif words[0] == "term":
-            current[1].append(line)
-    for (multipliers, at_upper), (head, terms) in zip(sums, found):
-        by = [f"by c{i} {m}" for i, m in enumerate(multipliers)]
-        step = [f"step s {rule}", *by, *at_upper]
-        at = len(kept) + 1
+            sums.append((words[1:], list(at_upper)))
+    whole = {line.split()[1] for line in program if re.match("column .* whole ", line)}
+    for (multipliers, uppers), (head, terms) in zip(sums, cuts_in(said)):
+        by = [f"by {name} {m}" for name, m in zip(names, multipliers)]
+        step = [f"step s {'function' if front else 'gmic'}", *by, *uppers]
+        at = front.count("\n") + len(program) + 1
 
         def chain(claim):
-            return "\n".join([*kept, *step, f"claim {claim}", *terms, "end", ""])
+            return front + "\n".join([*program, *step, f"claim {claim}", *terms, "end", ""])
 
         if head[0] == "skip":
             yield chain(0), (1, f"rejected line {at} {' '.join(head[1:])}")
             continue
-        right, columns = Fraction(head[1]), dict(line.split()[1:3] for line in kept if line[:7] == "column ")
-        is_whole = all(
-            columns[term.split()[1]] == "whole" and Fraction(term.split()[2]).denominator == 1
-            for term in terms
-        )
-        shown = Fraction(-(-right.numerator // right.denominator)) if is_whole else right
+        right, entries = Fraction(head[1]), [term.split()[1:] for term in terms]
+        is_whole = all(name in whole and "/" not in value for name, value in entries)
+        shown = Fraction(math.ceil(right)) if is_whole else right
         yield chain(right), (0, "accepted derivation")
         more = shown + Fraction(1, 1000)
         yield chain(more), (1, f"rejected line {at} right {shown}")

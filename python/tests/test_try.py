@@ -41,7 +41,7 @@ class Try(unittest.TestCase):
                 "PYTHONPATH": str(Path(gjcut.__file__).parents[1]),
                 "GJCUT_LIBRARY": str(_library.find()),
             }
-            command = [sys.executable, str(TOP / "tools/try"), *words or ["--no-tests"]]
+            command = [sys.executable, str(TOP / "tools/try"), *(words or ["--no-tests"])]
             return subprocess.run(
                 command, env=environment, cwd=TOP, capture_output=True, text=True, check=False
             )
