@@ -17,6 +17,11 @@ Functions of the package, each with an example in its help:
     safe_cut(columns, constraints, multipliers)   a cut of a mixed-integer program, a SafeCut
     fill(function), times(function, n, j), mirror(function), restrict(function, order)
                                     functions made of functions
+    literature.gmic(f), ..          functions of the literature by their parameters
+    from_piecewise(h)               a function of cutgeneratingfunctionology
+    map(command, functions)         the answers to many functions, by processes or any executor
+    search(order, f)                all extreme functions of an order
+    plot(function), plot_faces(function)          a Picture of a function, also of a verdict
     call(words, text)               the answer to any command
 
 A Function f has f(x), f.slopes, f.breakpoints, f.is_continuous, f.order, f.text and f.breaks(), and
@@ -39,6 +44,7 @@ with several threads must not call: where a process has threads, give `multiproc
 Nothing of this package is proved: it hands texts to the library, whose answers are. For a paper
 write the `text` of a verdict to a file, let the proved `gjcut check` accept it, and cite that.
 """
+import importlib
 import itertools
 from collections.abc import Mapping
 from fractions import Fraction
@@ -54,6 +60,8 @@ from ._functions import Function, Point, Rule
 from ._functions import function as _function, line as _line, printed as _printed
 from ._functions import text_of_rule as _text_of_rule
 from ._library import Answer, LibraryMissing, call
+from ._optional import PackageMissing
+from ._plot import Picture, plot, plot_faces
 from ._problems import Column, Constraint, SafeCut, safe_cut
 from ._refusals import RIGHT, Place, Refused
 from ._refusals import Row as _Row, always as _always
@@ -69,10 +77,11 @@ __version__ = _build.version()
 
 __all__ = [
     "Answer", "Column", "Constraint", "Cover", "Covered", "Cut", "Cuts", "Face", "Faces",
-    "Function", "Judgement", "LibraryMissing", "Number", "Place", "Point", "Refused", "SafeCut",
-    "TableVerdict", "Term", "Verdict", "Violation", "by_breakpoints", "by_text", "by_values",
-    "call", "check", "covered", "cut", "extreme", "faces", "family", "fill", "group", "minimal",
-    "mirror", "mixed", "restrict", "safe_cut", "times",
+    "Function", "Judgement", "LibraryMissing", "Number", "PackageMissing", "Picture", "Place",
+    "Point", "Refused", "SafeCut", "TableVerdict", "Term", "Verdict", "Violation",
+    "by_breakpoints", "by_text", "by_values", "call", "check", "covered", "cut", "extreme", "faces",
+    "family", "fill", "group", "minimal", "mirror", "mixed", "plot", "plot_faces", "restrict",
+    "safe_cut", "times",
 ]  # fmt: skip
 
 
@@ -394,3 +403,26 @@ def restrict(function: Function, order: int) -> Function:
     """
     words = f"restrict {_written(_whole(order, 'order'), 'order')}"
     return Function(_of_function(words, function, "order"))
+
+
+# What stands on the calls above is read when it is first asked for. And `map` is no name of this
+# module, in which it is Python's own.
+_LATER = {
+    "TableClass": "_search",
+    "from_piecewise": "_piecewise",
+    "literature": "literature",
+    "map": "_map",
+    "search": "_search",
+}
+__all__ += sorted(_LATER)
+
+
+def __getattr__(name: str):
+    if name not in _LATER:
+        raise AttributeError(f"module {__name__!r} has no attribute {name!r}")
+    module = importlib.import_module(f".{_LATER[name]}", __name__)
+    return module if name == _LATER[name] else getattr(module, name)
+
+
+def __dir__():
+    return sorted({*globals(), *_LATER})

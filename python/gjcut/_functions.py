@@ -211,6 +211,12 @@ class Function:
         shown = ", ".join(f"({', '.join(map(_shown, short(point)))})" for point in points)
         return f"by_breakpoints({_shown(self.f)}, [{shown}])"
 
+    def _repr_png_(self) -> Optional[bytes]:
+        return pictures().png_of(self)
+
+    def _repr_svg_(self) -> Optional[str]:
+        return pictures().svg_of(self)
+
     def __add__(self, other: "Function") -> "Function":
         if not isinstance(other, Function):
             return NotImplemented
@@ -242,6 +248,13 @@ class Function:
         if isinstance(divisor, Function):
             return NotImplemented
         return self * (1 / number(divisor, "divisor"))
+
+
+def pictures():
+    """The module that draws, which imports this one."""
+    from . import _plot
+
+    return _plot
 
 
 Rule = Union[Function, str]

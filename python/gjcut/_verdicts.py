@@ -3,7 +3,7 @@ from fractions import Fraction
 from typing import Iterable, List, NamedTuple, Optional, Tuple
 
 from . import _arguments
-from ._functions import Function, Point, printed
+from ._functions import Function, Point, pictures, printed
 
 Table = Tuple[Fraction, ...]
 UNDECIDED = "this verdict is of `minimal`, which does not ask whether it is extreme: ask `extreme`"
@@ -74,6 +74,12 @@ class Verdict(NamedTuple):
 
     def __repr__(self) -> str:
         return f"<verdict: {_shown(self)}>"
+
+    def _repr_png_(self) -> Optional[bytes]:
+        return pictures().png_of(self)
+
+    def _repr_svg_(self) -> Optional[str]:
+        return pictures().svg_of(self)
 
 
 class TableVerdict(NamedTuple):

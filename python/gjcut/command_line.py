@@ -94,7 +94,15 @@ def parser() -> argparse.ArgumentParser:
             command.add_argument("files", metavar="FILE", nargs="*")
         progress = "show how far it is, also where standard error is no terminal"
         command.add_argument("--progress", action="store_true", help=progress)
+    _picture_commands().add_parsers(commands)
     return made
+
+
+def _picture_commands():
+    """The commands that make pictures, which call back into this module."""
+    from . import _picture_commands
+
+    return _picture_commands
 
 
 def _count(word: str) -> int:
@@ -116,6 +124,8 @@ def main(words: Optional[List[str]] = None) -> int:
             parser().print_help()
             return 2
         find()
+        if chosen.command not in COMMANDS:
+            return _picture_commands().run(chosen)
         return _answer_all(chosen)
     except LibraryMissing as missing:
         print(f"gjcut: {missing}", file=sys.stderr)
