@@ -18,6 +18,10 @@ Functions of the package, each with an example in its help:
     fill(function), times(function, n, j), mirror(function), restrict(function, order)
                                     functions made of functions
     plot(function), plot_faces(function)          a Picture of a function, also of a verdict
+    literature.gmic(f), ..          functions of the literature by their parameters
+    from_piecewise(h)               a function of cutgeneratingfunctionology
+    map(command, functions)         the answers to many functions, by processes or any executor
+    search(order, f)                all extreme functions of an order
     call(words, text)               the answer to any command
 
 A Function f has f(x), f.slopes, f.breakpoints, f.is_continuous, f.order, f.text and f.breaks(), and
@@ -398,3 +402,24 @@ def restrict(function: Function, order: int) -> Function:
     """
     words = f"restrict {_written(_whole(order, 'order'), 'order')}"
     return Function(_of_function(words, function, "order"))
+
+
+# What stands on the calls above.
+from . import literature  # noqa: E402
+from ._piecewise import from_piecewise  # noqa: E402
+from ._search import TableClass, search  # noqa: E402
+
+__all__ += ["TableClass", "from_piecewise", "literature", "map", "search"]
+
+
+def __getattr__(name: str):
+    # `map` is no name of this module, in which it is Python's own.
+    if name == "map":
+        from . import _map
+
+        return _map.map
+    raise AttributeError(f"module {__name__!r} has no attribute {name!r}")
+
+
+def __dir__():
+    return sorted([*globals(), "map"])
