@@ -8,8 +8,8 @@ from ._library import LibraryMissing, call
 from ._optional import PackageMissing
 from ._verdicts import Verdict, function_of, verdict_of
 
-# The statuses: nothing is done with such a function; a file cannot be written; a package is missing;
-# the words are not understood.
+# The statuses: nothing is done with such a function; a file cannot be written; a package is
+# missing; the words are not understood.
 NOTHING, NOT_WRITTEN, NO_PACKAGE, NOT_UNDERSTOOD = 8, 5, 15, 2
 MINIMAL_AND_JUMPS = "minimal, and jumps: whether it is extreme is not decided"
 
@@ -27,10 +27,12 @@ def add_parsers(commands) -> None:
     way.add_argument("--halves", action="store_true", help=halves)
     plot.add_argument("files", metavar="FILE", nargs="?", default="-")
     help_ = "a page of HTML with pictures, verdicts and proofs in words"
-    report = commands.add_parser("report", help=help_, description=f"{help_[0].upper()}{help_[1:]}.")
+    words = f"{help_[0].upper()}{help_[1:]}."
+    report = commands.add_parser("report", help=help_, description=words)
     report.add_argument("files", metavar="FILE", nargs="*")
     for command, name in ((plot, "NAME"), (report, "NAME.html")):
-        command.add_argument("-o", "--output", metavar=name, required=True, help="the file to write")
+        output = "the file to write"
+        command.add_argument("-o", "--output", metavar=name, required=True, help=output)
         force = "replace a file of this name that is there already"
         command.add_argument("--force", action="store_true", help=force)
 

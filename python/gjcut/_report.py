@@ -1,5 +1,5 @@
-"""A report on functions as one page of HTML: pictures, verdicts and proofs in words, without scripts
-and without anything from elsewhere. All that it says is the program's, or stands in its pages."""
+"""A report on functions as one page of HTML: pictures, verdicts and proofs in words, without
+scripts, and without anything from elsewhere."""
 import base64
 import re
 from html import escape
