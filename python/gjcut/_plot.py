@@ -274,7 +274,7 @@ def _legend_of(entries: Sequence[_Entry], width: float) -> _Legend:
     """The entries for a picture of this width. Those that are too long take several lines."""
     letters = width * POINTS / SMALL
     widths = [0.54 * len(entry.label) + 3.4 for entry in entries]
-    columns = len(entries) if sum(widths) <= letters else int(letters / max(widths)) or 1
+    columns = len(entries) if sum(widths) <= letters - 1 else int(letters / max(widths)) or 1
     wrapped = [textwrap.wrap(entry.label, int((letters - 3.4) / 0.54)) for entry in entries]
     fitted = [entry._replace(label="\n".join(lines)) for entry, lines in zip(entries, wrapped)]
     rows = sum(map(len, wrapped)) if columns == 1 else -(-len(entries) // (columns or 1))
