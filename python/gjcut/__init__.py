@@ -269,7 +269,7 @@ def covered(function: Function) -> Covered:
     [0, 3/5]
     [3/5, 1]
     """
-    return _covered_of(faces(function))
+    return _covered_of(_of_function("faces", function))
 
 
 def group(function: Function) -> TableVerdict:

@@ -66,38 +66,47 @@ class Covered(NamedTuple):
 
 
 def faces_of(text: str) -> Faces:
-    """What a faces text says."""
-    lines = [line.split() for line in text.splitlines()[1:-1]]
-    order = int(lines[0][1])
+    """What a faces text says. There can be two million faces."""
+    order, covers, uncovered, at = _cover_of(text)
+    number = {str(i): i for i in range(order)}
+    words = map(str.split, text[:at].splitlines()[2:])
+    faces = tuple(Face(kind, order, number[a], number[b]) for kind, a, b in words)
+    return Faces(order, faces, covers, uncovered, text)
+
+
+def _cover_of(text: str) -> Tuple[int, Tuple[Cover, ...], Tuple[Interval, ...], int]:
+    """The order, what is covered and uncovered, and where the lines of that begin: behind all
+    faces."""
+    order = int(text.split("\n", 2)[1].split()[1])
+    starts = (text.find(mark) for mark in ("\ncover ", "\nuncovered ", "\nend\n"))
+    at = min(start for start in starts if start >= 0)
 
     def interval(i: str) -> Interval:
         return Fraction(int(i), order), Fraction(int(i) + 1, order)
 
-    def face(kind: str, a: str, b: str) -> Face:
-        return Face(kind, order, int(a), int(b))
-
-    faces, covers, uncovered = [], [], []
-    for word, *rest in lines[1:]:
+    covers, uncovered = [], []
+    for word, i, *rest in map(str.split, text[at + 1 :].splitlines()[:-1]):
         if word == "cover":
-            covers.append(Cover(interval(rest[0]), interval(rest[1]), face(*rest[2:])))
-        elif word == "uncovered":
-            uncovered.append(interval(rest[0]))
+            joined_to, kind, a, b = rest
+            face = Face(kind, order, int(a), int(b))
+            covers.append(Cover(interval(i), interval(joined_to), face))
         else:
-            faces.append(face(word, *rest))
-    return Faces(order, tuple(faces), tuple(covers), tuple(uncovered), text)
+            uncovered.append(interval(i))
+    return order, tuple(covers), tuple(uncovered), at
 
 
-def covered_of(faces: Faces) -> Covered:
+def covered_of(text: str) -> Covered:
     """The components, each in the order of the line that begins it."""
+    _, covers, uncovered, _ = _cover_of(text)
     component_of: Dict[Interval, List[Interval]] = {}
     components = []
-    for cover in faces.covers:
+    for cover in covers:
         if cover.joined_to == cover.interval:
             component_of[cover.interval] = []
             components.append(component_of[cover.interval])
         found = component_of[cover.interval] = component_of[cover.joined_to]
         found.append(cover.interval)
-    return Covered(tuple(map(merged, components)), merged(faces.uncovered))
+    return Covered(tuple(map(merged, components)), merged(uncovered))
 
 
 def merged(intervals) -> Tuple[Interval, ...]:

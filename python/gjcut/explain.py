@@ -208,10 +208,11 @@ class _Reader:
         for rise, intervals in slopes.items():
             where = ", ".join(f"[{left}, {right}]" for left, right in merged(intervals))
             parts.append(f"{Fraction(rise * self.order, 2 * scale)} on {where}")
+        unknowns = "values and slopes" if self.jumps else "slopes"
         return (
             f"{said}. Their difference bends nowhere between multiples of 1/{self.order}, so that "
-            "the equations for the slopes of a perturbation leave a kernel: half the difference "
-            f"has the slopes {'; '.join(parts)}"
+            f"the equations for the {unknowns} of a perturbation leave a kernel: half the "
+            f"difference has the slopes {'; '.join(parts)}"
         )
 
     def of_pair(self, *said: str) -> str:

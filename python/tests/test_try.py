@@ -63,7 +63,7 @@ class Try(unittest.TestCase):
         five, six = "examples/extreme/five_pieces/input", "examples/minimal/asymmetric_point/input"
         done = self.tried("--", "extreme", five, six, "no_such_file")
         lines = done.stdout.splitlines()
-        self.assertIn("without proofs for 2 files, in three to eight minutes", lines[0])
+        self.assertIn("without proofs for 2 files; that takes minutes", lines[0])
         self.assertEqual(
             lines[1:3],
             [
