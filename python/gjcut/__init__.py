@@ -17,11 +17,11 @@ Functions of the package, each with an example in its help:
     safe_cut(columns, constraints, multipliers)   a cut of a mixed-integer program, a SafeCut
     fill(function), times(function, n, j), mirror(function), restrict(function, order)
                                     functions made of functions
-    plot(function), plot_faces(function)          a Picture of a function, also of a verdict
     literature.gmic(f), ..          functions of the literature by their parameters
     from_piecewise(h)               a function of cutgeneratingfunctionology
     map(command, functions)         the answers to many functions, by processes or any executor
     search(order, f)                all extreme functions of an order
+    plot(function), plot_faces(function)          a Picture of a function, also of a verdict
     call(words, text)               the answer to any command
 
 A Function f has f(x), f.slopes, f.breakpoints, f.is_continuous, f.order, f.text and f.breaks(), and
@@ -44,6 +44,7 @@ with several threads must not call: where a process has threads, give `multiproc
 Nothing of this package is proved: it hands texts to the library, whose answers are. For a paper
 write the `text` of a verdict to a file, let the proved `gjcut check` accept it, and cite that.
 """
+import importlib
 import itertools
 from collections.abc import Mapping
 from fractions import Fraction
@@ -404,22 +405,24 @@ def restrict(function: Function, order: int) -> Function:
     return Function(_of_function(words, function, "order"))
 
 
-# What stands on the calls above.
-from . import literature  # noqa: E402
-from ._piecewise import from_piecewise  # noqa: E402
-from ._search import TableClass, search  # noqa: E402
-
-__all__ += ["TableClass", "from_piecewise", "literature", "map", "search"]
+# What stands on the calls above is read when it is first asked for. And `map` is no name of this
+# module, in which it is Python's own.
+_LATER = {
+    "TableClass": "_search",
+    "from_piecewise": "_piecewise",
+    "literature": "literature",
+    "map": "_map",
+    "search": "_search",
+}
+__all__ += sorted(_LATER)
 
 
 def __getattr__(name: str):
-    # `map` is no name of this module, in which it is Python's own.
-    if name == "map":
-        from . import _map
-
-        return _map.map
-    raise AttributeError(f"module {__name__!r} has no attribute {name!r}")
+    if name not in _LATER:
+        raise AttributeError(f"module {__name__!r} has no attribute {name!r}")
+    module = importlib.import_module(f".{_LATER[name]}", __name__)
+    return module if name == _LATER[name] else getattr(module, name)
 
 
 def __dir__():
-    return sorted([*globals(), "map"])
+    return sorted({*globals(), *_LATER})

@@ -100,9 +100,10 @@ def two_slope_approximation(function: Function, order: int) -> Function:
     approximate each continuous minimal function.
 
     >>> import gjcut
-    >>> three = gjcut.literature.drlm_backward_3_slope()
-    >>> len(set(two_slope_approximation(three, 24).slopes))
-    2
+    >>> seven = gjcut.literature.extreme_at_order_7()
+    >>> near = two_slope_approximation(seven, 14)
+    >>> gjcut.extreme(seven).claim, gjcut.extreme(near).claim
+    ('not-extreme', 'extreme')
     """
     a_function(function)
     order, f = whole(order, "order"), function.f

@@ -39,9 +39,9 @@ LIFTINGS = (
     "approximate lifting (Naval Research Logistics 55, 2008)"
 )
 K_CUTS = (
-    "Cornuéjols, Li and Vandenbussche, K-cuts: a variation of Gomory mixed integer cuts from the LP "
-    "tableau (INFORMS Journal on Computing 15, 2003); that a multiple of x keeps extreme functions: "
-    "Gomory and Johnson (1972)"
+    "Cornuéjols, Li and Vandenbussche, K-cuts: a variation of Gomory mixed integer cuts from the "
+    "LP tableau (INFORMS Journal on Computing 15, 2003); that a multiple of x keeps extreme "
+    "functions: Gomory and Johnson (1972)"
 )
 CYCLIC = (
     "Gomory, Some polyhedra related to combinatorial problems (Linear Algebra and its Applications "

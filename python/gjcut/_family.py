@@ -1,5 +1,5 @@
-"""What a family of functions is: a formula, who found it, and the range of its parameters in which a
-verdict is known."""
+"""What a family of functions is: a formula, who found it, and the range of its parameters in which
+a verdict is known."""
 import functools
 import inspect
 from fractions import Fraction
@@ -13,8 +13,8 @@ from ._functions import Function
 from ._refusals import Place, Refused
 
 Points = List[Tuple[Fraction, ...]]
-# A condition is an expression over the parameters, so that what is told is what is tested; or words,
-# and the test that they tell.
+# A condition is an expression over the parameters, so that what is told is what is tested. Or it is
+# words, and the test that they tell.
 Condition = Union[str, Tuple[str, Callable[..., bool]]]
 NAMES = {"__builtins__": {}, "ceil": ceil}
 

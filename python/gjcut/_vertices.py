@@ -1,8 +1,8 @@
 """The vertices of the polytope of minimal tables, in exact numbers, by a program that lists them.
 
 A table of order n with f = k/n is 0 at 0 and 1 at k, and t(i) + t(k - i) = 1. So one entry of each
-pair i, k - i says the other. Subadditivity is t(i) + t(j) + t(l) >= 1 for all i, j and l that add up
-to k modulo n, since t(i + j) = 1 - t(l). That no entry is negative follows: n t(i) is at least
+pair i, k - i says the other. Subadditivity is t(i) + t(j) + t(l) >= 1 for all i, j and l that add
+up to k modulo n, since t(i + j) = 1 - t(l). That no entry is negative follows: n t(i) is at least
 t(n i) = 0. (Gomory 1969; Gomory and Johnson 1972.)
 """
 import importlib.util
@@ -59,7 +59,8 @@ def extreme_tables(order: int, place: int, program: str, progress: Optional[bool
     rows = _rows(order, place, entries)
     count = 1 + max(entry.unknown if entry.sign else -1 for entry in entries)
     if not count:
-        return [tuple(entry.number for entry in entries)] if all(row[0] >= 0 for row in rows) else []
+        table = tuple(entry.number for entry in entries)
+        return [table] if all(row[0] >= 0 for row in rows) else []
     listed = _by_lrs(rows, count) if program == "lrs" else _by_ppl(rows, count)
     points = _progress.shown(listed, f"vertices of order {order}", None, progress)
     return sorted({_table(entries, point) for point in points})

@@ -19,8 +19,8 @@ from ._constructions import (
 from ._continuous_families import (
     bcdsp_arbitrary_slope, dg_2_step_mir, drlm_backward_3_slope, extreme_at_order_7, gj_2_slope,
     gj_forward_3_slope, gmic, k_cut, kf_n_step_mir, kzh_3_slope_param_extreme_2, mlr_cpl3_b_3_slope,
-    mlr_cpl3_c_3_slope, mlr_cpl3_d_3_slope, mlr_cpl3_g_3_slope, mlr_cpl3_l_2_slope, mlr_cpl3_n_3_slope,
-    psi_n_in_bccz_counterexample_construction, two_slope,
+    mlr_cpl3_c_3_slope, mlr_cpl3_d_3_slope, mlr_cpl3_g_3_slope, mlr_cpl3_l_2_slope,
+    mlr_cpl3_n_3_slope, psi_n_in_bccz_counterexample_construction, two_slope,
 )  # fmt: skip
 from ._families_with_jumps import (
     dg_2_step_mir_limit, drlm_2_slope_limit, drlm_3_slope_limit, gomory_fractional, half,
@@ -31,9 +31,9 @@ from ._family import FAMILIES, Family, OutOfRange
 __all__ = [
     "FAMILIES", "Family", "OutOfRange", "automorphism", "average", "bcdsp_arbitrary_slope",
     "dg_2_step_mir", "dg_2_step_mir_limit", "drlm_2_slope_limit", "drlm_3_slope_limit",
-    "drlm_backward_3_slope", "extreme_at_order_7", "gj_2_slope", "gj_forward_3_slope", "gmic", "gomory_fractional",
-    "half", "hildebrand_2_sided_discont_1_slope_1", "interpolate", "k_cut", "kf_n_step_mir",
-    "kzh_3_slope_param_extreme_2", "ll_strong_fractional", "mlr_cpl3_b_3_slope",
+    "drlm_backward_3_slope", "extreme_at_order_7", "gj_2_slope", "gj_forward_3_slope", "gmic",
+    "gomory_fractional", "half", "hildebrand_2_sided_discont_1_slope_1", "interpolate", "k_cut",
+    "kf_n_step_mir", "kzh_3_slope_param_extreme_2", "ll_strong_fractional", "mlr_cpl3_b_3_slope",
     "mlr_cpl3_c_3_slope", "mlr_cpl3_d_3_slope", "mlr_cpl3_g_3_slope", "mlr_cpl3_l_2_slope",
     "mlr_cpl3_n_3_slope", "multiplicative_homomorphism",
     "psi_n_in_bccz_counterexample_construction", "rlm_dpl1_extreme_3a", "two_slope",

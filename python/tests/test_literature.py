@@ -69,7 +69,7 @@ OUTSIDE = [
 
 
 def claim(function):
-    """What `extreme` says; of a function that jumps, until it decides these, what `minimal` says."""
+    """What `extreme` says; of a function that jumps what `minimal` says, until it decides these."""
     try:
         return gjcut.extreme(function).claim
     except gjcut.Refused as refused:
@@ -208,6 +208,12 @@ class Constructions(unittest.TestCase):
             self.assertEqual(function(x), literature.drlm_backward_3_slope()(x))
             y = x + Fraction(1, 77)
             self.assertEqual(function(y) + function(function.f - y), 1)
+        # A plain program says that these are extreme.
+        six = gjcut.by_values("1/2", [0, "2/3", "1/3", 1, "1/3", "2/3"])
+        for given, order in ((six, 12), (literature.extreme_at_order_7(), 14)):
+            self.assertEqual(gjcut.extreme(given).claim, "not-extreme")
+            near = literature.two_slope_approximation(given, order)
+            self.assertEqual(gjcut.extreme(near).claim, "extreme")
         with self.assertRaises(ValueError):
             literature.two_slope_approximation(literature.gmic("3/5"), 5)
 
