@@ -112,7 +112,7 @@ def _report_on(chosen: argparse.Namespace) -> int:
         print(_with_name(entry.name, entry.said), flush=True)
         entries.append(entry)
         worst = max(worst, status)
-    if not any(entry.function for entry in entries):
+    if all(entry.function is None for entry in entries):
         print(f"{chosen.output}: no file has a function, and no report was written")
         return worst
     page = _report.page_of(entries, _build.build(), not _build.RECORD.exists())

@@ -3,7 +3,7 @@ scripts, and without anything from elsewhere."""
 import base64
 import re
 from html import escape
-from typing import Dict, Iterator, List, NamedTuple, Optional, Sequence, Tuple
+from typing import Dict, Iterator, NamedTuple, Optional, Sequence, Tuple
 
 from . import _plot
 from ._functions import Function
