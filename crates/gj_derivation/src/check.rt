@@ -28,8 +28,8 @@ pub fn check_step(
     step: &Step,
 ) -> Result<Verdict, AllocError>
     requires ready { IsReadyStep (option_copied function) step.now }
-    ensures is { IfOk result (IsVerdict (option_copied function) problem.now step.now) }
-    ensures exact { IfOk result (λ v. Follows (option_copied function) problem.now step.now →
+    ensures is { IfOk result (IsVerdict (option_copied function.entry) problem.now step.now) }
+    ensures exact { IfOk result (λ v. Follows (option_copied function.entry) problem.now step.now →
         (v ≡ Verdict.Accepted) ⊎ (v ≡ Verdict.Wide)) }
 {
     match verdict_of(alloc, function, problem, &step.combination, &step.claim) {
@@ -48,9 +48,9 @@ pub(crate) fn verdict_of(
     claim: &Inequality,
 ) -> Result<Verdict, Fault>
     requires { IsReady (option_copied function) combination.now }
-    ensures is { IfOk result (IsVerdict (option_copied function) problem.now
+    ensures is { IfOk result (IsVerdict (option_copied function.entry) problem.now
         (record { combination = combination.now; claim = claim.now })) }
-    ensures wide { result ≡ Err Fault.Wide → IsVerdict (option_copied function) problem.now
+    ensures wide { result ≡ Err Fault.Wide → IsVerdict (option_copied function.entry) problem.now
         (record { combination = combination.now; claim = claim.now }) wide }
 {
     match base_of(alloc, function, problem, combination)? {

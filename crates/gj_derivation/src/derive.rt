@@ -39,7 +39,7 @@ pub fn derived_step(
 ) -> Result<Shown, AllocError>
     requires ready { IsReady (option_copied function) draft.now.combination }
     requires grid { IfSome grid (λ n. 0 < n) }
-    ensures { IfOk result (IsShownBy (option_copied function) grid problem.now
+    ensures { IfOk result (IsShownBy (option_copied function.entry) grid problem.now
         draft.now.combination draft.now.claim) }
 {
     let combination = copied(alloc, &draft.combination)?;
@@ -57,7 +57,7 @@ fn shown_by(
 ) -> Result<Shown, AllocError>
     requires ready { IsReady (option_copied function) combination }
     requires grid { IfSome grid (λ n. 0 < n) }
-    ensures { IfOk result (IsShownBy (option_copied function) grid problem.now
+    ensures { IfOk result (IsShownBy (option_copied function.entry) grid problem.now
         combination claim.now) }
 {
     match filled(alloc, function, problem, &combination, claim, grid) {
@@ -81,9 +81,9 @@ fn filled(
 ) -> Result<Filled, Fault>
     requires ready { IsReady (option_copied function) combination.now }
     requires grid { IfSome grid (λ n. 0 < n) }
-    ensures is { IfOk result (IsFilled (option_copied function) grid problem.now
+    ensures is { IfOk result (IsFilled (option_copied function.entry) grid problem.now
         combination.now claim.now) }
-    ensures wide { result ≡ Err Fault.Wide → IsAgainst (option_copied function) grid problem.now
+    ensures wide { result ≡ Err Fault.Wide → IsAgainst (option_copied function.entry) grid problem.now
         combination.now claim.now wide }
 {
     match claim {
@@ -105,9 +105,9 @@ fn found_claim(
 ) -> Result<Filled, Fault>
     requires ready { IsReady (option_copied function) combination.now }
     requires grid { IfSome grid (λ n. 0 < n) }
-    ensures is { IfOk result (IsFilled (option_copied function) grid problem.now
+    ensures is { IfOk result (IsFilled (option_copied function.entry) grid problem.now
         combination.now Absent) }
-    ensures wide { result ≡ Err Fault.Wide → IsAgainst (option_copied function) grid problem.now
+    ensures wide { result ≡ Err Fault.Wide → IsAgainst (option_copied function.entry) grid problem.now
         combination.now Absent wide }
 {
     match base_of(alloc, function, problem, combination)? {
@@ -157,9 +157,9 @@ fn claim_with(
     entries: &[Entry],
 ) -> Result<Filled, Fault>
     requires { IsReady (option_copied function) combination.now }
-    ensures is { IfOk result (IsFilled (option_copied function) None problem.now
+    ensures is { IfOk result (IsFilled (option_copied function.entry) None problem.now
         combination.now (Terms entries.now)) }
-    ensures wide { result ≡ Err Fault.Wide → IsAgainst (option_copied function) None problem.now
+    ensures wide { result ≡ Err Fault.Wide → IsAgainst (option_copied function.entry) None problem.now
         combination.now (Terms entries.now) wide }
 {
     match base_of(alloc, function, problem, combination)? {
@@ -185,9 +185,9 @@ fn given_claim(
     claim: &Inequality,
 ) -> Result<Filled, Fault>
     requires { IsReady (option_copied function) combination.now }
-    ensures is { IfOk result (IsFilled (option_copied function) None problem.now
+    ensures is { IfOk result (IsFilled (option_copied function.entry) None problem.now
         combination.now (Given claim.now)) }
-    ensures wide { result ≡ Err Fault.Wide → IsAgainst (option_copied function) None problem.now
+    ensures wide { result ≡ Err Fault.Wide → IsAgainst (option_copied function.entry) None problem.now
         combination.now (Given claim.now) wide }
 {
     match verdict_of(alloc, function, problem, combination, claim)? {
@@ -229,8 +229,8 @@ pub fn derived_steps(
 ) -> Result<Derived, AllocError>
     requires ready { All (λ d. IsReady (option_copied function) d.combination) drafts.now }
     requires grid { IfSome grid (λ n. 0 < n) }
-    ensures is { IfOk result (IsDerivedBy (option_copied function) grid problem drafts.now) }
-    ensures derivation { IfOk result (DerivedIsDerivation (option_copied function) problem) }
+    ensures is { IfOk result (IsDerivedBy (option_copied function.entry) grid problem drafts.now) }
+    ensures derivation { IfOk result (DerivedIsDerivation (option_copied function.entry) problem) }
 {
     let mut reached = begun_at(alloc, problem)?;
     let mut shown = Vec::new(alloc);

@@ -42,8 +42,8 @@ pub fn check_steps(
     steps: &[Step],
 ) -> Result<Checked, AllocError>
     requires ready { All (IsReadyStep (option_copied function)) steps.now }
-    ensures is { IfOk result (IsChecked (option_copied function) problem steps.now) }
-    ensures exact { IfOk result (λ c. IsDerivation (option_copied function) problem steps.now →
+    ensures is { IfOk result (IsChecked (option_copied function.entry) problem steps.now) }
+    ensures exact { IfOk result (λ c. IsDerivation (option_copied function.entry) problem steps.now →
         (c ≡ Checked.Accepted) ⊎ IsWideFailure c) }
     ensures holds { IfOk result (λ c. c ≡ Checked.Accepted →
         All (λ s. Holds problem s.claim) steps.now) }
