@@ -1,5 +1,5 @@
 -- The base of a step as it is made.
-use Rattle.std.proofs.Common.{◌≡◌, inl, inr, Option, List, length, refl, sym, subst}
+use Rattle.std.proofs.Common.{◌≡◌, Option, length, refl, sym, subst}
 use Rattle.gj_shape.specs.FunctionData.{FunctionData}
 use Rattle.gj_problem.specs.declared.problem.Inequality.{Inequality}
 use Rattle.gj_problem.specs.declared.problem.Problem.{Problem}
@@ -14,7 +14,7 @@ use Rattle.gj_derivation.specs.declared.step.StepRule.TheVariants.{Linear, Gmic,
 use Rattle.gj_derivation.specs.declared.step.Verdict.{Verdict}
 use Rattle.gj_derivation.specs.declared.step.Verdict.TheVariants as verdict
 use Rattle.gj_derivation.specs.Derivations.{line_of, added, AreSigned, IsCutOf, IsBaseBy}
-use Rattle.gj_derivation.specs.Checks.{IsSumOf, IsWideAdded, IsWideNamed, IsWideBy, IsBaseless, IsBaseOf, IsBaseFrom}
+use Rattle.gj_derivation.specs.Checks.{IsSumOf, IsWideAdded, IsWideBy, IsBaseless, IsBaseOf, IsBaseFrom}
 use Rattle.gj_derivation.proofs.CheckedSums.{sum_is_added}
 
 -- ---- sums
@@ -50,22 +50,3 @@ cut_is_base f p c OtherFraction (Against v) other signed h from = subst (λ (w :
 cut_is_base f p c (Free j) (Line sum) other signed h from = absurd from
 cut_is_base f p c (Free j) (Against v) other signed h from = subst (λ (w : Verdict). IsBaseless f p c w) (sym from) (signed, h)
 cut_is_base f p c Wide made other signed h from = absurd from
-
-wide_by : (rule : StepRule) (f : Option FunctionData) (p : Problem) (c : Combination) → (rule ≡ Linear → ⊥) → IsCutOf f p c Wide → IsWideBy rule f p c
-wide_by Linear f p c other h = absurd (other refl)
-wide_by Gmic f p c other h = inr h
-wide_by Function f p c other h = inr h
-
-pub wide_cut : (f : Option FunctionData) (p : Problem) (c : Combination) → (c.rule ≡ Linear → ⊥) → AreSigned c.rule p c.multipliers →
-    IsCutOf f p c Wide → IsBaseless f p c verdict.Wide
-wide_cut f p c other signed h = (signed, wide_by c.rule f p c other h)
-
-wide_name_by : (rule : StepRule) (f : Option FunctionData) (p : Problem) (c : Combination) → (rule ≡ Linear → ⊥) → IsWideNamed c.multipliers →
-    IsWideBy rule f p c
-wide_name_by Linear f p c other h = absurd (other refl)
-wide_name_by Gmic f p c other h = inl h
-wide_name_by Function f p c other h = inl h
-
-pub wide_name : (f : Option FunctionData) (p : Problem) (c : Combination) → (c.rule ≡ Linear → ⊥) → AreSigned c.rule p c.multipliers →
-    IsWideNamed c.multipliers → IsBaseless f p c verdict.Wide
-wide_name f p c other signed h = (signed, wide_name_by c.rule f p c other h)
