@@ -223,7 +223,7 @@ scaled_at : (factor coefficient x : Frac) (sum : Sum) (i : ℕ) → i < length s
 scaled_at factor coefficient x sum i below here is =
     is ∙ ap (λ w. rational factor *ℚ w) (ap rational here ∙ sym (dot_unit sum.coefficients.items i coefficient below))
 
-claimed_is : (claimed : List Frac) (i : ℕ) (y : Frac) → i < length claimed → y ≡ get_or claimed i y → rational y ≡ claimed_at claimed i
+pub claimed_is : (claimed : List Frac) (i : ℕ) (y : Frac) → i < length claimed → y ≡ get_or claimed i y → rational y ≡ claimed_at claimed i
 claimed_is claimed i y below here = ap rational here ∙ sym (dot_unit claimed i y below)
 
 pub none_up_to : (columns : List Column) (factor : Frac) (sum : Sum) (claimed : List Frac) (right : Frac) →

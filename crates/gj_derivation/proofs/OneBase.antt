@@ -22,10 +22,10 @@ use Rattle.gj_derivation.specs.Derivations.{Line, unit, coefficient_in, line_of,
 
 -- ---- one list of multipliers
 
-first_is : (c : Frac) (cs : List Frac) → dot (c ∷ cs) (unit zero) ≡ rational c
+pub first_is : (c : Frac) (cs : List Frac) → dot (c ∷ cs) (unit zero) ≡ rational c
 first_is c cs = ap (λ w. rational c *ℚ whole (pos 1) +ℚ w) (dot_none cs) ∙ one_time (rational c)
 
-later_is : (c : Frac) (cs : List Frac) (i : ℕ) → dot (c ∷ cs) (unit (suc i)) ≡ dot cs (unit i)
+pub later_is : (c : Frac) (cs : List Frac) (i : ℕ) → dot (c ∷ cs) (unit (suc i)) ≡ dot cs (unit i)
 later_is c cs i = no_time (rational c) (dot cs (unit i))
 
 same_numbers : (cs ds : List Frac) → length cs ≡ length ds → ((i : ℕ) → dot cs (unit i) ≡ dot ds (unit i)) → cs ≡ ds
@@ -84,20 +84,27 @@ cut_is_one f p c q cut usable h k =
 right_from : (r : Rational) → r ≡ whole (pos 0) -ℚ (whole (pos 0) -ℚ r)
 right_from r = by_ring_q (r ∷ []) (search ring_q depth 40) refl
 
-same_right : (q r : Inequality) → ((point : List Rational) → surplus_at point r ≡ surplus_at point q) → rational r.right ≡ rational q.right
-same_right q r h =
-    let at_none : whole (pos 0) -ℚ rational r.right ≡ whole (pos 0) -ℚ rational q.right =
-    ap (λ w. w -ℚ rational r.right) (sym (nothing_sum r.entries)) ∙ h [] ∙ ap (λ w. w -ℚ rational q.right) (nothing_sum q.entries) in
-    right_from (rational r.right) ∙ ap (λ w. whole (pos 0) -ℚ w) at_none ∙ sym (right_from (rational q.right))
+-- the right side and the coefficients, by what the inequality has above its right side
+pub right_of : (q : Inequality) (sum : List Rational → Rational) (r : Rational) → sum [] ≡ whole (pos 0) →
+    ((point : List Rational) → surplus_at point q ≡ sum point -ℚ r) → rational q.right ≡ r
+right_of q sum r none h =
+    let at_none : whole (pos 0) -ℚ rational q.right ≡ whole (pos 0) -ℚ r =
+    ap (λ w. w -ℚ rational q.right) (sym (nothing_sum q.entries)) ∙ h [] ∙ ap (λ w. w -ℚ r) none in
+    right_from (rational q.right) ∙ ap (λ w. whole (pos 0) -ℚ w) at_none ∙ sym (right_from r)
+
+pub coefficients_of : (q : Inequality) (sum : List Rational → Rational) (r : Rational) → sum [] ≡ whole (pos 0) →
+    ((point : List Rational) → surplus_at point q ≡ sum point -ℚ r) → (j : ℕ) → coefficient_in q.entries j ≡ sum (unit j)
+coefficients_of q sum r none h j =
+    put_back (sum_at (unit j) q.entries) (rational q.right)
+    ∙ ap₂ (λ v w. v +ℚ w) (h (unit j)) (right_of q sum r none h)
+    ∙ sym (put_back (sum (unit j)) r)
 
 pub same_line : (q r : Inequality) → ((point : List Rational) → surplus_at point r ≡ surplus_at point q) → line_of r ≡ line_of q
 same_line q r h =
-    let right = same_right q r h in
-    let coefficients : (j : ℕ) → coefficient_in r.entries j ≡ coefficient_in q.entries j =
-    λ (j : ℕ).
-    put_back (sum_at (unit j) r.entries) (rational r.right)
-    ∙ ap₂ (λ v w. v +ℚ w) (h (unit j)) right
-    ∙ sym (put_back (sum_at (unit j) q.entries) (rational q.right)) in
+    let sum = λ (point : List Rational). sum_at point q.entries in
+    let none = nothing_sum q.entries in
+    let right = right_of r sum (rational q.right) none h in
+    let coefficients = coefficients_of r sum (rational q.right) none h in
     λ i. record { coefficient = λ j. coefficients j i; right = right i }
 
 -- ---- one base

@@ -1,12 +1,14 @@
 //! Claims found for drafts.
-ghost use Rattle.std.specs.Prelude.{◌≡◌, ◌<◌, All, IfOk, IfSome, MatchOption, None, Err};
+ghost use Rattle.std.specs.Prelude.{◌≡◌, ◌<◌, ◌^◌, ℕ, All, IfOk, IfSome, MatchOption, None, Err};
 ghost use Rattle.std.specs.Prelude.{length, slice_index_or};
 ghost use Rattle.std.specs.Option.{option_copied};
+ghost use Rattle.gj_problem.specs.Rational.{rational};
+ghost use Rattle.gj_problem.specs.Problems.{AreTermsWithin};
 ghost use Rattle.gj_derivation.specs.declared.step.Verdict.TheVariants.{Wide as wide};
 ghost use Rattle.gj_derivation.specs.declared.draft.Shown.TheVariants.{Against};
 ghost use Rattle.gj_derivation.specs.declared.draft.Claim.TheVariants.{Absent, Terms, Given};
-ghost use Rattle.gj_derivation.specs.Derivations.{IsReady};
-ghost use Rattle.gj_derivation.specs.Checks.{line_of_sum};
+ghost use Rattle.gj_derivation.specs.Derivations.{coefficient_in, IsReady};
+ghost use Rattle.gj_derivation.specs.Checks.{claimed_at, line_of_sum};
 ghost use Rattle.gj_derivation.specs.Drafts.{IsFoundIn, IsWideFinding, IsFilled, IsAgainst};
 ghost use Rattle.gj_derivation.specs.Drafts.{IsShownBy, IsDerivedBy, DerivedIsDerivation};
 ghost use Rattle.gj_derivation.specs.Drafts.{begun, reach, IsPlaced, IsLost, Ends};
@@ -137,14 +139,29 @@ fn found_in(
             let Moved::Right(right) = moved_right(columns, factor, sum, terms.as_slice())? else {
                 unreachable!();
             };
-            let found = Sum {
-                coefficients: terms,
-                right,
-            };
-            let claim = found.inequality(alloc)?.ok_or(Fault::Wide)?;
-            Ok(Filled::Claim(claim))
+            Ok(Filled::Claim(claim_from(alloc, terms, right)?))
         }
         Found::Bound(column) => Ok(Filled::Against(Verdict::Bound(column))),
+    }
+}
+
+/// The inequality of these coefficients against the right side. Wide only if there are more than 2^32
+/// columns.
+fn claim_from(alloc: Global, terms: Vec<Frac>, right: Frac) -> Result<Inequality, Fault>
+    ensures terms { IfOk result (λ q.
+        AreTermsWithin 0 (length terms.items) q.entries) }
+    ensures right { IfOk result (λ q. rational q.right ≡ rational right) }
+    ensures coefficients { IfOk result (λ q. (j : ℕ) →
+        coefficient_in q.entries j ≡ claimed_at terms.items j) }
+    ensures wide { result ≡ Err Fault.Wide → 2 ^ 32 < length terms.items }
+{
+    let sum = Sum {
+        coefficients: terms,
+        right,
+    };
+    match sum.inequality(alloc)? {
+        Some(claim) => Ok(claim),
+        None => Err(Fault::Wide),
     }
 }
 
