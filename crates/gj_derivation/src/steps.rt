@@ -61,7 +61,11 @@ pub fn check_steps(
 }
 
 /// The problem with the claim as one more constraint.
-pub(crate) fn grown_by(alloc: Global, problem: Problem, claim: &Inequality) -> Result<Problem, AllocError>
+pub(crate) fn grown_by(
+    alloc: Global,
+    problem: Problem,
+    claim: &Inequality,
+) -> Result<Problem, AllocError>
     ensures { IfOk result (λ grown. grown ≡ with_claim problem claim.now) }
 {
     let entries = Vec::from_slice(alloc, claim.entries.as_slice())?;
