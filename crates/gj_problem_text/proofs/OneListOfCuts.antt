@@ -237,9 +237,10 @@ module _ (names : List (List ℕ)) (are : AreNames names) where
       (known (codes "skip") refl, known (codes "other") refl)
       (good_lines cs (All-tail IsKnownCut OtherFraction cs h))
   good_lines (Free j ∷ cs) h =
-      All-cons IsGoodLine (free (name_at names j)) (flat_map (lines_of names) cs)
-      (known (codes "skip") refl,
-      (known (codes "free") refl, good_name j (All-head IsKnownCut (Free j) cs h)))
+      All-cons IsGoodLine (free (name_at names j)) (flat_map (lines_of names) cs) (
+        known (codes "skip") refl,
+        (known (codes "free") refl, good_name j (All-head IsKnownCut (Free j) cs h)),
+      )
       (good_lines cs (All-tail IsKnownCut (Free j) cs h))
   good_lines (Wide ∷ cs) h =
       All-cons IsGoodLine wide (flat_map (lines_of names) cs)

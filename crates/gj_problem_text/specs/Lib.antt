@@ -9,3 +9,4 @@ pub mod CutText
 pub mod AnswersMade
 pub mod SafeInputs
 pub mod PrintedProblem
+pub mod PrintedInput
