@@ -1,5 +1,5 @@
 -- What a check answers of a step.
-use Rattle.std.proofs.Common.{◌≡◌, ◌⊎◌, ⊎_elim, inr, Option, Some, None, IfSome, pos, ◌<ℤ◌, sym, subst}
+use Rattle.std.proofs.Common.{◌≡◌, ⊎_elim, inr, Option, Some, None, IfSome, pos, ◌<ℤ◌, sym, subst}
 use Rattle.gj_frac.specs.declared.Frac.{Frac}
 use Rattle.gj_frac.specs.Fraction.{numerator}
 use Rattle.gj_shape.specs.FunctionData.{FunctionData, IsWithinBounds}
@@ -14,7 +14,7 @@ use Rattle.gj_derivation.specs.declared.step.Combination.{Combination}
 use Rattle.gj_derivation.specs.declared.step.Step.{Step}
 use Rattle.gj_derivation.specs.declared.step.StepRule.{StepRule}
 use Rattle.gj_derivation.specs.declared.step.Verdict.{Verdict}
-use Rattle.gj_derivation.specs.declared.step.Verdict.TheVariants.{Accepted, Bound, Right, Wide}
+use Rattle.gj_derivation.specs.declared.step.Verdict.TheVariants.{Accepted, Right, Wide}
 use Rattle.gj_derivation.specs.Derivations.{Line, coefficient_in, times, IsUsable, HasFunctionFor, IsRightOf, IsShown}
 use Rattle.gj_derivation.specs.Checks.{line_of_sum, IsBaseOf, IsFirstUnmovable, IsMovedRight, IsWideFor, IsVerdict, IsCompared}
 

@@ -1,4 +1,4 @@
-use Rattle.std.proofs.Common.{◌≡◌, ◌<◌, ◌≤◌, ℕ, Bool, Vec, Global, ap, length, get_or, ◌+◌, take, true, subst, sym}
+use Rattle.std.proofs.Common.{◌≡◌, ◌<◌, ◌≤◌, ℕ, Bool, Vec, Global, ap, length, get_or, ◌+◌, take, subst, sym}
 use Rattle.gj_problem.proofs.Prefixes.{default_unused}
 use Rattle.gj_derivation.specs.Derivations.{AreAtUpper}
 use Rattle.gj_derivation.proofs.NamedLines.{flags_more, flags_past}

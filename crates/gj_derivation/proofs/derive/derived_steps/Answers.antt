@@ -1,7 +1,6 @@
 use Rattle.std.proofs.Common.{Option, List, MatchOption, sym, subst}
 use Rattle.std.specs.Option.{option_copied}
 use Rattle.gj_derivation.specs.declared.draft.Shown.{Shown}
-use Rattle.gj_derivation.specs.declared.draft.Shown.TheVariants as shown
 use Rattle.gj_derivation.specs.declared.step.Combination.{Combination}
 use Rattle.gj_derivation.specs.Derivations.{IsDerivation}
 use Rattle.gj_derivation.specs.Drafts.{begun, IsPlaced, IsLost, Ends, IsNext, steps_of}

@@ -3,9 +3,7 @@ use Rattle.gj_problem.specs.Rational.{Rational, rational}
 use Rattle.gj_problem.specs.declared.problem.Column.{Column}
 use Rattle.gj_problem.specs.Problems.{AreTermsWithin}
 use Rattle.gj_derivation.specs.declared.moves.Moved.{Moved}
-use Rattle.gj_derivation.specs.declared.moves.Moved.TheVariants as moved
 use Rattle.gj_derivation.specs.declared.terms.Found.{Found}
-use Rattle.gj_derivation.specs.declared.terms.Found.TheVariants as found
 use Rattle.gj_derivation.specs.Derivations.{coefficient_in, times, IsRightOf}
 use Rattle.gj_derivation.specs.Checks.{claimed_at, line_of_sum, IsMovedRight, IsFirstUnmovable, IsWideMoving}
 use Rattle.gj_derivation.specs.Drafts.{AreFoundFor, IsFound, IsWideFinding}
