@@ -18,7 +18,7 @@ use std::alloc::{AllocError, Global};
 
 /// The index that is so much before this one, modulo the order.
 fn index_before(index: u32, by: u32, order: u32) -> u32
-    requires { index < order }
+    requires within { index < order }
     requires step { by ≤ 1 }
     ensures below { result < order }
     ensures value { (result + by) % order ≡ index }
