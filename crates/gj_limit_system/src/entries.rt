@@ -3,7 +3,7 @@ ghost use Rattle.std.specs.Prelude.{ℕ, ℤ, pos, ◌≡◌, ◌+◌, ◌<◌, 
 ghost use Rattle.std.specs.Prelude.{unsigned_abs, get_or};
 ghost use Rattle.gj_sparse_elim.specs.Sparse.{AreSparse};
 ghost use Rattle.gj_limit_system.specs.SparseSums.{sparse_dot, weight};
-ghost use Rattle.gj_limit_system.specs.Places.{IsPlaceOf};
+ghost use Rattle.gj_limit_system.specs.Places.{no_entry, IsPlaceOf};
 
 use gj_sparse_elim::Entry;
 use std::alloc::AllocError;
@@ -18,6 +18,42 @@ fn place_of(entries: &[Entry], column: u32) -> usize
         place += 1;
     }
     place
+}
+
+/// The sum of a factor and a sign.
+fn sum_of(factor: i128, sign: i128) -> i128
+    requires factor { unsigned_abs factor < 2 ^ 31 }
+    requires sign { unsigned_abs sign ≡ 1 }
+    ensures { result ≡ factor +ℤ sign }
+{
+    factor + sign
+}
+
+/// The entry with this factor at the column.
+fn entry_of(column: u32, factor: i128) -> Entry
+    ensures { result ≡ record { column = column; factor = factor } }
+{
+    Entry { column, factor }
+}
+
+/// Adds 1 or -1 to the factor at this place. An entry with nothing left is taken out.
+fn add_at(entries: &mut Vec<Entry>, place: usize, sign: i128)
+    requires within { place < length entries.old.items }
+    requires sign { unsigned_abs sign ≡ 1 }
+    requires light { weight entries.old.items < 2 ^ 31 }
+    ensures sparse { (n : ℕ) → AreSparse n entries.old.items → AreSparse n entries.new.items }
+    ensures dot { (x : ℕ → ℤ) → sparse_dot entries.new.items x ≡
+        sparse_dot entries.old.items x +ℤ sign *ℤ
+        x (get_or entries.old.items place no_entry).column }
+    ensures light { weight entries.new.items ≤ weight entries.old.items + 1 }
+{
+    let entry = entries[place];
+    let factor = sum_of(entry.factor, sign);
+    if factor == 0 {
+        entries.remove(place);
+        return;
+    }
+    entries[place] = entry_of(entry.column, factor);
 }
 
 /// Adds 1 or -1 at the column.
@@ -38,17 +74,9 @@ pub(crate) fn add_sign(
 {
     let place = place_of(entries.as_slice(), column);
     if place < entries.len() && entries[place].column == column {
-        let factor = entries[place].factor + sign;
-        if factor == 0 {
-            entries.remove(place);
-        } else {
-            entries[place] = Entry { column, factor };
-        }
+        add_at(entries, place, sign);
         return Ok(());
     }
-    entries.insert(place, Entry {
-        column,
-        factor: sign,
-    })?;
+    entries.insert(place, entry_of(column, sign))?;
     Ok(())
 }

@@ -7,7 +7,8 @@ ghost use Rattle.gj_sparse_elim.specs.Sparse.{AreSparse};
 ghost use Rattle.gj_limit_system.specs.LimitRows.{IsLimitRowBelow, row_value};
 ghost use Rattle.gj_limit_system.specs.LimitSlacks.{number_on};
 ghost use Rattle.gj_limit_system.specs.SparseSums.{sparse_dot, weight};
-ghost use Rattle.gj_limit_system.specs.Unknowns.{columns_for, limits_from};
+ghost use Rattle.gj_limit_system.specs.Unknowns.{columns_for, limits_from, interval_before};
+ghost use Rattle.gj_limit_system.specs.Unknowns.{slope_column};
 
 use crate::entries::add_sign;
 use crate::limit_row::LimitRow;
@@ -89,7 +90,10 @@ impl LimitRows {
     {
         entries.clear();
         match row {
-            LimitRow::F => self.add_number(entries, Side::Value, self.place, 1),
+            LimitRow::F => {
+                self.add_number(entries, Side::Value, self.place, 1)?;
+                Ok(())
+            }
             LimitRow::Tight {
                 kind,
                 corner,
@@ -99,7 +103,8 @@ impl LimitRows {
                 let terms = terms_of(kind, corner);
                 self.add_number(entries, terms.x, a, 1)?;
                 self.add_number(entries, terms.y, b, 1)?;
-                self.add_number(entries, terms.sum, wrapped(a + b, self.order()), -1)
+                self.add_number(entries, terms.sum, wrapped(a + b, self.order()), -1)?;
+                Ok(())
             }
         }
     }
@@ -130,19 +135,34 @@ impl LimitRows {
         let columns = self.columns();
         match side {
             Side::Left => {
-                let before = if index == 0 { order - 1 } else { index - 1 };
-                let slope = 2 * order - 1 + self.component[before as usize];
+                let before = interval_ending_at(index, order);
                 add_sign(entries, 2 * (order - 1 - before), sign, columns)?;
-                add_sign(entries, slope, sign, columns)
+                add_sign(entries, self.slope_of(before), sign, columns)?;
+                Ok(())
             }
             Side::Value => {
                 if index == 0 {
                     return Ok(());
                 }
-                add_sign(entries, 2 * (order - index) - 1, sign, columns)
+                add_sign(entries, 2 * (order - index) - 1, sign, columns)?;
+                Ok(())
             }
-            Side::Right => add_sign(entries, 2 * (order - 1 - index), sign, columns),
+            Side::Right => {
+                add_sign(entries, 2 * (order - 1 - index), sign, columns)?;
+                Ok(())
+            }
         }
+    }
+
+    /// The column of the slope of an interval's component.
+    fn slope_of(&self, interval: u32) -> u32
+        requires { interval < length self.now.component }
+        ensures value { result ≡ slope_column (length self.now.component)
+            (component_in self.now.component interval) }
+        ensures below { result <
+            columns_for (length self.now.component) self.now.count }
+    {
+        2 * self.order() - 1 + self.component[interval as usize]
     }
 
     /// The order, from 2 to 1,000.
@@ -152,4 +172,13 @@ impl LimitRows {
     {
         self.component.len() as u32
     }
+}
+
+/// The interval that ends at the index, which is below the order.
+fn interval_ending_at(index: u32, order: u32) -> u32
+    requires { index < order }
+    ensures value { result ≡ interval_before order index }
+    ensures below { result < order }
+{
+    if index == 0 { order - 1 } else { index - 1 }
 }
