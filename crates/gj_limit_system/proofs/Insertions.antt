@@ -1,11 +1,11 @@
 -- Sparse rows with one entry more, less, or changed.
-use Rattle.std.proofs.Common.{◌≡◌, ◌≢◌, ℕ, zero, suc, ◌+◌, ◌<◌, ◌≤◌, ◌^◌, ℤ, pos, negsuc, ◌+ℤ◌, ◌*ℤ◌, List, [], ◌∷◌, ◌++◌, length, get_or, take, drop, set, unsigned_abs, refl, sym, ap, ap₂, ◌∙◌, arith}
+use Rattle.std.proofs.Common.{◌≡◌, ◌≢◌, ℕ, zero, suc, ◌+◌, ◌<◌, ◌≤◌, ℤ, pos, ◌+ℤ◌, ◌*ℤ◌, List, [], ◌∷◌, length, get_or, set, unsigned_abs, sym, ap, ◌∙◌, arith}
 use Rattle.std.specs.Prelude.{insert, remove, All}
 use Rattle.std.proofs.lemmas.Int.{ints}
 use Rattle.std.proofs.lemmas.List.Elements.{All-nil, All-cons}
-use Rattle.gj_lemmas.proofs.Integers.{add_mul_z, mul_add_z}
+use Rattle.gj_lemmas.proofs.Integers.{add_mul_z}
 use Rattle.gj_frac.specs.Fraction.{Fits}
-use Rattle.gj_sparse_elim.specs.Sparse.{IsEntryWithin, AreSparseFrom, AreSparse}
+use Rattle.gj_sparse_elim.specs.Sparse.{IsEntryWithin, AreSparseFrom}
 use Rattle.gj_sparse_elim.specs.declared.entry.Entry.{Entry}
 use Rattle.gj_limit_system.specs.Places.{no_entry, IsPlaceOf}
 use Rattle.gj_limit_system.specs.SparseSums.{sparse_dot, weight}

@@ -10,7 +10,7 @@ ghost use Rattle.gj_limit_system.specs.LimitRows.{tight_rows_at, tight_rows};
 ghost use Rattle.gj_limit_system.specs.TightSets.{AreTightSets};
 
 use crate::limit_row::LimitRow;
-use crate::words::{CORNERS, corner_at};
+use crate::corners::{CORNERS, corner_at};
 use gj_limit_faces::{TightLimits, terms_of};
 use gj_loops::IndexSet;
 use gj_shape::{FaceKind, Shape};
