@@ -66,6 +66,7 @@ counted_by p x xs m false e low rest =
           let here = found.count in
           omega (arith, front, here);
     }
+
 pub counted : {X : Type 0} (p : X → Bool) (xs : List X) (m : ℕ) → m < count_by p xs →
     IsCounted p xs m
 counted p [] m low = absurd (omega (arith, low))
@@ -113,6 +114,9 @@ module _ (q : ℕ) (T : FaceKind → ℕ → ℕ → ℕ → Type 0) (cover : Co
       opened found.before l found.after found.place
       (eqb-true l.from l.interval found.passes) found.count in
       let number = (is.component.numbers l.interval m below).1 here in
-      let known = number_is l.interval below in
-      (l.interval, below, let both : Some (component_in component l.interval) ≡ Some m =
-      sym known ∙ number in cc both)
+      let known = number_is l.interval below in (
+        l.interval,
+        below,
+        let both : Some (component_in component l.interval) ≡ Some m =
+            sym known ∙ number in cc both,
+      )

@@ -102,10 +102,43 @@ place_low Upper c low = omega (arith, low)
 
 are_corners : All (λ (c : FaceKind × ℕ). c.1 < length (corners_of c.0 0 0)) corners
 are_corners =
-    All-from_recursion (λ (c : FaceKind × ℕ). c.1 < length (corners_of c.0 0 0)) corners
-    (omega arith, (omega arith, (omega arith, (omega arith, (omega arith, (omega arith,
-    (omega arith, (omega arith, (omega arith, (omega arith, (omega arith, (omega arith,
-    (omega arith, tt)))))))))))))
+    All-from_recursion (λ (c : FaceKind × ℕ). c.1 < length (corners_of c.0 0 0)) corners (
+      omega arith,
+      (
+        omega arith,
+        (
+          omega arith,
+          (
+            omega arith,
+            (
+              omega arith,
+              (
+                omega arith,
+                (
+                  omega arith,
+                  (
+                    omega arith,
+                    (
+                      omega arith,
+                      (
+                        omega arith,
+                        (
+                          omega arith,
+                          (
+                            omega arith,
+                            (omega arith, tt),
+                          ),
+                        ),
+                      ),
+                    ),
+                  ),
+                ),
+              ),
+            ),
+          ),
+        ),
+      ),
+    )
 
 -- ---- rows
 

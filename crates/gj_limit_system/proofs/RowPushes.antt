@@ -46,9 +46,11 @@ module _ (f : FunctionData) (a b n : ℕ) (set : IndexSet)
   loose : has set b ≡ false → is_tight_at f a b (corner_there n) ≡ false
   loose no' =
       false_from_ne_true (is_tight_at f a b (corner_there n)) (λ yes'.
-      both_ways (has set b) no' ((told b).1 (b_low,
-      (Decides-int_eq (slack_at (limits_in f) (corner_there n).0 (corner_there n).1 a b)
-      (pos 0)).0 yes')))
+      both_ways (has set b) no' ((told b).1 (
+        b_low,
+        (Decides-int_eq (slack_at (limits_in f) (corner_there n).0 (corner_there n).1 a b)
+            (pos 0)).0 yes',
+      )))
 
   pub row_pushed : (begun rows more : List LimitRow) (row : LimitRow) → has set b ≡ true →
       rows ≡ begun ++ rows_so_far f a b n → more ≡ rows ++ row ∷ [] →

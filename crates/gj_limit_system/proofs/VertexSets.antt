@@ -73,8 +73,12 @@ module _ (f : FunctionData) (bounds : IsWithinBounds f) (kind : FaceKind) (c a n
       (r_is ∙ ap (λ m. x && ltb b m) n_is)
       (λ b_low. (
         found b_low,
-        λ p. (turned b_low).1 (v, mod-lt (b + (f.order - 1)) some, next b_low,
-            there v b_low (next b_low) ∙ p),
+        λ p. (turned b_low).1 (
+          v,
+          mod-lt (b + (f.order - 1)) some,
+          next b_low,
+          there v b_low (next b_low) ∙ p,
+        ),
       ))
       (λ yes' b_low. found b_low yes')
 

@@ -225,9 +225,9 @@ pub corner_of_tight : (f : FunctionData) (kind : FaceKind) (a b c : ℕ) → IsT
 corner_of_tight f kind a b c tight =
     ⊎_elim (λ low. low)
     (λ high.
-        let many = count_of f kind a b in
-        let past = get_or_past (limits_of f kind a b) c (pos 1) (omega (arith, high, many)) in
-        absurd (omega (arith, ints, sym past ∙ tight)))
+    let many = count_of f kind a b in
+    let past = get_or_past (limits_of f kind a b) c (pos 1) (omega (arith, high, many)) in
+    absurd (omega (arith, ints, sym past ∙ tight)))
     (cases_lt c (length (corners_of kind 0 0)))
 
 -- the limit of the square is that of the vertex
