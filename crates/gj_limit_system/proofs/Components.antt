@@ -1,10 +1,10 @@
 -- The components of a cover in which all intervals are covered.
-use Rattle.std.proofs.Common.{◌≡◌, ℕ, zero, suc, ◌+◌, ◌<◌, ◌==◌, Bool, true, false, List, [], ◌∷◌, ◌++◌, length, map, get_or, Option, Some, None, count_by, refl, sym, ap, subst, ◌∙◌, inl, inr, ⊎_elim, arith}
+use Rattle.std.proofs.Common.{◌≡◌, ℕ, zero, suc, ◌+◌, ◌<◌, ◌==◌, Bool, true, false, List, [], ◌∷◌, ◌++◌, length, map, Some, None, count_by, refl, sym, ap, ◌∙◌, inl, inr, arith}
 use Rattle.std.specs.Prelude.{cond}
-use Rattle.std.proofs.lemmas.Bool.{cases_Bool, eqb-true}
+use Rattle.std.proofs.lemmas.Bool.{eqb-true}
 use Rattle.std.proofs.lemmas.List.{get_or-map, length-map}
 use Rattle.std.proofs.lemmas.List.Sums.{sum_by-cons}
-use Rattle.gj_shape.specs.Cover.{HasComponent, opened, components_in}
+use Rattle.gj_shape.specs.Cover.{HasComponent, opened}
 use Rattle.gj_shape.specs.SlopeRows.{component_in}
 use Rattle.gj_shape.specs.declared.extremality.CoverLine.{CoverLine}
 use Rattle.gj_shape.specs.declared.faces.FaceKind.{FaceKind}
@@ -66,6 +66,7 @@ counted_by p x xs m false e low rest =
           let here = found.count in
           omega (arith, front, here);
     }
+
 pub counted : {X : Type 0} (p : X → Bool) (xs : List X) (m : ℕ) → m < count_by p xs →
     IsCounted p xs m
 counted p [] m low = absurd (omega (arith, low))
@@ -113,6 +114,9 @@ module _ (q : ℕ) (T : FaceKind → ℕ → ℕ → ℕ → Type 0) (cover : Co
       opened found.before l found.after found.place
       (eqb-true l.from l.interval found.passes) found.count in
       let number = (is.component.numbers l.interval m below).1 here in
-      let known = number_is l.interval below in
-      (l.interval, below, let both : Some (component_in component l.interval) ≡ Some m =
-      sym known ∙ number in cc both)
+      let known = number_is l.interval below in (
+        l.interval,
+        below,
+        let both : Some (component_in component l.interval) ≡ Some m =
+            sym known ∙ number in cc both,
+      )

@@ -1,12 +1,12 @@
 -- Limits and values that solve the system of limits are those of some numbers, which solve the
 -- rows.
-use Rattle.std.proofs.Common.{◌≡◌, ℕ, zero, suc, ◌+◌, ◌-◌, ◌*◌, ◌/◌, ◌%◌, ◌<◌, ◌≤◌, ◌==◌, ℤ, pos, ◌+ℤ◌, ◌-ℤ◌, Bool, true, false, List, [], ◌∷◌, length, get_or, map, Some, refl, sym, ap, ◌∙◌, ⊎_elim, inl, inr, ltb, lt-ltb, le-ltb, arith}
+use Rattle.std.proofs.Common.{◌≡◌, ℕ, zero, suc, ◌+◌, ◌-◌, ◌*◌, ◌/◌, ◌%◌, ◌<◌, ◌==◌, ℤ, pos, ◌+ℤ◌, Bool, true, false, List, [], ◌∷◌, length, map, Some, refl, sym, ap, ◌∙◌, inl, inr, ltb, lt-ltb, le-ltb, arith}
 use Rattle.std.specs.Prelude.{cond}
-use Rattle.std.proofs.Math.Nat.{mod-lt, mod-mod, mod-eq_of_lt, add-mod_right, mod-add-mod}
+use Rattle.std.proofs.Math.Nat.{mod-lt, mod-mod, add-mod_right, mod-add-mod}
 use Rattle.std.proofs.lemmas.Bool.Decides.{eqb_tells}
 use Rattle.std.proofs.lemmas.Int.{ints}
 use Rattle.gj_lemmas.proofs.Quotients.{same_at_remainder, parts_of_place}
-use Rattle.gj_shape.specs.Faces.{corners_of, limits_of, slack_from}
+use Rattle.gj_shape.specs.Faces.{corners_of, slack_from}
 use Rattle.gj_shape.specs.FunctionData.{FunctionData, IsWithinBounds, at}
 use Rattle.gj_shape.specs.SlopeRows.{component_in}
 use Rattle.gj_shape.specs.declared.faces.FaceKind.{FaceKind}
@@ -14,7 +14,7 @@ use Rattle.gj_shape.specs.declared.faces.FaceKind.TheVariants.{Vertex}
 use Rattle.gj_cover.specs.declared.covered.Cover.{Cover}
 use Rattle.gj_jumps.specs.LimitCover.{IsTightAt}
 use Rattle.gj_jumps.specs.LimitSystem.{Limits}
-use Rattle.gj_jumps.specs.WholeLimits.{whole_slacks_of, SolvesWholeLimits}
+use Rattle.gj_jumps.specs.WholeLimits.{SolvesWholeLimits}
 use Rattle.gj_limit_cover.specs.CoverOf.{IsCoverOf}
 use Rattle.gj_limit_faces.specs.Terms.{terms_at}
 use Rattle.gj_limit_faces.specs.declared.terms.Side.{Side}

@@ -1,22 +1,20 @@
 -- Numbers that solve the rows give limits and values that solve the system of limits.
-use Rattle.std.proofs.Common.{◌≡◌, ℕ, zero, suc, ◌+◌, ◌-◌, ◌*◌, ◌/◌, ◌%◌, ◌<◌, ◌≤◌, ℤ, pos, ◌+ℤ◌, List, length, get_or, refl, sym, ap, ◌∙◌, ⊎_elim, inl, inr, arith}
+use Rattle.std.proofs.Common.{◌≡◌, ℕ, zero, suc, ◌+◌, ◌-◌, ◌*◌, ◌/◌, ◌%◌, ◌<◌, ◌≤◌, ℤ, pos, ◌+ℤ◌, length, get_or, sym, ap, ◌∙◌, ⊎_elim, arith}
 use Rattle.std.proofs.Math.Nat.{mod-lt, mod-mod, mod-eq_of_lt, add-mod_right, div-add-mod'}
 use Rattle.std.proofs.lemmas.Bool.{cases_lt}
 use Rattle.std.proofs.lemmas.Int.{ints}
-use Rattle.gj_shape.specs.Faces.{corners_of, limits_of}
+use Rattle.gj_shape.specs.Faces.{corners_of}
 use Rattle.gj_shape.specs.FunctionData.{FunctionData, IsWithinBounds}
-use Rattle.gj_shape.specs.SlopeRows.{component_in}
 use Rattle.gj_shape.specs.declared.faces.FaceKind.{FaceKind}
 use Rattle.gj_jumps.specs.LimitCover.{IsTightAt}
 use Rattle.gj_jumps.specs.LimitSystem.{Limits}
 use Rattle.gj_jumps.specs.WholeLimits.{whole_slacks_of, SolvesWholeLimits, HasOnlyZeroWholeLimits}
 use Rattle.gj_limit_faces.specs.Terms.{terms_at}
-use Rattle.gj_limit_faces.specs.declared.terms.Side.{Side}
 use Rattle.gj_limit_system.specs.LimitSlacks.{limits_in, slack_at}
 use Rattle.gj_limit_system.specs.LimitRows.{row_value}
 use Rattle.gj_limit_system.specs.Unknowns.{right_column, value_column, slope_column, columns_for, value_from, interval_before, limits_from}
 use Rattle.gj_limit_system.specs.Decided.{SolveLimitRows}
-use Rattle.gj_limit_system.proofs.VertexSlacks.{at_vertex, right_low, above_low, IsPeriodic, sum_same, slack_same, data_periodic, mirror_kind, mirror_corner, mirrored, mirror_low, corner_of_tight, limit_at_vertex}
+use Rattle.gj_limit_system.proofs.VertexSlacks.{at_vertex, IsPeriodic, slack_same, data_periodic, mirror_kind, mirror_corner, mirrored, mirror_low, corner_of_tight, limit_at_vertex}
 use Rattle.gj_limit_system.proofs.NamedRows.{of_f, of_tight}
 
 -- the limits and values of numbers have the period

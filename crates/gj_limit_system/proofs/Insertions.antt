@@ -1,11 +1,11 @@
 -- Sparse rows with one entry more, less, or changed.
-use Rattle.std.proofs.Common.{◌≡◌, ◌≢◌, ℕ, zero, suc, ◌+◌, ◌<◌, ◌≤◌, ◌^◌, ℤ, pos, negsuc, ◌+ℤ◌, ◌*ℤ◌, List, [], ◌∷◌, ◌++◌, length, get_or, take, drop, set, unsigned_abs, refl, sym, ap, ap₂, ◌∙◌, arith}
+use Rattle.std.proofs.Common.{◌≡◌, ◌≢◌, ℕ, zero, suc, ◌+◌, ◌<◌, ◌≤◌, ℤ, pos, ◌+ℤ◌, ◌*ℤ◌, List, [], ◌∷◌, length, get_or, set, unsigned_abs, sym, ap, ◌∙◌, arith}
 use Rattle.std.specs.Prelude.{insert, remove, All}
 use Rattle.std.proofs.lemmas.Int.{ints}
 use Rattle.std.proofs.lemmas.List.Elements.{All-nil, All-cons}
-use Rattle.gj_lemmas.proofs.Integers.{add_mul_z, mul_add_z}
+use Rattle.gj_lemmas.proofs.Integers.{add_mul_z}
 use Rattle.gj_frac.specs.Fraction.{Fits}
-use Rattle.gj_sparse_elim.specs.Sparse.{IsEntryWithin, AreSparseFrom, AreSparse}
+use Rattle.gj_sparse_elim.specs.Sparse.{IsEntryWithin, AreSparseFrom}
 use Rattle.gj_sparse_elim.specs.declared.entry.Entry.{Entry}
 use Rattle.gj_limit_system.specs.Places.{no_entry, IsPlaceOf}
 use Rattle.gj_limit_system.specs.SparseSums.{sparse_dot, weight}
@@ -30,13 +30,15 @@ sparse_lower : (from more n : ℕ) (row : List Entry) → from ≤ more → AreS
 sparse_lower from more n [] le h = tt
 sparse_lower from more n (e ∷ row) le h =
     let first = h.0 in
-    let behind = first.behind in
-    (record {
-      behind = omega (arith, le, behind);
-      below = first.below;
-      some = first.some;
-      fits = first.fits;
-    }, h.1)
+    let behind = first.behind in (
+      record {
+        behind = omega (arith, le, behind);
+        below = first.below;
+        some = first.some;
+        fits = first.fits;
+      },
+      h.1,
+    )
 
 pub sparse_insert : (from n c p : ℕ) (z : ℤ) (row : List Entry) → AreSparseFrom from n row →
     IsPlaceOf row c p → (p < length row → (get_or row p no_entry).column ≢ c) →
@@ -47,23 +49,30 @@ sparse_insert from n c (suc p) z [] h place other it =
 sparse_insert from n c zero z (e ∷ row) h place other it =
     let first = h.0 in
     let next = place.next (omega arith) in
-    let differ = other (omega arith) in
-    (it, (record {
-      behind = omega (arith, next, differ);
-      below = first.below;
-      some = first.some;
-      fits = first.fits;
-    }, h.1))
+    let differ = other (omega arith) in (
+      it,
+      (
+        record {
+          behind = omega (arith, next, differ);
+          below = first.below;
+          some = first.some;
+          fits = first.fits;
+        },
+        h.1,
+      ),
+    )
 sparse_insert from n c (suc p) z (e ∷ row) h place other it =
-    let before : e.column < c = place.before 0 (omega arith) in
-    (h.0, sparse_insert (e.column + 1) n c p z row h.1 (tail_place e row c p place)
-    (λ low. other (omega (arith, low)))
-    (record {
-      behind = omega (arith, before);
-      below = it.below;
-      some = it.some;
-      fits = it.fits;
-    }))
+    let before : e.column < c = place.before 0 (omega arith) in (
+      h.0,
+      sparse_insert (e.column + 1) n c p z row h.1 (tail_place e row c p place)
+          (λ low. other (omega (arith, low)))
+          (record {
+            behind = omega (arith, before);
+            below = it.below;
+            some = it.some;
+            fits = it.fits;
+          }),
+    )
 
 pub sparse_set : (from n p : ℕ) (x : Entry) (row : List Entry) → AreSparseFrom from n row →
     p < length row → (get_or row p no_entry).column ≡ x.column → x.factor ≢ pos 0 →
@@ -72,14 +81,16 @@ sparse_set from n p x [] h low same some fits = absurd (omega (arith, low))
 sparse_set from n zero x (e ∷ row) h low same some fits =
     let first = h.0 in
     let behind = first.behind in
-    let below = first.below in
-    (record {
-      behind = omega (arith, behind, same);
-      below = omega (arith, below, same);
-      some = some;
-      fits = fits;
-    }, let rest = h.1 in
-        sparse_lower (x.column + 1) (e.column + 1) n row (omega (arith, same)) rest)
+    let below = first.below in (
+      record {
+        behind = omega (arith, behind, same);
+        below = omega (arith, below, same);
+        some = some;
+        fits = fits;
+      },
+      let rest = h.1 in
+          sparse_lower (x.column + 1) (e.column + 1) n row (omega (arith, same)) rest,
+    )
 sparse_set from n (suc p) x (e ∷ row) h low same some fits =
     (h.0, sparse_set (e.column + 1) n p x row h.1 (omega (arith, low)) same some fits)
 

@@ -1,14 +1,12 @@
 -- The entries of a limit from one side, and of a row, are those of the limits and values for
 -- numbers.
-use Rattle.std.proofs.Common.{◌≡◌, ◌≢◌, ℕ, zero, suc, ◌+◌, ◌-◌, ◌*◌, ◌%◌, ◌<◌, ◌≤◌, ℤ, pos, negsuc, ◌+ℤ◌, ◌*ℤ◌, List, [], length, unsigned_abs, to_z, of_z, refl, sym, subst, ap, ◌∙◌, arith}
+use Rattle.std.proofs.Common.{◌≡◌, ◌≢◌, ℕ, zero, suc, ◌+◌, ◌-◌, ◌*◌, ◌%◌, ◌<◌, ◌≤◌, ℤ, pos, negsuc, ◌+ℤ◌, ◌*ℤ◌, List, [], length, unsigned_abs, to_z, of_z, refl, sym, ap, ◌∙◌, arith}
 use Rattle.std.specs.Int.{w128}
-use Rattle.std.specs.Prelude.{All}
 use Rattle.std.proofs.Math.Nat.{mod-mod, mod-eq_of_lt}
 use Rattle.std.proofs.lemmas.Int.{ints}
 use Rattle.gj_lemmas.proofs.Integers.{mul_add_z}
 use Rattle.gj_shape.specs.Faces.{slack_from}
 use Rattle.gj_shape.specs.declared.faces.FaceKind.{FaceKind}
-use Rattle.gj_jumps.specs.LimitSystem.{Limits}
 use Rattle.gj_limit_faces.specs.Terms.{terms_at}
 use Rattle.gj_limit_faces.specs.declared.terms.Side.{Side}
 use Rattle.gj_limit_faces.specs.declared.terms.Side.TheVariants.{Left, Value, Right}
@@ -19,7 +17,7 @@ use Rattle.gj_limit_system.specs.LimitSlacks.{number_on, slack_at}
 use Rattle.gj_limit_system.specs.SparseSums.{weight}
 use Rattle.gj_limit_system.specs.Unknowns.{right_column, value_column, slope_column, value_from, interval_before, limits_from}
 use Rattle.gj_limit_system.proofs.FromRows.{from_periodic}
-use Rattle.gj_limit_system.proofs.Insertions.{count_light, factors_light}
+use Rattle.gj_limit_system.proofs.Insertions.{count_light}
 use Rattle.gj_limit_system.proofs.Signs.{read_small}
 use Rattle.gj_limit_system.proofs.VertexSlacks.{number_same}
 

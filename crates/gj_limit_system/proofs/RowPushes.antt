@@ -1,5 +1,5 @@
 -- The rows of a vertex and of a row of vertices, pushed one after another.
-use Rattle.std.proofs.Common.{◌≡◌, ℕ, ◌+◌, ◌-◌, ◌<◌, ◌≤◌, pos, Bool, true, false, List, [], ◌∷◌, ◌++◌, length, map, get_or, take, refl, sym, ap, ◌∙◌, append_assoc, arith}
+use Rattle.std.proofs.Common.{◌≡◌, ℕ, ◌+◌, ◌-◌, ◌<◌, ◌≤◌, pos, Bool, true, false, List, [], ◌∷◌, ◌++◌, map, get_or, take, sym, ap, ◌∙◌, append_assoc, arith}
 use Rattle.std.specs.Prelude.{filter, flat_map, cond}
 use Rattle.std.specs.List.{range_with_len}
 use Rattle.std.proofs.lemmas.Bool.{false_from_ne_true, both_ways}
@@ -8,16 +8,15 @@ use Rattle.std.proofs.lemmas.List.{take_more, map-append, append-nil}
 use Rattle.std.proofs.lemmas.List.Concat.{flat_map-append}
 use Rattle.std.proofs.lemmas.List.Elements.{filter-append}
 use Rattle.gj_lemmas.proofs.Lists.{range_split}
-use Rattle.gj_loops.specs.IndexSets.{has, no_set}
+use Rattle.gj_loops.specs.IndexSets.{has}
 use Rattle.gj_loops.specs.declared.index_set.IndexSet.{IndexSet}
 use Rattle.gj_shape.specs.FunctionData.{FunctionData}
 use Rattle.gj_shape.specs.declared.faces.FaceKind.{FaceKind}
 use Rattle.gj_shape.specs.declared.faces.FaceKind.TheVariants.{Vertex}
-use Rattle.gj_limit_system.specs.LimitRows.{corners, row_at, is_tight_at, tight_rows_at, tight_rows}
+use Rattle.gj_limit_system.specs.LimitRows.{corners, row_at, is_tight_at, tight_rows_at}
 use Rattle.gj_limit_system.specs.LimitSlacks.{limits_in, slack_at}
-use Rattle.gj_limit_system.specs.TightSets.{IsTightSet, AreTightSets}
+use Rattle.gj_limit_system.specs.TightSets.{IsTightSet}
 use Rattle.gj_limit_system.specs.declared.limit_row.LimitRow.{LimitRow}
-use Rattle.gj_limit_system.specs.declared.limit_row.LimitRow.TheVariants.{Tight}
 
 abbrev pub corner_there : ℕ → FaceKind × ℕ
 corner_there n = get_or corners n (Vertex, 0)
@@ -47,9 +46,11 @@ module _ (f : FunctionData) (a b n : ℕ) (set : IndexSet)
   loose : has set b ≡ false → is_tight_at f a b (corner_there n) ≡ false
   loose no' =
       false_from_ne_true (is_tight_at f a b (corner_there n)) (λ yes'.
-      both_ways (has set b) no' ((told b).1 (b_low,
-      (Decides-int_eq (slack_at (limits_in f) (corner_there n).0 (corner_there n).1 a b)
-      (pos 0)).0 yes')))
+      both_ways (has set b) no' ((told b).1 (
+        b_low,
+        (Decides-int_eq (slack_at (limits_in f) (corner_there n).0 (corner_there n).1 a b)
+            (pos 0)).0 yes',
+      )))
 
   pub row_pushed : (begun rows more : List LimitRow) (row : LimitRow) → has set b ≡ true →
       rows ≡ begun ++ rows_so_far f a b n → more ≡ rows ++ row ∷ [] →

@@ -1,5 +1,5 @@
 -- The limits at the vertices of one row that are 0, off those of the squares around them.
-use Rattle.std.proofs.Common.{◌≡◌, ◌↔◌, ◌&&◌, ℕ, ◌+◌, ◌-◌, ◌%◌, ◌<◌, ◌≤◌, pos, ltb, eqb, cond, Bool, true, List, [], ◌∷◌, ◌++◌, length, get_or, refl, sym, ap, subst, ◌∙◌, inl, inr, arith}
+use Rattle.std.proofs.Common.{◌≡◌, ◌↔◌, ◌&&◌, ℕ, ◌+◌, ◌-◌, ◌%◌, ◌<◌, pos, ltb, eqb, cond, Bool, true, List, [], ◌∷◌, ◌++◌, length, get_or, sym, ap, subst, ◌∙◌, inl, inr, arith}
 use Rattle.std.proofs.Math.Nat.{mod-lt, mod-eq_of_lt, add-mod_right, mod-add-mod}
 use Rattle.std.proofs.lemmas.Bool.{cases_lt}
 use Rattle.std.proofs.lemmas.List.{get_or_append_left, get_or_push, length_push}
@@ -73,8 +73,12 @@ module _ (f : FunctionData) (bounds : IsWithinBounds f) (kind : FaceKind) (c a n
       (r_is ∙ ap (λ m. x && ltb b m) n_is)
       (λ b_low. (
         found b_low,
-        λ p. (turned b_low).1 (v, mod-lt (b + (f.order - 1)) some, next b_low,
-            there v b_low (next b_low) ∙ p),
+        λ p. (turned b_low).1 (
+          v,
+          mod-lt (b + (f.order - 1)) some,
+          next b_low,
+          there v b_low (next b_low) ∙ p,
+        ),
       ))
       (λ yes' b_low. found b_low yes')
 

@@ -1,13 +1,13 @@
 -- Limits of the slack at a vertex: from the squares around it, modulo the order, and with x and y
 -- exchanged.
-use Rattle.std.proofs.Common.{◌≡◌, ℕ, zero, suc, ◌+◌, ◌%◌, ◌<◌, ◌≤◌, ℤ, pos, ◌+ℤ◌, ◌-ℤ◌, List, length, get_or, refl, sym, ap, ◌∙◌, arith, ⊎_elim}
+use Rattle.std.proofs.Common.{◌≡◌, ℕ, zero, suc, ◌+◌, ◌%◌, ◌<◌, ◌≤◌, ℤ, pos, length, get_or, refl, sym, ap, ◌∙◌, arith, ⊎_elim}
 use Rattle.std.proofs.Math.Nat.{mod-add-mod, add-mod-mod, add-mod_right}
 use Rattle.std.proofs.lemmas.Bool.{cases_lt}
 use Rattle.std.proofs.lemmas.Int.{ints}
 use Rattle.std.proofs.lemmas.List.{get_or_past}
 use Rattle.gj_lemmas.proofs.Quotients.{same_at_remainder}
 use Rattle.gj_shape.specs.Faces.{corners_of, limits_of, slack_from}
-use Rattle.gj_shape.specs.FunctionData.{FunctionData, IsWithinBounds, at}
+use Rattle.gj_shape.specs.FunctionData.{FunctionData, IsWithinBounds}
 use Rattle.gj_shape.specs.declared.faces.FaceKind.{FaceKind}
 use Rattle.gj_shape.specs.declared.faces.FaceKind.TheVariants.{Vertex, Horizontal, Vertical, Diagonal, Lower, Upper}
 use Rattle.gj_theory.proofs.Everywhere.{at_same}
@@ -225,9 +225,9 @@ pub corner_of_tight : (f : FunctionData) (kind : FaceKind) (a b c : ℕ) → IsT
 corner_of_tight f kind a b c tight =
     ⊎_elim (λ low. low)
     (λ high.
-        let many = count_of f kind a b in
-        let past = get_or_past (limits_of f kind a b) c (pos 1) (omega (arith, high, many)) in
-        absurd (omega (arith, ints, sym past ∙ tight)))
+    let many = count_of f kind a b in
+    let past = get_or_past (limits_of f kind a b) c (pos 1) (omega (arith, high, many)) in
+    absurd (omega (arith, ints, sym past ∙ tight)))
     (cases_lt c (length (corners_of kind 0 0)))
 
 -- the limit of the square is that of the vertex

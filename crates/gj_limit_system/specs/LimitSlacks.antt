@@ -1,5 +1,5 @@
 -- Limits of the slack at a vertex of the complex (own).
-use Rattle.std.specs.Prelude.{ℕ, ℤ, pos, ◌+◌}
+use Rattle.std.specs.Prelude.{ℕ, ℤ, ◌+◌}
 use Rattle.gj_shape.specs.Faces.{slack_from}
 use Rattle.gj_shape.specs.FunctionData.{FunctionData, at}
 use Rattle.gj_shape.specs.declared.faces.FaceKind.{FaceKind}

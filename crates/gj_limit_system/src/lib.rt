@@ -7,12 +7,12 @@
 //! [`rows_decide_the_limits`] says that these rows are right.
 #![tactic(auto)]
 
+mod corners;
 mod entries;
 mod law;
 mod limit_row;
 mod limit_rows;
 mod tight_rows;
-mod words;
 
 pub use law::rows_decide_the_limits;
 pub use limit_row::LimitRow;

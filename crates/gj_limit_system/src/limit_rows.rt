@@ -94,12 +94,7 @@ impl LimitRows {
                 self.add_number(entries, Side::Value, self.place, 1)?;
                 Ok(())
             }
-            LimitRow::Tight {
-                kind,
-                corner,
-                a,
-                b,
-            } => {
+            LimitRow::Tight { kind, corner, a, b } => {
                 let terms = terms_of(kind, corner);
                 self.add_number(entries, terms.x, a, 1)?;
                 self.add_number(entries, terms.y, b, 1)?;

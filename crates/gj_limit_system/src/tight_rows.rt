@@ -9,8 +9,8 @@ ghost use Rattle.gj_limit_system.specs.LimitSlacks.{limits_in, slack_at};
 ghost use Rattle.gj_limit_system.specs.LimitRows.{tight_rows_at, tight_rows};
 ghost use Rattle.gj_limit_system.specs.TightSets.{AreTightSets};
 
+use crate::corners::{CORNERS, corner_at};
 use crate::limit_row::LimitRow;
-use crate::words::{CORNERS, corner_at};
 use gj_limit_faces::{TightLimits, terms_of};
 use gj_loops::IndexSet;
 use gj_shape::{FaceKind, Shape};
@@ -80,12 +80,7 @@ fn push_rows_at(
     for position in 0..CORNERS {
         if sets[position].contains(b as usize) {
             let (kind, corner) = corner_at(position);
-            let row = LimitRow::Tight {
-                kind,
-                corner,
-                a,
-                b,
-            };
+            let row = LimitRow::Tight { kind, corner, a, b };
             rows.push(row)?;
         }
     }

@@ -1,4 +1,4 @@
-use Rattle.std.proofs.Common.{◌≡◌, ◌<◌, ◌^◌, unsigned_abs, subst, sym, arith}
+use Rattle.std.proofs.Common.{◌<◌, ◌^◌, unsigned_abs, subst, sym, arith}
 use Rattle.gj_limit_system.proofs.Signs.{read_small, factor_small, removed_sparse, removed_dot, removed_light, changed_sparse, changed_dot, changed_light}
 use Rattle.gj_limit_system.proofs.entries.add_at.Goals as goal
 

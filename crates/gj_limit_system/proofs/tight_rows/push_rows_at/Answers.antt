@@ -1,4 +1,4 @@
-use Rattle.std.proofs.Common.{◌≡◌, ◌<◌, get_or, sym, ap, ◌∙◌}
+use Rattle.std.proofs.Common.{◌<◌, get_or, sym, ap, ◌∙◌}
 use Rattle.gj_loops.specs.IndexSets.{no_set}
 use Rattle.gj_limit_system.specs.LimitRows.{row_at}
 use Rattle.gj_limit_system.proofs.RowPushes.{row_pushed, row_left}

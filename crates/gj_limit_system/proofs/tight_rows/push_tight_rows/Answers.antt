@@ -1,4 +1,4 @@
-use Rattle.std.proofs.Common.{◌≡◌, ◌<◌, sym, ap, subst, ◌∙◌, arith}
+use Rattle.std.proofs.Common.{sym, subst, arith}
 use Rattle.gj_limit_system.specs.TightSets.{AreTightSets}
 use Rattle.gj_limit_system.proofs.RowPushes.{vertex_more}
 use Rattle.gj_limit_system.proofs.tight_rows.push_tight_rows.Goals as goal

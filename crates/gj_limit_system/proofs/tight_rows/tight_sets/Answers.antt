@@ -1,5 +1,5 @@
-use Rattle.std.proofs.Common.{◌≤◌, subst, sym, ap, arith}
-use Rattle.gj_limit_system.specs.TightSets.{IsTightSet, AreTightSets}
+use Rattle.std.proofs.Common.{subst, arith}
+use Rattle.gj_limit_system.specs.TightSets.{IsTightSet}
 use Rattle.gj_limit_system.proofs.VertexSets.{one_set_more}
 use Rattle.gj_limit_system.proofs.tight_rows.tight_sets.Goals as goal
 

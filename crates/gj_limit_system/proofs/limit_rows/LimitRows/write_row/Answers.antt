@@ -1,4 +1,4 @@
-use Rattle.std.proofs.Common.{◌≡◌, length, sym, ap, ◌∙◌, arith}
+use Rattle.std.proofs.Common.{length, sym, ap, ◌∙◌}
 use Rattle.gj_shape.specs.SlopeRows.{component_in}
 use Rattle.gj_limit_system.specs.LimitRows.{row_value}
 use Rattle.gj_limit_system.specs.SparseSums.{sparse_dot}
