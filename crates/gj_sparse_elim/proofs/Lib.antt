@@ -1,0 +1,3 @@
+pub mod ColumnSets
+pub mod SparseRows
+pub mod SparseSteps

@@ -37,7 +37,7 @@ pub(crate) fn entries_of(alloc: Global, row: &[i128]) -> Result<Vec<Entry>, Allo
 
 /// Puts 0 at each column.
 fn erase(row: &mut [i128])
-    ensures { (k : ℕ) → k < length row.old → at_column row.new k ≡ pos 0 }
+    ensures { (k : ℕ) → at_column row.new k ≡ pos 0 }
 {
     for number in row.iter_mut() {
         *number = 0;
