@@ -1,3 +1,4 @@
 pub mod ColumnSets
 pub mod SparseRows
 pub mod SparseSteps
+pub mod KeptEntries
