@@ -2,3 +2,4 @@ pub mod ColumnSets
 pub mod SparseRows
 pub mod SparseSteps
 pub mod KeptEntries
+pub mod Summing

@@ -36,3 +36,30 @@ returns-then-bound-ge-GREATEST_BOUND-clause-wide c =
     c.reduce_exactly.ensures.wide e (inserted (length c.args.row.now) (kept_sparse (length c.args.row.now) c.args.log.now c.args.rows.now) (dense (length c.args.row.now) c.args.given.now))
     (sparse_start (length c.args.row.now) _ c.args.log.now c.args.rows.now c.args.given.now c.spread.new.row c.args.reduce.now.items
     c.spread.auto.row c.spread.ensures c.requires.empty)
+
+pub returns-in-Column-clause-left : goal.returns-in-Column-clause-left
+returns-in-Column-clause-left c =
+    if_ok_more c.reduce_exactly-in-Column.result _ _ c.reduce_exactly-in-Column.ensures.done
+    (λ left h. (h (inserted (length c.args.row.now) (kept_sparse (length c.args.row.now) c.args.log.now c.args.rows.now) (dense (length c.args.row.now) c.args.given.now))
+    (sparse_reached (length c.args.row.now) (length c.load.new.row) (length c.reduce_lazily.new.exact) c.args.log.now c.args.rows.now
+    c.args.given.now c.load.new.row c.reduce_lazily.new.row c.reduce_lazily.new.exact c.in_ok-reduce_lazily.field-0 c.in-Column.column
+    c.reduce_lazily.new.reduce.items (c.load.auto.row ∙ c.requires.small_columns) c.reduce_lazily.auto.exact refl
+    (c.load.ensures.value ∙ ap (λ n. dense n c.args.given.now) (sym c.load.auto.row)) c.in-Column.is c.in_ok-reduce_lazily.ensures.reached)).left_is)
+
+pub returns-in-Column-clause-narrow : goal.returns-in-Column-clause-narrow
+returns-in-Column-clause-narrow c =
+    on_ok_more c.reduce_exactly-in-Column.result _ _ c.reduce_exactly-in-Column.ensures.done
+    (λ left h. (h (inserted (length c.args.row.now) (kept_sparse (length c.args.row.now) c.args.log.now c.args.rows.now) (dense (length c.args.row.now) c.args.given.now))
+    (sparse_reached (length c.args.row.now) (length c.load.new.row) (length c.reduce_lazily.new.exact) c.args.log.now c.args.rows.now
+    c.args.given.now c.load.new.row c.reduce_lazily.new.row c.reduce_lazily.new.exact c.in_ok-reduce_lazily.field-0 c.in-Column.column
+    c.reduce_lazily.new.reduce.items (c.load.auto.row ∙ c.requires.small_columns) c.reduce_lazily.auto.exact refl
+    (c.load.ensures.value ∙ ap (λ n. dense n c.args.given.now) (sym c.load.auto.row)) c.in-Column.is c.in_ok-reduce_lazily.ensures.reached)).narrow)
+
+pub returns-in-Column-clause-wide : goal.returns-in-Column-clause-wide
+returns-in-Column-clause-wide c =
+    λ e.
+    c.reduce_exactly-in-Column.ensures.wide e (inserted (length c.args.row.now) (kept_sparse (length c.args.row.now) c.args.log.now c.args.rows.now) (dense (length c.args.row.now) c.args.given.now))
+    (sparse_reached (length c.args.row.now) (length c.load.new.row) (length c.reduce_lazily.new.exact) c.args.log.now c.args.rows.now
+    c.args.given.now c.load.new.row c.reduce_lazily.new.row c.reduce_lazily.new.exact c.in_ok-reduce_lazily.field-0 c.in-Column.column
+    c.reduce_lazily.new.reduce.items (c.load.auto.row ∙ c.requires.small_columns) c.reduce_lazily.auto.exact refl
+    (c.load.ensures.value ∙ ap (λ n. dense n c.args.given.now) (sym c.load.auto.row)) c.in-Column.is c.in_ok-reduce_lazily.ensures.reached)
