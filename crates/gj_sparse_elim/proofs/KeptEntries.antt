@@ -2,8 +2,8 @@
 use Rattle.std.proofs.Common.{◌≡◌, ℕ, ◌+◌, ◌<◌, ◌≤◌, ◌⊎◌, inl, inr, Bool, Option, None, Some, ℤ, pos, List, [], ◌∷◌, ◌++◌, length, map, get_or, refl, sym, ap, ap₂, subst, subst₂, ◌∙◌, below_more, arith}
 use Rattle.std.specs.Prelude.{All}
 use Rattle.std.proofs.lemmas.Bool.{cases_lt}
-use Rattle.std.proofs.lemmas.List.{length-map, length_push, get_or-map, get_or_append_left, get_or_push}
-use Rattle.std.proofs.lemmas.List.Elements.{All-get_or}
+use Rattle.std.proofs.lemmas.List.{length-map, map-append, length_push, get_or-map, get_or_append_left, get_or_push}
+use Rattle.std.proofs.lemmas.List.Elements.{All-get_or, All-push}
 use Rattle.gj_shape.specs.Elimination.{KeptRow, Insertion, whole_numbers, inserted, at_column}
 use Rattle.gj_theory.specs.TriangularRows.{AreTriangular}
 use Rattle.gj_elim.specs.Lazy.{IsExtent}
@@ -153,3 +153,23 @@ sparse_ended n m log rows given row left exact r o reduce same is r_is h =
     let at : IsDone whole_numbers (inserted m (kept_sparse m log rows) row) o left reduce =
     subst (λ (x : Reached). IsReached (kept_sparse m log rows) (inserted m (kept_sparse m log rows) row) x left exact reduce) r_is h in
     subst (λ (i : Insertion). IsDone whole_numbers i o left reduce) (same_insertion n m log rows given row same is) at
+
+-- ---- one more row
+
+pub entries_pushed : (n m : ℕ) (rows rows' : List (List Entry)) (e : List Entry) (k : List ℤ) → rows' ≡ rows ++ e ∷ [] → m ≡ n →
+    dense m e ≡ k → map (dense n) rows' ≡ map (dense n) rows ++ k ∷ []
+entries_pushed n m rows rows' e k is same e_is =
+    ap (map (dense n)) is ∙ map-append (dense n) rows (e ∷ [])
+    ∙ ap (λ xs. map (dense n) rows ++ xs ∷ []) (ap (λ l. dense l e) (sym same) ∙ e_is)
+
+pub sparse_pushed : (n m : ℕ) (rows rows' : List (List Entry)) (e : List Entry) → All (AreSparse n) rows → rows' ≡ rows ++ e ∷ [] → m ≡ n →
+    AreSparse m e → All (AreSparse n) rows'
+sparse_pushed n m rows rows' e all is same e_is =
+    subst (All (AreSparse n)) (sym is) (All-push (AreSparse n) rows e all (subst (λ (l : ℕ). AreSparse l e) same e_is))
+
+pub same_sparse : (n : ℕ) (rows rows' : List (List Entry)) → rows' ≡ rows → All (AreSparse n) rows → All (AreSparse n) rows'
+same_sparse n rows rows' is all = subst (All (AreSparse n)) (sym is) all
+
+pub same_bounds : (n : ℕ) (rows rows' : List (List Entry)) (bounds bounds' : List ℕ) → rows' ≡ rows → bounds' ≡ bounds →
+    AreBounds n rows bounds → AreBounds n rows' bounds'
+same_bounds n rows rows' bounds bounds' is is' h = subst₂ (AreBounds n) (sym is) (sym is') h

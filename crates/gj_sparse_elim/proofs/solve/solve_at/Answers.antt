@@ -15,6 +15,12 @@ pub bounds-row-0 : goal.bounds-row-0
 bounds-row-0 c =
     (first_entry _ c.args.column c.args.row.now c.requires.sparse c.requires.within c.requires.zero (not_zero _ c.requires.positive)).some
 
+pub common_divisor-divisor-requires-clause-some : goal.common_divisor-divisor-requires-clause-some
+common_divisor-divisor-requires-clause-some c none =
+    let first = first_entry _ c.args.column c.args.row.now c.requires.sparse c.requires.within c.requires.zero (not_zero _ c.requires.positive) in
+    let e = to_z-of_z w128 (get_or c.args.row.now 0 no_entry).factor (search rules) in
+    not_zero _ c.requires.positive (sym first.factor ∙ sym e ∙ none)
+
 pub returns-in_err-behind-clause-wide : goal.returns-in_err-behind-clause-wide
 returns-in_err-behind-clause-wide c =
     on_err _ _ (solved_wide_sum _ c.args.numbers.now c.args.column c.in_err-behind.ensures.wide)

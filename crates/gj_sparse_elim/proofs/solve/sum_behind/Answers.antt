@@ -30,7 +30,7 @@ returns-in_err-product-clause-wide c =
     let x = to_z-of_z w128 (get_or c.args.numbers.now (get_or c.args.row.now c.loop-i.i no_entry).column (pos 0)) (search rules) in
     on_err _ _
     (summed_wide_product _ c.args.numbers.now c.args.column _ _ at.summed at.inside (length-dense _ c.args.row.now)
-    (λ fits. (simp (e, x) at c.in_err-product.ensures) (subst (λ (y : ℤ). Fits (y *ℤ at_column c.args.numbers.now _)) at.factor fits)))
+    (λ fits. (simp (e, x) at c.in_err-product.ensures) (subst (λ (y : ℤ). Fits (y *ℤ at_column c.args.numbers.now (get_or c.args.row.now c.loop-i.i no_entry).column)) at.factor fits)))
 
 pub returns-in_err-total-clause-wide : goal.returns-in_err-total-clause-wide
 returns-in_err-total-clause-wide c =
@@ -41,7 +41,7 @@ returns-in_err-total-clause-wide c =
     let product = simp (e, x) at c.in_ok-product.ensures in
     on_err _ _
     (summed_wide_sum _ c.args.numbers.now c.args.column _ _ c.in_ok-product.field-0 at.summed at.inside (length-dense _ c.args.row.now)
-    (product.1 ∙ ap (λ y. y *ℤ at_column c.args.numbers.now _) (sym at.factor)) (simp p at c.in_err-total.ensures))
+    (product.1 ∙ ap (λ y. y *ℤ at_column c.args.numbers.now (get_or c.args.row.now c.loop-i.i no_entry).column) (sym at.factor)) (simp p at c.in_err-total.ensures))
 
 pub loop-i-preserved : goal.loop-i-preserved
 loop-i-preserved c =
