@@ -1,12 +1,15 @@
 -- The kept rows as their entries.
 use Rattle.std.proofs.Common.{◌≡◌, ℕ, ◌+◌, ◌<◌, ◌≤◌, ◌⊎◌, inl, inr, Bool, Option, None, Some, ℤ, pos, List, [], ◌∷◌, ◌++◌, length, map, get_or, refl, sym, ap, ap₂, subst, subst₂, ◌∙◌, below_more, arith}
-use Rattle.std.specs.Prelude.{All}
+use Rattle.std.specs.Prelude.{All, Vec}
+use Rattle.std.specs.Vec.{with_items}
+use Rattle.std.proofs.Common.{Global}
 use Rattle.std.proofs.lemmas.Bool.{cases_lt}
-use Rattle.std.proofs.lemmas.List.{length-map, map-append, length_push, get_or-map, get_or_append_left, get_or_push}
+use Rattle.std.proofs.lemmas.List.{with_items_is, length-map, map-append, length_push, get_or-map, get_or_append_left, get_or_push}
 use Rattle.std.proofs.lemmas.List.Elements.{All-get_or, All-push}
 use Rattle.gj_shape.specs.Elimination.{KeptRow, Insertion, whole_numbers, inserted, at_column}
 use Rattle.gj_theory.specs.TriangularRows.{AreTriangular}
 use Rattle.gj_elim.specs.Lazy.{IsExtent}
+use Rattle.gj_elim.specs.Data.{BasisData}
 use Rattle.gj_elim.specs.Tables.{ArePlaces}
 use Rattle.gj_elim.specs.KeptRows.{kept_rows}
 use Rattle.gj_elim.specs.Progress.{IsBehind, IsDone, rest}
@@ -22,6 +25,7 @@ use Rattle.gj_sparse_elim.specs.declared.entry.Entry.{Entry}
 use Rattle.gj_sparse_elim.specs.Sparse.{dense, AreSparse}
 use Rattle.gj_sparse_elim.specs.Rows.{kept_sparse, AreBounds}
 use Rattle.gj_sparse_elim.proofs.ColumnSets.{IsNextColumn}
+use Rattle.gj_sparse_elim.proofs.SparseRows.{length-dense}
 use Rattle.gj_sparse_elim.proofs.SparseSteps.{further}
 
 -- ---- the row with a pivot
@@ -173,3 +177,38 @@ same_sparse n rows rows' is all = subst (All (AreSparse n)) (sym is) all
 pub same_bounds : (n : ℕ) (rows rows' : List (List Entry)) (bounds bounds' : List ℕ) → rows' ≡ rows → bounds' ≡ bounds →
     AreBounds n rows bounds → AreBounds n rows' bounds'
 same_bounds n rows rows' bounds bounds' is is' h = subst₂ (AreBounds n) (sym is) (sym is') h
+
+-- ---- the basis behind an insertion
+
+-- the insertion as the code has it
+pub insertion_sparse : (n : ℕ) (b d : BasisData) (log log' : List LogRow) (rows rows' : List (List Entry)) (given : List Entry) →
+    n ≡ b.columns → b ≡ d → log' ≡ log → rows' ≡ rows → b.kept ≡ kept_sparse b.columns log rows →
+    inserted n (kept_sparse n log' rows') (dense n given) ≡ inserted b.columns b.kept (dense d.columns given)
+insertion_sparse n b d log log' rows rows' given n_is same log_is rows_is kept_is =
+    ap (λ m. inserted m (kept_sparse m log' rows') (dense m given)) n_is
+    ∙ ap₂ (λ ls rs. inserted b.columns (kept_sparse b.columns ls rs) (dense b.columns given)) log_is rows_is
+    ∙ ap (λ ks. inserted b.columns ks (dense b.columns given)) (sym kept_is)
+    ∙ ap (λ x. inserted b.columns b.kept (dense x.columns given)) same
+
+-- the columns of the given row
+pub given_columns : (b d : BasisData) (given : List Entry) → b ≡ d → length (dense d.columns given) ≡ b.columns
+given_columns b d given same = length-dense d.columns given ∙ sym (ap (λ x. x.columns) same)
+
+-- what is held behind writes to the slice of a vector
+pub record IsHeld {X : Type 0} (n : ℕ) (v : Vec X Global) (ws : List X) : Type 0 where
+  pub is : (with_items v ws).items ≡ ws
+  pub columns : length (with_items v ws).items ≡ n
+
+pub held : {X : Type 0} (n : ℕ) (v : Vec X Global) (r ws : List X) → v.len ≡ length v.items → length v.items ≡ n → r ≡ v.items →
+    length ws ≡ length r → IsHeld n v ws
+held n v r ws ok columns r_is len =
+    let is = with_items_is v ws (len ∙ ap length r_is ∙ sym ok) in record {
+      is = is;
+      columns = ap length is ∙ len ∙ ap length r_is ∙ columns;
+    }
+
+pub held_twice : {X : Type 0} (n : ℕ) (v : Vec X Global) (r ws r' ws' : List X) → v.len ≡ length v.items → length v.items ≡ n → r ≡ v.items →
+    length ws ≡ length r → r' ≡ (with_items v ws).items → length ws' ≡ length r' → IsHeld n (with_items v ws) ws'
+held_twice n v r ws r' ws' ok columns r_is len r_is' len' =
+    let first = held n v r ws ok columns r_is len in
+    held n (with_items v ws) r' ws' (ok ∙ columns ∙ sym first.columns) first.columns r_is' len'

@@ -1,8 +1,6 @@
 //! Sparse rows that are kept by plain elimination.
 ghost use Rattle.std.specs.Prelude.{ℕ, ℤ, pos, ◌≡◌, ◌+◌, ◌<◌, ◌^◌, ◌<ℤ◌, ◌↔◌, [], List, length};
 ghost use Rattle.std.specs.Prelude.{map, All, Any, IfOk, IfSome, IsNone, OnOk, OnErr, IsErrOf};
-ghost use Rattle.std.specs.Prelude.{◌==◌, None};
-ghost use Rattle.std.specs.List.{position};
 ghost use Rattle.gj_shape.specs.Elimination.{inserted, kernel, free_column, Passes};
 ghost use Rattle.gj_theory.specs.TriangularRows.{Solves, SolvesKept, AreTriangular};
 ghost use Rattle.gj_elim.specs.Data.{behind};
@@ -14,6 +12,7 @@ ghost use Rattle.gj_sparse_elim.specs.Sparse.{AreSparse, dense};
 use crate::columns::no_columns;
 use crate::entry::Entry;
 use crate::keep::{Origin, keep, no_places};
+use crate::lazy::zeros;
 use crate::reduce::reduce_row;
 use crate::solve::{solve_at, unit_row};
 use gj_elim::{ElimFault, Inserted, LogRow};
@@ -100,7 +99,7 @@ impl SparseBasis {
             places: no_places(alloc, columns as usize)?,
             row: vec![in alloc; 0; columns as usize]?,
             kept_row: vec![in alloc; 0; columns as usize]?,
-            small: vec![in alloc; 0; columns as usize]?,
+            small: zeros(alloc, columns as usize)?,
             touched: no_columns(alloc, columns as usize)?,
             reduce: Vec::new(alloc),
         })

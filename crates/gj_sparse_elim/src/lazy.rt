@@ -1,7 +1,7 @@
 //! Steps in 64 bits, without a division: they leave a positive multiple of the row that the
 //! definition has.
 ghost use Rattle.std.specs.Prelude.{ℕ, ℤ, pos, ◌≡◌, ◌≢◌, ◌<◌, ◌^◌, ◌*ℤ◌, ◌<ℤ◌, List, length};
-ghost use Rattle.std.specs.Prelude.{unsigned_abs, IfSome, IsNone};
+ghost use Rattle.std.specs.Prelude.{unsigned_abs, IfOk, IfSome, IsNone};
 ghost use Rattle.gj_shape.specs.Elimination.{at_column, scaled, differences};
 ghost use Rattle.gj_elim.specs.Lazy.{IsMultipleRow, IsLazyStep, AreLazyFactors, IsExtent, HasRoom};
 ghost use Rattle.gj_sparse_elim.specs.Sparse.{AreSparse, dense};
@@ -10,6 +10,7 @@ ghost use Rattle.gj_sparse_elim.specs.Columns.{IsSupport};
 use crate::columns::{first_from, insert_column, remove_columns};
 use crate::entry::Entry;
 use gj_loops::IndexSet;
+use std::alloc::{AllocError, Global};
 
 /// The products of a step in 64 bits are below it.
 const ROOM: u128 = 1 << 62;
@@ -53,6 +54,14 @@ fn room(factors: Factors, bound: u64, kept_bound: u64) -> Option<u64>
         return None;
     }
     Some((first + second) as u64)
+}
+
+/// A row of zeros.
+pub(crate) fn zeros(alloc: Global, columns: usize) -> Result<Vec<i64>, AllocError>
+    ensures columns { IfOk result (λ v. length v.items ≡ columns) }
+    ensures zero { IfOk result (λ v. (k : ℕ) → at_column v.items k ≡ pos 0) }
+{
+    vec![in alloc; 0; columns]
 }
 
 /// Puts 0 at each column of the set.
