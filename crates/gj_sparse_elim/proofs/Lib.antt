@@ -1,0 +1,5 @@
+pub mod ColumnSets
+pub mod SparseRows
+pub mod SparseSteps
+pub mod KeptEntries
+pub mod Summing

@@ -1,1 +1,5 @@
 pub mod Sparse
+pub mod Columns
+pub mod Rows
+pub mod Basis
+pub mod Progress

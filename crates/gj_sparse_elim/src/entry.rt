@@ -1,8 +1,79 @@
 //! Rows as their entries.
+ghost use Rattle.std.specs.Prelude.{ℕ, ◌≡◌, ◌<◌, ◌≤◌, ◌^◌, length, unsigned_abs, All, IfOk};
+ghost use Rattle.std.specs.Prelude.{pos};
+ghost use Rattle.gj_shape.specs.Elimination.{at_column};
+ghost use Rattle.gj_frac.specs.Fraction.{Fits};
+ghost use Rattle.gj_elim.specs.Lazy.{IsExtent};
+ghost use Rattle.gj_sparse_elim.specs.Sparse.{AreSparse, dense};
+
+use std::alloc::{AllocError, Global};
 
 /// An entry of a row, at one of its columns.
 #[derive(Clone, Copy, Debug, PartialEq, Eq)]
 pub struct Entry {
     pub column: u32,
     pub factor: i128,
+}
+
+/// The entries of a row that are not 0.
+pub(crate) fn entries_of(alloc: Global, row: &[i128]) -> Result<Vec<Entry>, AllocError>
+    requires fits { All Fits row.now }
+    requires count { length row.now < 2 ^ 32 }
+    ensures sparse { IfOk result (λ v. AreSparse (length row.now) v.items) }
+    ensures value { IfOk result (λ v. dense (length row.now) v.items ≡ row.now) }
+{
+    let mut entries = Vec::new(alloc);
+    for column in 0..row.len() {
+        if row[column] != 0 {
+            let entry = Entry {
+                column: column as u32,
+                factor: row[column],
+            };
+            entries.push(entry)?;
+        }
+    }
+    Ok(entries)
+}
+
+/// Puts 0 at each column.
+fn erase(row: &mut [i128])
+    ensures { (k : ℕ) → at_column row.new k ≡ pos 0 }
+{
+    for number in row.iter_mut() {
+        *number = 0;
+    }
+}
+
+/// Writes the row with these entries.
+pub(crate) fn spread(entries: &[Entry], row: &mut [i128])
+    requires { AreSparse (length row.old) entries.now }
+    ensures { row.new ≡ dense (length row.old) entries.now }
+{
+    erase(row);
+    for entry in entries {
+        row[entry.column as usize] = entry.factor;
+    }
+}
+
+/// The absolute value; 2^64 - 1 if it is above.
+fn size(x: i128) -> u64
+    ensures { result < 2 ^ 63 → unsigned_abs x ≤ result }
+{
+    let size = x.unsigned_abs();
+    if size < u128::from(u64::MAX) {
+        size as u64
+    } else {
+        u64::MAX
+    }
+}
+
+/// A bound of the absolute values of a row with these entries, if it is below 2^63.
+pub(crate) fn bound_of(entries: &[Entry]) -> u64
+    ensures { (n : ℕ) → IsExtent result n (dense n entries.now) }
+{
+    let mut bound: u64 = 0;
+    for entry in entries {
+        bound = bound.max(size(entry.factor));
+    }
+    bound
 }

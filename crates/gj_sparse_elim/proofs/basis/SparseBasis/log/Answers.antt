@@ -1,0 +1,10 @@
+use Rattle.std.proofs.Common.{ap, ◌∙◌, map}
+use Rattle.gj_elim.specs.KeptRows.{log_row}
+use Rattle.gj_elim.proofs.Keeping.{log_of_kept}
+use Rattle.gj_sparse_elim.proofs.KeptEntries.{lines_too}
+use Rattle.gj_sparse_elim.proofs.basis.SparseBasis.log.Goals as goal
+
+pub returns : goal.returns
+returns c =
+    c.as_slice.ensures.value ∙ log_of_kept c.self.inside.log.items _ (lines_too c.self.inside.columns c.self.inside.log.items c.self.inside.rows.items c.self.invariant.lines)
+    ∙ ap (λ b. map log_row b.kept) c.self.view_is

@@ -1,0 +1,10 @@
+use Rattle.std.proofs.Common.{length}
+use Rattle.gj_sparse_elim.specs.Columns.{IsSupport}
+use Rattle.gj_sparse_elim.proofs.SparseRows.{IsSpread}
+use Rattle.gj_sparse_elim.proofs.lazy.load.Given as goal
+
+abbrev pub invariant-loop-entry : goal.invariant-loop-entry
+invariant-loop-entry l = record {
+  spread : IsSpread (length l.initial.row) l.entries l.row l.entry-index;
+  support : IsSupport l.touched l.row;
+}

@@ -1,0 +1,86 @@
+//! What is left of a row is kept.
+ghost use Rattle.std.specs.Prelude.{◌≡◌, ◌<◌, ◌^◌, [], ◌∷◌, ◌++◌, length, map, All, IfOk, OnOk};
+ghost use Rattle.std.specs.Prelude.{OnErr};
+ghost use Rattle.gj_shape.specs.Elimination.{kept_entries};
+ghost use Rattle.gj_frac.specs.Fraction.{Fits};
+ghost use Rattle.gj_elim.specs.Progress.{IsFreeColumn};
+ghost use Rattle.gj_elim.specs.Tables.{ArePlaces};
+ghost use Rattle.gj_sparse_elim.specs.Sparse.{AreSparse, dense};
+ghost use Rattle.gj_sparse_elim.specs.Rows.{AreBounds};
+
+use crate::entry::{Entry, bound_of, entries_of};
+use gj_elim::LogRow;
+use gj_loops::make_kept;
+use gj_shape::List;
+use std::alloc::{AllocError, Global};
+
+/// Where a kept row comes from: its number among the inserted rows, the columns of the steps that
+/// reduced it, and the column of its pivot.
+#[derive(Clone, Copy)]
+pub(crate) struct Origin<'a> {
+    pub(crate) number: u64,
+    pub(crate) reduce: &'a [u32],
+    pub(crate) pivot: u32,
+}
+
+/// No column has a pivot.
+pub(crate) fn no_places(alloc: Global, columns: usize) -> Result<Vec<Option<u32>>, AllocError>
+    ensures { IfOk result (λ v. ArePlaces columns [] v.items) }
+{
+    vec![in alloc; None; columns]
+}
+
+/// Keeps what is left of a row, and writes to the log how it came to be kept. The row is then the
+/// row that is kept. After an error nothing else is changed.
+pub(crate) fn keep(
+    alloc: Global,
+    log: &mut Vec<LogRow>,
+    rows: &mut Vec<List<Entry>>,
+    bounds: &mut Vec<u64>,
+    places: &mut [Option<u32>],
+    origin: Origin<'_>,
+    row: &mut [i128],
+) -> Result<(), AllocError>
+    requires within { origin.pivot < length row.old }
+    requires fits { All Fits row.old }
+    requires lines { length log.old.items ≡ length rows.old.items }
+    requires count { length log.old.items < 2 ^ 32 }
+    requires columns { length row.old < 2 ^ 32 }
+    requires sparse { All (AreSparse (length row.old)) rows.old.items }
+    requires bounds { AreBounds (length row.old) rows.old.items bounds.old.items }
+    requires places { ArePlaces (length places.old) log.old.items places.old }
+    requires free { IsFreeColumn (length places.old) log.old.items origin.pivot }
+    ensures line { OnOk result (log.new.items
+        ≡ log.old.items ++ record {
+          number = origin.entry.number;
+          reduce = origin.entry.reduce.now;
+          pivot = origin.entry.pivot;
+        } ∷ []) }
+    ensures entries { OnOk result
+        (map (dense (length row.old)) rows.new.items ≡ map (dense (length row.old)) rows.old.items
+        ++ kept_entries row.old origin.entry.pivot ∷ []) }
+    ensures sparse { All (AreSparse (length row.old)) rows.new.items }
+    ensures bounds { AreBounds (length row.old) rows.new.items bounds.new.items }
+    ensures places { OnOk result (ArePlaces (length places.old) log.new.items places.new) }
+    ensures same_places { OnErr result (places.new ≡ places.old) }
+    ensures same_log { OnErr result (log.new.items ≡ log.old.items) }
+    ensures same_rows { OnErr result (rows.new.items ≡ rows.old.items) }
+{
+    make_kept(row, origin.pivot as usize);
+    let entries = entries_of(alloc, row)?;
+    let bound = bound_of(entries.as_slice());
+    let place = log.len() as u32;
+    let reduce = Vec::from_slice(alloc, origin.reduce)?;
+    log.reserve(1)?;
+    rows.reserve(1)?;
+    bounds.reserve(1)?;
+    log.push_reserved(LogRow {
+        number: origin.number,
+        reduce: List::of(reduce),
+        pivot: origin.pivot,
+    });
+    rows.push_reserved(List::of(entries));
+    bounds.push_reserved(bound);
+    places[origin.pivot as usize] = Some(place);
+    Ok(())
+}
