@@ -226,8 +226,8 @@ module _ (f : FunctionData) (bounds : IsWithinBounds f) (zero_value : at f.value
         let right = right_column_zero j low in
         let comp_low = component_low f.order (IsTightAt f) cover component is all j low in
         let rise = column_zero (slope_column f.order (comp j)) (omega (arith, comp_low)) in
-        let sum : number (right_column f.order j) +ℤ number (slope_column f.order (comp j)) ≡ pos 0 =
-        omega (arith, ints, right, rise) in (
+        let sum : number (right_column f.order j) +ℤ number (slope_column f.order (comp j))
+        ≡ pos 0 = omega (arith, ints, right, rise) in (
           sym (gives Left i) ∙ sum,
           sym (gives Value i) ∙ value_zero (i % f.order) (mod-lt i some),
           sym (gives Right i) ∙ right_column_zero (i % f.order) (mod-lt i some),

@@ -50,8 +50,8 @@ module _ (f : FunctionData) (bounds : IsWithinBounds f) (comp : ℕ → ℕ) (x 
       slack_at (limits_in f) kind c a b ≡ pos 0 → slack_at w kind c a b ≡ pos 0
   named kind c a b = of_tight f (λ row. row_value f.place w row ≡ pos 0) rows kind c a b
 
-  below : (kind : FaceKind) (c a b : ℕ) → c < length (corners_of kind 0 0) → a < f.order → b < f.order →
-      slack_at (limits_in f) kind c a b ≡ pos 0 → slack_at w kind c a b ≡ pos 0
+  below : (kind : FaceKind) (c a b : ℕ) → c < length (corners_of kind 0 0) → a < f.order →
+      b < f.order → slack_at (limits_in f) kind c a b ≡ pos 0 → slack_at w kind c a b ≡ pos 0
   below kind c a b low a_low b_low tight =
       ⊎_elim
       (λ less. mirrored w kind c a b

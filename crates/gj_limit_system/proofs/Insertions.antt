@@ -25,7 +25,7 @@ tail_place e row c p h = record {
 
 -- ---- the entries stay sparse
 
-sparse_lower : (from more n : ℕ) (row : List Entry) → from ≤ more → AreSparseFrom more n row →
+pub sparse_lower : (from more n : ℕ) (row : List Entry) → from ≤ more → AreSparseFrom more n row →
     AreSparseFrom from n row
 sparse_lower from more n [] le h = tt
 sparse_lower from more n (e ∷ row) le h =

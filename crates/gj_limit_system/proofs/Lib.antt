@@ -9,3 +9,5 @@ pub mod Signs
 pub mod VertexSets
 pub mod RowPushes
 pub mod RowNumbers
+pub mod DenseRows
+pub mod ListNumbers

@@ -29,7 +29,8 @@ joined_from P g a i n low high all =
     let split =
     ap (λ m. flat_map g (range_with_len a m)) len
     ∙ ap (flat_map g) (range_split a (i - a) (suc (n - suc (i - a))))
-    ∙ ap (λ k. flat_map g (range_with_len a (i - a) ++ range_with_len k (suc (n - suc (i - a))))) from
+    ∙ ap (λ k. flat_map g (range_with_len a (i - a)
+    ++ range_with_len k (suc (n - suc (i - a))))) from
     ∙ flat_map-append g (range_with_len a (i - a)) (i ∷ range_with_len (i + 1) (n - suc (i - a))) in
     All-front P (g i) rest (All-back P front (g i ++ rest) (subst (All P) split all))
 
@@ -152,7 +153,8 @@ module _ (f : FunctionData) (P : LimitRow → Type 0) where
   of_tight all kind c a b low order below tight =
       let listed = All-tail P F (flat_map (tight_rows f) (range_with_len 0 f.order)) all in
       let of_row = joined_has P (tight_rows f) a f.order (omega arith) listed in
-      let of_vertex = joined_from P (tight_rows_at f a) a b (f.order - a) order (omega arith) of_row in
+      let of_vertex = joined_from P (tight_rows_at f a) a b (f.order - a) order (omega arith)
+      of_row in
       let of_kept = from_map P (row_at a b) (filter (is_tight_at f a b) corners) of_vertex in
       let there = corner_there kind c (kind, c) low in
       let passes : is_tight_at f a b (get_or corners (place_of kind c) (kind, c)) ≡ true =

@@ -14,7 +14,10 @@ use Rattle.gj_limit_faces.specs.declared.terms.Terms.{Terms}
 use Rattle.gj_sparse_elim.specs.Sparse.{AreSparse}
 use Rattle.gj_sparse_elim.specs.declared.entry.Entry.{Entry}
 use Rattle.gj_limit_system.specs.LimitSlacks.{number_on, slack_at}
+use Rattle.gj_limit_system.specs.LimitRows.{row_value}
 use Rattle.gj_limit_system.specs.SparseSums.{weight}
+use Rattle.gj_limit_system.specs.declared.limit_row.LimitRow.{LimitRow}
+use Rattle.gj_limit_system.specs.declared.limit_row.LimitRow.TheVariants.{F}
 use Rattle.gj_limit_system.specs.Unknowns.{right_column, value_column, slope_column, value_from, interval_before, limits_from}
 use Rattle.gj_limit_system.proofs.FromRows.{from_periodic}
 use Rattle.gj_limit_system.proofs.Insertions.{count_light}
@@ -80,6 +83,15 @@ tight_dot q n comp x kind corner a b s t d e g h t_is n_is s_is none first secon
     omega (arith, ints, none, first, second, third, sum) in
     all ∙ (λ i. slack_from (number_on w (t_is i).x a) (number_on w (t_is i).y b)
     (number_on w (t_is i).sum (a + b)))
+
+pub f_dot : (q : ℕ) (comp : ℕ → ℕ) (x : ℕ → ℤ) (place p : ℕ) (row : LimitRow) (d e : ℤ) →
+    d ≡ pos 0 → p ≡ place → row ≡ F →
+    e ≡ d +ℤ pos 1 *ℤ number_on (limits_from q comp x) Value p →
+    e ≡ row_value place (limits_from q comp x) row
+f_dot q comp x place p row d e none same row_is h =
+    let all : e ≡ number_on (limits_from q comp x) Value p = omega (arith, ints, none, h) in
+    all ∙ ap (number_on (limits_from q comp x) Value) same
+    ∙ ap (row_value place (limits_from q comp x)) (sym row_is)
 
 -- ---- at most six entries
 

@@ -45,7 +45,8 @@ module _ (row : List Entry) (p : ℕ) (it : Entry) (sign r : ℤ) (low : p < len
   sum_there = sum_is ∙ ap (λ (e : Entry). e.factor +ℤ sign) (sym there)
 
   sum_small : unsigned_abs r < 2 ^ 127
-  sum_small = subst (λ z. unsigned_abs z < 2 ^ 127) (sym sum_is) (sum_light it.factor sign small one)
+  sum_small =
+      subst (λ z. unsigned_abs z < 2 ^ 127) (sym sum_is) (sum_light it.factor sign small one)
 
   -- nothing is left
   module _ (e : of_z w128 r ≡ 0) where

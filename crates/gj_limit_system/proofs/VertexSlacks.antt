@@ -1,13 +1,13 @@
 -- Limits of the slack at a vertex: from the squares around it, modulo the order, and with x and y
 -- exchanged.
-use Rattle.std.proofs.Common.{◌≡◌, ℕ, zero, suc, ◌+◌, ◌%◌, ◌<◌, ◌≤◌, ℤ, pos, length, get_or, refl, sym, ap, ◌∙◌, arith, ⊎_elim}
+use Rattle.std.proofs.Common.{◌≡◌, ℕ, zero, suc, ◌+◌, ◌%◌, ◌<◌, ◌≤◌, ℤ, pos, List, length, get_or, refl, sym, ap, ◌∙◌, arith, ⊎_elim}
 use Rattle.std.proofs.Math.Nat.{mod-add-mod, add-mod-mod, add-mod_right}
 use Rattle.std.proofs.lemmas.Bool.{cases_lt}
 use Rattle.std.proofs.lemmas.Int.{ints}
 use Rattle.std.proofs.lemmas.List.{get_or_past}
 use Rattle.gj_lemmas.proofs.Quotients.{same_at_remainder}
 use Rattle.gj_shape.specs.Faces.{corners_of, limits_of, slack_from}
-use Rattle.gj_shape.specs.FunctionData.{FunctionData, IsWithinBounds}
+use Rattle.gj_shape.specs.FunctionData.{FunctionData, IsWithinBounds, at}
 use Rattle.gj_shape.specs.declared.faces.FaceKind.{FaceKind}
 use Rattle.gj_shape.specs.declared.faces.FaceKind.TheVariants.{Vertex, Horizontal, Vertical, Diagonal, Lower, Upper}
 use Rattle.gj_theory.proofs.Everywhere.{at_same}
@@ -134,10 +134,13 @@ slack_same q w h kind c a b x y e g =
 
 pub data_periodic : (f : FunctionData) → IsWithinBounds f → IsPeriodic f.order (limits_in f)
 data_periodic f bounds = record {
-  left = λ i. at_same f.left (i + f.order) i f.order bounds.left_length (add-mod_right i f.order);
-  value = λ i. at_same f.value (i + f.order) i f.order bounds.value_length (add-mod_right i f.order);
-  right = λ i. at_same f.right (i + f.order) i f.order bounds.right_length (add-mod_right i f.order);
+  left = λ i. turned f.left bounds.left_length i;
+  value = λ i. turned f.value bounds.value_length i;
+  right = λ i. turned f.right bounds.right_length i;
 }
+  where
+    turned : (xs : List ℤ) → length xs ≡ f.order → (i : ℕ) → at xs (i + f.order) ≡ at xs i
+    turned xs len i = at_same xs (i + f.order) i f.order len (add-mod_right i f.order)
 
 -- ---- with x and y exchanged
 

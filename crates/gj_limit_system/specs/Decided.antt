@@ -1,5 +1,5 @@
 -- The system of limits over the columns (own).
-use Rattle.std.specs.Prelude.{ℕ, ℤ, pos, ◌≡◌, ◌<◌, List, All}
+use Rattle.std.specs.Prelude.{ℕ, ℤ, pos, ◌≡◌, ◌<◌, List, length, get_or, All}
 use Rattle.gj_shape.specs.FunctionData.{FunctionData}
 use Rattle.gj_shape.specs.SlopeRows.{component_in}
 use Rattle.gj_limit_system.specs.LimitRows.{row_value, limit_rows}
@@ -15,3 +15,9 @@ abbrev pub HasOnlyZeroInColumns : FunctionData → List ℕ → ℕ → Type 0
 HasOnlyZeroInColumns f component count =
     (x : ℕ → ℤ) → SolveLimitRows f (component_in component) x →
     (c : ℕ) → c < columns_for f.order count → x c ≡ pos 0
+
+-- the same of a list of numbers, one for each column
+abbrev pub HasOnlyZeroAsList : FunctionData → List ℕ → ℕ → Type 0
+HasOnlyZeroAsList f component count =
+    (w : List ℤ) → length w ≡ columns_for f.order count →
+    SolveLimitRows f (component_in component) (λ c. get_or w c (pos 0)) → All (λ x. x ≡ pos 0) w

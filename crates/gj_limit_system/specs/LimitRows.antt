@@ -15,7 +15,8 @@ use Rattle.gj_limit_system.specs.declared.limit_row.LimitRow.TheVariants.{F, Tig
 -- the corner is one of its face, and the vertex has indices below the order
 abbrev pub IsLimitRowBelow : LimitRow → ℕ → Type 0
 IsLimitRowBelow F q = Unit {0}
-IsLimitRowBelow (Tight kind corner a b) q = (corner < length (corners_of kind 0 0)) × (a < q) × (b < q)
+IsLimitRowBelow (Tight kind corner a b) q =
+    (corner < length (corners_of kind 0 0)) × (a < q) × (b < q)
 
 -- what the row says is 0, for f at the place
 abbrev pub row_value : ℕ → Limits ℤ → LimitRow → ℤ

@@ -31,7 +31,8 @@ interval_before q i = (i + (q - 1)) % q
 abbrev pub limits_from : ℕ → (ℕ → ℕ) → (ℕ → ℤ) → Limits ℤ
 limits_from q component x = record {
   left = λ i.
-      x (right_column q (interval_before q i)) +ℤ x (slope_column q (component (interval_before q i)));
+      x (right_column q (interval_before q i))
+      +ℤ x (slope_column q (component (interval_before q i)));
   value = λ i. value_from q x (i % q);
   right = λ i. x (right_column q (i % q));
 }

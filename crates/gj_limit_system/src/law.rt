@@ -5,14 +5,18 @@ ghost use Rattle.gj_jumps.specs.LimitCover.{IsTightAt};
 ghost use Rattle.gj_jumps.specs.WholeLimits.{HasOnlyZeroWholeLimits};
 ghost use Rattle.gj_cover.specs.declared.covered.Cover.{Cover};
 ghost use Rattle.gj_limit_cover.specs.CoverOf.{IsCoverOf};
-ghost use Rattle.gj_limit_system.specs.Decided.{HasOnlyZeroInColumns};
+ghost use Rattle.gj_limit_system.specs.Decided.{HasOnlyZeroInColumns, HasOnlyZeroAsList};
 
 /// If each interval is covered, with the list of their components: only 0 solves the equations of
 /// the limits at which the slack of the function is 0 exactly if only 0 in all columns solves the
-/// rows.
+/// rows. So it is of numbers for the columns as lists.
 pub fn rows_decide_the_limits()
-    ensures { (f : FunctionData) (cover : Cover) (component : List ℕ) →
+    ensures columns { (f : FunctionData) (cover : Cover) (component : List ℕ) →
         IsWithinBounds f → at f.value 0 ≡ pos 0 → IsCoverOf f.order (IsTightAt f) cover →
         cover.component ≡ map Some component →
         (HasOnlyZeroWholeLimits f ↔ HasOnlyZeroInColumns f component cover.count) }
+    ensures list { (f : FunctionData) (cover : Cover) (component : List ℕ) →
+        IsWithinBounds f → at f.value 0 ≡ pos 0 → IsCoverOf f.order (IsTightAt f) cover →
+        cover.component ≡ map Some component →
+        (HasOnlyZeroWholeLimits f ↔ HasOnlyZeroAsList f component cover.count) }
 {}

@@ -1,9 +1,10 @@
 //! Rows over the columns.
 ghost use Rattle.std.specs.Prelude.{ℕ, ℤ, ◌≡◌, ◌+◌, ◌*◌, ◌<◌, ◌≤◌, ◌+ℤ◌, ◌*ℤ◌, length, All, IfOk};
-ghost use Rattle.std.specs.Prelude.{unsigned_abs};
+ghost use Rattle.std.specs.Prelude.{pos, ◌↔◌, List, get_or, unsigned_abs};
 ghost use Rattle.gj_shape.specs.Given.{IsOrder, IsPlace};
 ghost use Rattle.gj_shape.specs.SlopeRows.{component_in};
-ghost use Rattle.gj_sparse_elim.specs.Sparse.{AreSparse};
+ghost use Rattle.gj_sparse_elim.specs.Sparse.{AreSparse, dense};
+ghost use Rattle.gj_theory.specs.TriangularRows.{Solves};
 ghost use Rattle.gj_limit_system.specs.LimitRows.{IsLimitRowBelow, row_value};
 ghost use Rattle.gj_limit_system.specs.LimitSlacks.{number_on};
 ghost use Rattle.gj_limit_system.specs.SparseSums.{sparse_dot, weight};
@@ -85,6 +86,10 @@ impl LimitRows {
         ensures row { IfOk result (λ _. (x : ℕ → ℤ) → sparse_dot entries.new.items x ≡
             row_value self.now.place
             (limits_from (length self.now.component) (component_in self.now.component) x) row) }
+        ensures solved { IfOk result (λ _. (w : List ℤ) → Solves w (dense
+            (columns_for (length self.now.component) self.now.count) entries.new.items) ↔
+            (row_value self.now.place (limits_from (length self.now.component)
+            (component_in self.now.component) (λ c. get_or w c (pos 0))) row ≡ pos 0)) }
         ensures six { IfOk result (λ _. length entries.new.items ≤ 6) }
         ensures small { IfOk result (λ _. All (λ e. unsigned_abs e.factor ≤ 6) entries.new.items) }
     {

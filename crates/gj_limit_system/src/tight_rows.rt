@@ -88,8 +88,8 @@ fn push_rows_at(
 }
 
 /// Pushes the rows of the limits that are 0 at the vertices (a, b) with b from a on, b ascending:
-/// one for each kind of face and each corner of it at which the limit is 0, first the vertex itself,
-/// then those of the horizontal, the vertical and the diagonal edge, and of the lower and the upper
+/// one for each kind of face and each corner of it at which the limit is 0. First comes the vertex
+/// itself, then those of the horizontal, the vertical and the diagonal edge, and of the lower and the upper
 /// triangle.
 pub fn push_tight_rows(
     alloc: Global,

@@ -36,4 +36,5 @@ returns-clause-covered c i below =
 pub returns-clause-few : goal.returns-clause-few
 returns-clause-few c =
     let few = c.in_ok-found.ensures.progress.few in
-    subst (λ cover. cover.count ≤ c.args.shape.now.order) (sym c.with_class.ensures) (omega (arith, few))
+    subst (λ cover. cover.count ≤ c.args.shape.now.order) (sym c.with_class.ensures)
+    (omega (arith, few))

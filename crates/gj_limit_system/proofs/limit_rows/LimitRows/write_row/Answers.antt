@@ -1,18 +1,35 @@
-use Rattle.std.proofs.Common.{length, sym, ap, ◌∙◌}
+use Rattle.std.proofs.Common.{pos, length, get_or, sym, ap, ◌∙◌}
 use Rattle.gj_shape.specs.SlopeRows.{component_in}
 use Rattle.gj_limit_system.specs.LimitRows.{row_value}
 use Rattle.gj_limit_system.specs.SparseSums.{sparse_dot}
 use Rattle.gj_limit_system.specs.Unknowns.{columns_for, limits_from}
+use Rattle.gj_limit_system.proofs.DenseRows.{solved_by}
 use Rattle.gj_limit_system.proofs.Insertions.{factors_light}
-use Rattle.gj_limit_system.proofs.RowNumbers.{tight_dot, at_most_six, one_light, three_light}
+use Rattle.gj_limit_system.proofs.RowNumbers.{f_dot, tight_dot, at_most_six, one_light, three_light}
 use Rattle.gj_limit_system.proofs.limit_rows.LimitRows.write_row.Goals as goal
+
+pub returns-in_ok-add_number-in-F-clause-row : goal.returns-in_ok-add_number-in-F-clause-row
+returns-in_ok-add_number-in-F-clause-row c x =
+    let r = c.args.self.now in
+    f_dot (length r.component) (component_in r.component) x r.place c.self.inside.place c.args.row
+    (sparse_dot c.clear.new.self.items x) (sparse_dot c.add_number.new.entries.items x)
+    (ap (λ row. sparse_dot row x) c.clear.ensures.items) (ap (λ v. v.place) c.self.view_is)
+    c.in-F.is (c.in_ok-add_number-in-F.ensures.dot x)
+
+pub returns-in_ok-add_number-in-F-clause-solved : goal.returns-in_ok-add_number-in-F-clause-solved
+returns-in_ok-add_number-in-F-clause-solved c w =
+    let r = c.args.self.now in
+    solved_by (columns_for (length r.component) r.count) c.add_number.new.entries.items w
+    (row_value r.place (limits_from (length r.component) (component_in r.component)
+    (λ i. get_or w i (pos 0))) c.args.row) c.in_ok-add_number-in-F.ensures.sparse
+    (returns-in_ok-add_number-in-F-clause-row c (λ i. get_or w i (pos 0)))
 
 pub returns-in_ok-add_number-in-F-clause-six : goal.returns-in_ok-add_number-in-F-clause-six
 returns-in_ok-add_number-in-F-clause-six c =
     let r = c.args.self.now in
     let row = c.add_number.new.entries.items in
-    at_most_six (columns_for (length r.component) r.count) row c.in_ok-add_number-in-F.ensures.sparse
-    (one_light c.clear.new.self.items row c.clear.ensures.items
+    at_most_six (columns_for (length r.component) r.count) row
+    c.in_ok-add_number-in-F.ensures.sparse (one_light c.clear.new.self.items row c.clear.ensures.items
     c.in_ok-add_number-in-F.ensures.light)
 
 pub returns-in_ok-add_number-in-F-clause-small : goal.returns-in_ok-add_number-in-F-clause-small
@@ -38,6 +55,15 @@ returns-in_ok-add_number-in-Tight-3-clause-row c x =
     (c.in_ok-add_number-in-Tight-3.ensures.dot x)
     ∙ ap (row_value r.place (limits_from (length r.component) (component_in r.component) x))
     (sym c.in-Tight.is)
+
+pub returns-in_ok-add_number-in-Tight-3-clause-solved :
+    goal.returns-in_ok-add_number-in-Tight-3-clause-solved
+returns-in_ok-add_number-in-Tight-3-clause-solved c w =
+    let r = c.args.self.now in
+    solved_by (columns_for (length r.component) r.count) c.add_number-in-Tight-3.new.entries.items w
+    (row_value r.place (limits_from (length r.component) (component_in r.component)
+    (λ i. get_or w i (pos 0))) c.args.row) c.in_ok-add_number-in-Tight-3.ensures.sparse
+    (returns-in_ok-add_number-in-Tight-3-clause-row c (λ i. get_or w i (pos 0)))
 
 pub returns-in_ok-add_number-in-Tight-3-clause-six :
     goal.returns-in_ok-add_number-in-Tight-3-clause-six
