@@ -3,3 +3,4 @@ pub mod SparseRows
 pub mod SparseSteps
 pub mod KeptEntries
 pub mod Summing
+pub mod EntrySums

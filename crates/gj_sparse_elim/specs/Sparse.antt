@@ -1,7 +1,8 @@
 -- Rows as their entries (own).
-use Rattle.std.specs.Prelude.{ℕ, ℤ, pos, ◌≡◌, ◌≢◌, ◌+◌, ◌<◌, ◌≤◌, ◌==◌, if◌then◌else◌, List, [], ◌∷◌, map}
+use Rattle.std.specs.Prelude.{ℕ, ℤ, pos, ◌≡◌, ◌≢◌, ◌+◌, ◌*ℤ◌, ◌<◌, ◌≤◌, ◌==◌, if◌then◌else◌, List, [], ◌∷◌, map}
 use Rattle.std.specs.List.{range_with_len}
 use Rattle.gj_frac.specs.Fraction.{Fits}
+use Rattle.gj_shape.specs.SlopeRows.{total}
 use Rattle.gj_sparse_elim.specs.declared.entry.Entry.{Entry}
 
 -- the factor at a column, 0 if there is no entry
@@ -29,3 +30,7 @@ AreSparseFrom from n (e ∷ row) = IsEntryWithin from n e × AreSparseFrom (e.co
 -- the entries that are not 0 of a row of n columns, with ascending columns
 abbrev pub AreSparse : ℕ → List Entry → Type 0
 AreSparse n row = AreSparseFrom 0 n row
+
+-- the sum of the products of the entries with numbers for the columns
+abbrev pub sum_of_entries : List Entry → (ℕ → ℤ) → ℤ
+sum_of_entries row x = total (map (λ e. e.factor *ℤ x e.column) row)

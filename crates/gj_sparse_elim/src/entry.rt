@@ -1,10 +1,12 @@
 //! Rows as their entries.
 ghost use Rattle.std.specs.Prelude.{ℕ, ◌≡◌, ◌<◌, ◌≤◌, ◌^◌, length, unsigned_abs, All, IfOk};
-ghost use Rattle.std.specs.Prelude.{pos};
+ghost use Rattle.std.specs.Prelude.{ℤ, pos, List};
 ghost use Rattle.gj_shape.specs.Elimination.{at_column};
+ghost use Rattle.gj_shape.specs.SlopeRows.{sum_of_products};
+ghost use Rattle.gj_sparse_elim.specs.declared.entry.Entry.{Entry};
 ghost use Rattle.gj_frac.specs.Fraction.{Fits};
 ghost use Rattle.gj_elim.specs.Lazy.{IsExtent};
-ghost use Rattle.gj_sparse_elim.specs.Sparse.{AreSparse, dense};
+ghost use Rattle.gj_sparse_elim.specs.Sparse.{AreSparse, dense, sum_of_entries};
 
 use std::alloc::{AllocError, Global};
 
@@ -14,6 +16,12 @@ pub struct Entry {
     pub column: u32,
     pub factor: i128,
 }
+
+/// The sum of the products of a row with numbers is that of its entries.
+pub fn entries_add_up()
+    ensures { (n : ℕ) (row : List Entry) (w : List ℤ) → AreSparse n row → length w ≡ n →
+        sum_of_products (dense n row) w ≡ sum_of_entries row (at_column w) }
+{}
 
 /// The entries of a row that are not 0.
 pub(crate) fn entries_of(alloc: Global, row: &[i128]) -> Result<Vec<Entry>, AllocError>

@@ -24,4 +24,4 @@ mod solve;
 mod tighten;
 
 pub use basis::SparseBasis;
-pub use entry::Entry;
+pub use entry::{Entry, entries_add_up};
