@@ -170,9 +170,10 @@ gathered_start row entries is = subst (λ (xs : List Entry). IsGathered row xs 0
 widened : (a n m : ℕ) (row : List Entry) → AreSparseFrom a n row → n ≤ m → AreSparseFrom a m row
 widened a n m [] h more = tt
 widened a n m (e ∷ row) (first, later) more =
-    let below = first.below in
-    (record { behind = first.behind; below = omega arith; some = first.some; fits = first.fits },
-    widened (e.column + 1) n m row later more)
+    let below = first.below in (
+      record { behind = first.behind; below = omega arith; some = first.some; fits = first.fits },
+      widened (e.column + 1) n m row later more,
+    )
 
 pushed_sparse : (a n : ℕ) (row : List Entry) (e : Entry) → AreSparseFrom a n row → a ≤ n → IsEntryWithin n (n + 1) e →
     AreSparseFrom a (n + 1) (row ++ e ∷ [])
@@ -180,9 +181,10 @@ pushed_sparse a n [] e h least last =
     let behind = last.behind in
     (record { behind = omega arith; below = last.below; some = last.some; fits = last.fits }, tt)
 pushed_sparse a n (x ∷ row) e (first, later) least last =
-    let below = first.below in
-    (record { behind = first.behind; below = omega arith; some = first.some; fits = first.fits },
-    pushed_sparse (x.column + 1) n row e later (omega arith) last)
+    let below = first.below in (
+      record { behind = first.behind; below = omega arith; some = first.some; fits = first.fits },
+      pushed_sparse (x.column + 1) n row e later (omega arith) last,
+    )
 
 pushed_other : (row : List Entry) (e : Entry) (k : ℕ) → e.column ≢ k → factor_at (row ++ e ∷ []) k ≡ factor_at row k
 pushed_other [] e k apart = factor_later e [] k apart

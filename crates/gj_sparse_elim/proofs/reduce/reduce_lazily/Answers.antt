@@ -36,9 +36,10 @@ pub returns-in_default-places-clause-within : goal.returns-in_default-places-cla
 returns-in_default-places-clause-within c =
     let next = next_column c.loop-column.touched c.loop-column.row c.loop-column.next c.in-Some.column c.loop-column.invariant.support
     c.in-Some.ensures in
-    let inside = next.inside in
-    (lazy_fits c.loop-column.bound _ c.loop-column.row c.loop-column.invariant.reached.extent c.loop-column.invariant.reached.bounded,
-    free_at (length c.args.row.now) c.args._log.now c.args.places.now c.in-Some.column c.requires.places (omega arith) c.in_default-places.is)
+    let inside = next.inside in (
+      lazy_fits c.loop-column.bound _ c.loop-column.row c.loop-column.invariant.reached.extent c.loop-column.invariant.reached.bounded,
+      free_at (length c.args.row.now) c.args._log.now c.args.places.now c.in-Some.column c.requires.places (omega arith) c.in_default-places.is,
+    )
 
 pub step-after-requires-clause-sparse : goal.step-after-requires-clause-sparse
 step-after-requires-clause-sparse c =
@@ -109,11 +110,11 @@ loop-column-preserved c =
     elim c.if-row-column-ne0.branch [
       | then-row-column-ne0+in-Some-places+in-Some-after+in_ok-reserve-in-Some-after w ↦
           let next = next_column c.loop-column.touched c.loop-column.row c.loop-column.next c.in-Some.column c.loop-column.invariant.support
-    c.in-Some.ensures in
-    let inside = next.inside in
-    let e = sparse_pivot (length c.args.row.now) c.args._log.now c.args.rows.now c.args.places.now c.in-Some.column w.in-Some-places.place
-    w.index-rows-place.result w.as_slice.result.now c.requires.lines c.requires.sparse c.requires.triangular c.requires.places (omega arith)
-    w.in-Some-places.is w.index-rows-place.is w.as_slice.ensures in
+          c.in-Some.ensures in
+          let inside = next.inside in
+          let e = sparse_pivot (length c.args.row.now) c.args._log.now c.args.rows.now c.args.places.now c.in-Some.column w.in-Some-places.place
+          w.index-rows-place.result w.as_slice.result.now c.requires.lines c.requires.sparse c.requires.triangular c.requires.places (omega arith)
+          w.in-Some-places.is w.index-rows-place.is w.as_slice.ensures in
           let step = subst (λ (n : ℕ). (other : List ℤ) → IsMultipleRow other c.loop-column.row → IsExactly c.loop-column.is_stepped other c.loop-column.row →
           IsLazyStep (dense n w.as_slice.result.now) other w.step-after.new.row c.in-Some.column) c.loop-column.auto.row w.in-Some-after.ensures.step in
           let extent = subst (λ (n : ℕ). IsExtent w.in-Some-after.least n w.step-after.new.row) (w.step-after.auto.row ∙ c.loop-column.auto.row)
@@ -133,12 +134,12 @@ loop-column-preserved c =
           }
       | else-row-column-ne0 w ↦
           let next = next_column c.loop-column.touched c.loop-column.row c.loop-column.next c.in-Some.column c.loop-column.invariant.support
-    c.in-Some.ensures in
-    let inside = next.inside in
+          c.in-Some.ensures in
+          let inside = next.inside in
           let none = zero_small (get_or c.loop-column.row c.in-Some.column (pos 0)) (search rules) w.if-row-column-ne0.false in
           let on = lazy_zero (inserted (length c.args.row.now) (kept_sparse (length c.args.row.now) c.args._log.now c.args.rows.now) c.args.row.now) (kept_sparse (length c.args.row.now) c.args._log.now c.args.rows.now) (length c.args.row.now) c.in-Some.column c.loop-column.row c.loop-column.reduce.items c.loop-column.is_stepped c.loop-column.bound (length c.args.row.now)
-    (lazy_to (inserted (length c.args.row.now) (kept_sparse (length c.args.row.now) c.args._log.now c.args.rows.now) c.args.row.now) (kept_sparse (length c.args.row.now) c.args._log.now c.args.rows.now) (length c.args.row.now) c.loop-column.next c.in-Some.column c.loop-column.row c.loop-column.reduce.items c.loop-column.is_stepped
-    c.loop-column.bound (length c.args.row.now) c.loop-column.invariant.reached next) (omega arith) none in
+          (lazy_to (inserted (length c.args.row.now) (kept_sparse (length c.args.row.now) c.args._log.now c.args.rows.now) c.args.row.now) (kept_sparse (length c.args.row.now) c.args._log.now c.args.rows.now) (length c.args.row.now) c.loop-column.next c.in-Some.column c.loop-column.row c.loop-column.reduce.items c.loop-column.is_stepped
+          c.loop-column.bound (length c.args.row.now) c.loop-column.invariant.reached next) (omega arith) none in
           record {
             reached = rw (w.row-is, w.is_stepped-is, w.bound-is, ap (λ v. v.items) w.reduce-is) on;
             support = rw (w.row-is, w.touched-is) c.loop-column.invariant.support;
