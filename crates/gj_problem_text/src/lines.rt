@@ -15,7 +15,7 @@ use std::alloc::Global;
 
 /// A line with what it tells: names and bounds as they are spelled.
 #[derive(Drop)]
-pub(crate) enum Line<'a> {
+pub enum Line<'a> {
     /// A column: its name, whether it is whole, and the words of its bounds.
     Column(&'a [u8], bool, &'a [u8], &'a [u8]),
     /// A constraint: its name, its sense and its right side.
@@ -30,8 +30,10 @@ pub(crate) enum Line<'a> {
     Grid(u32),
 }
 
-/// What the line tells, or why it tells nothing.
-pub(crate) fn line_in(alloc: Global, line: &[u8]) -> Result<Line<'_>, LineFault>
+/// What the line tells, in lenient spelling.
+///
+/// `Broken` has the reason, and comes exactly if the line tells nothing; `Memory` is want of memory.
+pub fn line_in(alloc: Global, line: &[u8]) -> Result<Line<'_>, LineFault>
     ensures told { IfOk result (λ l. told_rule.Spells (word_texts line.now) (line_told l)) }
     ensures broken { IfErr result (IsRefusedFor (told_rule.Breaks (word_texts line.now))) }
 {

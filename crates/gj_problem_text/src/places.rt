@@ -9,7 +9,7 @@ use std::marker::Model;
 
 /// The names of the columns so far, each once. Contracts see them as their list.
 #[derive(Drop)]
-pub(crate) struct Places<'a> {
+pub struct Places<'a> {
     names: IndexSet<&'a [u8]>,
 }
 
@@ -23,7 +23,7 @@ impl<'a> Model for Places<'a> {
 
 impl<'a> Places<'a> {
     /// No name.
-    pub(crate) fn none(alloc: Global) -> Places<'a>
+    pub fn none(alloc: Global) -> Places<'a>
         ensures { result ≡ [] }
     {
         Places {
@@ -32,14 +32,14 @@ impl<'a> Places<'a> {
     }
 
     /// The index of the name, if it is one of them.
-    pub(crate) fn place_of(&self, name: &[u8]) -> Option<usize>
+    pub fn place_of(&self, name: &[u8]) -> Option<usize>
         ensures { result ≡ position (pointwise nat_eq name.now) self.now }
     {
         self.names.get_index_of(name)
     }
 
-    /// Puts a new name behind the others.
-    pub(crate) fn push(&mut self, name: &'a [u8]) -> Result<(), AllocError>
+    /// Puts a new name behind the others. Want of memory is the only error.
+    pub fn push(&mut self, name: &'a [u8]) -> Result<(), AllocError>
         requires { position (pointwise nat_eq name.now) self.old ≡ None }
         ensures { OnOk result (self.new ≡ self.old ++ name.now ∷ []) }
     {

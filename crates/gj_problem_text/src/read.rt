@@ -1,5 +1,6 @@
 //! Problem texts, read.
-ghost use Rattle.std.specs.Prelude.{◌≡◌, ◌≤◌, List, ℕ, length, IfOk, IfErr, MatchResult};
+ghost use Rattle.std.specs.Prelude.{◌≡◌, ◌≤◌, List, ℕ, length, IfOk, IfErr, OnOk};
+ghost use Rattle.std.specs.Prelude.{MatchResult};
 ghost use Rattle.gj_forms.specs.LineFaults.{IsRefusedFor};
 ghost use Rattle.gj_forms.specs.Parts.{line_part, IsFaultOf};
 ghost use Rattle.gj_lex.specs.Words.{word_texts};
@@ -77,9 +78,7 @@ fn lines_at(alloc: Global, text: &[u8]) -> Result<(Task, &[u8]), PartFault>
     let mut places = Places::none(alloc);
     let mut rest = text;
     while !begins_with_word(Spelling::Lenient, rest, b"end") {
-        let (longer, behind) = one_more_at(alloc, task, &mut places, rest)?;
-        task = longer;
-        rest = behind;
+        rest = one_more_at(alloc, &mut task, &mut places, rest)?;
     }
     let rest = words_at(Spelling::Lenient, rest, b"end")?;
     Ok((task, rest))
@@ -101,43 +100,45 @@ fn no_task(alloc: Global) -> Task
     }
 }
 
-/// The task with the next line, and what follows that line. The places are those of its columns.
+/// Adds the next line to the task, and gives what follows that line. The places are those of the
+/// task's columns.
 fn one_more_at<'a>(
     alloc: Global,
-    task: Task,
+    task: &mut Task,
     places: &mut Places<'a>,
     text: &'a [u8],
-) -> Result<(Task, &'a [u8]), PartFault>
-    requires few { length task.names ≤ most_columns }
-    requires places { places.old ≡ task.names }
-    ensures found { IfOk result
-        (λ r. (line_part Spelling.Lenient (task_rule task)).Reads text.now r.0 r.1.now) }
-    ensures few { IfOk result (λ r. length r.0.names ≤ most_columns) }
-    ensures places { IfOk result (λ r. places.new ≡ r.0.names) }
+) -> Result<&'a [u8], PartFault>
+    requires few { length task.old.names ≤ most_columns }
+    requires places { places.old ≡ task.old.names }
+    ensures found { IfOk result (λ rest.
+        (line_part Spelling.Lenient (task_rule task.old)).Reads text.now task.new rest.now) }
+    ensures few { OnOk result (length task.new.names ≤ most_columns) }
+    ensures places { OnOk result (places.new ≡ task.new.names) }
     ensures fault { IfErr result
-        (IsFaultOf (line_part Spelling.Lenient (task_rule task)) text.now) }
+        (IsFaultOf (line_part Spelling.Lenient (task_rule task.old)) text.now) }
 {
     let line = line_at(Spelling::Lenient, text)?;
     match with_line_of(alloc, task, places, line.bytes) {
-        Ok(longer) => Ok((longer, line.rest)),
+        Ok(()) => Ok(line.rest),
         Err(LineFault::Broken(reason)) => Err(PartFault::at(line.start, reason)),
         Err(LineFault::Memory(error)) => Err(PartFault::Memory(error)),
     }
 }
 
-/// The task with the line, or why the line cannot follow.
+/// Adds the line to the task, or says why it cannot follow.
 fn with_line_of<'a>(
     alloc: Global,
-    task: Task,
+    task: &mut Task,
     places: &mut Places<'a>,
     line: &'a [u8],
-) -> Result<Task, LineFault>
-    requires few { length task.names ≤ most_columns }
-    requires places { places.old ≡ task.names }
-    ensures found { IfOk result ((task_rule task).Spells (word_texts line.now)) }
-    ensures few { IfOk result (λ t. length t.names ≤ most_columns) }
-    ensures places { IfOk result (λ t. places.new ≡ t.names) }
-    ensures broken { IfErr result (IsRefusedFor ((task_rule task).Breaks (word_texts line.now))) }
+) -> Result<(), LineFault>
+    requires few { length task.old.names ≤ most_columns }
+    requires places { places.old ≡ task.old.names }
+    ensures found { OnOk result ((task_rule task.old).Spells (word_texts line.now) task.new) }
+    ensures few { OnOk result (length task.new.names ≤ most_columns) }
+    ensures places { OnOk result (places.new ≡ task.new.names) }
+    ensures broken { IfErr result
+        (IsRefusedFor ((task_rule task.old).Breaks (word_texts line.now))) }
 {
     let told = line_in(alloc, line)?;
     with_line(alloc, task, places, told)

@@ -1,7 +1,7 @@
 //! A task with one more line.
-ghost use Rattle.std.specs.Prelude.{◌≡◌, ◌≢◌, ◌≤◌, ◌∷◌, ◌++◌, [], None, length, IfSome, IfNone};
-ghost use Rattle.std.specs.Prelude.{IfOk, IfErr, IsTrue, ◌↔◌, codes};
-ghost use Rattle.gj_forms.specs.LineFaults.{IsRefusedFor, IsMemory};
+ghost use Rattle.std.specs.Prelude.{◌≡◌, ◌≢◌, ◌≤◌, [], None, length, IfSome, IfNone};
+ghost use Rattle.std.specs.Prelude.{OnOk, IfErr, IsTrue, ◌↔◌, codes};
+ghost use Rattle.gj_forms.specs.LineFaults.{IsRefusedFor};
 ghost use Rattle.gj_lex.specs.declared.reason.Reason.TheVariants as reason;
 ghost use Rattle.gj_problem_text.specs.LinesRead.{line_told};
 ghost use Rattle.gj_problem_text.specs.Tasks.{Adds, Refuses, AddsColumn, RefusesColumn};
@@ -16,9 +16,10 @@ use crate::task::{Request, Task};
 use gj_forms::{LineFault, name_of};
 use gj_frac::Frac;
 use gj_lex::{Reason, Spelling, fraction_of};
-use gj_problem::{Column, Constraint, Entry, Problem, Sense};
+use gj_problem::{Column, Constraint, Entry, Sense};
 use gj_shape::List;
-use std::alloc::Global;
+use std::alloc::{AllocError, Global};
+use std::mem;
 
 /// The greatest number of columns.
 const MOST_COLUMNS: usize = 10_000;
@@ -29,46 +30,52 @@ const MOST_CONSTRAINTS: usize = 10_000;
 /// The greatest number of entries.
 const MOST_ENTRIES: u32 = 100_000;
 
-/// The task with the line, or why the line cannot follow. The places are those of its columns.
-pub(crate) fn with_line<'a>(
+/// Adds the line to the task, or says why the line cannot follow. The places are those of the
+/// task's columns.
+///
+/// `Broken` has the reason, and comes exactly if the line cannot follow; `Memory` is want of memory.
+/// After an error neither the task nor the places are of any use.
+pub fn with_line<'a>(
     alloc: Global,
-    task: Task,
+    task: &mut Task,
     places: &mut Places<'a>,
     line: Line<'a>,
-) -> Result<Task, LineFault>
-    requires few { length task.names ≤ most_columns }
-    requires places { places.old ≡ task.names }
-    ensures added { IfOk result (Adds task (line_told line.entry)) }
-    ensures places { IfOk result (λ t. places.new ≡ t.names) }
-    ensures refused { IfErr result (IsRefusedFor (Refuses task (line_told line.entry))) }
+) -> Result<(), LineFault>
+    requires few { length task.old.names ≤ most_columns }
+    requires places { places.old ≡ task.old.names }
+    ensures added { OnOk result (Adds task.old (line_told line.entry) task.new) }
+    ensures few { OnOk result (length task.new.names ≤ most_columns) }
+    ensures places { OnOk result (places.new ≡ task.new.names) }
+    ensures refused { IfErr result (IsRefusedFor (Refuses task.old (line_told line.entry))) }
 {
     match line {
         Line::Column(name, is_whole, lower, upper) => {
             with_column(alloc, task, places, name, is_whole, lower, upper)
         }
         Line::Constraint(name, sense, right) => with_constraint(alloc, task, name, sense, right),
-        Line::Entry(name, value) => with_entry(task, places, name, value),
+        Line::Entry(name, value) => with_entry(alloc, task, places, name, value),
         Line::Upper(name) => with_upper(task, places, name),
         Line::Sum(multipliers) => with_sum(task, multipliers),
         Line::Grid(grid) => with_grid(task, grid),
     }
 }
 
-/// The task with a column.
+/// Adds a column.
 fn with_column<'a>(
     alloc: Global,
-    task: Task,
+    task: &mut Task,
     places: &mut Places<'a>,
     name: &'a [u8],
     is_whole: bool,
     lower: &[u8],
     upper: &[u8],
-) -> Result<Task, LineFault>
-    requires { places.old ≡ task.names }
-    ensures places { IfOk result (λ t. places.new ≡ t.names) }
-    ensures added { IfOk result (AddsColumn task name.now is_whole lower.now upper.now) }
+) -> Result<(), LineFault>
+    requires { places.old ≡ task.old.names }
+    ensures added { OnOk result
+        (AddsColumn task.old name.now is_whole lower.now upper.now task.new) }
+    ensures places { OnOk result (places.new ≡ task.new.names) }
     ensures refused { IfErr result (IsRefusedFor
-        (RefusesColumn task name.now lower.now upper.now)) }
+        (RefusesColumn task.old name.now lower.now upper.now)) }
 {
     let kept = name_of(alloc, name)?;
     let Some(lower) = bound_of(lower) else {
@@ -84,39 +91,17 @@ fn with_column<'a>(
         return Err(LineFault::Broken(Reason::Place));
     }
     places.push(name)?;
-    let Task {
-        names,
-        problem,
-        entries,
-        requests,
-        grid,
-    } = task;
-    let Problem {
-        columns,
-        constraints,
-    } = problem;
-    let mut names = names.into_vec();
-    names.push(kept)?;
-    let mut columns = columns.into_vec();
-    columns.push(Column {
+    task.names.push(kept)?;
+    task.problem.columns.push(Column {
         is_whole,
         lower,
         upper,
     })?;
-    Ok(Task {
-        names: List::of(names),
-        problem: Problem {
-            columns: List::of(columns),
-            constraints,
-        },
-        entries,
-        requests,
-        grid,
-    })
+    Ok(())
 }
 
-/// The bound that the word spells: none for `-`. No bound if it spells none.
-fn bound_of(word: &[u8]) -> Option<Option<Frac>>
+/// The bound that the word spells, none for `-`; or nothing if it spells no bound.
+pub fn bound_of(word: &[u8]) -> Option<Option<Frac>>
     ensures found { IfSome result (SpellsBound word.now) }
     ensures none { IfNone result (IsBound word.now → ⊥) }
 {
@@ -136,16 +121,16 @@ fn is_absent(word: &[u8]) -> bool
     word == b"-".as_slice()
 }
 
-/// The task with a constraint that has no entries yet.
+/// Adds a constraint that has no entries yet.
 fn with_constraint(
     alloc: Global,
-    task: Task,
+    task: &mut Task,
     name: &[u8],
     sense: Sense,
     right: Frac,
-) -> Result<Task, LineFault>
-    ensures added { IfOk result (AddsConstraint task name.now sense right) }
-    ensures refused { IfErr result (IsRefusedFor (RefusesConstraint task name.now)) }
+) -> Result<(), LineFault>
+    ensures added { OnOk result (AddsConstraint task.old name.now sense right task.new) }
+    ensures refused { IfErr result (IsRefusedFor (RefusesConstraint task.old name.now)) }
 {
     if !task.requests.as_slice().is_empty() {
         return Err(LineFault::Broken(Reason::Form));
@@ -154,43 +139,28 @@ fn with_constraint(
     if task.problem.constraints.as_slice().len() >= MOST_CONSTRAINTS {
         return Err(LineFault::Broken(Reason::Large));
     }
-    let Task {
-        names,
-        problem,
-        entries,
-        requests,
-        grid,
-    } = task;
-    let Problem {
-        columns,
-        constraints,
-    } = problem;
-    let mut constraints = constraints.into_vec();
-    constraints.push(Constraint {
+    task.problem.constraints.push(Constraint {
         entries: List::of(Vec::new(alloc)),
         sense,
         right,
     })?;
-    Ok(Task {
-        names,
-        problem: Problem {
-            columns,
-            constraints: List::of(constraints),
-        },
-        entries,
-        requests,
-        grid,
-    })
+    Ok(())
 }
 
-/// The task with an entry of its last constraint.
-fn with_entry(task: Task, places: &Places<'_>, name: &[u8], value: Frac) -> Result<Task, LineFault>
-    requires few { length task.names ≤ most_columns }
-    requires places { places.now ≡ task.names }
-    ensures added { IfOk result (AddsEntry task name.now value) }
-    ensures refused { IfErr result (IsRefusedFor (RefusesEntry task name.now)) }
+/// Adds an entry of the last constraint.
+fn with_entry(
+    alloc: Global,
+    task: &mut Task,
+    places: &Places<'_>,
+    name: &[u8],
+    value: Frac,
+) -> Result<(), LineFault>
+    requires few { length task.old.names ≤ most_columns }
+    requires places { places.now ≡ task.old.names }
+    ensures added { OnOk result (AddsEntry task.old name.now value task.new) }
+    ensures refused { IfErr result (IsRefusedFor (RefusesEntry task.old name.now)) }
 {
-    if !takes_entries(&task) {
+    if !takes_entries(task) {
         return Err(LineFault::Broken(Reason::Form));
     }
     if task.entries >= MOST_ENTRIES {
@@ -199,34 +169,16 @@ fn with_entry(task: Task, places: &Places<'_>, name: &[u8], value: Frac) -> Resu
     let Some(index) = places.place_of(name) else {
         return Err(LineFault::Broken(Reason::Place));
     };
-    let Task {
-        names,
-        problem,
-        entries,
-        requests,
-        grid,
-    } = task;
-    let Problem {
-        columns,
-        constraints,
-    } = problem;
-    let constraints = longer(
-        constraints,
+    push_entry(
+        alloc,
+        &mut task.problem.constraints,
         Entry {
             column: index as u32,
             value,
         },
     )?;
-    Ok(Task {
-        names,
-        problem: Problem {
-            columns,
-            constraints,
-        },
-        entries: entries + 1,
-        requests,
-        grid,
-    })
+    task.entries += 1;
+    Ok(())
 }
 
 /// Whether there is a constraint, and no row is asked for.
@@ -236,118 +188,62 @@ fn takes_entries(task: &Task) -> bool
     task.requests.as_slice().is_empty() && !task.problem.constraints.as_slice().is_empty()
 }
 
-/// The constraints with one more entry in the last one.
-fn longer(constraints: List<Constraint>, entry: Entry) -> Result<List<Constraint>, LineFault>
-    requires some { constraints ≢ [] }
-    ensures added { IfOk result (AreLonger constraints entry) }
-    ensures memory { IfErr result IsMemory }
+/// Appends the entry to those of the last constraint.
+fn push_entry(
+    alloc: Global,
+    constraints: &mut List<Constraint>,
+    entry: Entry,
+) -> Result<(), AllocError>
+    requires { constraints.old ≢ [] }
+    ensures { OnOk result (AreLonger constraints.old entry constraints.new) }
 {
-    let mut constraints = constraints.into_vec();
-    let Some(last) = constraints.pop() else {
+    let mut others = mem::replace(constraints, List::of(Vec::new(alloc))).into_vec();
+    let Some(mut last) = others.pop() else {
         unreachable!();
     };
-    constraints.push(with_one_more(last, entry)?)?;
-    Ok(List::of(constraints))
+    last.entries.push(entry)?;
+    others.push(last)?;
+    *constraints = List::of(others);
+    Ok(())
 }
 
-/// The constraint with one more entry.
-fn with_one_more(constraint: Constraint, entry: Entry) -> Result<Constraint, LineFault>
-    ensures added { IfOk result (λ c. c ≡ record {
-      entries = constraint.entries ++ entry ∷ [];
-      sense = constraint.sense;
-      right = constraint.right;
-    }) }
-    ensures memory { IfErr result IsMemory }
-{
-    let Constraint {
-        entries,
-        sense,
-        right,
-    } = constraint;
-    let mut entries = entries.into_vec();
-    entries.push(entry)?;
-    Ok(Constraint {
-        entries: List::of(entries),
-        sense,
-        right,
-    })
-}
-
-/// The task with a request.
-fn with_request(task: Task, request: Request) -> Result<Task, LineFault>
-    ensures added { IfOk result (λ t. t ≡ record {
-      names = task.names;
-      problem = task.problem;
-      entries = task.entries;
-      requests = task.requests ++ request ∷ [];
-      grid = task.grid;
-    }) }
-    ensures memory { IfErr result IsMemory }
-{
-    let Task {
-        names,
-        problem,
-        entries,
-        requests,
-        grid,
-    } = task;
-    let mut requests = requests.into_vec();
-    requests.push(request)?;
-    Ok(Task {
-        names,
-        problem,
-        entries,
-        requests: List::of(requests),
-        grid,
-    })
-}
-
-/// The task that turns the column with the name by its upper bound from here on.
-fn with_upper(task: Task, places: &Places<'_>, name: &[u8]) -> Result<Task, LineFault>
-    requires few { length task.names ≤ most_columns }
-    requires places { places.now ≡ task.names }
-    ensures added { IfOk result (AddsUpper task name.now) }
+/// From here on the column with the name is turned by its upper bound.
+fn with_upper(task: &mut Task, places: &Places<'_>, name: &[u8]) -> Result<(), LineFault>
+    requires few { length task.old.names ≤ most_columns }
+    requires places { places.now ≡ task.old.names }
+    ensures added { OnOk result (AddsUpper task.old name.now task.new) }
     ensures refused { IfErr result (IsRefusedFor
-        (Unless (IsKnown task name.now) reason.Place Never)) }
+        (Unless (IsKnown task.old name.now) reason.Place Never)) }
 {
     let Some(index) = places.place_of(name) else {
         return Err(LineFault::Broken(Reason::Place));
     };
-    with_request(task, Request::Upper(index as u32))
+    task.requests.push(Request::Upper(index as u32))?;
+    Ok(())
 }
 
-/// The task that asks for the row by these multipliers.
-fn with_sum(task: Task, multipliers: Vec<Frac>) -> Result<Task, LineFault>
-    ensures added { IfOk result (AddsSum task multipliers.items) }
-    ensures refused { IfErr result (IsRefusedFor
-        (Unless (length multipliers.items ≡ length task.problem.constraints) reason.Form Never)) }
+/// Asks for the row by these multipliers.
+fn with_sum(task: &mut Task, multipliers: Vec<Frac>) -> Result<(), LineFault>
+    ensures added { OnOk result (AddsSum task.old multipliers.items task.new) }
+    ensures refused { IfErr result (IsRefusedFor (Unless
+        (length multipliers.items ≡ length task.old.problem.constraints) reason.Form Never)) }
 {
     if multipliers.len() != task.problem.constraints.as_slice().len() {
         return Err(LineFault::Broken(Reason::Form));
     }
-    with_request(task, Request::Sum(List::of(multipliers)))
+    task.requests.push(Request::Sum(List::of(multipliers)))?;
+    Ok(())
 }
 
-/// The task with the grid.
-fn with_grid(task: Task, grid: u32) -> Result<Task, LineFault>
-    ensures added { IfOk result (AddsGrid task grid) }
-    ensures refused { IfErr result (IsRefusedFor (Unless (task.grid ≡ None) reason.Form Never)) }
+/// Sets the grid, once at most.
+fn with_grid(task: &mut Task, grid: u32) -> Result<(), LineFault>
+    ensures added { OnOk result (AddsGrid task.old grid task.new) }
+    ensures refused { IfErr result (IsRefusedFor
+        (Unless (task.old.grid ≡ None) reason.Form Never)) }
 {
     if task.grid.is_some() {
         return Err(LineFault::Broken(Reason::Form));
     }
-    let Task {
-        names,
-        problem,
-        entries,
-        requests,
-        ..
-    } = task;
-    Ok(Task {
-        names,
-        problem,
-        entries,
-        requests,
-        grid: Some(grid),
-    })
+    task.grid = Some(grid);
+    Ok(())
 }
