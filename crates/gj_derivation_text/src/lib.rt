@@ -1,0 +1,2 @@
+//! The text of a derivation, read and printed.
+#![tactic(auto)]
