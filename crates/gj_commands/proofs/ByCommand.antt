@@ -36,8 +36,11 @@ use Rattle.gj_top.specs.Causes.{IsInput, IsDoneRun}
 use Rattle.gj_top.specs.Command.{IsNamed, promise_for, task_for}
 use Rattle.gj_top.specs.Cut.{AreCutsOf, SpellsCutInput}
 use Rattle.gj_top.specs.declared.cut_input.CutInput.{CutInput}
+use Rattle.gj_problem_text.specs.PrintedInput.{IsPrintedInput}
 use Rattle.gj_problem_text.specs.SafeInputs.{IsSafeInput}
 use Rattle.gj_problem_text.specs.declared.input.SafeInput.{SafeInput}
+use Rattle.gj_problem_text.proofs.InputParts.{one_input}
+use Rattle.gj_problem_text.proofs.PrintedInputs.{printed_is_read}
 use Rattle.gj_top.specs.Problem.{AreProblemCuts}
 use Rattle.gj_top.specs.Extreme.{IsTrueExtremality, IsDecisionText}
 use Rattle.gj_top.specs.Forms.{IsFunctionInput, IsProofOf, function_promise}
@@ -440,6 +443,15 @@ pub problem_told : (input text : List ℕ) → IsReply (task_for (plain command.
     (asked : SafeInput) × IsSafeInput input asked × AreProblemCuts asked text
 problem_told input text reply =
     let kept = true_of (plain command.Problem) input text reply in (kept.thing, kept.spelled, kept.holds)
+
+-- and of the problem whose printed text the input is
+pub problem_of_printed : (input text : List ℕ) →
+    IsReply (task_for (plain command.Problem)) input end.Done text → (asked : SafeInput) →
+    IsPrintedInput asked input → AreProblemCuts asked text
+problem_of_printed input text reply asked printed =
+    let (read, spelled, cuts) = problem_told input text reply in
+    subst (λ (a : SafeInput). AreProblemCuts a text)
+    (one_input input read asked spelled (printed_is_read asked input printed)) cuts
 
 -- the rows are those of the tableau that the input spells
 pub cut_of_input : (input text : List ℕ) → IsReply (task_for (plain command.Cut)) input end.Done text → (given : CutInput) →

@@ -28,6 +28,7 @@ ghost use Rattle.gj_json.specs.JsonText.{IsJsonText};
 ghost use Rattle.gj_top.specs.Cut.{AreCutsOf, SpellsCutInput};
 ghost use Rattle.gj_top.specs.declared.cut_input.CutInput.{CutInput};
 ghost use Rattle.gj_top.specs.Forms.{IsFunctionInput, IsProofOf};
+ghost use Rattle.gj_problem_text.specs.PrintedInput.{IsPrintedInput};
 ghost use Rattle.gj_problem_text.specs.SafeInputs.{IsSafeInput};
 ghost use Rattle.gj_problem_text.specs.declared.input.SafeInput.{SafeInput};
 ghost use Rattle.gj_top.specs.Problem.{AreProblemCuts};
@@ -166,9 +167,15 @@ pub fn run_command<S: Source, K: Sink>(
         given.tableau text)
         words.now result (S.left source.old) (K.written sink.old) (K.written sink.new) }
 
-    // What `problem` writes has a cut, or why there is none, as often as the input has lines `sum`.
-    // Each cut holds at all feasible points of the program that the input spells.
+    // Of an input that is the printed text of a problem with its rule: what `problem` writes has a
+    // cut, or why there is none, as often as there are rows, and each cut holds at all feasible
+    // points of the problem.
     ensures problem { HasWritten (codes "problem" ∷ [])
+        (λ input text. (asked : SafeInput) → IsPrintedInput asked input → AreProblemCuts asked text)
+        words.now result (S.left source.old) (K.written sink.old) (K.written sink.new) }
+
+    // And so of the problem that any input spells.
+    ensures problem_input { HasWritten (codes "problem" ∷ [])
         (λ input text. (asked : SafeInput) × IsSafeInput input asked × AreProblemCuts asked text)
         words.now result (S.left source.old) (K.written sink.old) (K.written sink.new) }
 

@@ -50,15 +50,11 @@ one_index : (i j : ℕ) (at : Option ℕ) → at ≡ Some i → at ≡ Some j �
 one_index i j at h k = one_some i j (sym h ∙ k)
 
 abbrev with_column : Task → List ℕ → Bool → Option Frac → Option Frac → Task
-with_column s name is_whole first last = record {
+with_column s name is_whole first last = record s {
   names = s.names ++ name ∷ [];
-  problem = record {
+  problem = record (s.problem) {
     columns = s.problem.columns ++ record { is_whole = is_whole; lower = first; upper = last } ∷ [];
-    constraints = s.problem.constraints;
   };
-  entries = s.entries;
-  requests = s.requests;
-  grid = s.grid;
 }
 
 one_column : (s : Task) (name : List ℕ) (is_whole : Bool) (low high : List ℕ) (t u : Task) → AddsColumn s name is_whole low high t →
@@ -68,7 +64,7 @@ one_column s name is_whole low high t u h k =
     (one_bound high h.upper k.upper h.upper_is k.upper_is) ∙ sym k.added
 
 abbrev ended : Entry → List Constraint → Constraint → List Constraint
-ended e others last = others ++ record { entries = last.entries ++ e ∷ []; sense = last.sense; right = last.right } ∷ []
+ended e others last = others ++ record last { entries = last.entries ++ e ∷ [] } ∷ []
 
 one_longer : (old : List Constraint) (e : Entry) (new other : List Constraint) → AreLonger old e new → AreLonger old e other → new ≡ other
 one_longer old e new other h k =
@@ -76,12 +72,9 @@ one_longer old e new other h k =
     h.new_is ∙ ap₂ (ended e) same.0 same.1 ∙ sym k.new_is
 
 abbrev with_constraints : Task → List Constraint → Task
-with_constraints s constraints = record {
-  names = s.names;
-  problem = record { columns = s.problem.columns; constraints = constraints };
+with_constraints s constraints = record s {
+  problem = record (s.problem) { constraints = constraints };
   entries = s.entries + 1;
-  requests = s.requests;
-  grid = s.grid;
 }
 
 one_entry : (s : Task) (name : List ℕ) (value : Frac) (t u : Task) → AddsEntry s name value t → AddsEntry s name value u → t ≡ u
@@ -93,13 +86,7 @@ one_entry s name value t u h k =
     ∙ sym k.added
 
 abbrev with_upper : Task → ℕ → Task
-with_upper s j = record {
-  names = s.names;
-  problem = s.problem;
-  entries = s.entries;
-  requests = s.requests ++ Upper j ∷ [];
-  grid = s.grid;
-}
+with_upper s j = record s { requests = s.requests ++ Upper j ∷ [] }
 
 one_upper : (s : Task) (name : List ℕ) (t u : Task) → AddsUpper s name t → AddsUpper s name u → t ≡ u
 one_upper s name t u h k =

@@ -14,3 +14,5 @@ pub mod AnsweredRequests
 pub mod WholeTexts
 pub mod OneListOfCuts
 pub mod TermsOfCuts
+pub mod PrintedTasks
+pub mod PrintedInputs

@@ -10,3 +10,4 @@ pub mod AnswersMade
 pub mod SafeInputs
 pub mod CutRules
 pub mod PrintedProblem
+pub mod PrintedInput

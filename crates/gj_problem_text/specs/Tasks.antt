@@ -59,15 +59,11 @@ pub record AddsColumn (s : Task) (name : List ℕ) (is_whole : Bool) (low high :
   pub upper_is : SpellsBound high upper
   pub few : length s.names < most_columns
   pub new : index_of s name ≡ None
-  pub added : t ≡ record {
+  pub added : t ≡ record s {
     names = s.names ++ name ∷ [];
-    problem = record {
+    problem = record (s.problem) {
       columns = s.problem.columns ++ record { is_whole = is_whole; lower = lower; upper = upper } ∷ [];
-      constraints = s.problem.constraints;
     };
-    entries = s.entries;
-    requests = s.requests;
-    grid = s.grid;
   }
 
 abbrev pub RefusesColumn : Task → List ℕ → List ℕ → List ℕ → Reason → Type 0
@@ -81,15 +77,10 @@ pub record AddsConstraint (s : Task) (name : List ℕ) (sense : Sense) (right : 
   pub before : s.requests ≡ []
   pub is_name : IsName name
   pub few : length s.problem.constraints < most_constraints
-  pub added : t ≡ record {
-    names = s.names;
-    problem = record {
-      columns = s.problem.columns;
+  pub added : t ≡ record s {
+    problem = record (s.problem) {
       constraints = s.problem.constraints ++ record { entries = []; sense = sense; right = right } ∷ [];
     };
-    entries = s.entries;
-    requests = s.requests;
-    grid = s.grid;
   }
 
 abbrev pub RefusesConstraint : Task → List ℕ → Reason → Type 0
@@ -106,7 +97,7 @@ pub record AreLonger (old : List Constraint) (e : Entry) (new : List Constraint)
   pub others : List Constraint
   pub last : Constraint
   pub old_is : old ≡ others ++ last ∷ []
-  pub new_is : new ≡ others ++ record { entries = last.entries ++ e ∷ []; sense = last.sense; right = last.right } ∷ []
+  pub new_is : new ≡ others ++ record last { entries = last.entries ++ e ∷ [] } ∷ []
 
 pub record AddsEntry (s : Task) (name : List ℕ) (value : Frac) (t : Task) : Type 0 where
   pub takes : TakesEntries s
@@ -115,12 +106,9 @@ pub record AddsEntry (s : Task) (name : List ℕ) (value : Frac) (t : Task) : Ty
   pub index_is : index_of s name ≡ Some index
   pub constraints : List Constraint
   pub longer : AreLonger s.problem.constraints (record { column = index; value = value }) constraints
-  pub added : t ≡ record {
-    names = s.names;
-    problem = record { columns = s.problem.columns; constraints = constraints };
+  pub added : t ≡ record s {
+    problem = record (s.problem) { constraints = constraints };
     entries = s.entries + 1;
-    requests = s.requests;
-    grid = s.grid;
   }
 
 abbrev pub RefusesEntry : Task → List ℕ → Reason → Type 0
@@ -132,34 +120,16 @@ RefusesEntry s name =
 pub record AddsUpper (s : Task) (name : List ℕ) (t : Task) : Type 0 where
   pub index : ℕ
   pub index_is : index_of s name ≡ Some index
-  pub added : t ≡ record {
-    names = s.names;
-    problem = s.problem;
-    entries = s.entries;
-    requests = s.requests ++ Upper index ∷ [];
-    grid = s.grid;
-  }
+  pub added : t ≡ record s { requests = s.requests ++ Upper index ∷ [] }
 
 pub record AddsSum (s : Task) (multipliers : List Frac) (t : Task) : Type 0 where
   pub count : length multipliers ≡ length s.problem.constraints
-  pub added : t ≡ record {
-    names = s.names;
-    problem = s.problem;
-    entries = s.entries;
-    requests = s.requests ++ Sum multipliers ∷ [];
-    grid = s.grid;
-  }
+  pub added : t ≡ record s { requests = s.requests ++ Sum multipliers ∷ [] }
 
 -- once at most
 pub record AddsGrid (s : Task) (n : ℕ) (t : Task) : Type 0 where
   pub none : s.grid ≡ None
-  pub added : t ≡ record {
-    names = s.names;
-    problem = s.problem;
-    entries = s.entries;
-    requests = s.requests;
-    grid = Some n;
-  }
+  pub added : t ≡ record s { grid = Some n }
 
 -- ---- all lines
 

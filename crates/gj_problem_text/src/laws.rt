@@ -8,6 +8,7 @@ ghost use Rattle.gj_problem_text.specs.CutText.{cut_lines, AreNames, HasColumnsB
 ghost use Rattle.gj_problem_text.specs.CutText.{IsCutsTextBy};
 ghost use Rattle.gj_problem_text.specs.declared.input.SafeInput.{SafeInput};
 ghost use Rattle.gj_problem_text.specs.declared.task.Task.{Task};
+ghost use Rattle.gj_problem_text.specs.PrintedInput.{IsPrintedInput};
 ghost use Rattle.gj_problem_text.specs.ProblemText.{IsProblemText, IsFirstFault};
 ghost use Rattle.gj_problem_text.specs.SafeInputs.{IsSafeInput, IsFirstFaultOfInput};
 
@@ -43,4 +44,10 @@ pub fn one_list_of_cuts()
 pub fn cuts_have_terms()
     ensures { (r : CutRule) (s : Task) (text : List ℕ) (t : IsCutsTextBy r s text) →
         All (SafeCutHasTerms s.problem) t.cuts }
+{}
+
+/// The printed text of a problem with its rule is read as that problem with that rule.
+pub fn printed_input_is_read()
+    ensures { (asked : SafeInput) (text : List ℕ) → IsPrintedInput asked text →
+        IsSafeInput text asked }
 {}

@@ -32,7 +32,8 @@ pub enum Line<'a> {
 
 /// What the line tells, in lenient spelling.
 ///
-/// `Broken` has the reason, and comes exactly if the line tells nothing; `Memory` is want of memory.
+/// `Broken` has the reason, and comes exactly if the line tells nothing; `Memory` is want of
+/// memory.
 pub fn line_in(alloc: Global, line: &[u8]) -> Result<Line<'_>, LineFault>
     ensures told { IfOk result (λ l. told_rule.Spells (word_texts line.now) (line_told l)) }
     ensures broken { IfErr result (IsRefusedFor (told_rule.Breaks (word_texts line.now))) }

@@ -33,8 +33,8 @@ const MOST_ENTRIES: u32 = 100_000;
 /// Adds the line to the task, or says why the line cannot follow. The places are those of the
 /// task's columns.
 ///
-/// `Broken` has the reason, and comes exactly if the line cannot follow; `Memory` is want of memory.
-/// After an error neither the task nor the places are of any use.
+/// `Broken` has the reason, and comes exactly if the line cannot follow; `Memory` is want of
+/// memory. After an error neither the task nor the places are of any use.
 pub fn with_line<'a>(
     alloc: Global,
     task: &mut Task,

@@ -7,7 +7,7 @@ use Rattle.gj_top.specs.Transform.{IsTimesText, IsMirrorText, IsRestrictionText}
 use Rattle.gj_commands.proofs.ByCommand.{written, input_of, minimal_told, minimal_of_input, minimal_shown, minimal_claimed}
 use Rattle.gj_commands.proofs.ByCommand.{extreme_told, extreme_of_input, extreme_shown, extreme_claimed}
 use Rattle.gj_commands.proofs.ByCommand.{check_minimal, check_not_minimal, check_extreme, check_not_extreme, check_cut, check_claimed}
-use Rattle.gj_commands.proofs.ByCommand.{cut_told, mixed_told, problem_told, cut_of_input, mixed_of_input, of_input, of_text, faces_told, demo_told}
+use Rattle.gj_commands.proofs.ByCommand.{cut_told, mixed_told, problem_told, problem_of_printed, cut_of_input, mixed_of_input, of_input, of_text, faces_told, demo_told}
 use Rattle.gj_commands.proofs.ByCommand.{written_with, minimal_json, extreme_json, show_json}
 use Rattle.gj_commands.proofs.run_command.Goals as goal
 
@@ -82,7 +82,12 @@ pub returns-clause-mixed_input : goal.returns-clause-mixed_input
 returns-clause-mixed_input g c = written command.Mixed _ tt mixed_of_input _ _ _ _ _ c.run.ensures.is_run.reply
 
 pub returns-clause-problem : goal.returns-clause-problem
-returns-clause-problem g c = written command.Problem _ tt problem_told _ _ _ _ _ c.run.ensures.is_run.reply
+returns-clause-problem g c =
+    written command.Problem _ tt problem_of_printed _ _ _ _ _ c.run.ensures.is_run.reply
+
+pub returns-clause-problem_input : goal.returns-clause-problem_input
+returns-clause-problem_input g c =
+    written command.Problem _ tt problem_told _ _ _ _ _ c.run.ensures.is_run.reply
 
 pub returns-clause-group : goal.returns-clause-group
 returns-clause-group g c = written command.Group _ tt (of_text (command.Group) (IsTrueGroupText) refl) _ _ _ _ _ c.run.ensures.is_run.reply
