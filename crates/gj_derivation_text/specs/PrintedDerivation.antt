@@ -1,0 +1,117 @@
+-- A derivation as it is printed: in one order, each number in its one spelling (own).
+use Rattle.std.specs.Prelude.{ℕ, pos, ◌≡◌, ◌+◌, ◌<◌, ◌≤◌, Bool, ◌&&◌, if◌then◌else◌, Option, Some, None, List, [], ◌∷◌, ◌++◌, All, codes, flat_map, length, map}
+use Rattle.std.specs.Ordering.{int_eq}
+use Rattle.gj_frac.specs.Fraction.{numerator, denominator}
+use Rattle.gj_frac.specs.declared.Frac.{Frac}
+use Rattle.gj_lex.specs.Name.{IsName}
+use Rattle.gj_lex.specs.NumberText.{fraction_text}
+use Rattle.gj_forms.specs.LineForms.{line_of}
+use Rattle.gj_shape.specs.FunctionData.{FunctionData, IsWithinBounds}
+use Rattle.gj_function_lines.specs.FunctionLines.{line}
+use Rattle.gj_function_text.specs.FunctionText.{IsCanonicalText}
+use Rattle.gj_problem.specs.declared.problem.Entry.{Entry}
+use Rattle.gj_problem.specs.declared.problem.Inequality.{Inequality}
+use Rattle.gj_derivation.specs.declared.draft.Shown.{Shown}
+use Rattle.gj_derivation.specs.declared.draft.Shown.TheVariants as shown
+use Rattle.gj_derivation.specs.declared.step.Combination.{Combination}
+use Rattle.gj_derivation.specs.declared.step.Multiplier.{Multiplier}
+use Rattle.gj_derivation.specs.declared.step.Step.{Step}
+use Rattle.gj_derivation.specs.Drafts.{steps_of}
+use Rattle.gj_problem_text.specs.CutText.{name_at, AreNames}
+use Rattle.gj_problem_text.specs.PrintedInput.{all_entries}
+use Rattle.gj_problem_text.specs.PrintedProblem.{problem_lines}
+use Rattle.gj_problem_text.specs.Tasks.{most_columns, most_constraints, most_entries}
+use Rattle.gj_derivation_text.specs.StepLines.{StepLine, by, upper, times, claim, term, step_form, line_form}
+use Rattle.gj_derivation_text.specs.DerivationText.{most_steps}
+use Rattle.gj_derivation_text.specs.Readable.{AreReadableSteps}
+use Rattle.gj_derivation_text.specs.VerdictLines.{left_out_line}
+use Rattle.gj_derivation_text.specs.declared.input.DerivationInput.{DerivationInput}
+
+-- ---- a step
+
+-- what a line of a multiplier tells; the names are those of the lines
+abbrev pub by_told : List (List ℕ) → Multiplier → StepLine
+by_told lines m = by (name_at lines m.line) m.value
+
+-- a column that is turned, and a term; the names are those of the columns
+abbrev pub upper_told : List (List ℕ) → ℕ → StepLine
+upper_told columns j = upper (name_at columns j)
+
+abbrev pub term_told : List (List ℕ) → Entry → StepLine
+term_told columns e = term (name_at columns e.column) e.value
+
+-- the factor, but for 1
+abbrev pub is_one : Frac → Bool
+is_one x = int_eq (numerator x) (pos 1) && int_eq (denominator x) (pos 1)
+
+abbrev pub factor_told : Frac → List StepLine
+factor_told x = if is_one x then [] else times x ∷ []
+
+abbrev pub combination_told : List (List ℕ) → List (List ℕ) → Combination → List StepLine
+combination_told columns lines c =
+    map (by_told lines) c.multipliers ++ (map (upper_told columns) c.at_upper ++ factor_told c.factor)
+
+abbrev pub claim_told : List (List ℕ) → Inequality → List StepLine
+claim_told columns q = claim (fraction_text q.right) ∷ map (term_told columns) q.entries
+
+abbrev pub step_told : List (List ℕ) → List (List ℕ) → Step → List StepLine
+step_told columns lines s = combination_told columns lines s.combination ++ claim_told columns s.claim
+
+-- the lines that tell so
+abbrev pub printed_lines : List StepLine → List ℕ
+printed_lines told = flat_map (line_of line_form) told
+
+-- the first line of a step, and those behind it
+abbrev pub step_lines : List (List ℕ) → List (List ℕ) → List ℕ → Step → List ℕ
+step_lines columns lines name s =
+    line_of step_form (name, (s.combination.rule, tt)) ++ printed_lines (step_told columns lines s)
+
+-- ---- steps, and those that are left out
+
+abbrev pub shown_line : List (List ℕ) → List (List ℕ) → List ℕ → Shown → List ℕ
+shown_line columns lines name (shown.Step s) = step_lines columns lines name s
+shown_line columns lines name (shown.Against v) = left_out_line columns lines name v
+
+-- with these names
+abbrev pub shown_lines : List (List ℕ) → List (List ℕ) → List (List ℕ) → List Shown → List ℕ
+shown_lines columns lines (name ∷ names) (x ∷ xs) = shown_line columns lines name x ++ shown_lines columns lines names xs
+shown_lines columns lines names xs = []
+
+-- the names of those that are not left out
+abbrev pub kept_names : List (List ℕ) → List Shown → List (List ℕ)
+kept_names (name ∷ names) (shown.Step s ∷ xs) = name ∷ kept_names names xs
+kept_names (name ∷ names) (shown.Against v ∷ xs) = kept_names names xs
+kept_names names xs = []
+
+-- ---- the whole
+
+-- the canonical text of the function, if there is one
+abbrev pub HasFunctionText : Option FunctionData → List ℕ → Type 0
+HasFunctionText None text = text ≡ []
+HasFunctionText (Some f) text = IsWithinBounds f × IsCanonicalText text f
+
+-- the columns and the constraints of the derivation, with the names of the constraints and of all
+-- steps, of which those that are shown are its steps
+pub record IsDerivedText (d : DerivationInput) (constraint_names names : List (List ℕ)) (xs : List Shown) (text : List ℕ) : Type 0 where
+  pub steps : d.steps ≡ steps_of xs
+  pub lines : d.lines ≡ constraint_names ++ kept_names names xs
+  pub function_text : List ℕ
+  pub function_is : HasFunctionText d.function function_text
+  pub text_is : text ≡ function_text ++ (line (codes "gj-derivation 1") ++ (problem_lines d.columns constraint_names d.problem
+      ++ (shown_lines d.columns d.lines names xs ++ line (codes "end"))))
+
+-- ---- what can be printed
+
+-- the columns, and the lines, have names that are all different; the derivation is within the
+-- limits, and its constraints and its steps speak of its columns and of the lines before them
+pub record IsPrintable (d : DerivationInput) : Type 0 where
+  pub columns : AreNames d.columns
+  pub column_count : length d.columns ≡ length d.problem.columns
+  pub columns_few : length d.columns ≤ most_columns
+  pub lines : AreNames d.lines
+  pub line_count : length d.lines ≡ length d.problem.constraints + length d.steps
+  pub constraints_few : length d.problem.constraints ≤ most_constraints
+  pub steps_few : length d.steps ≤ most_steps
+  pub known : All (λ e. e.column < length d.columns) (all_entries d.problem)
+  pub entries_few : length (all_entries d.problem) ≤ most_entries
+  pub steps : AreReadableSteps d.function (length d.columns) (length d.problem.constraints) d.steps
