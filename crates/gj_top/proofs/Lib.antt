@@ -3,6 +3,8 @@ pub mod ByOrder4q
 pub mod Clauses
 pub mod Commands
 pub mod CutForm
+pub mod DerivationForms
+pub mod DerivationReplies
 pub mod Determined
 pub mod Ends
 pub mod EveryRun
@@ -12,6 +14,7 @@ pub mod InputRead
 pub mod Made
 pub mod NeverWide
 pub mod OneAnswer
+pub mod OneCheck
 pub mod OneCuts
 pub mod OneListing
 pub mod OneMade
@@ -28,5 +31,6 @@ pub mod Refusals
 pub mod Shown
 pub mod Sound
 pub mod TextLaws
+pub mod ToldSteps
 pub mod TwoSlopeAnswers
 pub mod Verdicts

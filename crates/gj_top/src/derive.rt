@@ -77,7 +77,7 @@ fn derived_reply(
     requires usable { IfSome (option_copied function) IsUsable }
     ensures { IfOk result (λ reply. IsDeriveReply (record {
       text = input.now;
-      told = record { function = option_copied function; drafts = drafts.now };
+      told = record { function = option_copied function.entry; drafts = drafts.now };
     }) reply.end reply.text.items) }
 {
     let problem = copied(alloc, &drafts.task.problem)?;
