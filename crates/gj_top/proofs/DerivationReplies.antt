@@ -1,11 +1,16 @@
 -- Steps that are read can be checked, and the replies to them.
-use Rattle.std.proofs.Common.{◌≡◌, ℕ, ◌+◌, ◌<◌, IfSome, IsSome, List, [], ◌∷◌, ◌++◌, All, length, Option, None, Some, ◌⊎◌, inl, inr, refl, sym, ap, ◌∙◌, arith, length-append}
+use Rattle.std.proofs.Common.{◌≡◌, ℕ, ◌+◌, ◌<◌, ◌≤◌, false, true, IfSome, IsSome, List, [], ◌∷◌, ◌++◌, All, length, Option, None, Some, ◌⊎◌, inl, inr, refl, sym, ap, subst₂, ◌∙◌, arith, length-append}
 use Rattle.std.proofs.lemmas.List.Elements.{All-nil, All-cons}
 use Rattle.gj_shape.specs.FunctionData.{FunctionData}
 use Rattle.gj_proof.specs.CutRules.{MakesContinuousCuts}
 use Rattle.gj_proof.specs.ProofText.{IsBoundedRule}
 use Rattle.gj_derivation.specs.Derivations.{IsUsable, HasFunctionFor, IsReady, IsReadyStep}
+use Rattle.gj_derivation.specs.Drafts.{IsDerivedBy}
 use Rattle.gj_derivation.specs.StepLists.{IsWideFailure}
+use Rattle.gj_derivation.specs.declared.draft.Derived.{Derived}
+use Rattle.gj_derivation.specs.declared.draft.Derived.TheVariants as derived
+use Rattle.gj_derivation.specs.declared.draft.Shown.{Shown}
+use Rattle.gj_problem.specs.declared.problem.Problem.{Problem}
 use Rattle.gj_derivation.specs.declared.steps.Checked.{Checked}
 use Rattle.gj_derivation.specs.declared.steps.Checked.TheVariants.{Accepted, Failed}
 use Rattle.gj_derivation.specs.declared.steps.Failure.{Failure}
@@ -15,15 +20,18 @@ use Rattle.gj_derivation.specs.declared.step.Combination.{Combination}
 use Rattle.gj_derivation.specs.declared.step.Step.{Step}
 use Rattle.gj_derivation.specs.declared.step.StepRule.{StepRule}
 use Rattle.gj_derivation.specs.declared.step.StepRule.TheVariants.{Linear, Gmic, Function}
+use Rattle.gj_derivation_text.specs.PrintedDerivation.{kept_names}
 use Rattle.gj_derivation_text.specs.Readable.{IsReadable, AreReadableDrafts, AreReadableSteps}
+use Rattle.gj_derivation_text.specs.DerivationInputs.{IsDraftText}
 use Rattle.gj_derivation_text.specs.declared.input.DerivationInput.{DerivationInput}
 use Rattle.gj_derivation_text.specs.declared.input.DraftInput.{DraftInput}
 use Rattle.gj_top.specs.declared.reply.End.{End}
 use Rattle.gj_top.specs.declared.reply.End.TheVariants.{Done, Rejected}
 use Rattle.gj_top.specs.Derivation.{rule_in_front, function_of, IsDerivationReply}
-use Rattle.gj_top.specs.Derive.{IsDeriveReply}
+use Rattle.gj_top.specs.Derive.{IsDeriveReply, IsDerived}
 use Rattle.gj_top.specs.Objection.{IsObjection}
 use Rattle.gj_top.specs.Told.{Told}
+use Rattle.gj_top.proofs.ToldSteps.{whole_drafts}
 
 -- ---- the function in front
 
@@ -39,7 +47,7 @@ has_function : (f : Option FunctionData) (r : StepRule) → IfSome f IsUsable �
 has_function (Some f) r sure asked = (sure.minimal, sure.continuous)
 has_function None Linear sure asked = tt
 has_function None Gmic sure asked = tt
-has_function None Function sure asked = asked refl
+has_function None Function sure asked = let no : false ≡ true = asked refl in absurd (cc)
 
 ready : (f : Option FunctionData) (columns lines : ℕ) (c : Combination) → IfSome f IsUsable → IsReadable f columns lines c → IsReady f c
 ready f columns lines c sure h = record { factor_positive = h.factor; function = has_function f c.rule sure h.function }
@@ -76,8 +84,51 @@ pub wide_only : (c : Checked) (failure : Failure) → c ≡ Failed failure → (
 wide_only c failure is (inl accepted) = absurd (let no : Accepted ≡ Failed failure = sym accepted ∙ is in cc)
 wide_only c failure is (inr (other, same, wide)) = let one : Failed failure ≡ Failed other = sym is ∙ same in cc
 
+-- ---- what comes of drafts
+
+-- what comes of a copy of the problem and of the drafts comes of them
+pub derived_over : (a : DraftInput) (p : Problem) (steps : List Draft) (d : Derived) → p ≡ a.drafts.task.problem → steps ≡ a.drafts.steps →
+    IsDerivedBy a.function a.drafts.task.grid p steps d → IsDerived a d
+derived_over a p steps d problem same h =
+    subst₂ (λ (q : Problem) (drafts : List Draft). IsDerivedBy a.function a.drafts.task.grid q drafts d) problem same h
+
 -- ---- places
 
 -- what stands behind so many others has this place
 pub place_within : {A : Type 0} (xs before after : List A) (x : A) (i : ℕ) → xs ≡ before ++ x ∷ after → i ≡ length before → i < length xs
 place_within xs before after x i is at = omega (arith, at, ap length is, length-append before (x ∷ after))
+
+-- a draft that fails has a place
+failed_below : (a : DraftInput) (failure : Failure) (shown : List Shown) → IsDerived a (derived.Failed failure shown) →
+    failure.step < length a.drafts.steps
+failed_below a failure shown (r, d, reached, next, ends) =
+    place_within a.drafts.steps reached.before reached.after d failure.step reached.place reached.index
+
+pub lost_below : (a : DraftInput) (i : ℕ) (shown : List Shown) → IsDerived a (derived.Lost i shown) → i < length a.drafts.steps
+lost_below a i shown (r, d, reached, lost) = place_within a.drafts.steps reached.before reached.after d i reached.place reached.index
+
+-- and a line
+line_below : (text : List ℕ) (a : DraftInput) (i : ℕ) → IsDraftText text a → i < length a.drafts.steps → i < length a.drafts.left
+line_below text a i told below = let whole = whole_drafts text a told in omega (arith, whole.left, below)
+
+pub failed_within : (text : List ℕ) (a : DraftInput) (failure : Failure) (shown : List Shown) → IsDraftText text a →
+    IsDerived a (derived.Failed failure shown) → failure.step < length a.drafts.left
+failed_within text a failure shown told h = line_below text a failure.step told (failed_below a failure shown h)
+
+pub lost_within : (text : List ℕ) (a : DraftInput) (i : ℕ) (shown : List Shown) → IsDraftText text a → IsDerived a (derived.Lost i shown) →
+    i < length a.drafts.left
+lost_within text a i shown told h = line_below text a i told (lost_below a i shown h)
+
+-- there are names for the constraints
+pub names_enough : (text : List ℕ) (a : DraftInput) → IsDraftText text a → length a.drafts.task.problem.constraints ≤ length a.drafts.lines
+names_enough text a told = let whole = whole_drafts text a told in omega (arith, whole.lines)
+
+-- ---- names
+
+-- without names, or with no more that is shown, none is kept
+pub none_kept : (names : List (List ℕ)) (shown : List Shown) → (names ≡ []) ⊎ (shown ≡ []) → kept_names names shown ≡ []
+none_kept [] [] h = refl
+none_kept [] (x ∷ shown) h = refl
+none_kept (name ∷ names) [] h = refl
+none_kept (name ∷ names) (x ∷ shown) (inl e) = absurd (cc)
+none_kept (name ∷ names) (x ∷ shown) (inr e) = absurd (cc)

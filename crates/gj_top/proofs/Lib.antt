@@ -5,6 +5,7 @@ pub mod Commands
 pub mod CutForm
 pub mod DerivationForms
 pub mod DerivationReplies
+pub mod DerivedAccepted
 pub mod Determined
 pub mod Ends
 pub mod EveryRun

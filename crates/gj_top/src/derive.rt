@@ -60,7 +60,8 @@ fn derive_reply(alloc: Global, input: &[u8], told: DraftInput) -> Result<Reply, 
     if let Some(objection) = objection_to(alloc, &rule)? {
         return Ok(objection);
     }
-    derived_reply(alloc, input, function_in(&rule), &drafts)
+    let reply = derived_reply(alloc, input, function_in(&rule), &drafts)?;
+    Ok(reply)
 }
 
 /// The derivation of the steps, or the first of them that fails.
@@ -169,7 +170,8 @@ fn lost_text(
     let combination = &drafts.steps.as_slice()[step].combination;
     let constraints = drafts.task.problem.constraints.as_slice().len();
     let lost = first_left_out(constraints, shown, combination.multipliers.as_slice());
-    lost_line(alloc, drafts.lines.as_slice(), at_line, lost)
+    let text = lost_line(alloc, drafts.lines.as_slice(), at_line, lost)?;
+    Ok(text)
 }
 
 /// The first of the lines that is left out; so many lines are constraints.

@@ -37,8 +37,8 @@ mod transform;
 use answer::answer_to;
 pub use group::group_reply;
 pub use laws::{
-    extreme_exactly_if_order_4q_is, one_answer, one_proof_in_a_report, shown_text_is_read,
-    two_slopes_are_called_extreme, written_proofs_are_accepted,
+    derived_texts_are_accepted, extreme_exactly_if_order_4q_is, one_answer, one_proof_in_a_report,
+    shown_text_is_read, two_slopes_are_called_extreme, written_proofs_are_accepted,
 };
 pub use mixed::mixed_reply;
 pub use reply::{End, Reply};

@@ -1,11 +1,10 @@
-use Rattle.std.proofs.Common.{◌≡◌, ◌++◌, ℕ, ◌<◌, IfSome, List, All, Option, length, sym, ap, subst, subst₂, ◌∙◌, inl, inr, ◌⊎◌}
+use Rattle.std.proofs.Common.{◌≡◌, ◌++◌, ℕ, ◌<◌, IfSome, List, All, Option, length, sym, ap, ap₂, subst, subst₂, ◌∙◌}
 use Rattle.std.specs.Option.{option_copied}
 use Rattle.gj_shape.specs.FunctionData.{FunctionData}
 use Rattle.gj_derivation.specs.Derivations.{IsUsable, IsReadyStep, IsDerivation}
-use Rattle.gj_derivation.specs.StepLists.{IsFailure, IsWideFailure, IsChecked}
+use Rattle.gj_derivation.specs.StepLists.{IsFailure, IsChecked}
 use Rattle.gj_derivation.specs.declared.step.Step.{Step}
-use Rattle.gj_derivation.specs.declared.steps.Checked.{Checked}
-use Rattle.gj_derivation.specs.declared.steps.Checked.TheVariants.{Accepted, Failed}
+use Rattle.gj_derivation_text.specs.DerivationInputs.{IsLineOfStep}
 use Rattle.gj_derivation_text.specs.VerdictLines.{accepted_line, rejected_line}
 use Rattle.gj_proof.specs.CutRules.{MakesContinuousCuts}
 use Rattle.gj_proof.specs.ProofText.{IsBoundedRule}
@@ -76,7 +75,12 @@ returns c =
             (c.in_ok-check_steps.ensures.exact
             (subst₂ (λ (g : Option FunctionData) (steps : List Step). IsDerivation g p steps) (sym same) (sym c.as_slice.ensures) derivation));
         at_line = c.line_of_step-at_line.result;
-        begins = ?;
-        spelled = ?;
+        begins = subst (λ (left : List ℕ). IsLineOfStep c.args.input.now left failure.step c.line_of_step-at_line.result)
+            c.as_slice-in-Failed.ensures c.line_of_step-at_line.ensures;
+        spelled = c.in_ok-push_rejected-in-Failed.ensures
+            ∙ ap (λ (xs : List ℕ). xs ++ rejected_line c.as_slice-columns.result.now c.as_slice-in-Failed-2.result.now c.line_of_step-at_line.result
+            failure.verdict) c.new-text.ensures.items
+            ∙ ap₂ (λ (columns lines : List (List ℕ)). rejected_line columns lines c.line_of_step-at_line.result failure.verdict)
+            c.as_slice-columns.ensures c.as_slice-in-Failed-2.ensures;
       },
     )

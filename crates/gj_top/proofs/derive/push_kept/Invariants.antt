@@ -4,4 +4,4 @@ use Rattle.gj_top.proofs.derive.push_kept.Given as goal
 
 abbrev pub invariant-loop-name : goal.invariant-loop-name
 invariant-loop-name l = l.initial.names.items ++ kept_names l.steps l.shown
-    ≡ l.names.items ++ kept_names l.name-iterator.a.rest l.name-iterator.b.rest
+    ≡ l.names.items ++ kept_names l.name-iterator.a.rest.now l.name-iterator.b.rest.now
