@@ -10,7 +10,7 @@ use Rattle.gj_frac.specs.CompareValues.{compare_values}
 use Rattle.gj_frac.specs.TotalOrder.{IsLess, compare_values_ranks}
 use Rattle.gj_frac.specs.Fraction.{IsWhole, IsRatio, numerator}
 use Rattle.gj_problem.specs.Rational.{Rational, whole, rational, ◌+ℚ◌, ◌*ℚ◌, neg_ℚ, ◌-ℚ◌, ◌≤ℚ◌}
-use Rattle.gj_problem.proofs.RationalLaws.{add_assoc_q, one_mul_q, whole_top, whole_bottom}
+use Rattle.gj_problem.proofs.RationalLaws.{add_assoc_q, mul_zero_q, one_mul_q, whole_top, whole_bottom}
 use Rattle.gj_problem.proofs.RationalOrder.{IsNonnegativeQ, difference_nonnegative, at_most_from_difference}
 use Rattle.gj_problem.proofs.RationalRing.{by_ring_q, ring_q}
 use Rattle.gj_problem.specs.declared.problem.Column.{Column}
@@ -22,9 +22,8 @@ use Rattle.gj_problem.proofs.GridParts.{below_from_floor}
 use Rattle.gj_problem.proofs.HeldInequalities.{whole_frac}
 use Rattle.gj_problem.proofs.MovedEntries.{double_neg}
 use Rattle.gj_derivation.specs.Moves.{HasLower, HasUpper, IsMovedBy, AreMovedBy}
-use Rattle.gj_derivation.specs.Derivations.{IsWholeTerm, AreWholeTerms, IsRoundedUp}
-use Rattle.gj_derivation.specs.Checks.{IsUnmovable, IsFirstUnmovable, IsMovedRight, line_of_sum, scaled, claimed_at, IsWideMoved, IsWideMoving}
-use Rattle.gj_derivation.specs.declared.moves.Moved.TheVariants as moved
+use Rattle.gj_derivation.specs.Derivations.{times, IsWholeTerm, AreWholeTerms, IsRoundedUp, IsRightOf}
+use Rattle.gj_derivation.specs.Checks.{IsUnmovable, IsFirstUnmovable, line_of_sum, claimed_at, IsWideMoved, IsWideMoving}
 use Rattle.gj_derivation.proofs.ClaimsHold.{at_most_zero}
 use Rattle.gj_derivation.proofs.CheckedSums.{dot_unit}
 
@@ -170,6 +169,10 @@ whole_more (d ∷ columns) (suc i) c ys below here =
       λ h. let back = rest.1 h.1 in ((h.0, back.0), back.1),
     )
 
+-- the coefficients of the sum, each times the factor
+abbrev pub scaled : Frac → Sum → ℕ → Rational
+scaled factor sum = times factor (line_of_sum sum)
+
 -- the columns up to now are moved
 pub record IsMovedUpTo (columns : List Column) (factor : Frac) (sum : Sum) (claimed : List Frac) (i : ℕ) (right : Frac) (is_whole : Bool) : Type 0 where
   pub total : Rational
@@ -220,7 +223,7 @@ scaled_at : (factor coefficient x : Frac) (sum : Sum) (i : ℕ) → i < length s
 scaled_at factor coefficient x sum i below here is =
     is ∙ ap (λ w. rational factor *ℚ w) (ap rational here ∙ sym (dot_unit sum.coefficients.items i coefficient below))
 
-claimed_is : (claimed : List Frac) (i : ℕ) (y : Frac) → i < length claimed → y ≡ get_or claimed i y → rational y ≡ claimed_at claimed i
+pub claimed_is : (claimed : List Frac) (i : ℕ) (y : Frac) → i < length claimed → y ≡ get_or claimed i y → rational y ≡ claimed_at claimed i
 claimed_is claimed i y below here = ap rational here ∙ sym (dot_unit claimed i y below)
 
 pub none_up_to : (columns : List Column) (factor : Frac) (sum : Sum) (claimed : List Frac) (right : Frac) →
@@ -256,6 +259,26 @@ one_up_to columns factor sum claimed i c coefficient x y s right new w v below c
       );
     })
 
+zero_whole : (b : Bool) → IsWholeTerm b (whole (pos 0))
+zero_whole true = (pos 0, refl)
+zero_whole false = refl
+
+no_multiple : (f x : Rational) → x ≡ whole (pos 0) → x ≡ f *ℚ x
+no_multiple f x none = none ∙ sym (ap (λ w. f *ℚ w) none ∙ mul_zero_q f)
+
+-- a column with neither coefficient is passed over
+pub none_more : (columns : List Column) (factor : Frac) (sum : Sum) (claimed : List Frac) (i : ℕ) (c : Column) (coefficient y right : Frac) (w : Bool) →
+    i < length columns → length sum.coefficients.items ≡ length columns → length claimed ≡ length columns → c ≡ get_or columns i c →
+    coefficient ≡ get_or sum.coefficients.items i coefficient → y ≡ get_or claimed i y → numerator coefficient ≡ pos 0 → numerator y ≡ pos 0 →
+    IsMovedUpTo columns factor sum claimed i right w → IsMovedUpTo columns factor sum claimed (i + 1) right w
+none_more columns factor sum claimed i c coefficient y right w below count claims here c_here y_here none no_claim h =
+    let x_none = zero_frac coefficient none in
+    let y_none = zero_frac y no_claim in
+    one_up_to columns factor sum claimed i c coefficient coefficient y coefficient right right w w below count claims here c_here
+    (no_multiple (rational factor) (rational coefficient) x_none) y_here (inl (record { same = y_none ∙ sym x_none; shift_is = x_none }))
+    (add_zero_q (rational right) ∙ ap (λ a. rational right +ℚ a) (sym x_none))
+    (λ t. (t, subst (IsWholeTerm c.is_whole) (sym y_none) (zero_whole c.is_whole)), λ both. both.0) h
+
 pub stuck_at : (columns : List Column) (factor : Frac) (sum : Sum) (claimed : List Frac) (i : ℕ) (c : Column) (coefficient x y right : Frac)
     (w : Bool) → i < length columns → length sum.coefficients.items ≡ length columns → length claimed ≡ length columns → c ≡ get_or columns i c →
     coefficient ≡ get_or sum.coefficients.items i coefficient → rational x ≡ rational factor *ℚ rational coefficient → y ≡ get_or claimed i y →
@@ -272,20 +295,21 @@ stuck_at columns factor sum claimed i c coefficient x y right w below count clai
 
 pub all_up_to : (columns : List Column) (factor : Frac) (sum : Sum) (claimed : List Frac) (i : ℕ) (right b : Frac) (w : Bool) → length columns ≤ i →
     (IsTrue w × IsRoundedUp (rational right) (rational b)) ⊎ ((w ≡ false) × (rational b ≡ rational right)) →
-    IsMovedUpTo columns factor sum claimed i right w → IsMovedRight columns factor sum claimed (moved.Right b)
+    IsMovedUpTo columns factor sum claimed i right w → IsRightOf columns factor (line_of_sum sum) (claimed_at claimed) (rational b)
 all_up_to columns factor sum claimed i right b w end shown h =
     let all : take i columns ≡ columns = take_all i columns end in
     let Whole = AreWholeTerms columns (claimed_at claimed) in
-    let whole : IsTrue w ↔ Whole = subst (λ (cs : List Column). IsTrue w ↔ AreWholeTerms cs (claimed_at claimed)) all h.whole in (
-      h.total,
-      subst (λ (cs : List Column). AreMovedBy cs (scaled factor sum) (claimed_at claimed) h.total) all h.moved,
-      ⊎_elim
+    let whole : IsTrue w ↔ Whole = subst (λ (cs : List Column). IsTrue w ↔ AreWholeTerms cs (claimed_at claimed)) all h.whole in
+    record {
+      shift = h.total;
+      moved = subst (λ (cs : List Column). AreMovedBy cs (scaled factor sum) (claimed_at claimed) h.total) all h.moved;
+      right_is = ⊎_elim
           (λ (k : IsTrue w × IsRoundedUp (rational right) (rational b)).
           inl (whole.0 k.0, subst (λ a. IsRoundedUp a (rational b)) h.right_is k.1))
           (λ (k : (w ≡ false) × (rational b ≡ rational right)).
           inr (λ is. let t = whole.1 is in absurd (cc), k.1 ∙ h.right_is))
-          shown,
-    )
+          shown;
+    }
 
 pub wide_at : (columns : List Column) (factor : Frac) (sum : Sum) (claimed : List Frac) (i : ℕ) (c : Column) (coefficient y right : Frac) (w : Bool) →
     i < length columns → length sum.coefficients.items ≡ length columns → length claimed ≡ length columns → c ≡ get_or columns i c →

@@ -1,7 +1,6 @@
 -- The sums that a check makes.
 use Rattle.std.proofs.Common.{◌≡◌, ℕ, zero, suc, ◌+◌, ◌<◌, List, [], ◌∷◌, ◌++◌, length, get_or, take, pos, refl, sym, ap, ap₂, subst, ◌∙◌, arith}
 use Rattle.std.proofs.lemmas.List.{take_more}
-use Rattle.std.proofs.lemmas.List.Elements.{All-nil, All-push}
 use Rattle.gj_frac.specs.declared.Frac.{Frac}
 use Rattle.gj_problem.specs.Rational.{Rational, whole, rational, ◌+ℚ◌, ◌*ℚ◌, ◌-ℚ◌}
 use Rattle.gj_problem.proofs.RationalLaws.{add_assoc_q}
@@ -16,8 +15,8 @@ use Rattle.gj_problem.proofs.AddedSums.{last_entry}
 use Rattle.gj_problem.proofs.OneColumn.{nothing_sum}
 use Rattle.gj_problem.proofs.OneRow.{dot_none, one_time, no_time}
 use Rattle.gj_derivation.specs.declared.step.Multiplier.{Multiplier}
-use Rattle.gj_derivation.specs.Derivations.{unit, coefficient_in, coefficient_at, right_at, added_coefficient, added_right}
-use Rattle.gj_derivation.specs.Checks.{IsSigned, IsAdded, IsSumOf}
+use Rattle.gj_derivation.specs.Derivations.{Line, unit, coefficient_in, coefficient_at, right_at, added_coefficient, added_right, added}
+use Rattle.gj_derivation.specs.Checks.{IsAdded, IsSumOf, IsSumFor, line_of_sum}
 use Rattle.gj_derivation.proofs.ClaimsHold.{in_constraint}
 
 -- ---- coefficients of sums
@@ -67,10 +66,9 @@ more_dot old new r s f entries q h point =
 
 -- ---- sums of constraints
 
-pub constraint_added : (p : Problem) (m : Multiplier) (c : Constraint) (old new : Sum) → IsSigned p m → IsConstraint p m.line c →
+pub constraint_added : (p : Problem) (m : Multiplier) (c : Constraint) (old new : Sum) → IsConstraint p m.line c →
     IsMore old.coefficients.items new.coefficients.items old.right new.right m.value c.entries c.right → IsAdded p m old new
-constraint_added p m c old new signed is h = record {
-  signed = signed;
+constraint_added p m c old new is h = record {
   right = more_right old.coefficients.items new.coefficients.items old.right new.right m.value c.entries c.right h
       ∙ ap (λ w. rational old.right +ℚ rational m.value *ℚ w) (sym (in_constraint (λ (d : Constraint). rational d.right) p m.line c (whole (pos 0)) is));
   coefficients = λ (j : ℕ).
@@ -96,7 +94,6 @@ added_right_more p (n ∷ ms) m =
 sum_pushed : (p : Problem) (ms : List Multiplier) (m : Multiplier) (old new : Sum) → IsSumOf p ms old →
     length new.coefficients.items ≡ length old.coefficients.items → IsAdded p m old new → IsSumOf p (ms ++ m ∷ []) new
 sum_pushed p ms m old new h count added = record {
-  signed = All-push (IsSigned p) ms m h.signed added.signed;
   count = count ∙ h.count;
   right = added.right ∙ ap (λ w. w +ℚ rational m.value *ℚ right_at p m.line) h.right ∙ sym (added_right_more p ms m);
   coefficients = λ (j : ℕ).
@@ -115,11 +112,22 @@ sum_more p ms i m old new below here h count added =
 pub no_sum : (p : Problem) (sum : Sum) → length sum.coefficients.items ≡ length p.columns → rational sum.right ≡ whole (pos 0) →
     ((point : List Rational) → dot sum.coefficients.items point ≡ whole (pos 0)) → IsSumOf p [] sum
 no_sum p sum count right none = record {
-  signed = All-nil (IsSigned p);
   count = count;
   right = right;
   coefficients = λ (j : ℕ). none (unit j);
 }
+
+-- a line by its coefficients
+pub line_from_parts : (a b : Line) → ((j : ℕ) → a.coefficient j ≡ b.coefficient j) → a.right ≡ b.right → a ≡ b
+line_from_parts a b coefficients right = λ i. record { coefficient = λ j. coefficients j i; right = right i }
+
+pub sum_is_added : (p : Problem) (ms : List Multiplier) (sum : Sum) → IsSumOf p ms sum → IsSumFor (length p.columns) (added p ms) sum
+sum_is_added p ms sum h = record {
+  count = h.count;
+  same = line_from_parts (line_of_sum sum) (added p ms) h.coefficients h.right;
+}
+
+-- ---- terms
 
 claimed_once : (d a : Rational) → d ≡ whole (pos 0) → d +ℚ whole (pos 1) *ℚ a ≡ a
 claimed_once d a none = ap (λ w. w +ℚ whole (pos 1) *ℚ a) none ∙ once a
@@ -127,10 +135,18 @@ claimed_once d a none = ap (λ w. w +ℚ whole (pos 1) *ℚ a) none ∙ once a
     once : (a : Rational) → whole (pos 0) +ℚ whole (pos 1) *ℚ a ≡ a
     once a = by_ring_q (a ∷ []) (search ring_q depth 40) refl
 
-pub claimed_terms : (old new : List Frac) (r s f : Frac) (entries : List Entry) (q : Frac) → IsMore old new r s f entries q →
-    ((point : List Rational) → dot old point ≡ whole (pos 0)) → rational f ≡ whole (pos 1) → (j : ℕ) →
-    dot new (unit j) ≡ coefficient_in entries j
-claimed_terms old new r s f entries q h none one j =
-    more_dot old new r s f entries q h (unit j)
-    ∙ ap (λ w. dot old (unit j) +ℚ w *ℚ coefficient_in entries j) one
-    ∙ claimed_once (dot old (unit j)) (coefficient_in entries j) (none (unit j))
+pub terms_are : (n : ℕ) (old new : Sum) (f : Frac) (entries : List Entry) (q : Frac) →
+    length old.coefficients.items ≡ n → length new.coefficients.items ≡ length old.coefficients.items →
+    IsMore old.coefficients.items new.coefficients.items old.right new.right f entries q →
+    ((point : List Rational) → dot old.coefficients.items point ≡ whole (pos 0)) → rational old.right ≡ whole (pos 0) → rational f ≡ whole (pos 1) →
+    IsSumFor n (record { coefficient = coefficient_in entries; right = rational q }) new
+terms_are n old new f entries q count new_count h none right one = record {
+  count = new_count ∙ count;
+  same = line_from_parts (line_of_sum new) (record { coefficient = coefficient_in entries; right = rational q })
+      (λ (j : ℕ).
+      more_dot old.coefficients.items new.coefficients.items old.right new.right f entries q h (unit j)
+      ∙ ap (λ w. dot old.coefficients.items (unit j) +ℚ w *ℚ coefficient_in entries j) one
+      ∙ claimed_once (dot old.coefficients.items (unit j)) (coefficient_in entries j) (none (unit j)))
+      (more_right old.coefficients.items new.coefficients.items old.right new.right f entries q h
+      ∙ ap (λ w. rational old.right +ℚ w *ℚ rational q) one ∙ claimed_once (rational old.right) (rational q) right);
+}

@@ -1,5 +1,5 @@
 -- The claims of a derivation hold.
-use Rattle.std.proofs.Common.{◌≡◌, ⊎_elim, ℕ, zero, suc, Bool, true, false, Option, Some, None, IfSome, IsTrue, List, [], ◌∷◌, get_or, map, All, pos, negsuc, ◌≤ℤ◌, ◌<ℤ◌, refl, sym, ap, ap₂, subst, ◌∙◌, arith, rules}
+use Rattle.std.proofs.Common.{◌≡◌, ⊎_elim, ℕ, zero, suc, Bool, true, false, Option, Some, None, IfSome, IsTrue, List, [], ◌∷◌, get_or, length, map, All, pos, negsuc, ◌≤ℤ◌, ◌<ℤ◌, refl, sym, ap, ap₂, subst, ◌∙◌, arith, rules}
 use Rattle.std.specs.List.{AllZip}
 use Rattle.std.proofs.lemmas.Int.{ints}
 use Rattle.std.proofs.lemmas.List.{get_or-map}
@@ -21,14 +21,19 @@ use Rattle.gj_problem.specs.Rows.{IsSignFor}
 use Rattle.gj_problem.specs.RoundedCuts.{IsBelowOnGrid}
 use Rattle.gj_problem.proofs.TurnedColumns.{lower_rounded, upper_rounded}
 use Rattle.gj_problem.proofs.HeldInequalities.{constraint_at, whole_sum, whole_product, if_some, raised, lowered, kept_change, no_change, change_step}
+use Rattle.gj_rule.specs.declared.kind.RuleKind.TheVariants.{Table}
+use Rattle.gj_shape.specs.FunctionData.{FunctionData}
+use Rattle.gj_safe_cut.specs.SafeCuts.{SafeCutHolds}
+use Rattle.gj_safe_cut.specs.declared.cut.SafeCut.{SafeCut}
 use Rattle.gj_safe_cut.specs.declared.cut.SafeCut.TheVariants.{Cut}
 use Rattle.gj_safe_cut.proofs.HeldCuts.{holds_by_gmic, holds_by_rule}
+use Rattle.gj_derivation.specs.declared.step.Combination.{Combination}
 use Rattle.gj_derivation.specs.declared.step.Multiplier.{Multiplier}
 use Rattle.gj_derivation.specs.declared.step.Step.{Step}
 use Rattle.gj_derivation.specs.declared.step.StepRule.{StepRule}
 use Rattle.gj_derivation.specs.declared.step.StepRule.TheVariants.{Linear, Gmic, Function}
 use Rattle.gj_derivation.specs.Moves.{IsUnmoved, IsMovedUp, IsMovedDown, IsMovedBy, HasLower, HasUpper, AreMovedBy}
-use Rattle.gj_derivation.specs.Derivations.{Line, coefficient_in, line_of, coefficient_at, added, AreSigned, Given, IsUsable, IsBase, IsWholeTerm, AreWholeTerms, IsRightFor, IsShown, Follows, with_claim, IsDerivation}
+use Rattle.gj_derivation.specs.Derivations.{Line, coefficient_in, line_of, coefficient_at, added, times, IsSigned, AreSigned, IsCutBy, IsUsable, IsBaseBy, IsBase, IsWholeTerm, AreWholeTerms, IsRightFor, IsShown, Follows, with_claim, IsDerivation}
 use Rattle.gj_derivation.proofs.ColumnSums.{column_sum, line_at, column_sum_zero, column_sum_more, column_sum_times, sum_by_columns}
 
 -- ---- bounds of columns
@@ -113,12 +118,12 @@ one_added m a r f t = by_ring_q (m ∷ a ∷ r ∷ f ∷ t ∷ []) (search ring_
 none_added : whole (pos 0) ≡ whole (pos 0) -ℚ whole (pos 0)
 none_added = by_ring_q [] (search ring_q depth 40) refl
 
-added_low : (p : Problem) (point : List Rational) (ms : List Multiplier) → IsFeasible p point → AreSigned p ms →
+added_low : (p : Problem) (point : List Rational) (ms : List Multiplier) → IsFeasible p point → AreSigned Linear p ms →
     IsNonnegativeQ (line_at point (added p ms))
 added_low p point [] feasible signs =
     subst IsNonnegativeQ (none_added ∙ ap (λ w. w -ℚ whole (pos 0)) (sym (column_sum_zero point))) (nonnegative_whole (pos 0) (omega (arith, ints)))
 added_low p point (m ∷ ms) feasible signs =
-    let Signed = λ (m : Multiplier). (c : Constraint) × IsConstraint p m.line c × IsSignFor c.sense (numerator m.value) in
+    let Signed = IsSigned Linear p in
     let (c, is, sign) = All-head Signed m ms signs in
     let f = column_sum point (added p ms).coefficient in
     let here : IsNonnegativeQ (rational m.value *ℚ (sum_at point c.entries -ℚ rational c.right)) =
@@ -138,19 +143,28 @@ held_low p q point holds feasible =
     subst IsNonnegativeQ (ap (λ w. w -ℚ rational q.right) (sum_by_columns point q.entries))
     (difference_nonnegative (rational q.right) (sum_at point q.entries) (holds point feasible))
 
-base_low : (rule : StepRule) (given : Option Given) (p : Problem) (s : Step) (base : Line) (point : List Rational) → IfSome given IsUsable →
-    IsBase rule given p s base → IsFeasible p point → IsNonnegativeQ (line_at point base)
-base_low Linear given p s base point usable h feasible =
-    subst (λ (l : Line). IsNonnegativeQ (line_at point l)) (sym h.1) (added_low p point s.multipliers feasible h.0)
-base_low Gmic given p s base point usable h feasible =
-    subst (λ (l : Line). IsNonnegativeQ (line_at point l)) (sym h.base_is)
-    (held_low p h.cut point (holds_by_gmic p h.multipliers h.at_upper (Cut h.cut) h.at_upper_are.count h.cut_is) feasible)
-base_low Function (Some g) p s base point usable h feasible =
-    subst (λ (l : Line). IsNonnegativeQ (line_at point l)) (sym h.base_is)
-    (held_low p h.cut point
-    (holds_by_rule g.kind g.up g.down p h.multipliers h.at_upper (Cut h.cut) h.at_upper_are.count (λ q is. usable.bounds) usable.minimal usable.slopes
-    h.cut_is) feasible)
-base_low Function None p s base point usable h feasible = absurd h
+cut_holds : (rule : StepRule) (f : Option FunctionData) (p : Problem) (ms : List Frac) (ups : List Bool) (cut : SafeCut) → IfSome f IsUsable →
+    length ups ≡ length p.columns → IsCutBy rule f p ms ups cut → SafeCutHolds p cut
+cut_holds Linear f p ms ups cut usable count h = absurd h
+cut_holds Gmic f p ms ups cut usable count h = holds_by_gmic p ms ups cut count h
+cut_holds Function (Some f) p ms ups cut usable count (up, down, slopes, h) =
+    holds_by_rule (Table f) up down p ms ups cut count (λ q is. usable.bounds) usable.minimal (usable.continuous, slopes) h
+cut_holds Function None p ms ups cut usable count h = absurd h
+
+base_by_low : (rule : StepRule) (f : Option FunctionData) (p : Problem) (c : Combination) (base : Line) (point : List Rational) → IfSome f IsUsable →
+    AreSigned rule p c.multipliers → IsBaseBy rule f p c base → IsFeasible p point → IsNonnegativeQ (line_at point base)
+base_by_low Linear f p c base point usable signed h feasible =
+    subst (λ (l : Line). IsNonnegativeQ (line_at point l)) (sym h) (added_low p point c.multipliers feasible signed)
+base_by_low Gmic f p c base point usable signed (q, k, is) feasible =
+    subst (λ (l : Line). IsNonnegativeQ (line_at point l)) (sym is)
+    (held_low p q point (cut_holds c.rule f p k.multipliers k.at_upper (Cut q) usable k.at_upper_are.count k.cut_is) feasible)
+base_by_low Function f p c base point usable signed (q, k, is) feasible =
+    subst (λ (l : Line). IsNonnegativeQ (line_at point l)) (sym is)
+    (held_low p q point (cut_holds c.rule f p k.multipliers k.at_upper (Cut q) usable k.at_upper_are.count k.cut_is) feasible)
+
+base_low : (f : Option FunctionData) (p : Problem) (c : Combination) (base : Line) (point : List Rational) → IfSome f IsUsable →
+    IsBase f p c base → IsFeasible p point → IsNonnegativeQ (line_at point base)
+base_low f p c base point usable h feasible = base_by_low c.rule f p c base point usable h.0 h.1 feasible
 
 -- ---- rounding up
 
@@ -195,26 +209,28 @@ shown_sum y f x t r = by_ring_q (y ∷ f ∷ x ∷ t ∷ r ∷ []) (search ring_
 positive_low : (f : Frac) → pos 0 <ℤ numerator f → IsNonnegativeQ (rational f)
 positive_low f h = record { low = omega (arith, ints) }
 
-shown_low : (given : Option Given) (p : Problem) (s : Step) (right : Rational) (point : List Rational) → IfSome given IsUsable →
-    IsShown given p s right → IsFeasible p point → right ≤ℚ sum_at point s.claim.entries
-shown_low given p s right point usable h feasible =
-    let f = rational s.factor in
+shown_low : (f : Option FunctionData) (p : Problem) (s : Step) (right : Rational) (point : List Rational) → IfSome f IsUsable →
+    IsShown f p s right → IsFeasible p point → right ≤ℚ sum_at point s.claim.entries
+shown_low f p s right point usable h feasible =
+    let factor = s.combination.factor in
+    let a = rational factor in
+    let shift = h.right_is.shift in
     let ys = coefficient_in s.claim.entries in
     let x = column_sum point h.base.coefficient in
-    let moved : IsNonnegativeQ ((column_sum point ys -ℚ f *ℚ x) -ℚ h.shift) =
-    subst (λ w. IsNonnegativeQ ((column_sum point ys -ℚ w) -ℚ h.shift)) (column_sum_times point f h.base.coefficient)
-    (moves_low p.columns point (λ j. f *ℚ h.base.coefficient j) ys h.shift feasible.columns h.moved) in
-    let times : IsNonnegativeQ (f *ℚ (x -ℚ h.base.right)) =
-    nonnegative_mul f (x -ℚ h.base.right) (positive_low s.factor h.factor_positive) (base_low s.rule given p s h.base point usable h.base_is feasible) in
-    let low : (f *ℚ h.base.right +ℚ h.shift) ≤ℚ column_sum point ys =
-    at_most_from_difference _ _ (subst IsNonnegativeQ (shown_sum (column_sum point ys) f x h.shift h.base.right) (nonnegative_add _ _ moved times)) in
+    let moved : IsNonnegativeQ ((column_sum point ys -ℚ a *ℚ x) -ℚ shift) =
+    subst (λ w. IsNonnegativeQ ((column_sum point ys -ℚ w) -ℚ shift)) (column_sum_times point a h.base.coefficient)
+    (moves_low p.columns point (times factor h.base) ys shift feasible.columns h.right_is.moved) in
+    let times_low : IsNonnegativeQ (a *ℚ (x -ℚ h.base.right)) =
+    nonnegative_mul a (x -ℚ h.base.right) (positive_low factor h.factor_positive) (base_low f p s.combination h.base point usable h.base_is feasible) in
+    let low : (a *ℚ h.base.right +ℚ shift) ≤ℚ column_sum point ys =
+    at_most_from_difference _ _ (subst IsNonnegativeQ (shown_sum (column_sum point ys) a x shift h.base.right) (nonnegative_add _ _ moved times_low)) in
     subst (λ w. right ≤ℚ w) (sym (sum_by_columns point s.claim.entries))
-    (right_low (AreWholeTerms p.columns ys) (f *ℚ h.base.right +ℚ h.shift) right (column_sum point ys) h.right_is
+    (right_low (AreWholeTerms p.columns ys) (a *ℚ h.base.right +ℚ shift) right (column_sum point ys) h.right_is.right_is
     (whole_by_columns p.columns point ys feasible.columns) low)
 
-pub claim_holds : (given : Option Given) (p : Problem) (s : Step) → IfSome given IsUsable → Follows given p s → Holds p s.claim
-claim_holds given p s usable (right, shown, below) point feasible =
-    at_most_trans (rational s.claim.right) right (sum_at point s.claim.entries) below (shown_low given p s right point usable shown feasible)
+pub claim_holds : (f : Option FunctionData) (p : Problem) (s : Step) → IfSome f IsUsable → Follows f p s → Holds p s.claim
+claim_holds f p s usable (right, shown, below) point feasible =
+    at_most_trans (rational s.claim.right) right (sum_at point s.claim.entries) below (shown_low f p s right point usable shown feasible)
 
 -- ---- derivations
 
@@ -226,11 +242,11 @@ without_claim p q r holds h point feasible =
       constraints = All-push (MeetsConstraint point) p.constraints claimed feasible.constraints (holds point feasible);
     })
 
-pub claims_hold : (given : Option Given) (p : Problem) (steps : List Step) → IfSome given IsUsable → IsDerivation given p steps →
+pub claims_hold : (f : Option FunctionData) (p : Problem) (steps : List Step) → IfSome f IsUsable → IsDerivation f p steps →
     All (λ s. Holds p s.claim) steps
-claims_hold given p [] usable h = All-nil (λ s. Holds p s.claim)
-claims_hold given p (s ∷ steps) usable h =
-    let holds = claim_holds given p s usable h.0 in
+claims_hold f p [] usable h = All-nil (λ s. Holds p s.claim)
+claims_hold f p (s ∷ steps) usable h =
+    let holds = claim_holds f p s usable h.0 in
     All-cons (λ s. Holds p s.claim) s steps holds
     (All-weaker (λ t. Holds (with_claim p s.claim) t.claim) (λ t. Holds p t.claim) (λ t. without_claim p s.claim t.claim holds) steps
-    (claims_hold given (with_claim p s.claim) steps usable h.1))
+    (claims_hold f (with_claim p s.claim) steps usable h.1))

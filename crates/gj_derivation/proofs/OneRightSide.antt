@@ -1,6 +1,7 @@
 -- A step shows one right side.
-use Rattle.std.proofs.Common.{◌≡◌, ⊎_elim, inl, inr, ◌↔◌, ℕ, zero, suc, Option, Some, None, List, [], ◌∷◌, pos, refl, sym, ap, ap₂, subst, ◌∙◌}
+use Rattle.std.proofs.Common.{◌≡◌, ⊎_elim, inl, inr, ◌↔◌, ℕ, zero, suc, Option, Some, None, IfSome, List, [], ◌∷◌, pos, refl, sym, ap, ap₂, subst, ◌∙◌}
 use Rattle.gj_frac.specs.declared.Frac.{Frac}
+use Rattle.gj_shape.specs.FunctionData.{FunctionData}
 use Rattle.gj_problem.specs.Rational.{Rational, whole, rational, ◌+ℚ◌, ◌*ℚ◌, neg_ℚ, ◌-ℚ◌, ◌≤ℚ◌}
 use Rattle.gj_problem.proofs.RationalOrder.{at_most_both, at_most_turned}
 use Rattle.gj_problem.proofs.RationalRing.{by_ring_q, ring_q}
@@ -10,10 +11,9 @@ use Rattle.gj_problem.specs.declared.problem.Problem.{Problem}
 use Rattle.gj_problem.specs.Aggregates.{IsLowerBound, IsUpperBound}
 use Rattle.gj_problem.specs.RoundedCuts.{IsMoved}
 use Rattle.gj_derivation.specs.declared.step.Step.{Step}
-use Rattle.gj_derivation.specs.declared.step.StepRule.{StepRule}
-use Rattle.gj_derivation.specs.declared.step.StepRule.TheVariants.{Linear, Gmic, Function}
 use Rattle.gj_derivation.specs.Moves.{IsUnmoved, IsMovedUp, IsMovedDown, IsMovedBy, HasLower, HasUpper, AreMovedBy, IsGridCoefficient, IsGiven}
-use Rattle.gj_derivation.specs.Derivations.{Line, coefficient_in, Given, IsBase, AreWholeTerms, IsRoundedUp, IsRightFor, IsShown, Follows}
+use Rattle.gj_derivation.specs.Derivations.{Line, coefficient_in, times, IsUsable, AreWholeTerms, IsRoundedUp, IsRightFor, IsRightOf, IsShown, Follows}
+use Rattle.gj_derivation.proofs.OneBase.{one_base}
 
 -- ---- one bound
 
@@ -90,30 +90,26 @@ one_right_for Whole x y z h k =
     ⊎_elim (λ (b : Whole × IsRoundedUp x z). absurd (a.0 b.0)) (λ (b : (Whole → ⊥) × (z ≡ x)). a.1 ∙ sym b.1) k)
     h
 
-one_base : (rule : StepRule) (given : Option Given) (p : Problem) (s : Step) (base other : Line) → rule ≡ Linear → IsBase rule given p s base →
-    IsBase rule given p s other → base ≡ other
-one_base Linear given p s base other e h k = h.1 ∙ sym k.1
-one_base Gmic given p s base other e h k = absurd (cc)
-one_base Function given p s base other e h k = absurd (cc)
+pub one_right_of : (columns : List Column) (factor : Frac) (base : Line) (ys : ℕ → Rational) (right other : Rational) →
+    IsRightOf columns factor base ys right → IsRightOf columns factor base ys other → right ≡ other
+one_right_of columns factor base ys right other h k =
+    let shift : h.shift ≡ k.shift = one_total columns (times factor base) ys h.shift k.shift h.moved k.moved in
+    one_right_for (AreWholeTerms columns ys) (rational factor *ℚ base.right +ℚ k.shift) right other
+    (subst (λ t. IsRightFor (AreWholeTerms columns ys) (rational factor *ℚ base.right +ℚ t) right) shift h.right_is) k.right_is
 
-pub one_shown : (given : Option Given) (p : Problem) (s : Step) (right other : Rational) → s.rule ≡ Linear → IsShown given p s right →
-    IsShown given p s other → right ≡ other
-one_shown given p s right other linear h k =
-    let f = rational s.factor in
+pub one_shown : (f : Option FunctionData) (p : Problem) (s : Step) (right other : Rational) → IfSome f IsUsable → IsShown f p s right →
+    IsShown f p s other → right ≡ other
+one_shown f p s right other usable h k =
+    let factor = s.combination.factor in
     let ys = coefficient_in s.claim.entries in
-    let same : h.base ≡ k.base = one_base s.rule given p s h.base k.base linear h.base_is k.base_is in
-    let moved : AreMovedBy p.columns (λ j. f *ℚ k.base.coefficient j) ys h.shift =
-    subst (λ (l : Line). AreMovedBy p.columns (λ j. f *ℚ l.coefficient j) ys h.shift) same h.moved in
-    let shift : h.shift ≡ k.shift = one_total p.columns (λ j. f *ℚ k.base.coefficient j) ys h.shift k.shift moved k.moved in
-    let x_same : f *ℚ h.base.right +ℚ h.shift ≡ f *ℚ k.base.right +ℚ k.shift =
-    ap₂ (λ (l : Line) (t : Rational). f *ℚ l.right +ℚ t) same shift in
-    one_right_for (AreWholeTerms p.columns ys) (f *ℚ k.base.right +ℚ k.shift) right other
-    (subst (λ x. IsRightFor (AreWholeTerms p.columns ys) x right) x_same h.right_is) k.right_is
+    let same : h.base ≡ k.base = one_base f p s.combination h.base k.base usable h.base_is k.base_is in
+    one_right_of p.columns factor k.base ys right other
+    (subst (λ (l : Line). IsRightOf p.columns factor l ys right) same h.right_is) k.right_is
 
-pub follows_if : (given : Option Given) (p : Problem) (s : Step) (right : Rational) → s.rule ≡ Linear → IsShown given p s right →
-    (Follows given p s ↔ (rational s.claim.right ≤ℚ right))
-follows_if given p s right linear shown = (
-  λ (h : Follows given p s). subst (λ w. rational s.claim.right ≤ℚ w) (one_shown given p s h.0 right linear h.1 shown) h.2,
+pub follows_if : (f : Option FunctionData) (p : Problem) (s : Step) (right : Rational) → IfSome f IsUsable → IsShown f p s right →
+    (Follows f p s ↔ (rational s.claim.right ≤ℚ right))
+follows_if f p s right usable shown = (
+  λ (h : Follows f p s). subst (λ w. rational s.claim.right ≤ℚ w) (one_shown f p s h.0 right usable h.1 shown) h.2,
   λ below. (right, shown, below),
 )
 

@@ -184,17 +184,17 @@ pub record IsUsable (f : FunctionData) : Type 0 where
   pub minimal : IsMinimal f
   pub continuous : IsContinuous f
 
--- the function that a step by the rule asks for is there, minimal and continuous
-abbrev pub HasFunctionFor : StepRule → Option FunctionData → Type 0
-HasFunctionFor Linear f = Unit {0}
-HasFunctionFor Gmic f = Unit {0}
-HasFunctionFor Function (Some f) = IsMinimal f × IsContinuous f
-HasFunctionFor Function None = ⊥
+-- the function, if there is one, is minimal and continuous, and a step by a function has one
+abbrev pub HasFunctionFor : Option FunctionData → StepRule → Type 0
+HasFunctionFor (Some f) rule = IsMinimal f × IsContinuous f
+HasFunctionFor None Linear = Unit {0}
+HasFunctionFor None Gmic = Unit {0}
+HasFunctionFor None Function = ⊥
 
 -- a combination that can be checked
 pub record IsReady (f : Option FunctionData) (c : Combination) : Type 0 where
   pub factor_positive : pos 0 <ℤ numerator c.factor
-  pub function : HasFunctionFor c.rule f
+  pub function : HasFunctionFor f c.rule
 
 abbrev pub IsReadyStep : Option FunctionData → Step → Type 0
 IsReadyStep f s = IsReady f s.combination

@@ -41,9 +41,8 @@ IsFoundFor None c x y = y ≡ x
 IsFoundFor (Some n) c x y = IsGridCoefficient n c.lower c.upper x y
 
 abbrev pub AreFoundFor : Option ℕ → List Column → (ℕ → Rational) → (ℕ → Rational) → Type 0
-AreFoundFor grid [] xs ys = Unit {0}
-AreFoundFor grid (c ∷ columns) xs ys =
-    IsFoundFor grid c (xs zero) (ys zero) × AreFoundFor grid columns (λ j. xs (suc j)) (λ j. ys (suc j))
+AreFoundFor grid columns xs ys =
+    (j : ℕ) (c : Column) → j < length columns → c ≡ slice_index_or columns j c → IsFoundFor grid c (xs j) (ys j)
 
 -- the first column for which none is found: it has no bounds, and is off the grid
 pub record IsFirstNotFound (grid : Option ℕ) (columns : List Column) (xs : ℕ → Rational) (j : ℕ) : Type 0 where

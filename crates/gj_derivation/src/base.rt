@@ -35,11 +35,11 @@ pub(crate) fn base_of(
     problem: &Problem,
     combination: &Combination,
 ) -> Result<Base, Fault>
-    requires { HasFunctionFor combination.now.rule (option_copied function) }
+    requires { HasFunctionFor (option_copied function) combination.now.rule }
     ensures is { IfOk result
-        (IsBaseOf (option_copied function) problem.now combination.now) }
+        (IsBaseOf (option_copied function.entry) problem.now combination.now) }
     ensures wide { result ≡ Err Fault.Wide →
-        IsBaseless (option_copied function) problem.now combination.now wide }
+        IsBaseless (option_copied function.entry) problem.now combination.now wide }
 {
     let multipliers = combination.multipliers.as_slice();
     if let Some(line) = first_unsigned(combination.rule, problem, multipliers) {
@@ -141,12 +141,12 @@ fn cut_base(
     combination: &Combination,
 ) -> Result<Base, Fault>
     requires rule { combination.now.rule ≡ StepRule.Linear → ⊥ }
-    requires function { HasFunctionFor combination.now.rule (option_copied function) }
+    requires function { HasFunctionFor (option_copied function) combination.now.rule }
     requires signed { AreSigned combination.now.rule problem.now combination.now.multipliers }
     ensures is { IfOk result
-        (IsBaseOf (option_copied function) problem.now combination.now) }
+        (IsBaseOf (option_copied function.entry) problem.now combination.now) }
     ensures wide { result ≡ Err Fault.Wide →
-        IsBaseless (option_copied function) problem.now combination.now wide }
+        IsBaseless (option_copied function.entry) problem.now combination.now wide }
 {
     let multipliers = multipliers_of(alloc, problem, combination.multipliers.as_slice())?;
     let at_upper = flags_of(alloc, problem, combination.at_upper.as_slice())?;
@@ -171,11 +171,11 @@ fn cut_by(
     at_upper: &[bool],
 ) -> Result<SafeCut, AllocError>
     requires rule { rule ≡ StepRule.Linear → ⊥ }
-    requires function { HasFunctionFor rule (option_copied function) }
+    requires function { HasFunctionFor (option_copied function) rule }
     requires multipliers { length multipliers.now ≡ length problem.now.constraints }
     requires at_upper { length at_upper.now ≡ length problem.now.columns }
     ensures is { IfOk result
-        (IsCutBy rule (option_copied function) problem.now multipliers.now at_upper.now) }
+        (IsCutBy rule (option_copied function.entry) problem.now multipliers.now at_upper.now) }
     ensures terms { IfOk result (SafeCutHasTerms problem.now) }
 {
     match (rule, function) {

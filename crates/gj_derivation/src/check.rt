@@ -1,6 +1,7 @@
 //! Checks of steps.
-ghost use Rattle.std.specs.Prelude.{◌≡◌, ◌⊎◌, IfOk, Err, length};
+ghost use Rattle.std.specs.Prelude.{◌≡◌, ◌⊎◌, IfOk, IfSome, Err, length};
 ghost use Rattle.std.specs.Option.{option_copied};
+ghost use Rattle.gj_shape.specs.FunctionData.{IsWithinBounds};
 ghost use Rattle.gj_derivation.specs.declared.step.Verdict.TheVariants.{Wide as wide};
 ghost use Rattle.gj_derivation.specs.Derivations.{coefficient_in, Follows, IsReady, IsReadyStep};
 ghost use Rattle.gj_derivation.specs.Checks.{line_of_sum, IsMovedRight, IsWideFor, IsCompared};
@@ -27,15 +28,25 @@ pub fn check_step(
     problem: &Problem,
     step: &Step,
 ) -> Result<Verdict, AllocError>
-    requires ready { IsReadyStep (option_copied function) step.now }
-    ensures is { IfOk result (IsVerdict (option_copied function) problem.now step.now) }
-    ensures exact { IfOk result (λ v. Follows (option_copied function) problem.now step.now →
+    requires { IsReadyStep (option_copied function) step.now }
+    ensures is { IfOk result (IsVerdict (option_copied function.entry) problem.now step.now) }
+    ensures exact { IfOk result (λ v. Follows (option_copied function.entry) problem.now step.now →
         (v ≡ Verdict.Accepted) ⊎ (v ≡ Verdict.Wide)) }
 {
+    read_bounds(function);
     match verdict_of(alloc, function, problem, &step.combination, &step.claim) {
         Ok(verdict) => Ok(verdict),
         Err(Fault::Wide) => Ok(Verdict::Wide),
         Err(Fault::Memory(error)) => Err(error),
+    }
+}
+
+/// Reads the function, if there is one: each is within the bounds of functions.
+pub(crate) fn read_bounds(function: Option<&Shape>)
+    ensures { IfSome (option_copied function.entry) IsWithinBounds }
+{
+    if let Some(shape) = function {
+        let _order = shape.order();
     }
 }
 
@@ -48,9 +59,9 @@ pub(crate) fn verdict_of(
     claim: &Inequality,
 ) -> Result<Verdict, Fault>
     requires { IsReady (option_copied function) combination.now }
-    ensures is { IfOk result (IsVerdict (option_copied function) problem.now
+    ensures is { IfOk result (IsVerdict (option_copied function.entry) problem.now
         (record { combination = combination.now; claim = claim.now })) }
-    ensures wide { result ≡ Err Fault.Wide → IsVerdict (option_copied function) problem.now
+    ensures wide { result ≡ Err Fault.Wide → IsVerdict (option_copied function.entry) problem.now
         (record { combination = combination.now; claim = claim.now }) wide }
 {
     match base_of(alloc, function, problem, combination)? {

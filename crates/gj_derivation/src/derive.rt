@@ -1,12 +1,14 @@
 //! Claims found for drafts.
-ghost use Rattle.std.specs.Prelude.{◌≡◌, ◌<◌, All, IfOk, IfSome, MatchOption, None, Err};
+ghost use Rattle.std.specs.Prelude.{◌≡◌, ◌<◌, ◌^◌, ℕ, All, IfOk, IfSome, MatchOption, None, Err};
 ghost use Rattle.std.specs.Prelude.{length, slice_index_or};
 ghost use Rattle.std.specs.Option.{option_copied};
+ghost use Rattle.gj_problem.specs.Rational.{rational};
+ghost use Rattle.gj_problem.specs.Problems.{AreTermsWithin};
 ghost use Rattle.gj_derivation.specs.declared.step.Verdict.TheVariants.{Wide as wide};
 ghost use Rattle.gj_derivation.specs.declared.draft.Shown.TheVariants.{Against};
 ghost use Rattle.gj_derivation.specs.declared.draft.Claim.TheVariants.{Absent, Terms, Given};
-ghost use Rattle.gj_derivation.specs.Derivations.{IsReady};
-ghost use Rattle.gj_derivation.specs.Checks.{line_of_sum};
+ghost use Rattle.gj_derivation.specs.Derivations.{coefficient_in, IsReady};
+ghost use Rattle.gj_derivation.specs.Checks.{claimed_at, line_of_sum};
 ghost use Rattle.gj_derivation.specs.Drafts.{IsFoundIn, IsWideFinding, IsFilled, IsAgainst};
 ghost use Rattle.gj_derivation.specs.Drafts.{IsShownBy, IsDerivedBy, DerivedIsDerivation};
 ghost use Rattle.gj_derivation.specs.Drafts.{begun, reach, IsPlaced, IsLost, Ends};
@@ -39,7 +41,7 @@ pub fn derived_step(
 ) -> Result<Shown, AllocError>
     requires ready { IsReady (option_copied function) draft.now.combination }
     requires grid { IfSome grid (λ n. 0 < n) }
-    ensures { IfOk result (IsShownBy (option_copied function) grid problem.now
+    ensures { IfOk result (IsShownBy (option_copied function.entry) grid problem.now
         draft.now.combination draft.now.claim) }
 {
     let combination = copied(alloc, &draft.combination)?;
@@ -57,7 +59,7 @@ fn shown_by(
 ) -> Result<Shown, AllocError>
     requires ready { IsReady (option_copied function) combination }
     requires grid { IfSome grid (λ n. 0 < n) }
-    ensures { IfOk result (IsShownBy (option_copied function) grid problem.now
+    ensures { IfOk result (IsShownBy (option_copied function.entry) grid problem.now
         combination claim.now) }
 {
     match filled(alloc, function, problem, &combination, claim, grid) {
@@ -81,9 +83,9 @@ fn filled(
 ) -> Result<Filled, Fault>
     requires ready { IsReady (option_copied function) combination.now }
     requires grid { IfSome grid (λ n. 0 < n) }
-    ensures is { IfOk result (IsFilled (option_copied function) grid problem.now
+    ensures is { IfOk result (IsFilled (option_copied function.entry) grid problem.now
         combination.now claim.now) }
-    ensures wide { result ≡ Err Fault.Wide → IsAgainst (option_copied function) grid problem.now
+    ensures wide { result ≡ Err Fault.Wide → IsAgainst (option_copied function.entry) grid problem.now
         combination.now claim.now wide }
 {
     match claim {
@@ -105,9 +107,9 @@ fn found_claim(
 ) -> Result<Filled, Fault>
     requires ready { IsReady (option_copied function) combination.now }
     requires grid { IfSome grid (λ n. 0 < n) }
-    ensures is { IfOk result (IsFilled (option_copied function) grid problem.now
+    ensures is { IfOk result (IsFilled (option_copied function.entry) grid problem.now
         combination.now Absent) }
-    ensures wide { result ≡ Err Fault.Wide → IsAgainst (option_copied function) grid problem.now
+    ensures wide { result ≡ Err Fault.Wide → IsAgainst (option_copied function.entry) grid problem.now
         combination.now Absent wide }
 {
     match base_of(alloc, function, problem, combination)? {
@@ -137,14 +139,29 @@ fn found_in(
             let Moved::Right(right) = moved_right(columns, factor, sum, terms.as_slice())? else {
                 unreachable!();
             };
-            let found = Sum {
-                coefficients: terms,
-                right,
-            };
-            let claim = found.inequality(alloc)?.ok_or(Fault::Wide)?;
-            Ok(Filled::Claim(claim))
+            Ok(Filled::Claim(claim_from(alloc, terms, right)?))
         }
         Found::Bound(column) => Ok(Filled::Against(Verdict::Bound(column))),
+    }
+}
+
+/// The inequality of these coefficients against the right side. Wide only if there are more than 2^32
+/// columns.
+fn claim_from(alloc: Global, terms: Vec<Frac>, right: Frac) -> Result<Inequality, Fault>
+    ensures terms { IfOk result (λ q.
+        AreTermsWithin 0 (length terms.items) q.entries) }
+    ensures right { IfOk result (λ q. rational q.right ≡ rational right) }
+    ensures coefficients { IfOk result (λ q. (j : ℕ) →
+        coefficient_in q.entries j ≡ claimed_at terms.items j) }
+    ensures wide { result ≡ Err Fault.Wide → 2 ^ 32 < length terms.items }
+{
+    let sum = Sum {
+        coefficients: terms,
+        right,
+    };
+    match sum.inequality(alloc)? {
+        Some(claim) => Ok(claim),
+        None => Err(Fault::Wide),
     }
 }
 
@@ -157,9 +174,9 @@ fn claim_with(
     entries: &[Entry],
 ) -> Result<Filled, Fault>
     requires { IsReady (option_copied function) combination.now }
-    ensures is { IfOk result (IsFilled (option_copied function) None problem.now
+    ensures is { IfOk result (IsFilled (option_copied function.entry) None problem.now
         combination.now (Terms entries.now)) }
-    ensures wide { result ≡ Err Fault.Wide → IsAgainst (option_copied function) None problem.now
+    ensures wide { result ≡ Err Fault.Wide → IsAgainst (option_copied function.entry) None problem.now
         combination.now (Terms entries.now) wide }
 {
     match base_of(alloc, function, problem, combination)? {
@@ -185,9 +202,9 @@ fn given_claim(
     claim: &Inequality,
 ) -> Result<Filled, Fault>
     requires { IsReady (option_copied function) combination.now }
-    ensures is { IfOk result (IsFilled (option_copied function) None problem.now
+    ensures is { IfOk result (IsFilled (option_copied function.entry) None problem.now
         combination.now (Given claim.now)) }
-    ensures wide { result ≡ Err Fault.Wide → IsAgainst (option_copied function) None problem.now
+    ensures wide { result ≡ Err Fault.Wide → IsAgainst (option_copied function.entry) None problem.now
         combination.now (Given claim.now) wide }
 {
     match verdict_of(alloc, function, problem, combination, claim)? {
@@ -229,8 +246,8 @@ pub fn derived_steps(
 ) -> Result<Derived, AllocError>
     requires ready { All (λ d. IsReady (option_copied function) d.combination) drafts.now }
     requires grid { IfSome grid (λ n. 0 < n) }
-    ensures is { IfOk result (IsDerivedBy (option_copied function) grid problem drafts.now) }
-    ensures derivation { IfOk result (DerivedIsDerivation (option_copied function) problem) }
+    ensures is { IfOk result (IsDerivedBy (option_copied function.entry) grid problem drafts.now) }
+    ensures derivation { IfOk result (DerivedIsDerivation (option_copied function.entry) problem) }
 {
     let mut reached = begun_at(alloc, problem)?;
     let mut shown = Vec::new(alloc);

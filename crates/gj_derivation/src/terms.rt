@@ -1,12 +1,10 @@
 //! Terms over all columns, given or found.
-ghost use Rattle.std.specs.Prelude.{◌≡◌, ◌<◌, ◌↔◌, IfOk, IfSome, IsTrue, MatchOption, OnErr, Err};
-ghost use Rattle.std.specs.Prelude.{length, pos};
-ghost use Rattle.gj_frac.specs.Fraction.{numerator};
+ghost use Rattle.std.specs.Prelude.{◌≡◌, ◌<◌, Some, IfOk, IfSome, OnErr, Err, length};
 ghost use Rattle.gj_problem.specs.Rational.{rational, ◌*ℚ◌};
-ghost use Rattle.gj_problem.specs.Problems.{AreTermsWithin};
 ghost use Rattle.gj_derivation.specs.Derivations.{coefficient_in, times};
 ghost use Rattle.gj_derivation.specs.Checks.{IsSumFor, IsWideTerms, line_of_sum};
-ghost use Rattle.gj_derivation.specs.Drafts.{IsFoundFor, IsFound, IsWideGrid, IsWideFinding};
+ghost use Rattle.gj_derivation.specs.Drafts.{IsFoundOrNone, IsFound, IsWideGrid, IsWideFoundAt};
+ghost use Rattle.gj_derivation.specs.Drafts.{IsWideFinding};
 
 use crate::moves::is_zero;
 use gj_frac::{Frac, Wide};

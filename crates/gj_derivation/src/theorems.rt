@@ -29,9 +29,10 @@ pub fn derivation_holds()
 /// lesser one may stand there too.
 pub fn one_right_side()
     ensures one { (f : Option FunctionData) (p : Problem) (s : Step) (right other : Rational) →
-        IsShown f p s right → IsShown f p s other → right ≡ other }
+        IfSome f IsUsable → IsShown f p s right → IsShown f p s other → right ≡ other }
     ensures greatest { (f : Option FunctionData) (p : Problem) (s : Step) (right : Rational) →
-        IsShown f p s right → (Follows f p s ↔ (rational s.claim.right ≤ℚ right)) }
+        IfSome f IsUsable → IsShown f p s right →
+        (Follows f p s ↔ (rational s.claim.right ≤ℚ right)) }
 {}
 
 /// A coefficient that is rounded to the grid is moved by the bounds of its column, as they are
@@ -49,7 +50,7 @@ pub fn derived_steps_are_accepted()
         (shown : List Shown) → AllOf (λ d. IsReady f d.combination) drafts →
         IsDerivedBy f grid p drafts (All shown) → AllOf (IsReadyStep f) (steps_of shown) }
     ensures accepted { (f : Option FunctionData) (grid : Option ℕ) (p : Problem)
-        (drafts : List Draft) (shown : List Shown) (c : Checked) →
+        (drafts : List Draft) (shown : List Shown) (c : Checked) → IfSome f IsUsable →
         IsDerivedBy f grid p drafts (All shown) → IsChecked f p (steps_of shown) c →
         (c ≡ Accepted) ⊎ IsWideFailure c }
 {}
