@@ -156,7 +156,7 @@ EndsHere c s text = (IsTrue c.drafts ⊎ IsTrue s.is_claimed) × StepsGoOn text
 
 abbrev pub next_of_step : Names → OpenStep → Part (OpenStep ⊎ Draft)
 next_of_step c s =
-    where_part (EndsHere c s) (made_part (λ u next. (draft : Draft) × IsDraftOf s draft × (next ≡ inr draft)) (empty_part tt))
+    where_part (EndsHere c s) (made_part (λ (u : Unit {0}) next. (draft : Draft) × IsDraftOf s draft × (next ≡ inr draft)) (empty_part {A = Unit {0}} tt))
     (made_part (λ t next. next ≡ inl t) (line_part Lenient (step_line_rule c s)))
 
 abbrev pub lines_of_step : Names → OpenStep → Part Draft

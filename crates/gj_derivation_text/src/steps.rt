@@ -1,16 +1,19 @@
 //! The steps of a derivation, read.
-ghost use Rattle.std.specs.Prelude.{◌≡◌, ◌≤◌, ◌↔◌, ◌∷◌, IsTrue, List, ℕ, length, IfOk, IfErr, MatchOption, OnOk};
+ghost use Rattle.std.specs.Prelude.{◌≡◌, ◌<◌, ◌≤◌, ◌↔◌, ◌∷◌, ◌++◌, [], None, nat_eq, IsTrue, List, ℕ};
+ghost use Rattle.std.specs.Prelude.{length, IfOk, IfErr, IfSome, MatchOption, OnOk};
+ghost use Rattle.std.specs.Cmp.Lexicographic.{pointwise};
+ghost use Rattle.std.specs.List.{position};
 ghost use Rattle.std.proofs.Common.{inl, inr};
 ghost use Rattle.gj_lex.specs.Name.{IsName};
 ghost use Rattle.gj_lex.specs.Words.{word_texts};
 ghost use Rattle.gj_lex.specs.declared.spelling.Spelling.TheVariants.{Lenient};
 ghost use Rattle.gj_forms.specs.LineFaults.{IsRefusedFor};
-ghost use Rattle.gj_forms.specs.Parts.{loop_part, IsFaultOf};
+ghost use Rattle.gj_forms.specs.Parts.{loop_part, IsFaultOf, IsRefusal};
 ghost use Rattle.gj_derivation.specs.declared.step.StepRule.TheVariants.{Function};
 ghost use Rattle.gj_problem_text.specs.Tasks.{most_columns};
 ghost use Rattle.gj_derivation_text.specs.OpenSteps.{begun, AreUsedBy, EndsHere, step_line_rule};
-ghost use Rattle.gj_derivation_text.specs.OpenSteps.{next_of_step, lines_of_step};
-ghost use Rattle.gj_derivation_text.specs.DerivationText.{head_rule, placed_line, names_of};
+ghost use Rattle.gj_derivation_text.specs.OpenSteps.{next_of_step, lines_of_step, index_in};
+ghost use Rattle.gj_derivation_text.specs.DerivationText.{head_rule, placed_line, names_of, with_step};
 ghost use Rattle.gj_derivation_text.specs.DerivationText.{step_part, next_step};
 
 use crate::drafts::Drafts;
@@ -97,6 +100,9 @@ fn head_at<'a>(
     text: &'a [u8],
 ) -> Result<Head<'a>, PartFault>
     requires { names.now.lines ≡ drafts.now.lines }
+    ensures name { IfOk result (λ h. IsName h.name.now) }
+    ensures new { IfOk result (λ h. index_in drafts.now.lines h.name.now ≡ None) }
+    ensures shorter { IfOk result (λ h. length h.rest.now < length text.now) }
     ensures found { IfOk result (λ h. (placed_line Lenient (head_rule has_function drafts.now)).Reads
         text.now ((h.name.now, (h.rule, tt)), h.left) h.rest.now) }
     ensures fault { IfErr result (IsFaultOf
@@ -123,6 +129,8 @@ fn head_in<'a>(
     behind: &'a [u8],
 ) -> Result<(&'a [u8], StepRule), Reason>
     requires { names.now.lines ≡ drafts.now.lines }
+    ensures name { IfOk result (λ h. IsName h.0.now) }
+    ensures new { IfOk result (λ h. index_in drafts.now.lines h.0.now ≡ None) }
     ensures found { IfOk result (λ h. (head_rule has_function drafts.now).Spells
         (word.now ∷ word_texts behind.now) (h.0.now, (h.1, tt))) }
     ensures broken { IfErr result ((head_rule has_function drafts.now).Breaks
@@ -166,6 +174,13 @@ fn push_step<'a>(
     head: Head<'a>,
     draft: Draft,
 ) -> Result<(), PartFault>
+    requires name { IsName head.name.now }
+    requires new { index_in drafts.old.lines head.name.now ≡ None }
+    requires names { names.old ≡ names_of names.old.drafts drafts.old }
+    ensures added { OnOk result (drafts.new
+        ≡ with_step drafts.old head.entry.name.now head.entry.left draft) }
+    ensures names { OnOk result (names.new ≡ names_of names.old.drafts drafts.new) }
+    ensures memory { IfErr result (λ e. IsRefusal e → ⊥) }
 {
     match push_name(alloc, &mut names.lines, &mut drafts.lines, head.name) {
         Ok(()) => {}
@@ -187,6 +202,7 @@ fn lines_of_step_at<'a>(
     requires { length names.now.columns ≤ most_columns }
     ensures found { IfOk result (λ r. (lines_of_step names.now (begun rule)).Reads
         text.now r.0 r.1.now) }
+    ensures shorter { IfOk result (λ r. length r.1.now ≤ length text.now) }
     ensures fault { IfErr result (IsFaultOf (lines_of_step names.now (begun rule)) text.now) }
 {
     let mut step = begun(alloc, rule);
