@@ -4,3 +4,4 @@ pub mod ExactSteps
 pub mod ExactText
 pub mod ProblemRead
 pub mod StepsRead
+pub mod TextRead

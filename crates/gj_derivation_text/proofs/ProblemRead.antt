@@ -6,14 +6,15 @@ use Rattle.gj_forms.specs.TextLines.{HasLine}
 use Rattle.gj_forms.specs.Parts.{line_part, empty_part, IsFaultOf, IsNoLine}
 use Rattle.gj_forms.specs.declared.fault.PartFault.{PartFault}
 use Rattle.gj_forms.specs.declared.fault.PartFault.TheVariants.{Refused}
+use Rattle.gj_forms.proofs.LoopRead.{LeadsOn, leads_on, leads_to_end, leads_to_fault}
 use Rattle.gj_forms.proofs.PartLaws.{line_refused, no_line_refused, fault_in_made}
 use Rattle.gj_forms.proofs.WhereLaws.{fault_else}
 use Rattle.gj_derivation_text.specs.OpenSteps.{StepsGoOn}
-use Rattle.gj_derivation_text.specs.DerivationText.{problem_rule, next_of_problem, names_of}
+use Rattle.gj_derivation_text.specs.DerivationText.{no_drafts, problem_rule, next_of_problem, problem_part, names_of}
 use Rattle.gj_derivation_text.specs.declared.drafts.Drafts.{Drafts}
 use Rattle.gj_derivation_text.specs.declared.names.Names.{Names}
 use Rattle.gj_derivation_text.proofs.ExactText.{More, one_more}
-use Rattle.gj_derivation_text.proofs.WordLines.{nothing_goes_on, steps_end}
+use Rattle.gj_derivation_text.proofs.WordLines.{nothing_goes_on}
 
 -- names of drafts are so by their own flag
 pub by_own_flag : (n : Names) (drafts : Bool) (s : Drafts) → n ≡ names_of drafts s → n ≡ names_of n.drafts s
@@ -43,3 +44,23 @@ module _ (drafts : Bool) (s : Drafts) (text : List ℕ) where
     line_fault e reason breaks is =
         in_line e not (line_refused Lenient (problem_rule drafts s) text start (word ∷ words) rest reason e line
         (subst (λ ws. (problem_rule drafts s).Breaks ws reason) are breaks) is)
+
+-- ---- all lines
+
+module _ (drafts own : Bool) (text : List ℕ) (s : Drafts) (rest : List ℕ) (same : own ≡ drafts)
+    (h : LeadsOn (next_of_problem drafts) no_drafts text s rest) where
+  pub problem_on : (t : Drafts) (behind : List ℕ) → (next_of_problem own s).Reads rest (inl t) behind →
+      LeadsOn (next_of_problem drafts) no_drafts text t behind
+  problem_on t behind one =
+      leads_on (next_of_problem drafts) no_drafts text s t rest behind h
+      (subst (λ (b : Bool). (next_of_problem b s).Reads rest (inl t) behind) same one)
+
+  pub problem_ends : (t : Drafts) (behind : List ℕ) → (next_of_problem own s).Reads rest (inr t) behind → (problem_part drafts).Reads text t behind
+  problem_ends t behind one =
+      leads_to_end (next_of_problem drafts) no_drafts text s rest t behind h
+      (subst (λ (b : Bool). (next_of_problem b s).Reads rest (inr t) behind) same one)
+
+  pub problem_fault : (e : PartFault) → IsFaultOf (next_of_problem own s) rest e → IsFaultOf (problem_part drafts) text e
+  problem_fault e fault =
+      leads_to_fault (next_of_problem drafts) no_drafts text s rest e h
+      (subst (λ (b : Bool). IsFaultOf (next_of_problem b s) rest e) same fault)
