@@ -1,6 +1,6 @@
 //! The problem of a derivation, read.
 ghost use Rattle.std.specs.Prelude.{◌≡◌, ◌≤◌, ◌↔◌, ◌∷◌, ◌⊎◌, IsTrue, List, ℕ, Some, None, Option, length, IfOk, IfErr, MatchOption};
-ghost use Rattle.std.specs.Prelude.{OnOk, ◌++◌, [], nat_eq};
+ghost use Rattle.std.specs.Prelude.{OnOk, ◌++◌, [], ◌<◌, nat_eq, IfSome};
 ghost use Rattle.std.proofs.Common.{inl, inr};
 ghost use Rattle.gj_lex.specs.Name.{IsName};
 ghost use Rattle.gj_lex.specs.Words.{word_texts};
@@ -63,6 +63,8 @@ fn problem_line_at<'a>(
         text.now (inl drafts.new) rest.now)) }
     ensures few { OnOk result (length drafts.new.task.names ≤ most_columns) }
     ensures names { OnOk result (names.new ≡ names_of names.old.drafts drafts.new) }
+    ensures shorter { IfOk result (λ next. IfSome next (λ rest.
+        length rest.now < length text.now)) }
     ensures fault { IfErr result
         (IsFaultOf (next_of_problem names.old.drafts drafts.old) text.now) }
 {

@@ -1,17 +1,21 @@
 //! The steps of a derivation, read.
-ghost use Rattle.std.specs.Prelude.{◌≡◌, ◌≤◌, ◌↔◌, ◌∷◌, IsTrue, List, ℕ, length, IfOk, IfErr, MatchOption, OnOk};
+ghost use Rattle.std.specs.Prelude.{◌≡◌, ◌<◌, ◌≤◌, ◌↔◌, ◌∷◌, ◌++◌, [], None, nat_eq, IsTrue, List, ℕ, ◌⊎◌, codes};
+ghost use Rattle.std.specs.Prelude.{length, IfOk, IfErr, IfSome, MatchOption, OnOk};
+ghost use Rattle.std.specs.Cmp.Lexicographic.{pointwise};
+ghost use Rattle.std.specs.List.{position};
 ghost use Rattle.std.proofs.Common.{inl, inr};
 ghost use Rattle.gj_lex.specs.Name.{IsName};
 ghost use Rattle.gj_lex.specs.Words.{word_texts};
 ghost use Rattle.gj_lex.specs.declared.spelling.Spelling.TheVariants.{Lenient};
 ghost use Rattle.gj_forms.specs.LineFaults.{IsRefusedFor};
-ghost use Rattle.gj_forms.specs.Parts.{loop_part, IsFaultOf};
+ghost use Rattle.gj_forms.specs.Parts.{loop_part, IsFaultOf, IsRefusal};
 ghost use Rattle.gj_derivation.specs.declared.step.StepRule.TheVariants.{Function};
 ghost use Rattle.gj_problem_text.specs.Tasks.{most_columns};
 ghost use Rattle.gj_derivation_text.specs.OpenSteps.{begun, AreUsedBy, EndsHere, step_line_rule};
-ghost use Rattle.gj_derivation_text.specs.OpenSteps.{next_of_step, lines_of_step};
-ghost use Rattle.gj_derivation_text.specs.DerivationText.{head_rule, placed_line, names_of};
-ghost use Rattle.gj_derivation_text.specs.DerivationText.{step_part, next_step};
+ghost use Rattle.gj_derivation_text.specs.OpenSteps.{next_of_step, lines_of_step, index_in};
+ghost use Rattle.gj_derivation_text.specs.DerivationText.{head_rule, placed_line, names_of, with_step};
+ghost use Rattle.gj_derivation_text.specs.DerivationText.{step_part, next_step, Begins};
+ghost use Rattle.gj_derivation_text.specs.DerivationText.{RefusesHead};
 
 use crate::drafts::Drafts;
 use crate::lines::{STEP, line_with};
@@ -97,6 +101,9 @@ fn head_at<'a>(
     text: &'a [u8],
 ) -> Result<Head<'a>, PartFault>
     requires { names.now.lines ≡ drafts.now.lines }
+    ensures name { IfOk result (λ h. IsName h.name.now) }
+    ensures new { IfOk result (λ h. index_in drafts.now.lines h.name.now ≡ None) }
+    ensures shorter { IfOk result (λ h. length h.rest.now < length text.now) }
     ensures found { IfOk result (λ h. (placed_line Lenient (head_rule has_function drafts.now)).Reads
         text.now ((h.name.now, (h.rule, tt)), h.left) h.rest.now) }
     ensures fault { IfErr result (IsFaultOf
@@ -123,28 +130,55 @@ fn head_in<'a>(
     behind: &'a [u8],
 ) -> Result<(&'a [u8], StepRule), Reason>
     requires { names.now.lines ≡ drafts.now.lines }
+    ensures name { IfOk result (λ h. IsName h.0.now) }
+    ensures new { IfOk result (λ h. index_in drafts.now.lines h.0.now ≡ None) }
     ensures found { IfOk result (λ h. (head_rule has_function drafts.now).Spells
         (word.now ∷ word_texts behind.now) (h.0.now, (h.1, tt))) }
     ensures broken { IfErr result ((head_rule has_function drafts.now).Breaks
         (word.now ∷ word_texts behind.now)) }
 {
-    if word != b"step".as_slice() {
+    if !is_step(word) {
         return Err(Reason::Form);
     }
-    let (name, rule) = match STEP.fields.of_words(Spelling::Lenient, behind) {
-        Ok((name, (rule, ()))) => (name, rule),
-        Err(reason) => return Err(reason),
-    };
+    match STEP.fields.of_words(Spelling::Lenient, behind) {
+        Ok((name, (rule, ()))) => match objection_to(has_function, names, drafts, name, rule) {
+            None => Ok((name, rule)),
+            Some(reason) => Err(reason),
+        },
+        Err(reason) => Err(reason),
+    }
+}
+
+/// Whether the word is `step`.
+fn is_step(word: &[u8]) -> bool
+    ensures { IsTrue result ↔ (word.now ≡ codes "step") }
+{
+    word == b"step".as_slice()
+}
+
+/// Why no step with this name and this rule can begin, if none can.
+fn objection_to(
+    has_function: bool,
+    names: &Names<'_>,
+    drafts: &Drafts,
+    name: &[u8],
+    rule: StepRule,
+) -> Option<Reason>
+    requires { names.now.lines ≡ drafts.now.lines }
+    ensures { MatchOption result
+        (Begins has_function drafts.now (name.now, (rule, tt)) (name.now, (rule, tt)))
+        (RefusesHead has_function drafts.now (name.now, (rule, tt))) }
+{
     if !is_allowed(has_function, rule) {
-        return Err(Reason::Form);
+        return Some(Reason::Form);
     }
     if drafts.steps.as_slice().len() >= MOST_STEPS {
-        return Err(Reason::Large);
+        return Some(Reason::Large);
     }
     if names.lines.place_of(name).is_some() {
-        return Err(Reason::Place);
+        return Some(Reason::Place);
     }
-    Ok((name, rule))
+    None
 }
 
 /// Whether a step may have the rule: one by a function needs a function in front.
@@ -166,6 +200,13 @@ fn push_step<'a>(
     head: Head<'a>,
     draft: Draft,
 ) -> Result<(), PartFault>
+    requires name { IsName head.name.now }
+    requires new { index_in drafts.old.lines head.name.now ≡ None }
+    requires names { names.old ≡ names_of names.old.drafts drafts.old }
+    ensures added { OnOk result (drafts.new
+        ≡ with_step drafts.old head.entry.name.now head.entry.left draft) }
+    ensures names { OnOk result (names.new ≡ names_of names.old.drafts drafts.new) }
+    ensures memory { IfErr result (λ e. IsRefusal e → ⊥) }
 {
     match push_name(alloc, &mut names.lines, &mut drafts.lines, head.name) {
         Ok(()) => {}
@@ -187,6 +228,7 @@ fn lines_of_step_at<'a>(
     requires { length names.now.columns ≤ most_columns }
     ensures found { IfOk result (λ r. (lines_of_step names.now (begun rule)).Reads
         text.now r.0 r.1.now) }
+    ensures shorter { IfOk result (λ r. length r.1.now ≤ length text.now) }
     ensures fault { IfErr result (IsFaultOf (lines_of_step names.now (begun rule)) text.now) }
 {
     let mut step = begun(alloc, rule);
@@ -216,7 +258,7 @@ fn step_line_at<'a>(
     ensures fault { IfErr result (IsFaultOf (next_of_step names.now step.old) text.now) }
 {
     let line = word_line_at(text)?;
-    if (names.drafts || step.is_claimed) && goes_on(line.word) {
+    if ends_before(names.drafts, step, line.word) {
         return Ok(None);
     }
     match add_line_with(names, used, step, line.word, line.behind) {
@@ -224,6 +266,15 @@ fn step_line_at<'a>(
         Err(LineFault::Broken(reason)) => Err(PartFault::at(line.start, reason)),
         Err(LineFault::Memory(error)) => Err(PartFault::Memory(error)),
     }
+}
+
+/// Whether the step ends before a line that begins with the word: it has a claim, or drafts are
+/// read, and the line is no line of it.
+fn ends_before(drafts: bool, step: &OpenStep, word: &[u8]) -> bool
+    ensures { IsTrue result ↔ ((IsTrue drafts ⊎ IsTrue step.now.is_claimed)
+        × ((word.now ≡ codes "step") ⊎ (word.now ≡ codes "end"))) }
+{
+    (drafts || step.is_claimed) && goes_on(word)
 }
 
 /// Adds a line that begins with the word and goes on so to the step, or says why it cannot follow.

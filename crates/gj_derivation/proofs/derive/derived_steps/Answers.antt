@@ -6,7 +6,7 @@ use Rattle.gj_derivation.specs.declared.draft.Shown.TheVariants as shown
 use Rattle.gj_derivation.specs.declared.step.Combination.{Combination}
 use Rattle.gj_derivation.specs.declared.step.Verdict.{Verdict}
 use Rattle.gj_derivation.specs.Derivations.{IsDerivation}
-use Rattle.gj_derivation.specs.Drafts.{begun, IsPlaced, IsLost, Ends, IsNext, steps_of}
+use Rattle.gj_derivation.specs.Drafts.{begun, IsPlaced, IsLost, Ends, IsNext, IsReached, steps_of}
 use Rattle.gj_derivation.proofs.DerivedSteps.{one_shown, all_shown, reached_at, shown_derivation}
 use Rattle.gj_derivation.proofs.derive.derived_steps.Goals as goal
 
@@ -17,7 +17,14 @@ returns-in_default-clause-is c =
     let d = c.index-drafts-i.result in
     let lost = subst (λ (made : Option Combination). MatchOption made (IsLost r d.combination) (IsPlaced r d.combination)) c.in_default.is
     c.in_ok-combination.ensures in
-    (r, d, reached_at f c.args.grid c.args.problem c.args.drafts.now c.loop-i.i d c.loop-i.shown.items r c.loop-i-test.true c.index-drafts-i.is c.loop-i.invariant, lost)
+    (
+      r,
+      d,
+      subst (λ (xs : List Shown). IsReached f c.args.grid c.args.problem c.args.drafts.now c.loop-i.i xs r d) (sym c.of-in_default.ensures)
+          (reached_at f c.args.grid c.args.problem c.args.drafts.now c.loop-i.i d c.loop-i.shown.items r c.loop-i-test.true c.index-drafts-i.is
+          c.loop-i.invariant),
+      lost,
+    )
 
 pub returns-in-Some-end_of-clause-is : goal.returns-in-Some-end_of-clause-is
 returns-in-Some-end_of-clause-is c =
@@ -30,8 +37,9 @@ returns-in-Some-end_of-clause-is c =
     let next : IsNext f c.args.grid r d c.in_ok-next.next = (c.in-Some.combination, placed, c.in_ok-next.ensures) in (
       r,
       d,
-      reached_at f c.args.grid c.args.problem c.args.drafts.now c.loop-i.i d c.loop-i.shown.items r c.loop-i-test.true c.index-drafts-i.is
-          c.loop-i.invariant,
+      subst (λ (xs : List Shown). IsReached f c.args.grid c.args.problem c.args.drafts.now c.loop-i.i xs r d) (sym c.of-in-Some-end_of.ensures)
+          (reached_at f c.args.grid c.args.problem c.args.drafts.now c.loop-i.i d c.loop-i.shown.items r c.loop-i-test.true c.index-drafts-i.is
+          c.loop-i.invariant),
       subst (λ (x : Shown). IsNext f c.args.grid r d x) end.0 next,
       subst (λ (x : Shown). Ends d.claim x) end.0 end.1,
     )
