@@ -20,7 +20,7 @@ returns-in_default-clause-is c =
     (
       r,
       d,
-      subst (λ (xs : List Shown). IsReached f c.args.grid c.args.problem c.args.drafts.now c.loop-i.i xs r d) (sym c.of-in_default.ensures)
+      subst (λ (xs : List Shown). IsReached f c.args.grid c.args.problem c.args.drafts.now c.loop-i.i xs r d) (sym c.of.ensures)
           (reached_at f c.args.grid c.args.problem c.args.drafts.now c.loop-i.i d c.loop-i.shown.items r c.loop-i-test.true c.index-drafts-i.is
           c.loop-i.invariant),
       lost,
@@ -58,6 +58,6 @@ loop-i-preserved c =
 pub returns-clause-derivation : goal.returns-clause-derivation
 returns-clause-derivation c =
     let f = option_copied c.args.function in
-    subst (λ (xs : List Shown). IsDerivation f c.args.problem (steps_of xs)) (sym c.of.ensures)
+    subst (λ (xs : List Shown). IsDerivation f c.args.problem (steps_of xs)) (sym c.of-2.ensures)
     (shown_derivation f c.args.grid (begun c.args.problem) c.args.drafts.now c.loop-i.shown.items
     (all_shown f c.args.grid c.args.problem c.args.drafts.now c.loop-i.i c.loop-i.shown.items c.loop-i.reached c.loop-i-test.false c.loop-i.invariant))
