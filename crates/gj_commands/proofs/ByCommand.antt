@@ -414,7 +414,7 @@ says_cuts (claim.NotExtreme f h) input p holds e = absurd (cc)
 -- the printed text of a derivation tells it
 printed_derivation_is_read : (d : DerivationInput) (text : List ℕ) → IsPrintedDerivation d text →
     (left : List ℕ) × IsDerivationText text (record d { left = left })
-printed_derivation_is_read d text h = derived_is_read d h.constraint_names h.names h.shown text h.printable h.text_is
+printed_derivation_is_read d text h = derived_is_read d h.constraint_names h.names h.shown text h.readable h.text_is
 
 -- no claim has the word of a derivation
 no_claim_word : (c : Claim) → claim_word c ≡ codes "derivation" → ⊥
@@ -516,7 +516,7 @@ module _ (input text : List ℕ) (reply : IsReply (task_for (plain command.Deriv
       let filled = h.filled_in in
       let d = filled.derivation in (
         d,
-        record { printable = filled.printable; constraint_names = _; names = _; shown = h.shown; text_is = filled.text_is },
+        record { readable = filled.readable; constraint_names = _; names = _; shown = h.shown; text_is = filled.text_is },
         subst (λ (steps : List Step). All (λ (s : Step). Holds d.problem s.claim) steps) (sym filled.text_is.steps)
             (subst (λ (p : Problem). All (λ (s : Step). Holds p s.claim) (steps_of h.shown)) (sym filled.problem) h.hold),
       )

@@ -22,7 +22,8 @@ use Rattle.gj_cut_text.specs.declared.mixed_lines.MixedLine.{MixedLine}
 use Rattle.gj_problem.specs.Problems.{Holds}
 use Rattle.gj_derivation.specs.declared.draft.Shown.{Shown}
 use Rattle.gj_derivation.specs.declared.step.Step.{Step}
-use Rattle.gj_derivation_text.specs.PrintedDerivation.{IsPrintable, IsDerivedText}
+use Rattle.gj_derivation_text.specs.PrintedDerivation.{IsDerivedText}
+use Rattle.gj_derivation_text.specs.Readable.{IsReadableDerivation}
 use Rattle.gj_derivation_text.specs.declared.input.DerivationInput.{DerivationInput}
 use Rattle.gj_top.specs.declared.status.Status.{Status}
 use Rattle.gj_top.specs.declared.status.Status.TheVariants.{Done}
@@ -102,7 +103,7 @@ pub record IsTextOfMixedLines («rule» : CutRule) (lines : List MixedLine) (tex
 
 -- the text is the printed one of the derivation; steps that are left out are comments in it
 pub record IsPrintedDerivation (d : DerivationInput) (text : List ℕ) : Type 0 where
-  pub printable : IsPrintable d
+  pub readable : IsReadableDerivation d
   pub constraint_names : List (List ℕ)
   pub names : List (List ℕ)
   pub shown : List Shown

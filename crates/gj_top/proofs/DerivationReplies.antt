@@ -1,6 +1,6 @@
 -- Steps that are read can be checked, and the replies to them.
-use Rattle.std.proofs.Common.{◌≡◌, ℕ, ◌+◌, ◌<◌, ◌≤◌, false, true, IfSome, IsSome, List, [], ◌∷◌, ◌++◌, All, length, Option, None, Some, ◌⊎◌, inl, inr, refl, sym, ap, subst₂, ◌∙◌, arith, length-append}
-use Rattle.std.proofs.lemmas.List.Elements.{All-nil, All-cons}
+use Rattle.std.proofs.Common.{◌≡◌, ℕ, ◌+◌, ◌<◌, ◌≤◌, false, true, IfSome, IsSome, List, [], ◌∷◌, ◌++◌, All, length, map, Option, None, Some, ◌⊎◌, inl, inr, refl, sym, ap, subst₂, ◌∙◌, arith, length-append}
+use Rattle.std.proofs.lemmas.List.Elements.{All-nil, All-cons, All-head, All-tail}
 use Rattle.gj_shape.specs.FunctionData.{FunctionData}
 use Rattle.gj_proof.specs.CutRules.{MakesContinuousCuts}
 use Rattle.gj_proof.specs.ProofText.{IsBoundedRule}
@@ -21,8 +21,8 @@ use Rattle.gj_derivation.specs.declared.step.Step.{Step}
 use Rattle.gj_derivation.specs.declared.step.StepRule.{StepRule}
 use Rattle.gj_derivation.specs.declared.step.StepRule.TheVariants.{Linear, Gmic, Function}
 use Rattle.gj_derivation_text.specs.PrintedDerivation.{kept_names}
-use Rattle.gj_derivation_text.specs.Readable.{IsReadable, AreReadableDrafts, AreReadableSteps}
-use Rattle.gj_derivation_text.specs.DerivationInputs.{IsDraftText}
+use Rattle.gj_derivation_text.specs.Readable.{IsReadable, AreReadableDrafts, AreReadable, IsReadableDerivation}
+use Rattle.gj_derivation_text.specs.DerivationInputs.{as_draft}
 use Rattle.gj_derivation_text.specs.declared.input.DerivationInput.{DerivationInput}
 use Rattle.gj_derivation_text.specs.declared.input.DraftInput.{DraftInput}
 use Rattle.gj_top.specs.declared.reply.End.{End}
@@ -31,7 +31,6 @@ use Rattle.gj_top.specs.Derivation.{rule_in_front, function_of, IsDerivationRepl
 use Rattle.gj_top.specs.Derive.{IsDeriveReply, IsDerived}
 use Rattle.gj_top.specs.Objection.{IsObjection}
 use Rattle.gj_top.specs.Told.{Told}
-use Rattle.gj_top.proofs.ToldSteps.{whole_drafts}
 
 -- ---- the function in front
 
@@ -52,18 +51,22 @@ has_function None Function sure asked = let no : false ≡ true = asked refl in 
 ready : (f : Option FunctionData) (columns lines : ℕ) (c : Combination) → IfSome f IsUsable → IsReadable f columns lines c → IsReady f c
 ready f columns lines c sure h = record { factor_positive = h.factor; function = has_function f c.rule sure h.function }
 
-pub ready_steps : (f : Option FunctionData) (columns lines : ℕ) (steps : List Step) → IfSome f IsUsable →
-    AreReadableSteps f columns lines steps → All (IsReadyStep f) steps
-ready_steps f columns lines [] sure h = All-nil (IsReadyStep f)
-ready_steps f columns lines (s ∷ steps) sure h =
-    All-cons (IsReadyStep f) s steps (ready f columns lines s.combination sure h.0.0) (ready_steps f columns (lines + 1) steps sure h.1)
-
 pub ready_drafts : (f : Option FunctionData) (columns lines : ℕ) (drafts : List Draft) → IfSome f IsUsable →
     AreReadableDrafts f columns lines drafts → All (λ (d : Draft). IsReady f d.combination) drafts
 ready_drafts f columns lines [] sure h = All-nil (λ (d : Draft). IsReady f d.combination)
 ready_drafts f columns lines (d ∷ drafts) sure h =
-    All-cons (λ (e : Draft). IsReady f e.combination) d drafts (ready f columns lines d.combination sure h.0.0)
+    All-cons (λ (e : Draft). IsReady f e.combination) d drafts (ready f columns lines d.combination sure h.0.combination)
     (ready_drafts f columns (lines + 1) drafts sure h.1)
+
+steps_of_drafts : (f : Option FunctionData) (steps : List Step) → All (λ (d : Draft). IsReady f d.combination) (map as_draft steps) →
+    All (IsReadyStep f) steps
+steps_of_drafts f [] h = All-nil (IsReadyStep f)
+steps_of_drafts f (s ∷ steps) h =
+    All-cons (IsReadyStep f) s steps (All-head (λ (d : Draft). IsReady f d.combination) (as_draft s) (map as_draft steps) h)
+    (steps_of_drafts f steps (All-tail (λ (d : Draft). IsReady f d.combination) (as_draft s) (map as_draft steps) h))
+
+pub ready_steps : (d : DerivationInput) → IfSome d.function IsUsable → IsReadableDerivation d → All (IsReadyStep d.function) d.steps
+ready_steps d sure h = steps_of_drafts d.function d.steps (ready_drafts d.function _ _ (map as_draft d.steps) sure h.steps.readable)
 
 -- ---- objections
 
@@ -108,20 +111,20 @@ pub lost_below : (a : DraftInput) (i : ℕ) (shown : List Shown) → IsDerived a
 lost_below a i shown (r, d, reached, lost) = place_within a.drafts.steps reached.before reached.after d i reached.place reached.index
 
 -- and a line
-line_below : (text : List ℕ) (a : DraftInput) (i : ℕ) → IsDraftText text a → i < length a.drafts.steps → i < length a.drafts.left
-line_below text a i told below = let whole = whole_drafts text a told in omega (arith, whole.left, below)
+line_below : (a : DraftInput) (i : ℕ) → AreReadable a.function a.drafts → i < length a.drafts.steps → i < length a.drafts.left
+line_below a i readable below = omega (arith, readable.left, below)
 
-pub failed_within : (text : List ℕ) (a : DraftInput) (failure : Failure) (shown : List Shown) → IsDraftText text a →
+pub failed_within : (a : DraftInput) (failure : Failure) (shown : List Shown) → AreReadable a.function a.drafts →
     IsDerived a (derived.Failed failure shown) → failure.step < length a.drafts.left
-failed_within text a failure shown told h = line_below text a failure.step told (failed_below a failure shown h)
+failed_within a failure shown readable h = line_below a failure.step readable (failed_below a failure shown h)
 
-pub lost_within : (text : List ℕ) (a : DraftInput) (i : ℕ) (shown : List Shown) → IsDraftText text a → IsDerived a (derived.Lost i shown) →
+pub lost_within : (a : DraftInput) (i : ℕ) (shown : List Shown) → AreReadable a.function a.drafts → IsDerived a (derived.Lost i shown) →
     i < length a.drafts.left
-lost_within text a i shown told h = line_below text a i told (lost_below a i shown h)
+lost_within a i shown readable h = line_below a i readable (lost_below a i shown h)
 
 -- there are names for the constraints
-pub names_enough : (text : List ℕ) (a : DraftInput) → IsDraftText text a → length a.drafts.task.problem.constraints ≤ length a.drafts.lines
-names_enough text a told = let whole = whole_drafts text a told in omega (arith, whole.lines)
+pub names_enough : (a : DraftInput) → AreReadable a.function a.drafts → length a.drafts.task.problem.constraints ≤ length a.drafts.lines
+names_enough a readable = let count = readable.steps.count in omega arith
 
 -- ---- names
 

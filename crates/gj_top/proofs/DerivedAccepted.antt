@@ -78,7 +78,7 @@ derived_is_good input text r =
     let (sure, derived) = r.replied in
     let filled : IsFilledIn r.thing.told derived.shown text = derived.filled_in in
     let d = filled.derivation in
-    let (left, told) = derived_is_read d _ _ derived.shown text filled.printable filled.text_is in
+    let (left, told) = derived_is_read d _ _ derived.shown text filled.readable filled.text_is in
     record {
       told = record d { left = left };
       is_told = told;

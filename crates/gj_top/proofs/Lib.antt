@@ -32,6 +32,5 @@ pub mod Refusals
 pub mod Shown
 pub mod Sound
 pub mod TextLaws
-pub mod ToldSteps
 pub mod TwoSlopeAnswers
 pub mod Verdicts

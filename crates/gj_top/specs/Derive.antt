@@ -18,7 +18,8 @@ use Rattle.gj_derivation.specs.declared.step.Multiplier.{Multiplier}
 use Rattle.gj_derivation.specs.declared.step.Verdict.{Verdict}
 use Rattle.gj_derivation.specs.declared.steps.Failure.{Failure}
 use Rattle.gj_derivation_text.specs.DerivationInputs.{draft_input, IsDraftText, IsLineOfStep}
-use Rattle.gj_derivation_text.specs.PrintedDerivation.{IsDerivedText, IsPrintable, kept_names}
+use Rattle.gj_derivation_text.specs.PrintedDerivation.{IsDerivedText, kept_names}
+use Rattle.gj_derivation_text.specs.Readable.{IsReadableDerivation}
 use Rattle.gj_derivation_text.specs.VerdictLines.{rejected_line}
 use Rattle.gj_derivation_text.specs.declared.drafts.Drafts.{Drafts}
 use Rattle.gj_derivation_text.specs.declared.input.DerivationInput.{DerivationInput}
@@ -63,7 +64,7 @@ pub record IsFilledIn (a : DraftInput) (shown : List Shown) (text : List ℕ) : 
   pub function : derivation.function ≡ a.function
   pub columns : derivation.columns ≡ a.drafts.task.names
   pub problem : derivation.problem ≡ a.drafts.task.problem
-  pub printable : IsPrintable derivation
+  pub readable : IsReadableDerivation derivation
   pub text_is : IsDerivedText derivation (constraint_names a.drafts) (step_names a.drafts) shown text
 
 -- the headline: the text is the printed one of steps over the problem that is told; they are a

@@ -1,14 +1,8 @@
 //! What the checker says of a derivation.
-ghost use Rattle.std.specs.Prelude.{◌≡◌, ◌⊎◌, IfOk, IfSome, length};
+ghost use Rattle.std.specs.Prelude.{◌≡◌, IfOk, length};
 ghost use Rattle.std.specs.Option.{option_copied};
-ghost use Rattle.gj_derivation.specs.Derivations.{IsUsable, IsReadyStep, IsDerivation};
-ghost use Rattle.gj_derivation.specs.StepLists.{IsChecked, IsWideFailure};
-ghost use Rattle.gj_derivation.specs.declared.steps.Checked.TheVariants.{Accepted};
-ghost use Rattle.gj_derivation_text.specs.DerivationInputs.{IsDerivationText, derivation_input};
-ghost use Rattle.gj_derivation_text.specs.Readable.{AreReadableSteps};
-ghost use Rattle.gj_derivation_text.specs.VerdictLines.{accepted_line};
-ghost use Rattle.gj_proof.specs.CutRules.{MakesContinuousCuts};
-ghost use Rattle.gj_proof.specs.ProofText.{IsBoundedRule};
+ghost use Rattle.gj_derivation_text.specs.DerivationInputs.{IsDerivationText};
+ghost use Rattle.gj_derivation_text.specs.Readable.{IsReadableDerivation};
 ghost use Rattle.gj_top.specs.Task.{IsAnswering, IsReadingOf};
 ghost use Rattle.gj_top.specs.Check.{check};
 ghost use Rattle.gj_top.specs.Derivation.{BeginsAsDerivation, RefusesDerivation};
@@ -38,8 +32,8 @@ pub(crate) fn derivation_answer(alloc: Global, input: &[u8]) -> Result<Reply, Un
 /// The derivation that the input tells.
 fn derivation_of(alloc: Global, input: &[u8]) -> Result<DerivationInput, Unanswered>
     ensures found { IsReadingOf IsDerivationText RefusesDerivation input.now result }
-    ensures readable { IfOk result (λ d. AreReadableSteps d.function (length d.columns)
-        (length d.problem.constraints) d.steps) }
+    ensures readable { IfOk result IsReadableDerivation }
+    ensures left { IfOk result (λ d. length d.left ≡ length d.steps) }
 {
     match read_derivation(alloc, input) {
         Ok(derivation) => Ok(derivation),
@@ -55,9 +49,8 @@ fn derivation_reply(
     input: &[u8],
     derivation: DerivationInput,
 ) -> Result<Reply, AllocError>
-    requires told { IsDerivationText input.now derivation }
-    requires readable { AreReadableSteps derivation.function (length derivation.columns)
-        (length derivation.problem.constraints) derivation.steps }
+    requires readable { IsReadableDerivation derivation }
+    requires left { length derivation.left ≡ length derivation.steps }
     ensures { IfOk result (λ reply. IsDerivationReply
         (record { text = input.now; told = derivation }) reply.end reply.text.items) }
 {

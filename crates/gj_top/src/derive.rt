@@ -6,7 +6,7 @@ ghost use Rattle.std.specs.Option.{option_copied};
 ghost use Rattle.gj_derivation.specs.Derivations.{IsUsable};
 ghost use Rattle.gj_derivation_text.specs.DerivationInputs.{IsDraftText, IsLineOfStep};
 ghost use Rattle.gj_derivation_text.specs.PrintedDerivation.{kept_names};
-ghost use Rattle.gj_derivation_text.specs.Readable.{AreReadableDrafts};
+ghost use Rattle.gj_derivation_text.specs.Readable.{AreReadable};
 ghost use Rattle.gj_derivation_text.specs.VerdictLines.{rejected_line};
 ghost use Rattle.gj_problem_text.specs.CutText.{name_at};
 ghost use Rattle.gj_top.specs.Task.{IsAnswering, IsReadingOf};
@@ -37,8 +37,7 @@ pub(crate) fn reply(alloc: Global, input: &[u8]) -> Result<Reply, Unanswered>
 /// The steps that the input tells, with the function in front of them.
 fn drafts_of(alloc: Global, input: &[u8]) -> Result<DraftInput, Unanswered>
     ensures found { IsReadingOf IsDraftText RefusesDrafts input.now result }
-    ensures readable { IfOk result (λ a. AreReadableDrafts a.function (length a.drafts.task.names)
-        (length a.drafts.task.problem.constraints) a.drafts.steps) }
+    ensures readable { IfOk result (λ a. AreReadable a.function a.drafts) }
 {
     match read_drafts(alloc, input) {
         Ok(told) => Ok(told),
@@ -49,9 +48,7 @@ fn drafts_of(alloc: Global, input: &[u8]) -> Result<DraftInput, Unanswered>
 
 /// The derivation of the steps, which the input tells, if cuts by the function in front hold.
 fn derive_reply(alloc: Global, input: &[u8], told: DraftInput) -> Result<Reply, AllocError>
-    requires told { IsDraftText input.now told }
-    requires readable { AreReadableDrafts told.function (length told.drafts.task.names)
-        (length told.drafts.task.problem.constraints) told.drafts.steps }
+    requires { AreReadable told.function told.drafts }
     ensures { IfOk result (λ reply. IsDeriveReply (record { text = input.now; told = told })
         reply.end reply.text.items) }
 {
@@ -71,10 +68,7 @@ fn derived_reply(
     function: Option<&Shape>,
     drafts: &Drafts,
 ) -> Result<Reply, AllocError>
-    requires told { IsDraftText input.now
-        (record { function = option_copied function; drafts = drafts.now }) }
-    requires readable { AreReadableDrafts (option_copied function) (length drafts.now.task.names)
-        (length drafts.now.task.problem.constraints) drafts.now.steps }
+    requires readable { AreReadable (option_copied function) drafts.now }
     requires usable { IfSome (option_copied function) IsUsable }
     ensures { IfOk result (λ reply. IsDeriveReply (record {
       text = input.now;

@@ -10,7 +10,6 @@ use Rattle.gj_proof.specs.CutRules.{MakesContinuousCuts}
 use Rattle.gj_proof.specs.ProofText.{IsBoundedRule}
 use Rattle.gj_top.specs.Derivation.{function_of}
 use Rattle.gj_top.proofs.DerivationReplies.{same_function, usable, ready_steps, checked_objection, place_within, wide_only}
-use Rattle.gj_top.proofs.ToldSteps.{lines_of_steps}
 use Rattle.gj_top.proofs.derivation.derivation_reply.Goals as goal
 
 pub returns-in-Some : goal.returns-in-Some
@@ -28,7 +27,7 @@ check_steps-requires-clause-ready c =
     let sure : IfSome f IsUsable = usable f (subst IsBoundedRule is bounded) (subst MakesContinuousCuts is makes) in
     let same : option_copied c.function_in.result ≡ f = c.function_in.ensures ∙ ap function_of is ∙ same_function f in
     subst₂ (λ (g : Option FunctionData) (steps : List Step). All (IsReadyStep g) steps) (sym same) (sym c.as_slice.ensures)
-    (ready_steps f _ _ c.args.derivation.steps sure c.requires.readable)
+    (ready_steps c.args.derivation sure c.requires.readable)
 
 pub returns-in-Accepted : goal.returns-in-Accepted
 returns-in-Accepted c =
@@ -53,9 +52,8 @@ line_of_step-at_line-requires-clause-within c =
     c.in_ok-check_steps.ensures.is in
     let failure = c.in-Failed.failure in
     let first : IsFailure (option_copied c.function_in.result) c.args.derivation.problem c.as_slice.result.now failure = rw c.in-Failed.is at checked in
-    let left : length c.args.derivation.left ≡ length c.args.derivation.steps = lines_of_steps c.args.input.now c.args.derivation c.requires.told in
     let below : failure.step < length c.as_slice.result.now = place_within c.as_slice.result.now first.before first.after first.step failure.step first.place first.index in
-    subst (λ (n : ℕ). failure.step < n) (ap length c.as_slice.ensures ∙ sym left ∙ ap length (sym c.as_slice-in-Failed.ensures)) below
+    subst (λ (n : ℕ). failure.step < n) (ap length c.as_slice.ensures ∙ sym c.requires.left ∙ ap length (sym c.as_slice-in-Failed.ensures)) below
 
 pub returns : goal.returns
 returns c =

@@ -1,9 +1,8 @@
-use Rattle.std.proofs.Common.{◌≡◌, ℕ, IfSome, List, Option, length, sym, ap, subst, ◌∙◌}
+use Rattle.std.proofs.Common.{◌≡◌, IfSome, Option, sym, ap, subst, ◌∙◌}
 use Rattle.std.specs.Option.{option_copied}
 use Rattle.gj_shape.specs.FunctionData.{FunctionData}
 use Rattle.gj_derivation.specs.Derivations.{IsUsable}
-use Rattle.gj_derivation_text.specs.DerivationInputs.{IsDraftText}
-use Rattle.gj_derivation_text.specs.Readable.{AreReadableDrafts}
+use Rattle.gj_derivation_text.specs.Readable.{AreReadable}
 use Rattle.gj_proof.specs.CutRules.{MakesContinuousCuts}
 use Rattle.gj_proof.specs.ProofText.{IsBoundedRule}
 use Rattle.gj_top.specs.Derivation.{function_of}
@@ -17,20 +16,12 @@ returns-in-Some c =
     derived_objection (record { text = c.args.input.now; told = c.args.told }) objection.end objection.text.items
     (rw c.rule_in_front-rule.ensures at (rw c.in-Some.is at c.in_ok-objection.ensures.some))
 
-pub derived_reply-requires-clause-told : goal.derived_reply-requires-clause-told
-derived_reply-requires-clause-told c =
-    let drafts = c.args.told.drafts in
-    let same : option_copied c.function_in.result ≡ c.args.told.function =
-    c.function_in.ensures ∙ ap function_of c.rule_in_front-rule.ensures ∙ same_function c.args.told.function in
-    subst (λ (g : Option FunctionData). IsDraftText c.args.input.now (record { function = g; drafts = drafts })) (sym same) c.requires.told
-
 pub derived_reply-requires-clause-readable : goal.derived_reply-requires-clause-readable
 derived_reply-requires-clause-readable c =
     let drafts = c.args.told.drafts in
     let same : option_copied c.function_in.result ≡ c.args.told.function =
     c.function_in.ensures ∙ ap function_of c.rule_in_front-rule.ensures ∙ same_function c.args.told.function in
-    subst (λ (g : Option FunctionData). AreReadableDrafts g (length drafts.task.names) (length drafts.task.problem.constraints) drafts.steps) (sym same)
-    c.requires.readable
+    subst (λ (g : Option FunctionData). AreReadable g drafts) (sym same) c.requires
 
 pub derived_reply-requires-clause-usable : goal.derived_reply-requires-clause-usable
 derived_reply-requires-clause-usable c =

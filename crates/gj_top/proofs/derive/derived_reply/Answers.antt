@@ -11,38 +11,35 @@ use Rattle.gj_problem.specs.declared.problem.Problem.{Problem}
 use Rattle.gj_derivation_text.specs.VerdictLines.{rejected_line}
 use Rattle.gj_top.specs.Derive.{IsDerived, NamesLost, constraint_names, step_names, shown_names}
 use Rattle.gj_top.proofs.DerivationReplies.{ready_drafts, derived_over, failed_within, lost_within, lost_below, names_enough}
-use Rattle.gj_top.proofs.ToldSteps.{whole_drafts}
 use Rattle.gj_top.proofs.derive.derived_reply.Goals as goal
 
 pub derived_steps-requires-clause-ready : goal.derived_steps-requires-clause-ready
 derived_steps-requires-clause-ready c =
     let f = option_copied c.args.function in
     subst (All (λ (d : Draft). IsReady f d.combination)) (sym c.as_slice-steps.ensures)
-    (ready_drafts f _ _ c.args.drafts.now.steps c.requires.usable c.requires.readable)
+    (ready_drafts f _ _ c.args.drafts.now.steps c.requires.usable c.requires.readable.steps.readable)
 
 pub derived_steps-requires-clause-grid : goal.derived_steps-requires-clause-grid
-derived_steps-requires-clause-grid c =
-    let a : DraftInput = record { function = option_copied c.args.function; drafts = c.args.drafts.now } in
-    (whole_drafts c.args.input.now a c.requires.told).grid
+derived_steps-requires-clause-grid c = c.requires.readable.grid
 
 pub failed_text-requires-clause-within : goal.failed_text-requires-clause-within
 failed_text-requires-clause-within c =
     let a : DraftInput = record { function = option_copied c.args.function; drafts = c.args.drafts.now } in
     let all : IsDerived a c.in_ok-shown.field-0 = derived_over a _ _ _ c.in_ok-problem.ensures c.as_slice-steps.ensures c.in_ok-shown.ensures.is in
     let failed : IsDerived a (derived.Failed c.in-Failed.failure c.in-Failed.shown) = rw c.in-Failed.is at all in
-    failed_within c.args.input.now a c.in-Failed.failure c.in-Failed.shown c.requires.told failed
+    failed_within a c.in-Failed.failure c.in-Failed.shown c.requires.readable failed
 
 pub failed_text-requires-clause-lines : goal.failed_text-requires-clause-lines
 failed_text-requires-clause-lines c =
     let a : DraftInput = record { function = option_copied c.args.function; drafts = c.args.drafts.now } in
-    names_enough c.args.input.now a c.requires.told
+    names_enough a c.requires.readable
 
 pub lost_text-requires-clause-left : goal.lost_text-requires-clause-left
 lost_text-requires-clause-left c =
     let a : DraftInput = record { function = option_copied c.args.function; drafts = c.args.drafts.now } in
     let all : IsDerived a c.in_ok-shown.field-0 = derived_over a _ _ _ c.in_ok-problem.ensures c.as_slice-steps.ensures c.in_ok-shown.ensures.is in
     let lost : IsDerived a (derived.Lost c.in-Lost.step c.in-Lost.shown) = rw c.in-Lost.is at all in
-    lost_within c.args.input.now a c.in-Lost.step c.in-Lost.shown c.requires.told lost
+    lost_within a c.in-Lost.step c.in-Lost.shown c.requires.readable lost
 
 pub lost_text-requires-clause-steps : goal.lost_text-requires-clause-steps
 lost_text-requires-clause-steps c =
@@ -90,7 +87,7 @@ returns-in_ok-derived_text-in-All c =
     let all : IsDerived a c.in_ok-shown.field-0 = derived_over a _ _ _ c.in_ok-problem.ensures c.as_slice-steps.ensures c.in_ok-shown.ensures.is in
     let derivation : DerivedIsDerivation (option_copied c.args.function) p c.in_ok-shown.field-0 = c.in_ok-shown.ensures.derivation in
     let text = c.in_ok-derived_text-in-All.field-0.items in
-    let (d, function, columns, problem, printable, printed) = c.in_ok-derived_text-in-All.ensures in (
+    let (d, function, columns, problem, readable, printed) = c.in_ok-derived_text-in-All.ensures in (
       c.requires.usable,
       record {
         shown = c.in-All.shown;
@@ -102,7 +99,7 @@ returns-in_ok-derived_text-in-All c =
           function = function;
           columns = columns;
           problem = problem;
-          printable = printable;
+          readable = readable;
           text_is = subst (λ (xs : List Shown). IsDerivedText d (constraint_names a.drafts) (step_names a.drafts) xs text) c.as_slice.ensures
               printed;
         };
