@@ -5,3 +5,8 @@ pub mod ExactText
 pub mod ProblemRead
 pub mod StepsRead
 pub mod TextRead
+pub mod GivenClaims
+pub mod NamesTold
+pub mod ReadableSteps
+pub mod ReadableProblem
+pub mod ReadableText

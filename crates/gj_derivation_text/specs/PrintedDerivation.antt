@@ -17,13 +17,9 @@ use Rattle.gj_derivation.specs.declared.step.Combination.{Combination}
 use Rattle.gj_derivation.specs.declared.step.Multiplier.{Multiplier}
 use Rattle.gj_derivation.specs.declared.step.Step.{Step}
 use Rattle.gj_derivation.specs.Drafts.{steps_of}
-use Rattle.gj_problem_text.specs.CutText.{name_at, AreNames}
-use Rattle.gj_problem_text.specs.PrintedInput.{all_entries}
+use Rattle.gj_problem_text.specs.CutText.{name_at}
 use Rattle.gj_problem_text.specs.PrintedProblem.{problem_lines}
-use Rattle.gj_problem_text.specs.Tasks.{most_columns, most_constraints, most_entries}
 use Rattle.gj_derivation_text.specs.StepLines.{StepLine, by, upper, times, claim, term, step_form, line_form}
-use Rattle.gj_derivation_text.specs.DerivationText.{most_steps}
-use Rattle.gj_derivation_text.specs.Readable.{AreReadableSteps}
 use Rattle.gj_derivation_text.specs.VerdictLines.{left_out_line}
 use Rattle.gj_derivation_text.specs.declared.input.DerivationInput.{DerivationInput}
 
@@ -99,19 +95,3 @@ pub record IsDerivedText (d : DerivationInput) (constraint_names names : List (L
   pub function_is : HasFunctionText d.function function_text
   pub text_is : text ≡ function_text ++ (line (codes "gj-derivation 1") ++ (problem_lines d.columns constraint_names d.problem
       ++ (shown_lines d.columns d.lines names xs ++ line (codes "end"))))
-
--- ---- what can be printed
-
--- the columns, and the lines, have names that are all different; the derivation is within the
--- limits, and its constraints and its steps speak of its columns and of the lines before them
-pub record IsPrintable (d : DerivationInput) : Type 0 where
-  pub columns : AreNames d.columns
-  pub column_count : length d.columns ≡ length d.problem.columns
-  pub columns_few : length d.columns ≤ most_columns
-  pub lines : AreNames d.lines
-  pub line_count : length d.lines ≡ length d.problem.constraints + length d.steps
-  pub constraints_few : length d.problem.constraints ≤ most_constraints
-  pub steps_few : length d.steps ≤ most_steps
-  pub known : All (λ e. e.column < length d.columns) (all_entries d.problem)
-  pub entries_few : length (all_entries d.problem) ≤ most_entries
-  pub steps : AreReadableSteps d.function (length d.columns) (length d.problem.constraints) d.steps

@@ -10,7 +10,7 @@ ghost use Rattle.gj_derivation_text.specs.DerivationInputs.{derivation_input, Is
 ghost use Rattle.gj_derivation_text.specs.DerivationInputs.{IsDerivationText, NamesFirstFaultIn};
 ghost use Rattle.gj_derivation_text.specs.DerivationInputs.{Tells, IsLineOfStep, as_draft, IsOfDrafts};
 ghost use Rattle.gj_derivation_text.specs.DerivationInputs.{HasGivenClaim};
-ghost use Rattle.gj_derivation_text.specs.Readable.{AreReadableDrafts, AreReadableSteps};
+ghost use Rattle.gj_derivation_text.specs.Readable.{AreReadable, IsReadableDerivation};
 
 use crate::drafts::Drafts;
 use crate::input::{DerivationInput, DraftInput};
@@ -45,8 +45,9 @@ pub fn read_derivation(alloc: Global, bytes: &[u8]) -> Result<DerivationInput, P
     ensures refused { IfErr result (NamesFirstFaultIn derivation_input bytes.now) }
     // Each step has a factor above 0, and a function if it asks for one; it names columns and lines
     // before it, each once.
-    ensures readable { IfOk result (λ d. AreReadableSteps d.function (length d.columns)
-        (length d.problem.constraints) d.steps) }
+    ensures readable { IfOk result IsReadableDerivation }
+    // The line of each step is known.
+    ensures left { IfOk result (λ d. length d.left ≡ length d.steps) }
 {
     match input_of(alloc, false, bytes) {
         Ok(input) => derivation_of(alloc, input),
@@ -71,9 +72,7 @@ pub fn read_drafts(alloc: Global, bytes: &[u8]) -> Result<DraftInput, ProblemFau
     ensures refused { IfErr result (NamesFirstFaultIn draft_input bytes.now) }
     // Each step has a factor above 0, and a function if it asks for one; it names columns and lines
     // before it, each once.
-    ensures readable { IfOk result (λ a. AreReadableDrafts a.function
-        (length a.drafts.task.names) (length a.drafts.task.problem.constraints)
-        a.drafts.steps) }
+    ensures readable { IfOk result (λ a. AreReadable a.function a.drafts) }
 {
     input_of(alloc, true, bytes)
 }
