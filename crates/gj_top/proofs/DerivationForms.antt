@@ -1,9 +1,9 @@
 -- Inputs that tell steps: each tells one thing, and no proof text does.
-use Rattle.std.proofs.Common.{◌≡◌, inl, inr, ℕ, List, ◌∷◌, [], ◌++◌, codes, refl, sym, ◌∙◌, arith}
+use Rattle.std.proofs.Common.{◌≡◌, inl, inr, true, ℕ, List, ◌∷◌, [], ◌++◌, codes, refl, sym, ◌∙◌, arith}
 use Rattle.gj_lex.specs.declared.reason.Reason.{Reason}
 use Rattle.gj_lex.specs.declared.spelling.Spelling.TheVariants.{Lenient}
 use Rattle.gj_forms.specs.LineForms.{bytes_of}
-use Rattle.gj_forms.specs.Parts.{words_rule, line_part, IsFirstFaultIn}
+use Rattle.gj_forms.specs.Parts.{words_rule, line_part, IsFirstFaultIn, IsExactPart}
 use Rattle.gj_forms.proofs.CanonicalLines.{words_line}
 use Rattle.gj_forms.proofs.LineNumbers as numbers
 use Rattle.gj_forms.proofs.WhereLaws.{other_word, begins_with}
@@ -15,11 +15,15 @@ use Rattle.gj_proof.specs.ProofText.{title_fields, IsProofText}
 use Rattle.gj_derivation_text.specs.DerivationInputs.{derivation_input, draft_input, IsDerivationText, IsDraftText}
 use Rattle.gj_derivation_text.specs.declared.input.DerivationInput.{DerivationInput}
 use Rattle.gj_derivation_text.specs.declared.input.DraftInput.{DraftInput}
-use Rattle.gj_derivation_text.proofs.InputParts.{draft_input_is_exact, derivation_input_is_exact}
+use Rattle.gj_derivation_text.proofs.ReadableText.{derivation_input_is_exact}
+use Rattle.gj_derivation_text.proofs.TextRead.{input_part_is_exact}
 use Rattle.gj_top.specs.Derivation.{BeginsAsDerivation}
 use Rattle.gj_top.specs.Told.{Told, IsTold}
 
 -- ---- what is told, and faults
+
+draft_input_is_exact : IsExactPart draft_input.Reads draft_input.Faults
+draft_input_is_exact = input_part_is_exact true
 
 pub no_draft_fault : (text : List ℕ) (a : DraftInput) (n : ℕ) (e : Reason) → IsDraftText text a → IsFirstFaultIn draft_input text n e → ⊥
 no_draft_fault text a n e (rest, h) fault = numbers.no_first_fault draft_input draft_input_is_exact text a rest n e h fault
