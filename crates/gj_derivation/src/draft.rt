@@ -57,7 +57,7 @@ pub enum Derived {
 /// What drafts have reached: the problem with the claims that they show, and where the lines that
 /// drafts name are among its constraints.
 #[derive(Drop)]
-pub(crate) struct Reached {
+pub struct Reached {
     /// The problem.
     pub(crate) problem: Problem,
     /// For each line that drafts may name its constraint, or nothing if it is left out.

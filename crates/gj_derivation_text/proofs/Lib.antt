@@ -10,3 +10,4 @@ pub mod NamesTold
 pub mod ReadableSteps
 pub mod ReadableProblem
 pub mod ReadableText
+pub mod DerivedReadable

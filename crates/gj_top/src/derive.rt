@@ -10,7 +10,9 @@ ghost use Rattle.gj_derivation_text.specs.Readable.{AreReadable};
 ghost use Rattle.gj_derivation_text.specs.VerdictLines.{rejected_line};
 ghost use Rattle.gj_problem_text.specs.CutText.{name_at};
 ghost use Rattle.gj_top.specs.Task.{IsAnswering, IsReadingOf};
+ghost use Rattle.gj_derivation.specs.declared.draft.Derived.TheVariants as derived;
 ghost use Rattle.gj_top.specs.Derive.{derive, RefusesDrafts, IsDeriveReply, shown_names};
+ghost use Rattle.gj_top.specs.Derive.{IsDerived, IsFilledIn};
 ghost use Rattle.gj_top.specs.Derive.{IsLeftOut, IsFirstLeftOut, lost_line, NamesLost};
 
 use crate::derivation::{function_in, rule_in_front};
@@ -18,7 +20,9 @@ use crate::forms::refused;
 use crate::objection::objection_to;
 use crate::reply::{End, Reply, Unanswered};
 use gj_derivation::{Derived, Failure, Multiplier, Shown, derived_steps};
-use gj_derivation_text::{DraftInput, Drafts, derived_text, line_of_step, push_rejected, read_drafts};
+use gj_derivation_text::{
+    DraftInput, Drafts, line_of_step, push_front, push_rejected, push_steps, read_drafts,
+};
 use gj_lex::Name;
 use gj_problem::{Constraint, Problem};
 use gj_problem_text::ProblemFault;
@@ -91,6 +95,34 @@ fn derived_reply(
             text: lost_text(alloc, input, drafts, step, shown.as_slice())?,
         }),
     }
+}
+
+/// The text of the derivation of the steps that are shown.
+fn derived_text(
+    alloc: Global,
+    function: Option<&Shape>,
+    drafts: &Drafts,
+    shown: &[Shown],
+) -> Result<Vec<u8>, AllocError>
+    requires readable { AreReadable (option_copied function) drafts.now }
+    requires derived { IsDerived (record {
+      function = option_copied function;
+      drafts = drafts.now;
+    }) (derived.All shown.now) }
+    ensures { IfOk result (λ text. IsFilledIn (record {
+      function = option_copied function.entry;
+      drafts = drafts.now;
+    }) shown.now text.items) }
+{
+    let columns = drafts.task.names.as_slice();
+    let problem = &drafts.task.problem;
+    let count = problem.constraints.as_slice().len();
+    let lines = drafts.lines.as_slice();
+    let constraints = &lines[..count];
+    let mut text = Vec::new(alloc);
+    push_front(alloc, &mut text, function, columns, constraints, problem)?;
+    push_steps(alloc, &mut text, columns, constraints, &lines[count..], shown)?;
+    Ok(text)
 }
 
 /// The line that says which step fails, and what stands against its claim.

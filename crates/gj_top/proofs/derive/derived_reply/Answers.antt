@@ -5,11 +5,10 @@ use Rattle.gj_derivation.specs.Drafts.{steps_of, DerivedIsDerivation}
 use Rattle.gj_derivation.specs.declared.draft.Derived.TheVariants as derived
 use Rattle.gj_derivation.specs.declared.draft.Draft.{Draft}
 use Rattle.gj_derivation.specs.declared.draft.Shown.{Shown}
-use Rattle.gj_derivation_text.specs.PrintedDerivation.{IsDerivedText}
 use Rattle.gj_derivation_text.specs.declared.input.DraftInput.{DraftInput}
 use Rattle.gj_problem.specs.declared.problem.Problem.{Problem}
 use Rattle.gj_derivation_text.specs.VerdictLines.{rejected_line}
-use Rattle.gj_top.specs.Derive.{IsDerived, NamesLost, constraint_names, step_names, shown_names}
+use Rattle.gj_top.specs.Derive.{IsDerived, IsFilledIn, NamesLost, shown_names}
 use Rattle.gj_top.proofs.DerivationReplies.{ready_drafts, derived_over, failed_within, lost_within, lost_below, names_enough}
 use Rattle.gj_top.proofs.derive.derived_reply.Goals as goal
 
@@ -86,22 +85,19 @@ returns-in_ok-derived_text-in-All c =
     let p = c.in_ok-problem.problem in
     let all : IsDerived a c.in_ok-shown.field-0 = derived_over a _ _ _ c.in_ok-problem.ensures c.as_slice-steps.ensures c.in_ok-shown.ensures.is in
     let derivation : DerivedIsDerivation (option_copied c.args.function) p c.in_ok-shown.field-0 = c.in_ok-shown.ensures.derivation in
-    let text = c.in_ok-derived_text-in-All.field-0.items in
-    let (d, function, columns, problem, readable, printed) = c.in_ok-derived_text-in-All.ensures in (
+    let text = c.in_ok-derived_text-in-All.field-0.items in (
       c.requires.usable,
       record {
         shown = c.in-All.shown;
         derived = rw c.in-All.is at all;
         derivation = subst (λ (q : Problem). IsDerivation (option_copied c.args.function) q (steps_of c.in-All.shown)) c.in_ok-problem.ensures
             (rw c.in-All.is at derivation);
-        filled_in = record {
-          derivation = d;
-          function = function;
-          columns = columns;
-          problem = problem;
-          readable = readable;
-          text_is = subst (λ (xs : List Shown). IsDerivedText d (constraint_names a.drafts) (step_names a.drafts) xs text) c.as_slice.ensures
-              printed;
-        };
+        filled_in = subst (λ (xs : List Shown). IsFilledIn a xs text) c.as_slice.ensures c.in_ok-derived_text-in-All.ensures;
       },
     )
+
+pub derived_text-requires-clause-derived : goal.derived_text-requires-clause-derived
+derived_text-requires-clause-derived c =
+    let a : DraftInput = record { function = option_copied c.args.function; drafts = c.args.drafts.now } in
+    let all : IsDerived a c.in_ok-shown.field-0 = derived_over a _ _ _ c.in_ok-problem.ensures c.as_slice-steps.ensures c.in_ok-shown.ensures.is in
+    subst (λ (xs : List Shown). IsDerived a (derived.All xs)) (sym c.as_slice.ensures) (rw c.in-All.is at all)

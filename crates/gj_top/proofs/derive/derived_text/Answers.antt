@@ -1,0 +1,4 @@
+use Rattle.gj_top.proofs.derive.derived_text.Goals as goal
+
+pub returns : goal.returns
+returns c = ?
