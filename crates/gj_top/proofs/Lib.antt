@@ -6,6 +6,7 @@ pub mod CutForm
 pub mod DerivationForms
 pub mod DerivationReplies
 pub mod DerivedAccepted
+pub mod DerivedTexts
 pub mod Determined
 pub mod Ends
 pub mod EveryRun
