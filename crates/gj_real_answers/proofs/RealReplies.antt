@@ -22,7 +22,7 @@ use Rattle.gj_cut_text.specs.MixedLines.{AreMixedCutsOf, IsMixedCutBy, IsMixedLi
 use Rattle.gj_cut_text.specs.declared.mixed_lines.MixedLine.{MixedLine}
 use Rattle.gj_cut_text.specs.Columns.{continuous_columns}
 use Rattle.gj_problem.specs.Problems.{Holds}
-use Rattle.gj_problem.specs.declared.problem.Problem.{Problem}
+use Rattle.gj_problem.specs.declared.problem.Problem.{Problem as Program}
 use Rattle.gj_problem_text.specs.declared.input.SafeInput.{SafeInput}
 use Rattle.gj_derivation.specs.Drafts.{steps_of}
 use Rattle.gj_derivation.specs.declared.step.Step.{Step}
@@ -151,7 +151,7 @@ module _ {R : Type 0} (K : OrderedField R) (floors : HasFloor K) where
     hold = cuts_transferred K floors asked.task.problem cuts.cuts cuts.hold;
   }
 
-  claims_transferred : (p : Problem) (steps : List Step) → All (λ s. Holds p s.claim) steps →
+  claims_transferred : (p : Program) (steps : List Step) → All (λ s. Holds p s.claim) steps →
       All (λ s. RealHolds K p s.claim) steps
   claims_transferred p steps hold =
       All-weaker (λ (s : Step). Holds p s.claim) (λ (s : Step). RealHolds K p s.claim)
