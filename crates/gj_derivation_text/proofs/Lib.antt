@@ -10,3 +10,5 @@ pub mod NamesTold
 pub mod ReadableSteps
 pub mod ReadableProblem
 pub mod ReadableText
+pub mod PrintedPairs
+pub mod PrintedSteps
