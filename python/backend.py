@@ -17,6 +17,13 @@ from gjcut import _build, _library
 HERE = Path(__file__).resolve().parent
 SETTINGS = (HERE / "pyproject.toml").read_text(encoding="utf-8")
 PROJECT = dict(re.findall(r'^(\S+) = "(.*)"$', SETTINGS, re.M))
+# What only some calls need, by the name of what they do.
+EXTRAS = {
+    name: re.findall(r'"([^"]*)"', packages)
+    for name, packages in re.findall(
+        r"^(\S+) = \[(.*)\]$", SETTINGS.partition("[project.optional-dependencies]")[2], re.M
+    )
+}
 
 
 def _files():
@@ -33,6 +40,9 @@ def build_wheel(wheel_directory, config_settings=None, metadata_directory=None):
     name = f"{PROJECT['name']}-{PROJECT['version']}"
     metadata = f"Metadata-Version: 2.1\nName: {PROJECT['name']}\nVersion: {PROJECT['version']}\n" \
         f"Summary: {PROJECT['description']}\nRequires-Python: {PROJECT['requires-python']}\n"
+    for extra, packages in EXTRAS.items():
+        metadata += f"Provides-Extra: {extra}\n"
+        metadata += "".join(f'Requires-Dist: {each}; extra == "{extra}"\n' for each in packages)
     wheel = f"Wheel-Version: 1.0\nGenerator: gjcut\nRoot-Is-Purelib: false\nTag: {tag}\n"
     records = []
     told = {f"{name}.dist-info/METADATA": metadata, f"{name}.dist-info/WHEEL": wheel}

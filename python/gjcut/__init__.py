@@ -1,12 +1,41 @@
-"""The library of gjcut from Python, with the standard library alone; docs/library.md has examples.
+"""Verdicts on cut-generating functions, and their cuts; docs/library.md has examples.
 
-A function is made from its breakpoints, its values or a family, and everything comes back as
+Functions of the package, each with an example in its help:
+
+    by_breakpoints(f, points)       a Function by its breakpoints
+    by_values(f, values)            by its values at the multiples of 1/q
+    family(name, ..)                of a family
+    by_text(text)                   from a function text
+    minimal(function)               whether it is minimal, a Verdict
+    extreme(function)               whether it is extreme, a Verdict
+    check(text)                     whether a proof text is right, a Judgement
+    faces(function)                 its maximal additive faces, Faces
+    covered(function)               its components of covered intervals, Covered
+    group(function)                 whether the table of its own order is extreme
+    cut(rule, columns, rows)        the cuts of rows of whole columns, Cuts
+    mixed(rule, columns, rows)      the cuts of rows with continuous columns, Cuts
+    safe_cut(columns, constraints, multipliers)   a cut of a mixed-integer program, a SafeCut
+    fill(function), times(function, n, j), mirror(function), restrict(function, order)
+                                    functions made of functions
+    literature.gmic(f), ..          functions of the literature by their parameters
+    from_piecewise(h)               a function of cutgeneratingfunctionology
+    map(command, functions)         the answers to many functions, by processes or any executor
+    search(order, f)                all extreme functions of an order
+    plot(function), plot_faces(function)          a Picture of a function, also of a verdict
+    call(words, text)               the answer to any command
+
+A Function f has f(x), f.slopes, f.breakpoints, f.is_continuous, f.order, f.text and f.breaks(), and
+sums and multiples. A Verdict has .is_extreme, .is_minimal, .violation, .halves, .perturbation and
+.text, the proof; it is no bool. A Judgement is true exactly if the proof is accepted.
+
+The library is called with the standard library of Python alone, and everything comes back as
 `Fraction`s, with what the program writes as `text`. A number is an int, a `Fraction`, a `Decimal`,
 or a text such as "3/5" or "0.25"; a float is refused, since it is seldom the number that was meant,
 and so is a bool. Only the multipliers of `safe_cut` may be floats: it makes cuts of a mixed-integer
 program. Where a list is wanted, each iterable serves but a text, a mapping and a set. What has
 another type than it should raises `TypeError`, which says where it stands. An input that is
-refused, and a function with which a command does nothing, raise `Refused`.
+refused, and a function with which a command does nothing, raise `Refused`, which says what it means
+and what to do.
 
 Several threads may call at once, and so may several processes. But the child of a fork in a process
 with several threads must not call: where a process has threads, give `multiprocessing` the way
@@ -15,52 +44,45 @@ with several threads must not call: where a process has threads, give `multiproc
 Nothing of this package is proved: it hands texts to the library, whose answers are. For a paper
 write the `text` of a verdict to a file, let the proved `gjcut check` accept it, and cite that.
 """
+import importlib
 import itertools
+from collections.abc import Mapping
 from fractions import Fraction
 from typing import Iterable, Iterator, List, NamedTuple, Optional, Sequence, Tuple, Union
 
+from . import _build
 from ._arguments import Number, fields as _fields, items as _items, number as _number
 from ._arguments import text as _text, whole as _whole, word as _word, written as _written
+from ._asked import done as _done, of_function as _of_function, refused as _refused
+from ._faces import Cover, Covered, Face, Faces
+from ._faces import covered_of as _covered_of, faces_of as _faces_of
 from ._functions import Function, Point, Rule
 from ._functions import function as _function, line as _line, printed as _printed
 from ._functions import text_of_rule as _text_of_rule
 from ._library import Answer, LibraryMissing, call
+from ._optional import PackageMissing
+from ._plot import Picture, plot, plot_faces
 from ._problems import Column, Constraint, SafeCut, safe_cut
-from ._refusals import RIGHT, Place, Places, Refused
-from ._refusals import Row as _Row, always as _always, no_place as _no_place, refusal as _refusal
+from ._refusals import RIGHT, Place, Refused
+from ._refusals import Row as _Row, always as _always
 from ._refusals import places_of_breakpoints as _places_of_breakpoints
 from ._refusals import places_of_tableau as _places_of_tableau
 from ._refusals import places_of_values as _places_of_values
+from ._verdicts import Judgement, TableVerdict, Verdict, Violation
+from ._verdicts import function_of as _function_of, lines_of_function as _lines_of_function
+from ._verdicts import table_verdict_of as _table_verdict_of, verdict_of as _verdict_of
+from ._violations import violations_of as _violations_of
+
+__version__ = _build.version()
 
 __all__ = [
-    "Answer", "Column", "Constraint", "Cut", "Cuts", "Function", "Judgement", "LibraryMissing",
-    "Number", "Place", "Point", "Refused", "SafeCut", "Term", "Verdict", "Violation",
-    "by_breakpoints", "by_text", "by_values", "call", "check", "cut", "extreme", "family", "fill",
-    "minimal", "mirror", "mixed", "restrict", "safe_cut", "times",
+    "Answer", "Column", "Constraint", "Cover", "Covered", "Cut", "Cuts", "Face", "Faces",
+    "Function", "Judgement", "LibraryMissing", "Number", "PackageMissing", "Picture", "Place",
+    "Point", "Refused", "SafeCut", "TableVerdict", "Term", "Verdict", "Violation",
+    "by_breakpoints", "by_text", "by_values", "call", "check", "covered", "cut", "extreme", "faces",
+    "family", "fill", "group", "minimal", "mirror", "mixed", "plot", "plot_faces", "restrict",
+    "safe_cut", "times",
 ]  # fmt: skip
-
-
-class Violation(NamedTuple):
-    """`zero`, `negative` or `asymmetric` at x, or `superadditive` at x and y."""
-
-    kind: str
-    x: Optional[Fraction] = None
-    y: Optional[Fraction] = None
-
-
-class Verdict(NamedTuple):
-    """`minimal`, `not-minimal` with the first violation, `extreme`, or `not-extreme` with two
-    halves; and the proof text.
-
-    The halves are functions that the function is the average of, by their values at the multiples
-    of 1/N. N is up to 4,000, and commands read orders up to 1,000; `at`, `==`, `+` and the others
-    work on every half.
-    """
-
-    claim: str
-    violation: Optional[Violation]
-    halves: Optional[Tuple[Function, Function]]
-    text: str
 
 
 class Term(NamedTuple):
@@ -89,40 +111,15 @@ class Cuts(NamedTuple):
     text: str
 
 
-class Judgement(NamedTuple):
-    """Whether a proof text is accepted, and then of which claim, or else at which line which rule
-    fails; and what the program wrote."""
-
-    accepted: bool
-    claim: Optional[str]
-    line: Optional[int]
-    rule: Optional[str]
-    text: str
-
-
 Row = Tuple[str, Number, Iterable[Number]]
 # What belongs in the place of a value of another type.
 _A_NAME = "the name, which is a str"
 _NAMES, _ROWS = "a list of names", "a list of rows"
 _A_ROW = "a name, a right side and a list of entries"
-_ENTRIES, _POINTS, _VALUES = "a list of entries", "a list of points", "a list of values"
+_ENTRIES, _VALUES = "a list of entries", "a list of values"
+_POINTS = "a list of points, as [(0, 0), ('1/2', 1)]"
+_ITEMS = "a list of points: of a dict by places that is list(points.items())"
 _A_POINT = "a place and a value, or a place, a limit, the value and a limit"
-
-
-def _done(
-    words: str,
-    text: Union[str, bytes],
-    places: Places = _no_place,
-    asked: Optional[str] = None,
-) -> str:
-    status, said = call(words, text)
-    if status:
-        raise _refusal(status, said, places, asked)
-    return said
-
-
-def _of_function(words: str, function: Function, asked: Optional[str] = None) -> str:
-    return _done(words, _function(function).text, _always("function"), asked)
 
 
 def by_text(text: Union[str, bytes]) -> Function:
@@ -142,8 +139,8 @@ def by_breakpoints(f: Number, points: Iterable[Sequence[Number]]) -> Function:
     >>> gmic.at("1/5"), gmic.order
     (Fraction(1, 3), 5)
     """
-    lines = []
-    for i, point in enumerate(_items(points, _POINTS, "points")):
+    lines, wanted = [], _ITEMS if isinstance(points, Mapping) else _POINTS
+    for i, point in enumerate(_items(points, wanted, "points")):
         numbers = _items(point, _A_POINT, "points", i)
         lines.append(_line("point", *(_word(each, "points", i) for each in numbers)))
     text = "gj-function 2\n" + _line("f", _word(f, "f")) + "".join(lines) + "end\n"
@@ -187,68 +184,104 @@ def _single(word: str, *place) -> str:
     return word
 
 
-def _verdict(command: str, function: Function) -> Verdict:
-    text = _of_function(command, function)
-    claim, violation, halves = text[text.index("claim ") + 6 :].partition("\n")[0], None, None
-    if claim == "not-minimal":
-        words = text.splitlines()[-2].split()
-        violation = Violation(words[0], *map(_printed, words[1:]))
-    if claim == "not-extreme":
-        halves = _halves(function.f, text)
-    return Verdict(claim, violation, halves, text)
+def _verdict(command: str, function: Function, violations: int) -> Verdict:
+    count = _whole(violations, "violations")
+    if count < 1:
+        raise ValueError(f"violations: {count} is below 1")
+    function = _function(function)
+    verdict = _verdict_of(_of_function(command, function), function.f)
+    if count == 1 or not verdict.violation:
+        return verdict
+    lines = _lines_of_function(verdict.text)
+    found = tuple(itertools.islice(_violations_of(function, lines), count))
+    return verdict._replace(violations=found)
 
 
-def _halves(f: Fraction, text: str) -> Tuple[Function, Function]:
-    lines = [each.split() for each in text[text.index("halves ") :].splitlines()]
-    order, scale = int(lines[0][1]), int(lines[0][2])
-    pairs = [(int(words[1]), int(words[2])) for words in lines if words[0] == "pair"]
-
-    def half(numerators: Iterable[int]) -> Function:
-        values = [Fraction(n, scale) for n in numerators]
-        points = (Point(Fraction(i, order), value, value, value) for i, value in enumerate(values))
-        return Function(f=f, points=points)
-
-    first, second = zip(*pairs)
-    return half(first), half(second)
-
-
-def minimal(function: Function) -> Verdict:
+def minimal(function: Function, violations: int = 1) -> Verdict:
     """Whether the function is minimal, with the first violation if it is not.
 
-    >>> minimal(by_values("1/2", [0, "1/3", 1, "1/2"])).violation
+    More violations than the first, up to that number, are looked for by this package, and each is
+    accepted by `check`: at multiples of 1/q, and beside those where only a limit fails.
+
+    >>> verdict = minimal(by_values("1/2", [0, "1/3", 1, "1/2"]), violations=10)
+    >>> verdict.violation
     Violation(kind='asymmetric', x=Fraction(1, 4), y=None)
+    >>> print(*verdict.violations, sep=", ")
+    asymmetric at 1/4, superadditive at 1/4 and 1/4
     """
-    return _verdict("minimal", function)
+    return _verdict("minimal", function, violations)
 
 
-def extreme(function: Function) -> Verdict:
+def extreme(function: Function, violations: int = 1) -> Verdict:
     """Whether the function is extreme: minimal, and no average of two other valid functions. If it
-    is minimal and not extreme, with two halves of which it is the average. A minimal function that
-    jumps is not decided: that raises `Refused` with the status 8.
+    is minimal and not extreme, with two halves of which it is the average; if it is not minimal, as
+    `minimal` says it. A minimal function that jumps is not decided: that raises `Refused` with the
+    status 8.
 
-    >>> extreme(family("gmic", "3/5")).claim
-    'extreme'
+    >>> extreme(family("gmic", "3/5")).is_extreme
+    True
     >>> six = by_values("1/2", [0, "2/3", "1/3", 1, "1/3", "2/3"])
-    >>> first, second = extreme(six).halves
-    >>> (first + second) / 2 == six, first == second
-    (True, False)
+    >>> verdict = extreme(six)
+    >>> verdict
+    <verdict: not-extreme, two halves at the multiples of 1/24>
+    >>> first, second = verdict.halves
+    >>> (first + second) / 2 == six, six + verdict.perturbation == first, first == second
+    (True, True, False)
     """
-    return _verdict("extreme", function)
+    return _verdict("extreme", function, violations)
 
 
 def check(text: Union[str, bytes]) -> Judgement:
-    """What the checker says of a proof text, as that of a verdict or of cuts.
+    """What the checker says of a proof text, as that of a verdict or of cuts, and of which function
+    it is.
 
-    >>> check(extreme(family("gmic", "3/5")).text).accepted
-    True
+    >>> judgement = check(extreme(family("gmic", "3/5")).text)
+    >>> judgement.accepted, judgement.claim, judgement.function == family("gmic", "3/5")
+    (True, 'extreme', True)
+    >>> if judgement: print("it is accepted")
+    it is accepted
     """
-    status, said = call("check", text)
-    words = said.split()
-    if status > 1:
-        raise Refused(status, said)
-    if status:
-        return Judgement(False, None, int(words[2]), words[3], said)
-    return Judgement(True, words[1], None, None, said)
+    answer = call("check", text)
+    if answer.status > 1:
+        raise _refused("check", text, answer)
+    words = answer.text.split()
+    function = _function_of(text if isinstance(text, str) else text.decode())
+    if answer.status:
+        return Judgement(False, None, int(words[2]), words[3], answer.text, function)
+    return Judgement(True, words[1], None, None, answer.text, function)
+
+
+def faces(function: Function) -> Faces:
+    """The maximal additive faces of a continuous function, its covered and its uncovered intervals.
+
+    >>> found = faces(family("gmic", "3/5"))
+    >>> found.faces[0], len(found.covers), found.uncovered
+    (Face(kind='lower', order=5, a=0, b=0), 5, ())
+    """
+    return _faces_of(_of_function("faces", function))
+
+
+def covered(function: Function) -> Covered:
+    """The covered intervals of a continuous function by components, on each of which every function
+    in an average has one slope, and the uncovered ones.
+
+    >>> for component in covered(family("gmic", "3/5")).components:
+    ...     print(*(f"[{left}, {right}]" for left, right in component))
+    [0, 3/5]
+    [3/5, 1]
+    """
+    return _covered_of(_of_function("faces", function))
+
+
+def group(function: Function) -> TableVerdict:
+    """Whether the table of a continuous function at the multiples of 1/q, q its order, is extreme
+    for the finite group problem. q is up to 120. It says nothing of the function on finer grids.
+
+    >>> seven = by_values("6/7", [0, "2/5", "4/5", "1/2", "1/5", "3/5", 1])
+    >>> group(seven).is_extreme, extreme(seven).is_extreme
+    (True, False)
+    """
+    return _table_verdict_of(_of_function("group", function))
 
 
 def cut(rule: Rule, columns: Iterable[str], rows: Iterable[Row]) -> Cuts:
@@ -370,3 +403,26 @@ def restrict(function: Function, order: int) -> Function:
     """
     words = f"restrict {_written(_whole(order, 'order'), 'order')}"
     return Function(_of_function(words, function, "order"))
+
+
+# What stands on the calls above is read when it is first asked for. And `map` is no name of this
+# module, in which it is Python's own.
+_LATER = {
+    "TableClass": "_search",
+    "from_piecewise": "_piecewise",
+    "literature": "literature",
+    "map": "_map",
+    "search": "_search",
+}
+__all__ += sorted(_LATER)
+
+
+def __getattr__(name: str):
+    if name not in _LATER:
+        raise AttributeError(f"module {__name__!r} has no attribute {name!r}")
+    module = importlib.import_module(f".{_LATER[name]}", __name__)
+    return module if name == _LATER[name] else getattr(module, name)
+
+
+def __dir__():
+    return sorted({*globals(), *_LATER})

@@ -17,18 +17,25 @@ def _first_line(*words: str) -> str:
     return done.stdout.partition("\n")[0].strip() if done.returncode == 0 else ""
 
 
+def version() -> str:
+    """The version of the package."""
+    if RECORD.exists():
+        return json.loads(RECORD.read_text(encoding="utf-8"))["version"]
+    project = HERE.parent / "pyproject.toml"
+    settings = project.read_text(encoding="utf-8") if project.exists() else ""
+    found = re.search(r'^version = "(.*)"$', settings, re.M)
+    return found[1] if found else "unknown"
+
+
 def build() -> Dict[str, str]:
     """What was recorded when the package was installed; in a repository what stands there now."""
     if RECORD.exists():
         return json.loads(RECORD.read_text(encoding="utf-8"))
-    project = HERE.parent / "pyproject.toml"
-    settings = project.read_text(encoding="utf-8") if project.exists() else ""
-    found = re.search(r'^version = "(.*)"$', settings, re.M)
     commit = _first_line("git", "rev-parse", "HEAD") or "unknown"
     if _first_line("git", "status", "--porcelain", "--untracked-files=no"):
         commit += " with changes"
     kit = _first_line("rt", "version") or "unknown"
-    return {"version": found[1] if found else "unknown", "commit": commit, "kit": kit}
+    return {"version": version(), "commit": commit, "kit": kit}
 
 
 if __name__ == "__main__":

@@ -73,12 +73,32 @@ FUNCTION_SENTENCES = [
         words="check", input=FIVE, answer="refused line 1 form",
         when="refused line 1 form", command=CHECK, text=r"\A\s*gj-function",
     ),
-    Sentence(
-        see="`refused line 1 form` from `check`",
-        means="this is a text of mixed cuts or of a group, which `check` does not read",
-        do="there is no proof text of `mixed` and of `group`",
-        words="check", input="gj-mixed 1\nrule gmic\nend\n", answer="refused line 1 form",
-        when="refused line 1 form", command=CHECK, text=r"\A\s*gj-(mixed|group|faces)",
+    *(
+        Sentence(
+            see="`refused line 1 form` from `check`",
+            means=f"this is what `{command}` writes: {what}, and no proof",
+            do=do,
+            words="check", input=f"gj-{word} 1\n{line}\nend\n", answer="refused line 1 form",
+            when="refused line 1 form", command=CHECK, text=rf"\A\s*gj-{word}\b",
+        )
+        for command, word, what, line, do in (
+            (
+                "mixed", "mixed", "cuts of rows", "rule gmic",
+                "let `mixed` make the cuts of the same rows again, and compare",
+            ),
+            (
+                "problem", "safe", "cuts of a problem", "rule gmic",
+                "let `problem` make the cuts of the same sums again, and compare",
+            ),
+            (
+                "group", "group", "the decision of a table", "order 2",
+                "ask `group` of the same function again, and compare",
+            ),
+            (
+                "faces", "faces", "a list of additive faces", "order 2",
+                "ask `faces` of the same function again, and compare",
+            ),
+        )
     ),
     Sentence(
         see="`refused line 1 form` from `check`",
@@ -364,6 +384,13 @@ FUNCTION_SENTENCES = [
         do="leave this line out",
         words="minimal", input=five("end", "point 1 0\nend"), answer="refused line 5 break",
         when=LINE + "break", line=r"^\s*point\s+\+?(0*[1-9]\d*(\.\d+)?|(\d+)/\3)\s(?!.*#)",
+    ),
+    Sentence(
+        see="`break` at a point below 0",
+        means="the function has period 1, and its points lie from 0 to below 1",
+        do="add 1 to the place, as 4/5 for -1/5, and sort the lines `point` by their places",
+        words="minimal", input=five("end", "point -1/5 1/2\nend"), answer="refused line 5 break",
+        when=LINE + "break", line=r"^\s*point\s+-0*(\.0*)?[1-9]",
     ),
     Sentence(
         see="`break` at the first point",

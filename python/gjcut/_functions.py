@@ -110,9 +110,8 @@ class Function:
     def breakpoints(self) -> Tuple[Point, ...]:
         """The points at which the function is not affine, and the one at 0."""
         if self._breakpoints is None:
-            points, kept = self.points, []
-            following = [*points[1:], points[0]._replace(place=Fraction(1))]
-            for point, after in zip(points, following):
+            kept: List[Point] = []
+            for point, after in _with_next(self.points):
                 is_smooth = point.left == point.value == point.right
                 if not (kept and is_smooth and self._is_on_line(kept[-1], point, after)):
                     kept.append(point)
@@ -129,13 +128,44 @@ class Function:
         """A text of the function that every command reads if its order is at most 1,000: what the
         program has printed, or the breakpoints."""
         if self._text is None:
-            lines = ["gj-function 2\n", line("f", self.f)]
-            lines += [line("point", *_short(point)) for point in self.breakpoints]
-            self._text = "".join([*lines, "end\n"])
+            self._text = self.breaks()
         return self._text
 
+    def breaks(self) -> str:
+        """A text of the function by its breakpoints, as one writes it.
+
+        >>> import gjcut
+        >>> print(gjcut.family("gmic", "3/5").breaks(), end="")
+        gj-function 2
+        f 3/5
+        point 0 0
+        point 3/5 1
+        end
+        """
+        lines = ["gj-function 2\n", line("f", self.f)]
+        lines += [line("point", *short(point)) for point in self.breakpoints]
+        return "".join([*lines, "end\n"])
+
+    @property
+    def slopes(self) -> Tuple[Fraction, ...]:
+        """The slope from each breakpoint to the next, from the last one to 1.
+
+        >>> import gjcut
+        >>> [str(slope) for slope in gjcut.family("gmic", "3/5").slopes]
+        ['5/3', '-5/2']
+        """
+        return tuple(
+            (after.left - point.right) / (after.place - point.place)
+            for point, after in _with_next(self.breakpoints)
+        )
+
+    @property
+    def is_continuous(self) -> bool:
+        """Whether both limits at each point are the value."""
+        return all(point.left == point.value == point.right for point in self.breakpoints)
+
     def at(self, x: Number) -> Fraction:
-        """The value at x.
+        """The value at x; f(x) is f.at(x).
 
         >>> import gjcut
         >>> gjcut.family("gmic", "3/5").at("-1/5")
@@ -150,6 +180,8 @@ class Function:
             return left.value
         right, end = (points[i], points[i].place) if i < len(points) else (points[0], 1)
         return left.right + (x - left.place) / (end - left.place) * (right.left - left.right)
+
+    __call__ = at
 
     def limits(self, x: Number) -> Point:
         """The point at x: its place from 0 to below 1, the limits and the value."""
@@ -176,8 +208,14 @@ class Function:
         points = self.breakpoints
         if len(points) > 20:
             return f"<function with f = {self.f} and {len(points)} breakpoints>"
-        shown = ", ".join(f"({', '.join(map(_shown, _short(point)))})" for point in points)
+        shown = ", ".join(f"({', '.join(map(_shown, short(point)))})" for point in points)
         return f"by_breakpoints({_shown(self.f)}, [{shown}])"
+
+    def _repr_png_(self) -> Optional[bytes]:
+        return pictures().png_of(self)
+
+    def _repr_svg_(self) -> Optional[str]:
+        return pictures().svg_of(self)
 
     def __add__(self, other: "Function") -> "Function":
         if not isinstance(other, Function):
@@ -212,6 +250,13 @@ class Function:
         return self * (1 / number(divisor, "divisor"))
 
 
+def pictures():
+    """The module that draws, which imports this one."""
+    from . import _plot
+
+    return _plot
+
+
 Rule = Union[Function, str]
 
 
@@ -239,7 +284,12 @@ def _points(given: Iterable[Point]) -> Iterator[Point]:
         yield point
 
 
-def _short(point: Point) -> Tuple[Fraction, ...]:
+def _with_next(points: Tuple[Point, ...]) -> Iterator[Tuple[Point, Point]]:
+    """Each point with the next; with the last one the first, at 1."""
+    return zip(points, [*points[1:], points[0]._replace(place=Fraction(1))])
+
+
+def short(point: Point) -> Tuple[Fraction, ...]:
     """The place and the value, if that is both limits too; else all four."""
     place, left, value, right = point
     return (place, value) if left == value == right else point

@@ -8,11 +8,11 @@ from typing import Dict, Iterable, Iterator, List, Mapping, NamedTuple, Optional
 from typing import Union
 
 from ._arguments import Number, fields, items, number, text as text_of, whole, word, written, wrong
+from ._asked import refused
 from ._functions import Rule, line, printed, text_of_rule
-from ._library import call
+from ._library import Answer, call
 from ._problem_sentences import WORDS
-from ._refusals import NAME, REFUSED, RIGHT, WIDEST, Place, Refused
-from .sentences import sentence_for
+from ._refusals import NAME, REFUSED, RIGHT, WIDEST, Place
 
 # A float is taken as a multiple of one over the first of these with which a number is not too wide.
 DENOMINATORS = (2**40, 2**30, 2**20)
@@ -228,8 +228,7 @@ def _answer(front: str, given: Given, multipliers: Sequence[Fraction]) -> SafeCu
     text = front + line("sum", *words) + "end\n"
     status, said = call(WORDS, text)
     if status:
-        place, found = _place(given, multipliers, said), sentence_for(WORDS, text, said.strip())
-        raise Refused(status, said, place, f"{found.means}; {found.do}" if found else None)
+        raise refused(WORDS, text, Answer(status, said), _place(given, multipliers, said))
     return _read(said)
 
 

@@ -30,15 +30,17 @@ class Refused(ValueError):
     `status` is that of the program, `reason` its word, and `place` says at which of the caller's
     values, as `points[2]` or `rows[0], 'x1'`; it is None where no single value is at fault. `text`
     is what the program wrote, and `line` the number of the line or record of the text that was
-    sent, which a caller of `check` and `by_text` has written. `advice` says of a problem what the
-    reason means and what to do.
+    sent, which a caller of `check` and `by_text` has written. `advice` says what the reason means
+    and what to do; it is that of `python3 -m gjcut`.
 
     >>> import gjcut
     >>> try:
     ...     gjcut.by_breakpoints("1/2", [(0, 0), ("1/2", 1), ("1/2", 0)])
     ... except gjcut.Refused as refused:
     ...     print(refused.status, refused.reason, refused.place, refused.place.index)
+    ...     print(refused.advice.partition(";")[0])
     3 break points[2] 2
+    a jump is written as two points
     """
 
     def __init__(
@@ -75,12 +77,10 @@ def always(argument: str) -> Places:
     return lambda _kind, _at, _reason: Place(argument)
 
 
-def refusal(status: int, text: str, places: Places, asked: Optional[str] = None) -> Refused:
-    """The refusal of a text, or of words in which the argument `asked` is at fault."""
+def place_of(text: str, places: Places) -> Optional[Place]:
+    """The value at fault, where a line or a record is refused."""
     found = REFUSED.fullmatch(text)
-    if found:
-        return Refused(status, text, places(found[1], int(found[2]), found[3]))
-    return Refused(status, text, Place(asked) if asked and status == WORDS else None)
+    return places(found[1], int(found[2]), found[3]) if found else None
 
 
 def places_of_breakpoints(count: int) -> Places:

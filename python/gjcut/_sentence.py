@@ -31,12 +31,27 @@ class Sentence(NamedTuple):
 
     def fits(self, words: str, text: str, answer: str) -> bool:
         """Whether this sentence is about that answer to the words over the text."""
+        if not re.fullmatch(self.when, answer):
+            return False
         before, line, is_past = line_at_fault(text, answer)
-        if not re.fullmatch(self.when, answer) or self.is_past not in (None, is_past):
+        if self.is_past not in (None, is_past):
             return False
         around = f"{before}\n{line}"
         found = [(self.command, words), (self.line, line), (self.around, around), (self.text, text)]
         return all(re.search(pattern, place, re.M) for pattern, place in found)
+
+
+    def of(self, answer: str) -> Tuple[str, str]:
+        """What that answer means and what to do. A word of capitals that stands for a word of the
+        answer, as X in `not continuous X`, is that word."""
+        shown = re.match("`([^`]*)`", self.see)
+        pairs = zip(shown[1].split(), answer.split()) if shown else ()
+        meant = {name: word for name, word in pairs if re.fullmatch("[A-Z]", name)}
+        told = [
+            re.sub(r"\b[A-Z]\b", lambda found: meant.get(found[0], found[0]), words)
+            for words in (self.means, self.do)
+        ]
+        return told[0], told[1]
 
 
 def line_at_fault(text: str, answer: str) -> Tuple[str, str, bool]:

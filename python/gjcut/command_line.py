@@ -1,6 +1,7 @@
 """The commands of `python3 -m gjcut`, for people at a terminal."""
 import argparse
 import collections
+import itertools
 import re
 import sys
 import textwrap
@@ -10,9 +11,11 @@ from . import _build
 from ._arguments import items, text as text_of
 from ._functions import printed
 from ._library import LibraryMissing, call, find
-from .explain import CLAIMS, explained, function_of, skipped_in_words, sum_skipped_in_words
-from .explain import violation_in_words
-from .sentences import RULES, Sentence, line_at_fault, sentence_for
+from ._verdicts import function_of as function_of_proof, lines_of_function
+from ._violations import violations_of
+from .explain import CLAIMS, explained, function_in_words, function_of, skipped_in_words
+from .explain import sum_skipped_in_words, violation_in_words
+from .sentences import RULES, line_at_fault, told
 
 # The status of a file that cannot be read, and where there is no library.
 NO_FILE, NO_LIBRARY = 4, 14
@@ -35,6 +38,7 @@ COMMANDS: Dict[str, Tuple[Tuple[str, ...], str]] = {
     "demo": (("N",), "a decision on a function of the program's own"),
 }
 WITH_JSON = ("minimal", "extreme", "show")
+WITH_VIOLATIONS = ("minimal", "extreme")
 WITH_PROOF = ("minimal", "extreme", "cut", "mixed", "problem", "group", "check")
 
 
@@ -44,6 +48,14 @@ class Result(NamedTuple):
     said: str
     kind: str
     status: int
+
+
+class Asked(NamedTuple):
+    """What a file is called, the words of the program, and the whole input."""
+
+    name: str
+    words: str
+    text: bytes
 
 
 def parser() -> argparse.ArgumentParser:
@@ -67,6 +79,11 @@ def parser() -> argparse.ArgumentParser:
         if name in WITH_PROOF:
             proof = "print the text that the program writes, in place of a sentence"
             command.add_argument("--proof", action="store_true", help=proof)
+        if name in WITH_VIOLATIONS:
+            more = "show up to so many violations of a function that is not minimal"
+            command.add_argument(
+                "--violations", metavar="COUNT", type=_count, default=1, help=more
+            )
         if name in WITH_JSON:
             json = "the files are in JSON, and so is what is written"
             command.add_argument("--json", action="store_true", help=json)
@@ -77,7 +94,22 @@ def parser() -> argparse.ArgumentParser:
             command.add_argument("files", metavar="FILE", nargs="*")
         progress = "show how far it is, also where standard error is no terminal"
         command.add_argument("--progress", action="store_true", help=progress)
+    _picture_commands().add_parsers(commands)
     return made
+
+
+def _picture_commands():
+    """The commands that make pictures, which call back into this module."""
+    from . import _picture_commands
+
+    return _picture_commands
+
+
+def _count(word: str) -> int:
+    """A number of at least 1."""
+    if not re.fullmatch("0*[1-9][0-9]{0,8}", word):
+        raise argparse.ArgumentTypeError(f"{word} is no whole number from 1 on")
+    return int(word)
 
 
 def main(words: Optional[List[str]] = None) -> int:
@@ -92,6 +124,8 @@ def main(words: Optional[List[str]] = None) -> int:
             parser().print_help()
             return 2
         find()
+        if chosen.command not in COMMANDS:
+            return _picture_commands().run(chosen)
         return _answer_all(chosen)
     except LibraryMissing as missing:
         print(f"gjcut: {missing}", file=sys.stderr)
@@ -157,24 +191,38 @@ def _front(rule: Optional[str]) -> "bytes | Result":
 
 
 def _answer_one(chosen: argparse.Namespace, file: str, front: bytes) -> Result:
-    is_demo = chosen.command == "demo"
-    data = b"" if is_demo else _read(file)
+    asked = _asked(chosen, file, front)
+    return asked if isinstance(asked, Result) else answered(chosen, asked, *call(*asked[1:]))
+
+
+def questions(chosen: argparse.Namespace) -> "List[Asked | Result]":
+    """What is asked about each file, or why one cannot be read."""
+    front = _front(getattr(chosen, "rule", None))
+    if isinstance(front, Result):
+        return [front]
+    return [_asked(chosen, file, front) for file in getattr(chosen, "files", []) or ["-"]]
+
+
+def _asked(chosen: argparse.Namespace, file: str, front: bytes) -> "Asked | Result":
+    data = b"" if chosen.command == "demo" else _read(file)
     if isinstance(data, Result):
         return data
     command = "check" if chosen.command == "explain" else chosen.command
     words = [command, *(getattr(chosen, number) for number in COMMANDS[chosen.command][0])]
     words += ["--json"] * getattr(chosen, "json", False)
-    status, said = call(" ".join(words), front + data)
-    text = (front + data).decode("utf-8", "replace")
-    name = "standard input" if file == "-" else file
+    return Asked("standard input" if file == "-" else file, " ".join(words), front + data)
+
+
+def answered(chosen: argparse.Namespace, asked: Asked, status: int, said: str) -> Result:
+    """The sentence about what the program writes, or that itself."""
+    text = asked.text.decode("utf-8", "replace")
     if status not in (0, 1):
-        return _refused(" ".join(words), text, status, said.rstrip("\n"), name)
+        return _refused(asked.words, text, status, said.rstrip("\n"), asked.name)
     if chosen.command == "explain":
         return _explained(text, status, said)
-    if getattr(chosen, "proof", False) or getattr(chosen, "json", False):
-        return Result(said, _kind(chosen.command, said), status)
-    sentence = _sentence(chosen.command, text, status, said)
-    return Result(sentence, _kind(chosen.command, said), status)
+    is_text = getattr(chosen, "proof", False) or getattr(chosen, "json", False)
+    shown = said if is_text else _sentence(chosen, text, status, said)
+    return Result(shown, _kind(chosen.command, said), status)
 
 
 def _kind(command: str, said: str) -> str:
@@ -185,11 +233,12 @@ def _kind(command: str, said: str) -> str:
     return found[1].replace("-", " ") if is_verdict else "answered"
 
 
-def _sentence(command: str, text: str, status: int, said: str) -> str:
+def _sentence(chosen: argparse.Namespace, text: str, status: int, said: str) -> str:
+    command = chosen.command
     if command == "check":
         return _judged(text, status, said)
-    if command in ("minimal", "extreme"):
-        return _verdict(text, said)
+    if command in WITH_VIOLATIONS:
+        return _verdict(text, said, chosen.violations)
     if command in ("cut", "mixed"):
         return "\n".join(_cuts(said))
     if command == "problem":
@@ -197,7 +246,7 @@ def _sentence(command: str, text: str, status: int, said: str) -> str:
     return _group(text, said) if command == "group" else said
 
 
-def _verdict(text: str, proof: str) -> str:
+def _verdict(text: str, proof: str, violations: int) -> str:
     lines = proof.splitlines()
     claim, function = lines[1].split(" ")[1], function_of(proof)
     if claim == "minimal":
@@ -208,7 +257,12 @@ def _verdict(text: str, proof: str) -> str:
     if claim == "not-minimal":
         kind, *at = lines[-2].split(" ")
         said = "not minimal: " + violation_in_words(function, kind, *map(printed, at))
-        hint = sentence_for("minimal", text, lines[-2])
+        if violations > 1:
+            more = itertools.islice(violations_of(function, lines_of_function(proof)), violations)
+            parts = [[part for part in each if part is not None] for each in more]
+            shown = [violation_in_words(function, *each) for each in parts]
+            said = "\n  ".join([f"not minimal, by {len(shown)} violations:", *shown])
+        hint = told("minimal", text, 0, lines[-2])
         return f"{said}\n  {_said(hint)}" if hint else said
     if claim == "extreme":
         return "extreme: the function is minimal, and no average of two other valid functions"
@@ -234,11 +288,12 @@ def _group(text: str, said: str) -> str:
 
 
 def _judged(text: str, status: int, said: str) -> str:
-    words = said.split()
+    words, function = said.split(), function_of_proof(text)
+    which = f"\n  the function: {function_in_words(function)}" if function else ""
     if not status:
-        return f"accepted: {CLAIMS[words[1]]}"
+        return f"accepted: {CLAIMS[words[1]]}{which}"
     _, line, _ = line_at_fault(text, said)
-    return f"rejected: line {words[2]}, `{line}`: {RULES[words[3]]}"
+    return f"rejected: line {words[2]}, `{line}`: {RULES[words[3]]}{which}"
 
 
 def _cuts(said: str) -> List[str]:
@@ -277,8 +332,10 @@ def _cuts_of_problem(said: str) -> List[str]:
 
 def _inequality(terms: List[str], right: str) -> str:
     if terms:
-        return f"{' + '.join(terms)} >= {right}"
-    return f"0 >= {right}" + (": no point is feasible" if printed(right) > 0 else "")
+        return f"at each feasible point {' + '.join(terms).replace('+ -', '- ')} >= {right}"
+    if printed(right) > 0:
+        return f"no point is feasible: there 0 >= {right}"
+    return f"the cut says nothing: 0 >= {right}"
 
 
 def _explained(text: str, status: int, said: str) -> Result:
@@ -290,19 +347,13 @@ def _explained(text: str, status: int, said: str) -> Result:
     return Result("\n".join(shown), said.split()[0], status)
 
 
-def _said(sentence: Sentence) -> str:
-    means, do = (words[0].upper() + words[1:] for words in (sentence.means, sentence.do))
+def _said(parts: Tuple[str, str]) -> str:
+    means, do = (words[0].upper() + words[1:] for words in parts)
     return f"{means}. {do}."
 
 
-def _plain(cell: str) -> str:
-    """A cell of the page without its links."""
-    cell = re.sub(r"\[([^]]*)\]\(#[^)]*\)", r"\1 (docs/formats.md)", cell)
-    return re.sub(r"\[([^]]*)\]\(([^)#]*)[^)]*\)", r"docs/\2", cell)
-
-
 def _refused(words: str, text: str, status: int, said: str, name: str) -> Result:
-    sentence = sentence_for(words, text, said)
+    parts = told(words, text, status, said)
     found = re.fullmatch(r"refused (line|record) (\d+) (\S+)", said)
     if found:
         _, line, _ = line_at_fault(text, said)
@@ -310,11 +361,7 @@ def _refused(words: str, text: str, status: int, said: str, name: str) -> Result
         shown += [f"    {line[:200]}"] if line.strip() else []
     else:
         shown = [f"{name}: {said or f'status {status}'}"]
-    if sentence:
+    if parts:
         how = {"initial_indent": "  ", "subsequent_indent": "  ", "break_on_hyphens": False}
-        shown += textwrap.wrap(_plain(_said(sentence)), 98, break_long_words=False, **how)
-    elif status == 6:
-        shown.append("  There was no memory.")
-    elif status == 7:
-        shown.append("  A number passed its bound: this function is not decided.")
+        shown += textwrap.wrap(_said(parts), 98, break_long_words=False, **how)
     return Result("\n".join(shown), "refused" if status == 3 else "without answer", status)

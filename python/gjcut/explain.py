@@ -1,9 +1,11 @@
 """What a proof text shows, line by line, in words."""
 from fractions import Fraction
-from typing import Iterator, List, Tuple
+from typing import Dict, Iterator, List, Tuple
 
 from ._arguments import number, text as text_of
-from ._functions import Function, function as a_function, printed
+from ._faces import CORNERS, merged
+from ._functions import Function, function as a_function, printed, short
+from ._verdicts import function_of as _function_of
 
 CLAIMS = {
     "minimal": "the function is minimal",
@@ -15,22 +17,26 @@ CLAIMS = {
 # How many points each violation has, and why a row has no cut.
 VIOLATIONS = {"zero": 0, "negative": 1, "asymmetric": 1, "superadditive": 2}
 WHYS = ("integral", "other")
-# The corners of a face in the square with the lower left corner (a, b), in steps of 1/q.
-CORNERS = {
-    "vertex": [(0, 0)],
-    "horizontal": [(0, 0), (1, 0)],
-    "vertical": [(0, 0), (0, 1)],
-    "diagonal": [(1, 0), (0, 1)],
-    "lower": [(0, 0), (1, 0), (0, 1)],
-    "upper": [(1, 0), (0, 1), (1, 1)],
-}
+# A list of places is cut off behind so many.
+MOST_PLACES = 20
+SIDES = {"-": "the limit from the left", "0": "the value", "+": "the limit from the right"}
 
 
 def function_of(text: str) -> Function:
     """The function in a proof text."""
-    lines = text_of(text, "text").splitlines()
-    kept = [line for line in lines if line.split(" ")[0] in ("order", "f", "point")]
-    return Function("\n".join(["gj-function 1", *kept, "end", ""]))
+    found = _function_of(text)
+    if found is None:
+        raise ValueError("text: it has no function")
+    return found
+
+
+def function_in_words(function: Function) -> str:
+    """Which function it is: f and the breakpoints."""
+    points = a_function(function).breakpoints
+    if len(points) > MOST_PLACES:
+        return f"f = {function.f}, {len(points)} breakpoints, order {function.order}"
+    shown = [f"({', '.join(map(str, short(point)))})" for point in points]
+    return f"f = {function.f}, breakpoints {', '.join(shown)}"
 
 
 def violation_in_words(function: Function, kind: str, *at: Fraction) -> str:
@@ -63,8 +69,11 @@ class _Reader:
     def __init__(self, text: str):
         self.text, self.claim, self.order, self.f = text, "", 1, Fraction(0)
         self.points, self.pairs, self.halves, self.components = 0, 0, (1, 1), 0
+        self.is_of_jumps = False
         # How many rows have ended, and the component that each interval is in.
         self.rows, self.component_of = 0, {}
+        # How many unknowns stand before the slopes, where the function jumps.
+        self.jumps = 0
 
     def at(self, i: int) -> str:
         return str(Fraction(i, self.order))
@@ -79,7 +88,9 @@ class _Reader:
         return found(*rest) if found else ""
 
     def of_gj_proof(self, version: str) -> str:
-        return "a proof" if version == "1" else "a proof whose rows are given by residues"
+        self.is_of_jumps = version == "3"
+        kinds = {"1": "a proof", "2": "a proof whose rows are given by residues"}
+        return kinds.get(version, "a proof of a function that may jump")
 
     def of_claim(self, claim: str) -> str:
         self.claim = claim
@@ -101,6 +112,7 @@ class _Reader:
         place, self.points = self.at(self.points), self.points + 1
         if len(values) == 1:
             return f"the value at {place}"
+        self.jumps = 2 * self.order - 1 if self.is_of_jumps else 0
         return f"at {place} the limit from the left, the value, and the limit from the right"
 
     def of_rule(self, _rule: str) -> str:
@@ -137,34 +149,80 @@ class _Reader:
             so = f"{interval} is covered, with the slope of {other}, in component {component}"
         return f"{face}; so {so}"
 
-    def of_row(self, *pair: str) -> str:
-        if pair == ("period",):
+    def of_row(self, *said: str) -> str:
+        if said == ("period",):
             return "an equation for a perturbation, which has one slope a component: it is 0 at 1"
-        if pair == ("f",):
+        if said == ("f",):
             return f"an equation: it is 0 at {self.f}"
-        a, b = map(int, pair)
+        a, b = map(int, said[:2])
         total = self.at((a + b) % self.order)
+        if len(said) == 3:
+            x, y, z = (SIDES[side] for side in said[2])
+            return (
+                f"an equation: {x} at {self.at(a)} and {y} at {self.at(b)} add up to {z} at "
+                f"{total}, like the function's"
+            )
         places = f"{self.at(a)} and {self.at(b)}"
         return f"an equation: its values at {places} add up to that at {total}, like the function's"
 
+    def unknown(self, column: str) -> str:
+        """What an equation is solved for."""
+        at, odd = divmod(int(column), 2)
+        if int(column) >= self.jumps:
+            return f"the slope of component {int(column) - self.jumps}"
+        if odd:
+            return f"the value at {self.at(self.order - 1 - at)}"
+        return f"the limit from the right at {self.at(self.order - 1 - at)}"
+
     def of_reduce(self, column: str) -> str:
-        return f"the slope of component {column} is taken out, by the equation solved for it"
+        return f"{self.unknown(column)} is taken out, by the equation solved for it"
 
     def of_pivot(self, column: str) -> str:
         self.rows += 1
-        return f"what is left is solved for the slope of component {column}"
+        return f"what is left is solved for {self.unknown(column)}"
 
     def of_halves(self, order: str, scale: str) -> str:
         self.halves = int(order), int(scale)
         return (
             f"two minimal functions by their values at the multiples of 1/{order}, in parts of "
             f"1/{scale}; they are different, and their average is the function"
+            + self.difference_in_words()
         )
 
-    def of_pair(self, first: str, second: str) -> str:
+    def difference_in_words(self) -> str:
+        """Where the halves differ, and why the function has a perturbation."""
+        order, scale = self.halves
+        lines = [line.split(" ")[1:] for line in self.text.split("\n") if line[:5] == "pair "]
+        pairs = [[int(word) for word in words] for words in lines]
+        differences = [_difference(pair) for pair in pairs]
+        places = [str(Fraction(i, order)) for i, each in enumerate(differences) if any(each)]
+        shown = ", ".join(places[:MOST_PLACES]) + (", .." if len(places) > MOST_PLACES else "")
+        said = f". They differ at {len(places)} of {len(pairs)} places: {shown}"
+        if len(pairs) != order or order % self.order:
+            return said
+        bent, slopes = _shape_of(differences, self.order)
+        if bent:
+            which = ", ".join(f"[{left}, {right}]" for left, right in merged(bent))
+            return f"{said}. Their difference bends inside of {which}: there it is uncovered"
+        parts = []
+        for rise, intervals in slopes.items():
+            where = ", ".join(f"[{left}, {right}]" for left, right in merged(intervals))
+            parts.append(f"{Fraction(rise * self.order, 2 * scale)} on {where}")
+        unknowns = "values and slopes" if self.jumps else "slopes"
+        return (
+            f"{said}. Their difference bends nowhere between multiples of 1/{self.order}, so that "
+            f"the equations for the {unknowns} of a perturbation leave a kernel: half the "
+            f"difference has the slopes {'; '.join(parts)}"
+        )
+
+    def of_pair(self, *said: str) -> str:
         order, scale = self.halves
         place, self.pairs = Fraction(self.pairs, order), self.pairs + 1
-        return f"at {place}: {Fraction(int(first), scale)} and {Fraction(int(second), scale)}"
+        numbers = [Fraction(int(word), scale) for word in said]
+        halves = numbers[: len(said) // 2], numbers[len(said) // 2 :]
+        shown = [f"({', '.join(map(str, half))})" if half[1:] else str(half[0]) for half in halves]
+        differs = ", which differ" if halves[0] != halves[1] else ""
+        return f"at {place}: {shown[0]} and {shown[1]}{differs}"
 
     def of_skip(self, name: str, right: str, why: str) -> str:
         return f"the row of {name} gives no cut, since {skipped_in_words(right, why)}"
@@ -181,11 +239,42 @@ class _Reader:
 
     def of_end(self) -> str:
         if self.claim == "extreme":
+            unknowns = "unknowns" if self.jumps else "components"
+            each = "value and every slope" if self.jumps else "slope"
             return (
-                f"as many equations as components, {self.rows}: every slope of a perturbation "
+                f"as many equations as {unknowns}, {self.rows}: every {each} of a perturbation "
                 "is 0, so there is none but 0"
             )
         return "the end of the proof"
+
+
+Interval = Tuple[Fraction, Fraction]
+
+
+def _difference(pair: List[int]) -> Tuple[int, int, int]:
+    """By how much the first half is above the second: from the left, there, from the right."""
+    first, second = pair[: len(pair) // 2], pair[len(pair) // 2 :]
+    found = [a - b for a, b in zip(first, second)]
+    return found[0], found[len(found) // 2], found[-1]
+
+
+def _shape_of(
+    differences: List[Tuple[int, int, int]], order: int
+) -> Tuple[List[Interval], Dict[int, List[Interval]]]:
+    """The intervals from a multiple of 1/order to the next in which the difference is not affine;
+    and the others, by how much it rises there."""
+    m, bent, slopes = len(differences) // order, [], {}
+    for i in range(order):
+        inner = differences[i * m + 1 : (i + 1) * m]
+        end = differences[(i + 1) * m % len(differences)]
+        path = [differences[i * m][2], *(each[1] for each in inner), end[0]]
+        rises = {after - before for before, after in zip(path, path[1:])}
+        interval = Fraction(i, order), Fraction(i + 1, order)
+        if len(rises) > 1 or any(len(set(each)) > 1 for each in inner):
+            bent.append(interval)
+        else:
+            slopes.setdefault(path[-1] - path[0], []).append(interval)
+    return bent, slopes
 
 
 def skipped_in_words(right: str, why: str) -> str:

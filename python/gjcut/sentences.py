@@ -5,7 +5,10 @@ The program says which line and which reason; which of several sentences fits is
 that line and the text. The first that fits is taken, so the general one of each reason stands last.
 Each has an input that causes it, which the tests try.
 """
-from typing import Optional
+import math
+import re
+from fractions import Fraction
+from typing import List, Optional, Tuple
 
 from ._arguments import text as text_of
 from ._function_sentences import FUNCTION_SENTENCES
@@ -13,7 +16,7 @@ from ._other_sentences import OTHER_SENTENCES
 from ._problem_sentences import PROBLEM_SENTENCES, WORDS
 from ._sentence import Sentence, line_at_fault
 
-__all__ = ["RULES", "SENTENCES", "Sentence", "line_at_fault", "sentence_for"]
+__all__ = ["RULES", "SENTENCES", "Sentence", "line_at_fault", "sentence_for", "told"]
 
 COMMAND_SENTENCES = [*FUNCTION_SENTENCES, *OTHER_SENTENCES]
 SENTENCES = [*COMMAND_SENTENCES, *PROBLEM_SENTENCES]
@@ -26,6 +29,51 @@ def sentence_for(words: str, text: str, answer: str) -> Optional[Sentence]:
     given = text_of(words, "words"), text_of(text, "text"), text_of(answer, "answer")
     among = SENTENCES_OF_PROBLEMS if words == WORDS else COMMAND_SENTENCES
     return next((each for each in among if each.fits(*given)), None)
+
+
+# What two statuses say for which the program has no line, or one word.
+STATUSES = {
+    6: ("there was no memory", "try again where more is free"),
+    7: (
+        "a number passed its bound, and this function is not decided",
+        "take a function of a smaller order, or with smaller denominators",
+    ),
+}
+
+
+def told(words: str, text: str, status: int, answer: str) -> Optional[Tuple[str, str]]:
+    """What an answer with this status means, and what to do, in plain words."""
+    if status in STATUSES:
+        return STATUSES[status]
+    sentence = sentence_for(words, text, answer)
+    if not sentence:
+        return None
+    means, do = map(_plain, sentence.of(answer))
+    order = _order_reached(text, answer)
+    return (means if order is None else f"{means}; here the order is {order:,}"), do
+
+
+def _plain(cell: str) -> str:
+    """A cell of the page without its links."""
+    cell = re.sub(r"\[([^]]*)\]\(#[^)]*\)", r"\1 (docs/formats.md)", cell)
+    return re.sub(r"\[([^]]*)\]\(([^)#]*)[^)]*\)", r"docs/\2", cell)
+
+
+def _order_reached(text: str, answer: str) -> Optional[int]:
+    """The order of a function at the line at which it is above the limit."""
+    found = re.fullmatch(r"refused line (\d+) pieces", answer)
+    if not found:
+        return None
+    lines = [line.split() for line in text.split("\n")[: int(found[1])]]
+    if lines[-1][:2] == ["family", "two-slope"]:
+        return len(lines[-1][3])
+    places: List[Fraction] = []
+    for words in lines:
+        if words[:1] in (["f"], ["point"]):
+            places.append(Fraction(words[1]))
+        elif words[:1] == ["family"]:
+            places.append(Fraction(words[2]))
+    return math.lcm(*(place.denominator for place in places))
 
 
 # What a rule of the checker asks, for a proof that is rejected.

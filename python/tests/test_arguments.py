@@ -407,7 +407,8 @@ class Right(unittest.TestCase):
             self.assertEqual(
                 (caught.exception.status, caught.exception.place), (2, gjcut.Place(place))
             )
-            self.assertEqual(str(caught.exception), f"{place}: words refused")
+            said = f"{place}: words refused: this is no command, or a number is missing or outside"
+            self.assertTrue(str(caught.exception).startswith(said))
 
 
 if __name__ == "__main__":

@@ -1,11 +1,17 @@
 """The examples in the docstrings."""
 import doctest
+import importlib.util
+import shutil
 
 import gjcut
-from gjcut import _functions, _library, _problems, _refusals
+from gjcut import _constructions, _functions, _library, _map, _problems, _refusals, _search
+from gjcut import literature
 
 
 def load_tests(_loader, tests, _pattern):
-    for module in (gjcut, _functions, _library, _problems, _refusals):
+    modules = [gjcut, _constructions, _functions, _library, _map, _problems, _refusals, literature]
+    if shutil.which("lrs") or importlib.util.find_spec("ppl"):
+        modules.append(_search)
+    for module in modules:
         tests.addTests(doctest.DocTestSuite(module))
     return tests

@@ -124,7 +124,7 @@ class Faulty(unittest.TestCase):
             self.assertEqual(self.answer(command, mended)[0], 0, mended)
 
     def test_problems(self):
-        self.assertEqual(self.answer("problem", PROBLEM), (0, "sum 1: -2 x >= -6"))
+        self.assertEqual(self.answer("problem", PROBLEM), (0, "sum 1: at each feasible point -2 x >= -6"))
         for old, new, words in FAULTY_PROBLEMS:
             faulty = PROBLEM.replace(old, new, 1)
             status, said = self.answer("problem", faulty)

@@ -1,19 +1,20 @@
 -- Fractional parts, and the values of the mixed-integer cut for them.
-use Rattle.std.proofs.Common.{◌≡◌, ◌≢◌, ℕ, ◌-◌, ◌*◌, ◌<◌, ◌≤◌, ◌↔◌, Bool, true, false, ℤ, pos, int_lt, ◌-ℤ◌, ◌*ℤ◌, ◌<ℤ◌, ◌≤ℤ◌, [], ◌∷◌, unsigned_abs, refl, sym, ap, ap₂, subst, subst₂, ◌∙◌, arith}
+use Rattle.std.proofs.Common.{◌≡◌, ◌≢◌, ℕ, ◌-◌, ◌*◌, ◌<◌, ◌≤◌, ◌↔◌, ℤ, pos, ◌-ℤ◌, ◌*ℤ◌, ◌<ℤ◌, ◌≤ℤ◌, [], ◌∷◌, unsigned_abs, refl, sym, ap, ap₂, subst, subst₂, ◌∙◌, arith}
 use Rattle.std.proofs.Math.Nat.{eq-one_of_dvd-one, mul-pos}
 use Rattle.std.proofs.lemmas.Int.{ints}
 use Rattle.std.proofs.lemmas.Nat.Gcd.{dvd_refl, dvd-zero}
 use Rattle.std.specs.Int.{◌∣◌, int_div_euclid, int_rem_euclid}
 use Rattle.gj_frac.specs.declared.Frac.{Frac}
-use Rattle.gj_frac.specs.Floor.{IsFloor, rest_above, HasFractionalPart}
+use Rattle.gj_frac.specs.Floor.{IsFloor, HasFractionalPart}
 use Rattle.gj_frac.specs.Lowest.{IsLowest}
-use Rattle.gj_frac.specs.Fraction.{IsRatio, IsWhole, IsInside, numerator, denominator, fraction_of, quotient_of}
+use Rattle.gj_frac.specs.Fraction.{IsRatio, IsWhole, IsInside, numerator, denominator}
 use Rattle.gj_frac.proofs.Floors.{quotient_at_most, next_quotient_above, quotient_is_floor, rest_is, rest_from_floor, rest_lowest}
-use Rattle.gj_frac.proofs.SameValues.{is_along, same_from_is}
-use Rattle.gj_lemmas.proofs.Integers.{add_mul_z, mul_comm_z, pos-*ℤ-pos, mul_some_z, positive_some_z}
+use Rattle.gj_frac.proofs.SameValues.{is_along}
+use Rattle.gj_lemmas.proofs.Integers.{add_mul_z, mul_comm_z, pos-*ℤ-pos, positive_some_z}
 use Rattle.gj_lemmas.proofs.Ratios.{ratio_along}
 use Rattle.gj_lemmas.proofs.Ring.{by_ring, ring}
-use Rattle.gj_theory.specs.Cuts.{IsGmicValue, one_minus}
+use Rattle.gj_theory.specs.Cuts.{IsGmicValue}
+use Rattle.gj_values.proofs.OneValue.{one_part, one_gmic_value}
 use Rattle.gj_proof.specs.Rules.{IsGmicCoefficient}
 use Rattle.gj_check.proofs.Ratios.{denominator_is}
 
@@ -45,12 +46,6 @@ is_part x w floor = ap (λ z. z *ℤ x.den) (sym (rest_from_floor x w floor))
 pub part_is : (x : Frac) (n d : ℤ) → HasFractionalPart x n d → IsRatio (part_of x) n d
 part_is x n d part = ap (λ z. z *ℤ d) (rest_is x.num x.den x.lowest.positive) ∙ part _ (quotient_is_floor x)
 
--- there is one
-pub one_part : (x f g : Frac) → HasFractionalPart x (numerator f) (denominator f) → HasFractionalPart x (numerator g) (denominator g) → f ≡ g
-one_part x f g h k =
-    let floor = quotient_is_floor x in
-    same_from_is f g _ x.den (positive_some_z x.den x.lowest.positive) (sym (h _ floor)) (sym (k _ floor))
-
 -- that of a whole number is 0
 pub part_of_whole : (x : Frac) → IsWhole x → numerator (part_of x) ≡ pos 0
 part_of_whole x whole = let within = rest_within x in omega (arith, ints)
@@ -81,34 +76,6 @@ part_is_fraction x y n d y_is = (
       let floor = quotient_is_floor x in
       is_along y _ x.den n d (positive_some_z x.den x.lowest.positive) (y_is _ floor) (part _ floor),
 )
-
--- ---- one value of the mixed-integer cut
-
-pub one_minus_some : (f : Frac) → IsInside f → unsigned_abs (pos 1 *ℤ f.den -ℤ f.num *ℤ pos 1) ≢ 0
-one_minus_some f inside = let low = inside.1 in omega (arith, ints)
-
-one_value_above : (f x y z : Frac) (w : ℤ) → IsInside f → IsFloor x w → IsGmicValue f x y → IsGmicValue f x z → y ≡ z
-one_value_above f x y z w inside floor h k = by_test (int_lt (f.num *ℤ x.den) ((x.num -ℤ w *ℤ x.den) *ℤ f.den)) refl
-  where
-    x_some : unsigned_abs x.den ≢ 0
-    x_some = positive_some_z x.den x.lowest.positive
-
-    by_test : (b : Bool) → int_lt (f.num *ℤ x.den) ((x.num -ℤ w *ℤ x.den) *ℤ f.den) ≡ b → y ≡ z
-    by_test true e =
-        let above : (f.num *ℤ x.den) <ℤ ((x.num -ℤ w *ℤ x.den) *ℤ f.den) = omega (arith, ints) in
-        let value = quotient_of (one_minus (rest_above x w)) (one_minus (fraction_of f)) in
-        let some =
-        mul_some_z (pos 1 *ℤ x.den) (pos 1 *ℤ f.den -ℤ f.num *ℤ pos 1) (mul_some_z (pos 1) x.den (omega (arith, ints)) x_some)
-        (one_minus_some f inside) in
-        same_from_is y z value.top value.bottom some (h.falls w floor above) (k.falls w floor above)
-    by_test false e =
-        let not_above : (f.num *ℤ x.den) <ℤ ((x.num -ℤ w *ℤ x.den) *ℤ f.den) → ⊥ = λ less. absurd (omega (arith, ints)) in
-        let value = quotient_of (rest_above x w) (fraction_of f) in
-        same_from_is y z value.top value.bottom (mul_some_z x.den f.num x_some (positive_some_z f.num inside.0)) (h.rises w floor not_above)
-        (k.rises w floor not_above)
-
-pub one_gmic_value : (f x y z : Frac) → IsInside f → IsGmicValue f x y → IsGmicValue f x z → y ≡ z
-one_gmic_value f x y z inside h k = one_value_above f x y z (int_div_euclid x.num x.den) inside (quotient_is_floor x) h k
 
 -- ---- the coefficient of a term
 

@@ -1,12 +1,10 @@
 -- Values of functions at entries, as they are computed.
 use Rattle.std.proofs.Common.{◌≡◌, ℕ, zero, suc, ℤ, ◌+◌, ◌*◌, ◌/◌, ◌%◌, ◌-◌, ◌<◌, ◌↔◌, pos, ◌+ℤ◌, ◌*ℤ◌, ◌^◌, [], ◌∷◌, unsigned_abs, refl, sym, ap, ap₂, subst₂, ◌∙◌, arith}
-use Rattle.std.proofs.Math.Nat.{mul-pos}
 use Rattle.std.proofs.lemmas.Int.{ints}
 use Rattle.std.specs.Int.{int_div_euclid}
 use Rattle.gj_frac.specs.declared.Frac.{Frac}
 use Rattle.gj_frac.specs.Fraction.{IsRatio, numerator, denominator}
 use Rattle.gj_frac.proofs.Floors.{quotient_is_floor}
-use Rattle.gj_frac.proofs.SameValues.{same_from_is}
 use Rattle.gj_lemmas.proofs.Integers.{pos-*ℤ-pos}
 use Rattle.gj_lemmas.proofs.Ring.{by_ring, ring}
 use Rattle.gj_shape.specs.FunctionData.{FunctionData, IsWithinBounds}
@@ -14,22 +12,13 @@ use Rattle.gj_shape.specs.FirstViolation.{PassesAll}
 use Rattle.gj_shape.specs.Table.{table, entry}
 use Rattle.gj_shape.specs.Values.{IsCongruent, IsValueAt}
 use Rattle.gj_shape.proofs.LeastDenominator.{denominator_some}
-use Rattle.gj_shape.proofs.ValueLemmas.{natural_index, congruent_back, value_from_place}
+use Rattle.gj_shape.proofs.ValueLemmas.{congruent_back, value_from_place}
 use Rattle.gj_theory.proofs.Lanes.{are_bounded}
 use Rattle.gj_check_minimal.specs.declared.pieces.Piece.{Piece}
 use Rattle.gj_check_minimal.specs.Pieces.{IsPieceAt, HasNumbersBelow}
 use Rattle.gj_check.proofs.FractionalParts.{IsRestOf}
 use Rattle.gj_check_minimal.proofs.PassedTests.{all_to_symmetry}
 use Rattle.gj_check.proofs.Ratios.{denominator_is}
-
--- ---- there is one
-
-pub one_value : (f : FunctionData) (n : ℤ) (d : ℕ) (x y : Frac) → IsWithinBounds f → 0 < d → IsValueAt f n d x → IsValueAt f n d y → x ≡ y
-one_value f n d x y l some x_is y_is =
-    let low = l.order_low in
-    let (j, congruent) = natural_index n (f.order * d) (mul-pos (omega arith) some) in
-    let scale = mul-pos l.scale_low some in
-    same_from_is x y (table f d j) (pos (f.scale * d)) (omega (arith, ints)) (x_is j congruent) (y_is j congruent)
 
 -- ---- the place of an entry
 

@@ -1,18 +1,15 @@
 -- A text of mixed cuts spells one list of them.
-use Rattle.std.proofs.Common.{◌≡◌, ◌≢◌, ℕ, List, [], ◌∷◌, ◌++◌, All, length, map, flat_map, codes, refl, sym, ap, ap₂, subst, ◌∙◌, arith}
-use Rattle.std.specs.List.{join_with_byte}
+use Rattle.std.proofs.Common.{◌≡◌, ◌≢◌, ℕ, List, [], ◌∷◌, ◌++◌, All, map, flat_map, codes, refl, sym, ap, ap₂, ◌∙◌, arith}
 use Rattle.std.proofs.lemmas.Grind.{flat_map-append}
-use Rattle.std.proofs.lemmas.List.{append_assoc, append-nil, length-append}
+use Rattle.std.proofs.lemmas.List.{append_assoc, append-nil}
 use Rattle.std.proofs.lemmas.List.Elements.{All-nil, All-cons, All-head, All-tail, All-append, All-map}
 use Rattle.gj_frac.specs.declared.Frac.{Frac}
 use Rattle.gj_lex.specs.Name.{IsName}
 use Rattle.gj_forms.specs.LineForms.{Field, LineForm, words_of, first_of, others_of, line_of}
 use Rattle.gj_forms.specs.LineForms.Field.{word, fraction}
-use Rattle.gj_forms.specs.TextLines.{HasStrictLine}
 use Rattle.gj_forms.proofs.FieldWords.{AreGood, head_and_tail}
-use Rattle.gj_forms.proofs.LineLaws.{IsClear, strict_line}
+use Rattle.gj_forms.proofs.LineLaws.{IsClear, same_lines}
 use Rattle.gj_forms.proofs.PlainWords.{apart, known, name_is_plain}
-use Rattle.gj_forms.proofs.StrictLines.{one_strict_line}
 use Rattle.gj_proof.specs.ProofText.{HasNames, row_fields, row_line, term_fields, term_line, terms_of}
 use Rattle.gj_proof.specs.declared.cut.CutLine.{CutLine}
 use Rattle.gj_proof.specs.declared.cut.CutLine.TheVariants as cuts
@@ -20,6 +17,7 @@ use Rattle.gj_proof.specs.declared.cut.CutTerm.{CutTerm}
 use Rattle.gj_proof.specs.declared.cut.SkipReason.{SkipReason}
 use Rattle.gj_proof.proofs.ClearLines.{head_is_clear, term_is_clear}
 use Rattle.gj_proof.proofs.CutTexts.{head_of}
+use Rattle.gj_proof.proofs.OwnLines.{names_of_terms}
 use Rattle.gj_cut_text.specs.MixedLines.{mixed_row_text, weight_line}
 use Rattle.gj_cut_text.specs.declared.mixed_lines.MixedLine.{MixedLine}
 use Rattle.gj_cut_text.proofs.NamedTerms.{weight_lines_are}
@@ -90,30 +88,6 @@ one a b h k e = absurd (apart (head a) (head b) refl (ap first_of e))
 
 part_is_clear : IsClear part_form
 part_is_clear = record { of_form = λ a h. h; good = good; one = one }
-
--- ---- bytes of lines tell them
-
-module _ {A : Type 0} (form : LineForm A) (clear : IsClear form) where
-  no_bytes : (a : A) (rest : List ℕ) → form.HasLine a → [] ≡ line_of form a ++ rest → ⊥
-  no_bytes a rest has e =
-      let spelled = e ∙ (strict_line form clear a rest has).spelled in
-      omega (arith, ap length spelled, length-append (join_with_byte 32 (words_of (form.fields a))) (10 ∷ rest))
-
-  same_lines : (ls ms : List A) → All form.HasLine ls → All form.HasLine ms →
-      flat_map (line_of form) ls ≡ flat_map (line_of form) ms → ls ≡ ms
-  same_lines [] [] g h e = refl
-  same_lines [] (m ∷ ms) g h e = absurd (no_bytes m (flat_map (line_of form) ms) (All-head form.HasLine m ms h) e)
-  same_lines (l ∷ ls) [] g h e = absurd (no_bytes l (flat_map (line_of form) ls) (All-head form.HasLine l ls g) (sym e))
-  same_lines (l ∷ ls) (m ∷ ms) g h e =
-      let has = All-head form.HasLine l ls g in
-      let also = All-head form.HasLine m ms h in
-      let more = flat_map (line_of form) ls in
-      let others = flat_map (line_of form) ms in
-      let both = one_strict_line (line_of form l ++ more) (words_of (form.fields l)) (words_of (form.fields m)) more others
-      (strict_line form clear l more has)
-      (subst (λ t. HasStrictLine t (words_of (form.fields m)) others) (sym e) (strict_line form clear m others also)) in
-      ap₂ (λ k ks. k ∷ ks) (clear.one l m has also both.0)
-      (same_lines ls ms (All-tail form.HasLine l ls g) (All-tail form.HasLine m ms h) both.1)
 
 -- ---- lines tell cuts
 
@@ -230,10 +204,6 @@ first_named : (l : CutLine) → HasNames l → HasName (first_part l)
 first_named (cuts.Cut name right terms) h = h.0
 first_named (cuts.Skip name right r) h = h
 
-terms_named : (l : CutLine) → HasNames l → All (λ t. IsName t.name) (terms_of l)
-terms_named (cuts.Cut name right terms) h = h.1
-terms_named (cuts.Skip name right r) h = All-nil (λ (t : CutTerm). IsName t.name)
-
 parts_named : (ms : List MixedLine) → All HasMixedNames ms → All HasName (flat_map parts_of ms)
 parts_named [] h = All-nil HasName
 parts_named (m ∷ ms) h =
@@ -241,7 +211,7 @@ parts_named (m ∷ ms) h =
     All-append HasName (parts_of m) (flat_map parts_of ms)
     (All-cons HasName (first_part m.line) (map term (terms_of m.line) ++ map weight m.weights) (first_named m.line has.0)
     (All-append HasName (map term (terms_of m.line)) (map weight m.weights)
-    (All-map HasName term (terms_of m.line) (terms_named m.line has.0)) (All-map HasName weight m.weights has.1)))
+    (All-map HasName term (terms_of m.line) (names_of_terms m.line has.0)) (All-map HasName weight m.weights has.1)))
     (parts_named ms (All-tail HasMixedNames m ms h))
 
 pub one_list : (ms ns : List MixedLine) → All HasMixedNames ms → All HasMixedNames ns →

@@ -27,7 +27,7 @@ use Rattle.gj_proof.specs.declared.cut.CutRule.{CutRule}
 use Rattle.gj_proof.specs.declared.cut.CutRule.TheVariants.{Gmic, Table}
 use Rattle.gj_proof.specs.declared.cut.CutTerm.{CutTerm}
 use Rattle.gj_proof.specs.declared.cut.SkipReason.TheVariants.{Integral, Other}
-use Rattle.gj_check.proofs.FractionalParts.{one_part}
+use Rattle.gj_values.proofs.OneValue.{one_part}
 use Rattle.gj_cut_text.specs.CutLines.{AppendsCuts, HasColumns, IsLineFor, IsTermFor, NamesCut}
 
 -- ---- the columns of the terms

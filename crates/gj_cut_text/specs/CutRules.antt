@@ -1,15 +1,10 @@
--- Which rules make cuts (Gomory and Johnson 1972; the form is own).
+-- What the tests of minimality say of a rule (own).
 use Rattle.gj_shape.specs.FirstViolation.{IsFirstViolation, PassesAll}
-use Rattle.gj_shape.specs.Table.{IsMinimal}
 use Rattle.gj_shape.specs.declared.violations.Violation.{Violation}
+use Rattle.gj_proof.specs.CutRules.{MakesCuts}
 use Rattle.gj_proof.specs.ProofText.{IfFunction, IsBoundedRule, subject_of_rule}
 use Rattle.gj_proof.specs.declared.cut.CutRule.{CutRule}
 use Rattle.gj_proof.specs.declared.cut.CutRule.TheVariants.{Gmic, Table}
-
--- the rule makes cuts: a function is minimal
-abbrev pub MakesCuts : CutRule → Type 0
-MakesCuts Gmic = Unit {0}
-MakesCuts (Table f) = IsMinimal f
 
 -- the violation is the first of the rule's function
 abbrev pub IsViolationOf : CutRule → Violation → Type 0

@@ -4,8 +4,6 @@ use Rattle.std.specs.List.{AllZip}
 use Rattle.gj_frac.specs.declared.Frac.{Frac}
 use Rattle.gj_lex.specs.NumberText.{fraction_text}
 use Rattle.gj_function_lines.specs.FunctionLines.{line}
-use Rattle.gj_shape.specs.FunctionData.{IsContinuous}
-use Rattle.gj_shape.specs.Table.{IsMinimal}
 use Rattle.gj_row.specs.declared.tableau.Row.{Row}
 use Rattle.gj_row.specs.declared.tableau.Tableau.{Tableau}
 use Rattle.gj_rule.specs.declared.kind.RuleKind.TheVariants as kind
@@ -78,11 +76,6 @@ named_line word columns t = word ++ (get_or columns t.column [] ++ (32 ∷ (frac
 -- column
 abbrev pub mixed_row_text : MixedLine → List ℕ
 mixed_row_text m = row_text m.line ++ flat_map weight_line m.weights
-
--- the rule makes cuts of rows with continuous columns: a function is minimal and continuous
-abbrev pub MakesMixedCuts : CutRule → Type 0
-MakesMixedCuts Gmic = Unit {0}
-MakesMixedCuts (Table f) = IsMinimal f × IsContinuous f
 
 -- the text has the lines of each row of the tableau, in their order; each cut holds at every
 -- solution of its row

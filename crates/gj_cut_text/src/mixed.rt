@@ -1,8 +1,9 @@
 //! Mixed cuts, printed.
 ghost use Rattle.std.specs.Prelude.{◌≡◌, ◌++◌, IfOk, OnOk, length};
 ghost use Rattle.gj_row.specs.TableauLimits.{IsTableau};
+ghost use Rattle.gj_proof.specs.CutRules.{MakesContinuousCuts};
 ghost use Rattle.gj_proof.specs.ProofText.{IsBoundedRule};
-ghost use Rattle.gj_cut_text.specs.MixedLines.{AreInColumns, AreMixedCutsOf, MakesMixedCuts};
+ghost use Rattle.gj_cut_text.specs.MixedLines.{AreInColumns, AreMixedCutsOf};
 ghost use Rattle.gj_cut_text.specs.MixedLines.{NamesMixedCut, mixed_row_text};
 ghost use Rattle.gj_cut_text.specs.declared.mixed_lines.MixedLine.{MixedLine};
 
@@ -20,7 +21,7 @@ use std::alloc::{AllocError, Global};
 /// A function is minimal and continuous. The only error is want of memory.
 pub fn mixed_text(alloc: Global, rule: &CutRule, tableau: &Tableau) -> Result<Vec<u8>, AllocError>
     requires bounded { IsBoundedRule rule.now }
-    requires makes { MakesMixedCuts rule.now }
+    requires makes { MakesContinuousCuts rule.now }
     requires tableau { IsTableau tableau.now }
     ensures { IfOk result (λ text. AreMixedCutsOf rule.now tableau.now text.items) }
 {

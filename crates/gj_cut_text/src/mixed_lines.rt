@@ -8,9 +8,10 @@ ghost use Rattle.gj_row.specs.TableauLimits.{IsTableau, IsRowWithinLimits};
 ghost use Rattle.gj_rule.specs.Kept.{Evaluates};
 ghost use Rattle.gj_rule.specs.declared.kind.RuleKind.TheVariants as kind;
 ghost use Rattle.gj_mixed.specs.Slopes.{AreSlopesAtZero, IsSlope, IsWeight, Weighs};
+ghost use Rattle.gj_proof.specs.CutRules.{MakesContinuousCuts};
 ghost use Rattle.gj_proof.specs.ProofText.{IsBoundedRule};
 ghost use Rattle.gj_proof.specs.declared.cut.CutRule.TheVariants.{Gmic, Table};
-ghost use Rattle.gj_cut_text.specs.MixedLines.{AppendsLines, MakesMixedCuts};
+ghost use Rattle.gj_cut_text.specs.MixedLines.{AppendsLines};
 
 use crate::columns::continuous_columns;
 use crate::mixed::push_cut;
@@ -43,7 +44,7 @@ pub(crate) fn push_mixed_lines(
     tableau: &Tableau,
 ) -> Result<(), AllocError>
     requires bounded { IsBoundedRule rule.now }
-    requires makes { MakesMixedCuts rule.now }
+    requires makes { MakesContinuousCuts rule.now }
     requires tableau { IsTableau tableau.now }
     ensures { OnOk result (AppendsLines rule.now tableau.now.columns tableau.now.rows
         out.old.items out.new.items) }

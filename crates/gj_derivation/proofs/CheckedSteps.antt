@@ -1,68 +1,76 @@
 -- What a check answers of a step.
-use Rattle.std.proofs.Common.{◌≡◌, inr, ℕ, List, None, pos, ◌<ℤ◌, refl, sym, ap, ap₂, subst, subst₂}
+use Rattle.std.proofs.Common.{◌≡◌, ⊎_elim, inr, Option, Some, None, IfSome, pos, ◌<ℤ◌, sym, subst}
 use Rattle.gj_frac.specs.declared.Frac.{Frac}
 use Rattle.gj_frac.specs.Fraction.{numerator}
-use Rattle.gj_problem.specs.Rational.{Rational, rational, ◌+ℚ◌, ◌*ℚ◌}
-use Rattle.gj_problem.specs.declared.problem.Column.{Column}
+use Rattle.gj_shape.specs.FunctionData.{FunctionData, IsWithinBounds}
+use Rattle.gj_problem.specs.Rational.{rational, ◌≤ℚ◌}
+use Rattle.gj_problem.specs.declared.problem.Inequality.{Inequality}
 use Rattle.gj_problem.specs.declared.problem.Problem.{Problem}
 use Rattle.gj_problem.specs.declared.sums.Sum.{Sum}
-use Rattle.gj_problem.specs.Rows.{dot}
+use Rattle.gj_derivation.specs.declared.base.Base.TheVariants as base
+use Rattle.gj_derivation.specs.declared.moves.Moved.{Moved}
 use Rattle.gj_derivation.specs.declared.moves.Moved.TheVariants as moved
+use Rattle.gj_derivation.specs.declared.step.Combination.{Combination}
 use Rattle.gj_derivation.specs.declared.step.Step.{Step}
 use Rattle.gj_derivation.specs.declared.step.StepRule.{StepRule}
-use Rattle.gj_derivation.specs.declared.step.StepRule.TheVariants.{Linear}
-use Rattle.gj_derivation.specs.Moves.{AreMovedBy}
-use Rattle.gj_derivation.specs.Derivations.{Line, unit, coefficient_in, added, added_coefficient, added_right, IsBase, AreWholeTerms, IsRightFor, IsShown}
-use Rattle.gj_derivation.specs.Checks.{IsSumOf, IsFirstUnmovable, IsMovedRight, line_of_sum, scaled, claimed_at, IsWideMoving, IsWideStep}
+use Rattle.gj_derivation.specs.declared.step.Verdict.{Verdict}
+use Rattle.gj_derivation.specs.declared.step.Verdict.TheVariants.{Accepted, Right, Wide}
+use Rattle.gj_derivation.specs.Derivations.{Line, coefficient_in, times, IsUsable, HasFunctionFor, IsRightOf, IsShown}
+use Rattle.gj_derivation.specs.Checks.{line_of_sum, IsBaseOf, IsFirstUnmovable, IsMovedRight, IsWideFor, IsVerdict, IsCompared}
 
--- the claimed coefficients are those of the claim
-abbrev pub AreClaimed : Step → List Frac → Type 0
-AreClaimed s claimed = (j : ℕ) → dot claimed (unit j) ≡ coefficient_in s.claim.entries j
+-- ---- functions
 
-abbrev compared : Problem → Step → ℕ → Rational
-compared p s i = rational s.factor *ℚ added_coefficient p s.multipliers i
+pub usable_function : (f : Option FunctionData) (rule : StepRule) → IfSome f IsWithinBounds →
+    HasFunctionFor f rule → IfSome f IsUsable
+usable_function None rule bounds h = tt
+usable_function (Some f) rule bounds h = record { bounds = bounds; minimal = h.0; continuous = h.1 }
 
-scaled_is : (p : Problem) (s : Step) (sum : Sum) → IsSumOf p s.multipliers sum → scaled s.factor sum ≡ compared p s
-scaled_is p s sum h = λ k j. ap (λ w. rational s.factor *ℚ w) (h.coefficients j) k
+-- ---- verdicts
 
-claims_are : (s : Step) (claimed : List Frac) → AreClaimed s claimed → claimed_at claimed ≡ coefficient_in s.claim.entries
-claims_are s claimed h = λ k j. h j k
+-- the step that claims this of a combination
+abbrev pub step_of : Combination → Inequality → Step
+step_of c q = record { combination = c; claim = q }
 
-pub stuck_step : (p : Problem) (s : Step) (sum : Sum) (claimed : List Frac) (columns : List Column) (j : ℕ) → columns ≡ p.columns →
-    IsSumOf p s.multipliers sum → AreClaimed s claimed → IsFirstUnmovable columns (scaled s.factor sum) (claimed_at claimed) j →
-    IsFirstUnmovable p.columns (λ i. rational s.factor *ℚ added_coefficient p s.multipliers i) (coefficient_in s.claim.entries) j
-stuck_step p s sum claimed columns j are h claims stuck =
-    subst (λ (cs : List Column). IsFirstUnmovable cs (compared p s) (coefficient_in s.claim.entries) j) are
-    (subst₂ (λ (xs ys : ℕ → Rational). IsFirstUnmovable columns xs ys j) (scaled_is p s sum h) (claims_are s claimed claims) stuck)
+module _ (f : Option FunctionData) (p : Problem) (c : Combination) (q : Inequality) (sum : Sum)
+    (made : IsBaseOf f p c (base.Line sum)) where
+  pub shown_by : (b : Frac) → pos 0 <ℤ numerator c.factor →
+      IsMovedRight p.columns c.factor (line_of_sum sum) (coefficient_in q.entries) (moved.Right b) →
+      IsShown f p (step_of c q) (rational b)
+  shown_by b positive h = record {
+    base = made.0;
+    base_is = made.1;
+    factor_positive = positive;
+    right_is = subst (λ (l : Line). IsRightOf p.columns c.factor l (coefficient_in q.entries)
+        (rational b)) made.2.same h;
+  }
 
-pub shown_step : (p : Problem) (s : Step) (sum : Sum) (claimed : List Frac) (columns : List Column) (b : Frac) → columns ≡ p.columns →
-    s.rule ≡ Linear → pos 0 <ℤ numerator s.factor → IsSumOf p s.multipliers sum → AreClaimed s claimed →
-    IsMovedRight columns s.factor sum claimed (moved.Right b) → IsShown None p s (rational b)
-shown_step p s sum claimed columns b are linear positive h claims (total, moves, right) =
-    let ys = coefficient_in s.claim.entries in
-    record {
-      base = added p s.multipliers;
-      base_is = subst (λ (rule : StepRule). IsBase rule None p s (added p s.multipliers)) (sym linear) (h.signed, refl);
-      factor_positive = positive;
-      shift = total;
-      moved = subst (λ (cs : List Column). AreMovedBy cs (compared p s) ys total) are
-          (subst₂ (λ (xs zs : ℕ → Rational). AreMovedBy columns xs zs total) (scaled_is p s sum h) (claims_are s claimed claims) moves);
-      right_is = subst (λ (cs : List Column). IsRightFor (AreWholeTerms cs ys) (rational s.factor *ℚ added_right p s.multipliers +ℚ total) (rational b)) are
-          (subst₂ (λ (w : Rational) (zs : ℕ → Rational). IsRightFor (AreWholeTerms columns zs) (rational s.factor *ℚ w +ℚ total) (rational b))
-          h.right (claims_are s claimed claims) right);
-    }
+  pub verdict_from : (m : Moved) (v : Verdict) → pos 0 <ℤ numerator c.factor →
+      IsMovedRight p.columns c.factor (line_of_sum sum) (coefficient_in q.entries) m →
+      IsCompared m q.right v → IsVerdict f p (step_of c q) v
+  verdict_from (moved.Bound j) v positive h is =
+      subst (λ (w : Verdict). IsVerdict f p (step_of c q) w) (sym is) (
+        made.0,
+        made.1,
+        subst (λ (l : Line). IsFirstUnmovable p.columns (times c.factor l)
+            (coefficient_in q.entries) j) made.2.same h,
+      )
+  verdict_from (moved.Right b) v positive h is =
+      ⊎_elim
+      (λ (k : (v ≡ Accepted) × (rational q.right ≤ℚ rational b)).
+      subst (λ (w : Verdict). IsVerdict f p (step_of c q) w) (sym k.0) (
+        rational b,
+        shown_by b positive h,
+        k.1,
+      ))
+      (λ (k : (v ≡ Right b) × (rational q.right ≤ℚ rational b → ⊥)).
+      subst (λ (w : Verdict). IsVerdict f p (step_of c q) w) (sym k.0) (shown_by b positive h, k.1))
+      is
 
-line_is : (p : Problem) (s : Step) (sum : Sum) → IsSumOf p s.multipliers sum → line_of_sum sum ≡ added p s.multipliers
-line_is p s sum h =
-    let line : (ℕ → Rational) → Rational → Line = λ xs r. record { coefficient = xs; right = r } in
-    let same : (line_of_sum sum).coefficient ≡ added_coefficient p s.multipliers = λ k j. h.coefficients j k in
-    ap₂ line same h.right
-
-pub wide_step : (p : Problem) (s : Step) (sum : Sum) (claimed : List Frac) (columns : List Column) → columns ≡ p.columns →
-    IsSumOf p s.multipliers sum → AreClaimed s claimed → IsWideMoving columns s.factor (line_of_sum sum) (claimed_at claimed) → IsWideStep p s
-wide_step p s sum claimed columns are h claims wide =
-    inr (
-      h.signed,
-      inr (subst (λ (cs : List Column). IsWideMoving cs s.factor (added p s.multipliers) (coefficient_in s.claim.entries)) are
-          (subst₂ (λ (l : Line) (ys : ℕ → Rational). IsWideMoving columns s.factor l ys) (line_is p s sum h) (claims_are s claimed claims) wide)),
-    )
+  pub wide_for : IsWideFor p.columns c.factor (line_of_sum sum) q.entries →
+      IsVerdict f p (step_of c q) Wide
+  wide_for wide = inr (
+    made.0,
+    made.1,
+    subst (λ (l : Line). IsWideFor p.columns c.factor l
+        q.entries) made.2.same wide,
+  )

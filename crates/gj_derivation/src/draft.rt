@@ -1,7 +1,7 @@
 //! Steps whose claims may be left open.
 use crate::step::{Combination, Step, Verdict};
 use crate::steps::Failure;
-use gj_problem::{Entry, Inequality};
+use gj_problem::{Entry, Inequality, Problem};
 use gj_shape::List;
 
 /// What a draft says of its claim.
@@ -24,6 +24,15 @@ pub struct Draft {
     pub claim: Claim,
 }
 
+/// A claim that is found, or what stands against it.
+#[derive(Drop)]
+pub(crate) enum Filled {
+    /// The claim.
+    Claim(Inequality),
+    /// What stands against it. It is not `Accepted`.
+    Against(Verdict),
+}
+
 /// The step of a draft, or what stands against it.
 #[derive(Drop)]
 pub enum Shown {
@@ -42,4 +51,14 @@ pub enum Derived {
     Lost(usize),
     /// The claim of this draft is given, and it does not follow.
     Failed(Failure),
+}
+
+/// What drafts have reached: the problem with the claims that they show, and where the lines that
+/// drafts name are among its constraints.
+#[derive(Drop)]
+pub(crate) struct Reached {
+    /// The problem.
+    pub(crate) problem: Problem,
+    /// For each line that drafts may name its constraint, or nothing if it is left out.
+    pub(crate) lines: List<Option<usize>>,
 }

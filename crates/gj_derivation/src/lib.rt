@@ -7,12 +7,14 @@
 //! leave its claim open, and [`derived_steps`] finds it.
 #![tactic(auto)]
 
+mod base;
 mod check;
 mod derive;
 mod draft;
 mod moves;
 mod step;
 mod steps;
+mod terms;
 pub mod theorems;
 
 pub use check::check_step;

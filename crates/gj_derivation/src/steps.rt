@@ -5,7 +5,7 @@ ghost use Rattle.gj_problem.specs.Problems.{Holds};
 ghost use Rattle.gj_derivation.specs.Derivations.{with_claim, IsDerivation, IsReadyStep};
 ghost use Rattle.gj_derivation.specs.StepLists.{IsWideFailure, IsChecked};
 
-use crate::check::check_step;
+use crate::check::{check_step, read_bounds};
 use crate::step::{Step, Verdict};
 use gj_problem::{Constraint, Inequality, Problem, Sense};
 use gj_shape::{List, Shape};
@@ -41,13 +41,15 @@ pub fn check_steps(
     problem: Problem,
     steps: &[Step],
 ) -> Result<Checked, AllocError>
-    requires ready { All (IsReadyStep (option_copied function)) steps.now }
-    ensures is { IfOk result (IsChecked (option_copied function) problem steps.now) }
-    ensures exact { IfOk result (λ c. IsDerivation (option_copied function) problem steps.now →
+    requires { All (IsReadyStep (option_copied function)) steps.now }
+    ensures is { IfOk result (IsChecked (option_copied function.entry) problem steps.now) }
+    ensures exact { IfOk result (λ c.
+        IsDerivation (option_copied function.entry) problem steps.now →
         (c ≡ Checked.Accepted) ⊎ IsWideFailure c) }
     ensures holds { IfOk result (λ c. c ≡ Checked.Accepted →
         All (λ s. Holds problem s.claim) steps.now) }
 {
+    read_bounds(function);
     let mut grown = problem;
     for (i, step) in steps.iter().enumerate() {
         match check_step(alloc, function, &grown, step)? {
@@ -60,7 +62,11 @@ pub fn check_steps(
 }
 
 /// The problem with the claim as one more constraint.
-fn grown_by(alloc: Global, problem: Problem, claim: &Inequality) -> Result<Problem, AllocError>
+pub(crate) fn grown_by(
+    alloc: Global,
+    problem: Problem,
+    claim: &Inequality,
+) -> Result<Problem, AllocError>
     ensures { IfOk result (λ grown. grown ≡ with_claim problem claim.now) }
 {
     let entries = Vec::from_slice(alloc, claim.entries.as_slice())?;

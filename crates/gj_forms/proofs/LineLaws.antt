@@ -1,15 +1,16 @@
 -- The lines of a form: the words of a line spell one thing or break the form for one reason, and
 -- what is printed is read again as the same.
-use Rattle.std.proofs.Common.{◌≡◌, ◌≢◌, inl, inr, ℕ, List, [], ◌∷◌, ◌++◌, refl, sym, ap, subst, ◌∙◌}
+use Rattle.std.proofs.Common.{◌≡◌, ◌≢◌, inl, inr, ℕ, List, [], ◌∷◌, ◌++◌, All, length, flat_map, refl, sym, ap, ap₂, subst, ◌∙◌, arith}
 use Rattle.std.specs.List.{join_with_byte}
-use Rattle.std.proofs.lemmas.List.{append_assoc}
+use Rattle.std.proofs.lemmas.List.{append_assoc, length-append}
+use Rattle.std.proofs.lemmas.List.Elements.{All-head, All-tail}
 use Rattle.gj_lex.specs.declared.spelling.Spelling.TheVariants.{Strict}
 use Rattle.gj_lex.specs.declared.reason.Reason.{Reason}
 use Rattle.gj_lex.specs.declared.reason.Reason.TheVariants as reason
 use Rattle.gj_forms.specs.TextLines.{HasStrictLine}
 use Rattle.gj_forms.specs.Parts.{BeginsWithWord, line_part, IsExactRule, IsExactPart}
 use Rattle.gj_forms.proofs.PartLaws.{line_part_is_exact}
-use Rattle.gj_forms.proofs.StrictLines.{plain_line}
+use Rattle.gj_forms.proofs.StrictLines.{one_strict_line, plain_line}
 use Rattle.gj_forms.specs.LineForms.{Field, words_of, with_numbers, bytes_of, LineForm, line_of, AreOfForm, BreaksForm, rule_of}
 use Rattle.gj_forms.proofs.WhereLaws.{other_word}
 use Rattle.gj_forms.specs.ListParts.{IsPrinted}
@@ -71,6 +72,28 @@ module _ {A : Type 0} (form : LineForm A) (clear : IsClear form) where
   -- the line of a thing is a strict line of its words
   pub strict_line : (a : A) (rest : List ℕ) → form.HasLine a → HasStrictLine (line_of form a ++ rest) (words_of (form.fields a)) rest
   strict_line a rest has = strict_fields (form.fields a) rest (clear.good a has)
+
+  no_bytes : (a : A) (rest : List ℕ) → form.HasLine a → [] ≡ line_of form a ++ rest → ⊥
+  no_bytes a rest has e =
+      let spelled = e ∙ (strict_line a rest has).spelled in
+      omega (arith, ap length spelled, length-append (join_with_byte 32 (words_of (form.fields a))) (10 ∷ rest))
+
+  -- things whose lines have the same bytes are the same
+  pub same_lines : (ls ms : List A) → All form.HasLine ls → All form.HasLine ms →
+      flat_map (line_of form) ls ≡ flat_map (line_of form) ms → ls ≡ ms
+  same_lines [] [] g h e = refl
+  same_lines [] (m ∷ ms) g h e = absurd (no_bytes m (flat_map (line_of form) ms) (All-head form.HasLine m ms h) e)
+  same_lines (l ∷ ls) [] g h e = absurd (no_bytes l (flat_map (line_of form) ls) (All-head form.HasLine l ls g) (sym e))
+  same_lines (l ∷ ls) (m ∷ ms) g h e =
+      let has = All-head form.HasLine l ls g in
+      let also = All-head form.HasLine m ms h in
+      let more = flat_map (line_of form) ls in
+      let others = flat_map (line_of form) ms in
+      let both = one_strict_line (line_of form l ++ more) (words_of (form.fields l)) (words_of (form.fields m)) more others
+      (strict_line l more has)
+      (subst (λ t. HasStrictLine t (words_of (form.fields m)) others) (sym e) (strict_line m others also)) in
+      ap₂ (λ k ks. k ∷ ks) (clear.one l m has also both.0)
+      (same_lines ls ms (All-tail form.HasLine l ls g) (All-tail form.HasLine m ms h) both.1)
 
   -- it is read as the thing
   pub line_is_read : (a : A) (rest : List ℕ) → form.HasLine a → (line_part Strict (rule_of form)).Reads (line_of form a ++ rest) a rest

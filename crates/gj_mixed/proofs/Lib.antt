@@ -4,3 +4,4 @@ pub mod WholeColumns
 pub mod Amounts
 pub mod SlopeParts
 pub mod MixedTerms
+pub mod OneSlopes

@@ -1,18 +1,14 @@
 -- What is known of the bytes read so far.
 use Rattle.std.proofs.Common.{◌≡◌, ℕ, ◌+◌, ◌≤◌, List, [], ◌++◌, length, take, drop, sym, ap, ◌∙◌, arith, Vec}
-use Rattle.std.proofs.Common.{Option, None, Some, Ok, IfSome, length-append, length-drop}
+use Rattle.std.proofs.Common.{Option, None, Some, Result, Ok, Err, IfSome, Bool, true, false, length-append, length-drop, refl}
 use Rattle.std.proofs.lemmas.List.{length-take-le, drop-drop, take_all}
 use Rattle.std.proofs.Math.Seq.{take-add}
+use Rattle.std.specs.Result.{IsErrAnd}
 use Rattle.std.specs.declared.alloc.Global.{Global}
 use Rattle.gj_port.specs.Source.{Reads}
-use Rattle.gj_port.specs.Whole.{TakesAll}
+use Rattle.gj_port.specs.Whole.{IsRead, ReadsOn, TakesAll}
+use Rattle.gj_port.specs.declared.fault.ReadError.{ReadError}
 use Rattle.gj_port.specs.declared.fault.Failed.{Failed}
-
--- these bytes were read from the front of all of them, and the rest is left
-pub record IsRead (all bytes : List ℕ) (left : Option (List ℕ)) : Type 0 where
-  pub within : length bytes ≤ length all
-  pub front : take (length bytes) all ≡ bytes
-  pub rest : left ≡ Some (drop (length bytes) all)
 
 -- after a further piece of the rest
 read_piece :
@@ -56,3 +52,51 @@ read_end (Some all) (Some rest) after bytes buf limit n so_far told none =
     let short : length all ≤ length bytes.items =
     omega (arith, length-drop (length bytes.items) all, ap length (sym same ∙ empty)) in
     (sym so_far.front ∙ take_all (length bytes.items) all short, told.2 ∙ rw (none, empty))
+
+-- ---- reading in two turns
+
+-- the first begins with no bytes
+pub first_told :
+    (start after : Option (List ℕ)) (limit : ℕ) (items : List ℕ) (bytes : Vec ℕ Global)
+    (r : Result Bool ReadError) → items ≡ []
+    → ((all : List ℕ) → IsRead all items start → ReadsOn limit all bytes after r)
+    → IfSome start (λ all. ReadsOn limit all bytes after r)
+first_told None after limit items bytes r none told = tt
+first_told (Some all) after limit items bytes r none told =
+    told all (rw none (record { within = omega arith; front = refl; rest = refl }))
+
+-- the second goes on with those of the first, if that one did not come to the end
+pub second_told :
+    (start left after : Option (List ℕ)) (limit : ℕ) (before bytes : Vec ℕ Global)
+    (r : Result Bool ReadError) (ended : Bool) → ended ≡ false
+    → IfSome start (λ all. ReadsOn limit all before left (Ok ended))
+    → ((all : List ℕ) → IsRead all before.items left → ReadsOn limit all bytes after r)
+    → IfSome start (λ all. ReadsOn limit all bytes after r)
+second_told None left after limit before bytes r ended is so_far told = tt
+second_told (Some all) left after limit before bytes r false is so_far told = told all so_far
+second_told (Some all) left after limit before bytes r true is so_far told =
+    let no : true ≡ false = is in absurd (cc)
+
+-- a turn that came to the end
+pub last_told :
+    (start after : Option (List ℕ)) (limit : ℕ) (bytes : Vec ℕ Global) (ended : Bool)
+    → IfSome start (λ all. ReadsOn limit all bytes after (Ok ended)) → ended ≡ true
+    → IfSome start (λ all. TakesAll limit all after (Ok bytes))
+last_told None after limit bytes ended told is = tt
+last_told (Some all) after limit bytes true told is = told
+last_told (Some all) after limit bytes false told is = let no : false ≡ true = is in absurd (cc)
+
+-- one that wants more than the limit comes to the end
+pub not_enough :
+    (n : ℕ) (ended : Bool) (limit : ℕ) → (ended ≡ false → limit + 1 ≤ n) → n ≤ limit → ended ≡ true
+not_enough n true limit enough within = refl
+not_enough n false limit enough within = absurd (omega (arith, enough refl))
+
+-- the exit of a `?` hands on the error
+pub handed_on :
+    (start after : Option (List ℕ)) (limit : ℕ) (bytes : Vec ℕ Global) (e : ReadError)
+    (r : Result (Vec ℕ Global) ReadError) → IfSome start (λ all. ReadsOn limit all bytes after (Err e))
+    → IsErrAnd r (λ x. x ≡ e) → IfSome start (λ all. TakesAll limit all after r)
+handed_on None after limit bytes e r told is = tt
+handed_on (Some all) after limit bytes e (Ok taken) told is = absurd is
+handed_on (Some all) after limit bytes e (Err x) told is = rw is told

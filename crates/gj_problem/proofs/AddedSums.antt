@@ -83,7 +83,7 @@ no_point x = by_ring_q (x ∷ []) (search ring_q depth 30) refl
 set_first : (c x v d : Rational) → (c +ℚ x) *ℚ v +ℚ d ≡ (c *ℚ v +ℚ d) +ℚ x *ℚ v
 set_first c x v d = by_ring_q (c ∷ x ∷ v ∷ d ∷ []) (search ring_q depth 30) refl
 
-dot_set : (cs : List Frac) (point : List Rational) (j : ℕ) (d e : Frac) (x : Rational) → j < length cs →
+pub dot_set : (cs : List Frac) (point : List Rational) (j : ℕ) (d e : Frac) (x : Rational) → j < length cs →
     rational e ≡ rational (get_or cs j d) +ℚ x → dot (slice_set cs j e) point ≡ dot cs point +ℚ x *ℚ value_at point j
 dot_set [] point j d e x below is = absurd (omega arith)
 dot_set (c ∷ cs) [] zero d e x below is = no_point x

@@ -14,5 +14,6 @@ pub mod GridParts
 pub mod Terms
 pub mod MovedEntries
 pub mod OneRow
+pub mod OnePieces
 pub mod WideRoundings
 pub mod WideScales

@@ -1,5 +1,6 @@
 -- What items make, and sums of pieces.
 use Rattle.std.proofs.Common.{◌≡◌, ⊎_elim, inl, inr, List, [], ◌∷◌, ◌++◌, All, refl, sym, ap, subst, ◌∙◌}
+use Rattle.std.specs.List.{AllZip}
 use Rattle.std.proofs.lemmas.List.Elements.{All-nil, All-cons, All-head, All-tail}
 use Rattle.gj_problem.specs.Rational.{Rational, rational, ◌+ℚ◌, ◌*ℚ◌}
 use Rattle.gj_problem.proofs.RationalLaws.{zero_add_q, add_assoc_q}
@@ -54,6 +55,15 @@ none_from_made P M Q (y ∷ xs) ps h pass step =
     (λ (k : P y × AreMadeOf P M xs ps). All-cons Q y xs (pass y k.0) (none_from_made P M Q xs ps k.1 pass step))
     (λ (k : Made P M y xs ps). All-cons Q y xs (step y k.1 k.4) (none_from_made P M Q xs k.2 k.5 pass step))
     h
+
+-- ---- two lists
+
+pub zip_joined : {A B : Type 0} (R : A → B → Type 0) (xs xs' : List A) (ys ys' : List B) → AllZip R xs ys → AllZip R xs' ys' →
+    AllZip R (xs ++ xs') (ys ++ ys')
+zip_joined R [] xs' [] ys' h k = k
+zip_joined R [] xs' (y ∷ ys) ys' h k = absurd h
+zip_joined R (x ∷ xs) xs' [] ys' h k = absurd h
+zip_joined R (x ∷ xs) xs' (y ∷ ys) ys' h k = (h.0, zip_joined R xs xs' ys ys' h.1 k)
 
 -- ---- sums
 

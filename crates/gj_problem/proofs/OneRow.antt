@@ -1,5 +1,6 @@
 -- A problem and its multipliers have one sum, and either one right side or one first free column.
-use Rattle.std.proofs.Common.{◌≡◌, ⊎_elim, ℕ, List, [], ◌∷◌, ◌++◌, length, All, Bool, true, false, Option, Some, None, ℤ, pos, ◌-ℤ◌, ◌<ℤ◌, refl, sym, ap, ap₂, subst, ◌∙◌, arith}
+use Rattle.std.proofs.Common.{◌≡◌, ⊎_elim, ℕ, List, [], ◌∷◌, ◌++◌, length, All, Bool, true, false, Option, Some, None, ℤ, pos, ◌-ℤ◌, ◌<ℤ◌, refl, sym, ap, ap₂, subst, subst₂, ◌∙◌, arith}
+use Rattle.std.specs.List.{AllZip}
 use Rattle.std.proofs.lemmas.Int.{ints}
 use Rattle.std.proofs.lemmas.List.Elements.{All-head, All-tail}
 use Rattle.gj_frac.specs.declared.Frac.{Frac}
@@ -21,7 +22,7 @@ use Rattle.gj_problem.proofs.TurnedColumns.{none_free}
 
 -- ---- one sum
 
-rational_injective : (x y : Frac) → rational x ≡ rational y → x ≡ y
+pub rational_injective : (x y : Frac) → rational x ≡ rational y → x ≡ y
 rational_injective x y e = same_parts_same x y (ap (λ (q : Rational). q.top) e) (ap (λ (q : Rational). q.bottom) e)
 
 pub dot_none : (cs : List Frac) → dot cs [] ≡ whole (pos 0)
@@ -38,7 +39,7 @@ head_at : (c : Frac) (cs : List Frac) → dot (c ∷ cs) (whole (pos 1) ∷ []) 
 head_at c cs = ap (λ w. rational c *ℚ whole (pos 1) +ℚ w) (dot_none cs) ∙ one_time (rational c)
 
 -- sums that are equal at all points have equal coefficients
-same_coefficients : (cs ds : List Frac) → length cs ≡ length ds → ((point : List Rational) → dot cs point ≡ dot ds point) → cs ≡ ds
+pub same_coefficients : (cs ds : List Frac) → length cs ≡ length ds → ((point : List Rational) → dot cs point ≡ dot ds point) → cs ≡ ds
 same_coefficients [] [] n h = refl
 same_coefficients [] (d ∷ ds) n h = absurd (omega arith)
 same_coefficients (c ∷ cs) [] n h = absurd (omega arith)
@@ -54,7 +55,7 @@ turned_twice r = by_ring_q (r ∷ []) (search ring_q depth 40) refl
 right_at : (cs : List Frac) (r : Frac) → rational r ≡ whole (pos 0) -ℚ (dot cs [] -ℚ rational r)
 right_at cs r = turned_twice (rational r) ∙ ap (λ w. whole (pos 0) -ℚ (w -ℚ rational r)) (sym (dot_none cs))
 
-one_sum : (p : Problem) (ws : List Weighted) (cs ds : List Frac) (r s : Frac) → IsAggregate p ws cs r → IsAggregate p ws ds s →
+pub one_sum : (p : Problem) (ws : List Weighted) (cs ds : List Frac) (r s : Frac) → IsAggregate p ws cs r → IsAggregate p ws ds s →
     (cs ≡ ds) × (r ≡ s)
 one_sum p ws cs ds r s h k =
     let both : (point : List Rational) → dot cs point -ℚ rational r ≡ dot ds point -ℚ rational s = λ point. h.adds point ∙ sym (k.adds point) in
@@ -84,62 +85,86 @@ one_upper false u x y h k = ap rational (h ∙ sym k)
 
 -- ---- one turned column
 
--- the two pieces are equal at all points
-abbrev AreSame : Piece → Piece → Type 0
-AreSame s t = (point : List Rational) →
-    rational s.entry *ℚ surplus_at point s.inequality ≡ rational t.entry *ℚ surplus_at point t.inequality
+-- the two pieces have one entry, and their surpluses are equal at all points
+pub record IsSamePiece (s t : Piece) : Type 0 where
+  pub is_whole : s.is_whole ≡ t.is_whole
+  pub entry : s.entry ≡ t.entry
+  pub surplus : (point : List Rational) → surplus_at point s.inequality ≡ surplus_at point t.inequality
 
-same_from_lower : (h : Held) (l : Frac) (s t : Piece) → IsFromLower h l s → IsFromLower h l t → AreSame s t
-same_from_lower h l s t a b point =
-    ap₂ (λ v w. v *ℚ w) (a.entry_is ∙ sym b.entry_is)
-    (a.surplus_is point ∙ ap (λ w. value_at point h.index -ℚ w) (one_lower h.column.is_whole l a.bound b.bound a.bound_is b.bound_is)
-    ∙ sym (b.surplus_is point))
+same_from_lower : (h : Held) (l : Frac) (s t : Piece) → s.is_whole ≡ t.is_whole → IsFromLower h l s → IsFromLower h l t → IsSamePiece s t
+same_from_lower h l s t kind a b = record {
+  is_whole = kind;
+  entry = rational_injective s.entry t.entry (a.entry_is ∙ sym b.entry_is);
+  surplus = λ (point : List Rational).
+      a.surplus_is point
+      ∙ ap (λ w. value_at point h.index -ℚ w) (one_lower h.column.is_whole l a.bound b.bound a.bound_is b.bound_is)
+      ∙ sym (b.surplus_is point);
+}
 
-same_from_upper : (h : Held) (u : Frac) (s t : Piece) → IsFromUpper h u s → IsFromUpper h u t → AreSame s t
-same_from_upper h u s t a b point =
-    ap₂ (λ v w. v *ℚ w) (a.entry_is ∙ sym b.entry_is)
-    (a.surplus_is point ∙ ap (λ w. w -ℚ value_at point h.index) (one_upper h.column.is_whole u a.bound b.bound a.bound_is b.bound_is)
-    ∙ sym (b.surplus_is point))
+same_from_upper : (h : Held) (u : Frac) (s t : Piece) → s.is_whole ≡ t.is_whole → IsFromUpper h u s → IsFromUpper h u t → IsSamePiece s t
+same_from_upper h u s t kind a b = record {
+  is_whole = kind;
+  entry = rational_injective s.entry t.entry (a.entry_is ∙ sym b.entry_is);
+  surplus = λ (point : List Rational).
+      a.surplus_is point
+      ∙ ap (λ w. w -ℚ value_at point h.index) (one_upper h.column.is_whole u a.bound b.bound a.bound_is b.bound_is)
+      ∙ sym (b.surplus_is point);
+}
 
-same_turned : (h : Held) (lower upper : Option Frac) (up : Bool) (s t : Piece) → IsTurnedFrom h lower upper up s →
-    IsTurnedFrom h lower upper up t → AreSame s t
-same_turned h None None up s t a b = absurd a
-same_turned h None (Some u) up s t a b = same_from_upper h u s t a b
-same_turned h (Some l) None up s t a b = same_from_lower h l s t a b
-same_turned h (Some l) (Some u) true s t a b = same_from_upper h u s t a b
-same_turned h (Some l) (Some u) false s t a b = same_from_lower h l s t a b
+same_turned : (h : Held) (lower upper : Option Frac) (up : Bool) (s t : Piece) → s.is_whole ≡ t.is_whole →
+    IsTurnedFrom h lower upper up s → IsTurnedFrom h lower upper up t → IsSamePiece s t
+same_turned h None None up s t kind a b = absurd a
+same_turned h None (Some u) up s t kind a b = same_from_upper h u s t kind a b
+same_turned h (Some l) None up s t kind a b = same_from_lower h l s t kind a b
+same_turned h (Some l) (Some u) true s t kind a b = same_from_upper h u s t kind a b
+same_turned h (Some l) (Some u) false s t kind a b = same_from_lower h l s t kind a b
+
+one_turned : (h : Held) (s t : Piece) → IsTurned h s → IsTurned h t → IsSamePiece s t
+one_turned h s t a b =
+    same_turned h h.column.lower h.column.upper h.at_upper s t (a.is_whole ∙ sym b.is_whole) a.turned b.turned
 
 -- ---- one row
 
-same_bounds : (hs : List Held) (ps qs : List Piece) → AreMadeOf IsLeftOut IsTurned hs ps → AreMadeOf IsLeftOut IsTurned hs qs →
-    (point : List Rational) → pieces_at point ps ≡ pieces_at point qs
-same_bounds [] ps qs a b point = ap (pieces_at point) (a ∙ sym b)
-same_bounds (h ∷ hs) ps qs a b point =
+-- what the items make is one list, but for what does not matter
+pub made_same : {A : Type 0} (P : A → Type 0) (M : A → Piece → Type 0) → ((x : A) (s t : Piece) → M x s → M x t → IsSamePiece s t) →
+    (xs : List A) (ps qs : List Piece) → AreMadeOf P M xs ps → AreMadeOf P M xs qs → AllZip IsSamePiece ps qs
+made_same P M one [] ps qs a b = subst₂ (λ (us vs : List Piece). AllZip IsSamePiece us vs) (sym a) (sym b) tt
+made_same P M one (x ∷ xs) ps qs a b =
     ⊎_elim
-    (λ (k : IsLeftOut h × AreMadeOf IsLeftOut IsTurned hs ps).
+    (λ (k : P x × AreMadeOf P M xs ps).
     ⊎_elim
-    (λ (l : IsLeftOut h × AreMadeOf IsLeftOut IsTurned hs qs). same_bounds hs ps qs k.1 l.1 point)
-    (λ (l : Made IsLeftOut IsTurned h hs qs). absurd (l.0 k.0)) b)
-    (λ (k : Made IsLeftOut IsTurned h hs ps).
+    (λ (l : P x × AreMadeOf P M xs qs). made_same P M one xs ps qs k.1 l.1)
+    (λ (l : Made P M x xs qs). absurd (l.0 k.0)) b)
+    (λ (k : Made P M x xs ps).
     ⊎_elim
-    (λ (l : IsLeftOut h × AreMadeOf IsLeftOut IsTurned hs qs). absurd (k.0 l.0))
-    (λ (l : Made IsLeftOut IsTurned h hs qs).
-    ap (pieces_at point) k.3
-    ∙ ap₂ (λ v w. v +ℚ w) (same_turned h h.column.lower h.column.upper h.at_upper k.1 l.1 k.4.turned l.4.turned point)
-    (same_bounds hs k.2 l.2 k.5 l.5 point)
-    ∙ ap (pieces_at point) (sym l.3)) b)
+    (λ (l : P x × AreMadeOf P M xs qs). absurd (k.0 l.0))
+    (λ (l : Made P M x xs qs).
+    subst₂ (λ (us vs : List Piece). AllZip IsSamePiece us vs) (sym k.3) (sym l.3)
+    (one x k.1 l.1 k.4 l.4, made_same P M one xs k.2 l.2 k.5 l.5)) b)
     a
+
+same_sum : (point : List Rational) (ps qs : List Piece) → AllZip IsSamePiece ps qs → pieces_at point ps ≡ pieces_at point qs
+same_sum point [] [] h = refl
+same_sum point [] (t ∷ qs) h = absurd h
+same_sum point (s ∷ ps) [] h = absurd h
+same_sum point (s ∷ ps) (t ∷ qs) h =
+    ap₂ (λ v w. v +ℚ w) (ap₂ (λ (e : Frac) (v : Rational). rational e *ℚ v) h.0.entry (h.0.surplus point)) (same_sum point ps qs h.1)
+
+pub one_bounds : (p : Problem) (ms : List Frac) (ups : List Bool) (ps qs : List Piece) (r s : Frac) (row : IsRow p ms ups ps r)
+    (other : IsRow p ms ups qs s) → AllZip IsSamePiece row.bounds other.bounds
+one_bounds p ms ups ps qs r s row other =
+    let same = one_sum p (weighted ms p.constraints) row.coefficients other.coefficients row.against other.against row.sum other.sum in
+    let made : AreMadeOf IsLeftOut IsTurned (held 0 p.columns other.coefficients ups) row.bounds =
+    subst (λ (cs : List Frac). AreMadeOf IsLeftOut IsTurned (held 0 p.columns cs ups) row.bounds) same.0 row.bounds_are in
+    made_same IsLeftOut IsTurned one_turned (held 0 p.columns other.coefficients ups) row.bounds other.bounds made other.bounds_are
 
 pub one_right : (p : Problem) (ms : List Frac) (ups : List Bool) (ps qs : List Piece) (r s : Frac) → IsRow p ms ups ps r → IsRow p ms ups qs s →
     r ≡ s
 one_right p ms ups ps qs r s row other =
     let same = one_sum p (weighted ms p.constraints) row.coefficients other.coefficients row.against other.against row.sum other.sum in
-    let made : AreMadeOf IsLeftOut IsTurned (held 0 p.columns other.coefficients ups) row.bounds =
-    subst (λ (cs : List Frac). AreMadeOf IsLeftOut IsTurned (held 0 p.columns cs ups) row.bounds) same.0 row.bounds_are in
     rational_injective r s
     (row.right_is
-    ∙ ap₂ (λ v w. v +ℚ w) (ap rational same.1)
-    (same_bounds (held 0 p.columns other.coefficients ups) row.bounds other.bounds made other.bounds_are [])
+    ∙ ap₂ (λ v w. v +ℚ w) (ap rational same.1) (same_sum [] row.bounds other.bounds (one_bounds p ms ups ps qs r s row other))
     ∙ sym other.right_is)
 
 -- ---- no free column

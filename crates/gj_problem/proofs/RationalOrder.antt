@@ -4,7 +4,7 @@ use Rattle.std.proofs.lemmas.Int.{ints}
 use Rattle.gj_lemmas.proofs.Integers.{mul_positive_z, mul_nonnegative_z, mul_le_cancel_right_z, one_mul_z}
 use Rattle.gj_lemmas.proofs.Ring.{by_ring, ring}
 use Rattle.gj_problem.specs.Rational.{Rational, whole, ◌+ℚ◌, ◌*ℚ◌, neg_ℚ, ◌-ℚ◌, ◌≤ℚ◌}
-use Rattle.gj_problem.proofs.RationalLaws.{sum_is, product_is, whole_sub}
+use Rattle.gj_problem.proofs.RationalLaws.{equal_q, sum_is, product_is, whole_sub}
 use Rattle.gj_problem.proofs.RationalRing.{by_ring_q, ring_q}
 
 -- x is at least 0
@@ -109,6 +109,19 @@ at_most_from_difference x y h =
     sign_from (y.top *ℤ x.bottom -ℤ x.top *ℤ y.bottom) (y.bottom *ℤ n.bottom *ℤ x.bottom) d.top (n.bottom *ℤ d.bottom)
     (mul_positive_z n.bottom d.bottom n.reduced.positive d.reduced.positive) (omega (arith, ints)) (sym (difference_over x y)) h.low in
     record { crosswise = omega (arith, ints) }
+
+in_between : (x y z : Rational) → (z -ℚ y) +ℚ (y -ℚ x) ≡ z -ℚ x
+in_between x y z = by_ring_q (x ∷ y ∷ z ∷ []) (search ring_q depth 40) refl
+
+pub at_most_trans : (x y z : Rational) → x ≤ℚ y → y ≤ℚ z → x ≤ℚ z
+at_most_trans x y z h k =
+    at_most_from_difference x z
+    (subst IsNonnegativeQ (in_between x y z)
+    (nonnegative_add _ _ (difference_nonnegative y z k) (difference_nonnegative x y h)))
+
+pub at_most_both : (x y : Rational) → x ≤ℚ y → y ≤ℚ x → x ≡ y
+at_most_both x y h k =
+    equal_q x y (let a = h.crosswise in let b = k.crosswise in omega (arith, ints))
 
 -- ---- multiples
 

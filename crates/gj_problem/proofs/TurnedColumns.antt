@@ -1,5 +1,5 @@
 -- Columns turned to their bounds: what they add to a sum, and that they hold.
-use Rattle.std.proofs.Common.{◌≡◌, ◌⊎◌, ⊎_elim, inl, inr, ℕ, zero, suc, ◌+◌, ◌<◌, List, [], ◌∷◌, length, get_or, All, Bool, true, false, Option, Some, None, IsTrue, ℤ, pos, negsuc, ◌+ℤ◌, ◌-ℤ◌, ◌≤ℤ◌, ◌<ℤ◌, refl, sym, ap, ap₂, subst, ◌∙◌, arith, rules}
+use Rattle.std.proofs.Common.{◌≡◌, ◌⊎◌, ⊎_elim, inl, inr, ℕ, suc, ◌+◌, ◌<◌, List, [], ◌∷◌, length, get_or, All, Bool, true, false, Option, Some, None, IsTrue, ℤ, pos, negsuc, ◌+ℤ◌, ◌-ℤ◌, ◌≤ℤ◌, ◌<ℤ◌, refl, sym, ap, ap₂, subst, ◌∙◌, arith, rules}
 use Rattle.std.specs.List.{AllZip}
 use Rattle.std.proofs.lemmas.Int.{ints}
 use Rattle.std.proofs.lemmas.List.Elements.{All-nil, All-cons}
@@ -21,6 +21,7 @@ use Rattle.gj_problem.specs.Aggregates.{pieces_at, AreMadeOf, held, IsLeftOut, I
 use Rattle.gj_problem.proofs.MadePieces.{Made, none_from_made}
 use Rattle.gj_problem.proofs.AddedSums.{zero_frac}
 use Rattle.gj_problem.proofs.OneColumn.{nothing_value}
+use Rattle.gj_problem.proofs.Prefixes.{default_unused}
 use Rattle.gj_problem.proofs.HeldInequalities.{from_surplus, column_at, lower_at, upper_at, whole_frac, whole_sum, whole_product}
 
 -- ---- which bound
@@ -222,17 +223,12 @@ held_columns p j (d ∷ columns) (c ∷ cs) (up ∷ ups) h =
     (λ k e below. let at : j + suc k ≡ j + 1 + k = omega arith in
     subst (λ (i : ℕ). IsColumn p i (get_or columns k e)) at (h (suc k) e (omega arith))))
 
-get_any : {A : Type 0} (xs : List A) (k : ℕ) (d e : A) → k < length xs → get_or xs k d ≡ get_or xs k e
-get_any [] k d e below = absurd (omega arith)
-get_any (x ∷ xs) zero d e below = refl
-get_any (x ∷ xs) (suc k) d e below = get_any xs k d e (omega arith)
-
 pub all_columns_of : (p : Problem) (cs : List Frac) (ups : List Bool) → All (IsOf p) (held 0 p.columns cs ups)
 all_columns_of p cs ups =
     held_columns p 0 p.columns cs ups
     (λ k d below. let at : k ≡ 0 + k = omega arith in
     subst (λ (i : ℕ). IsColumn p i (get_or p.columns k d)) at
-    (record { below = below; is = get_any p.columns k (get_or p.columns k d) d below }))
+    (record { below = below; is = default_unused p.columns k (get_or p.columns k d) d below }))
 
 -- a column that is turned or left out is not free
 not_none : (h : Held) (lower upper : Option Frac) (up : Bool) (s : Piece) → lower ≡ None → upper ≡ None → IsTurnedFrom h lower upper up s → ⊥

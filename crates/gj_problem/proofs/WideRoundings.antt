@@ -6,9 +6,9 @@ use Rattle.gj_frac.specs.declared.Frac.{Frac}
 use Rattle.gj_frac.specs.Floor.{IsFloor}
 use Rattle.gj_lemmas.proofs.Integers.{mul_nonnegative_z, neg_mul_z}
 use Rattle.gj_lemmas.proofs.Ring.{by_ring, ring}
-use Rattle.gj_problem.specs.Rational.{Rational, rational, neg_ℚ}
-use Rattle.gj_problem.proofs.RationalRing.{by_ring_q, ring_q}
+use Rattle.gj_problem.specs.Rational.{rational, neg_ℚ}
 use Rattle.gj_problem.specs.RoundedCuts.{IsBelowOnGrid, IsWideChange, IsWideMove}
+use Rattle.gj_problem.proofs.MovedEntries.{double_neg}
 
 pub err_if_none : {T E : Type 0} (r : Result T E) (o : Option T) (P : Type 0) → o ≡ result_ok r → (o ≡ None → P) → OnErr r P
 err_if_none (Ok x) o P is h = tt
@@ -49,9 +49,6 @@ not_none n d z k s d_is z_is some small floor =
     ⊎_elim (λ (a : d ≡ pos 0). omega (arith, ints))
     (⊎_elim (λ (b : unsigned_abs z ≡ 2 ^ 127). floor_small s k (2 ^ 127) floor s.lowest.num_fits (ap unsigned_abs (sym z_is) ∙ b))
     (λ (b : unsigned_abs d ≡ 2 ^ 127). let same : n ≡ 2 ^ 127 = ap unsigned_abs (sym d_is) ∙ b in omega arith))
-
-double_neg : (x : Rational) → neg_ℚ (neg_ℚ x) ≡ x
-double_neg x = by_ring_q (x ∷ []) (search ring_q depth 30) refl
 
 pub raised_wide : (n : ℕ) (x m z value l : Frac) (upper : Option Frac) → rational m ≡ neg_ℚ (rational x) → IsBelowOnGrid n (rational m) (rational z) →
     rational value ≡ neg_ℚ (rational z) → IsWideChange x value l → IsWideMove n (Some l) upper x

@@ -22,7 +22,7 @@ pub use bounds::{lower_bound, rounded_down, upper_bound};
 pub use faults::Fault;
 pub use pieces::Piece;
 pub use problem::{Column, Constraint, Entry, Inequality, Problem, Sense};
-pub use rounding::{RoundedCut, rounded};
+pub use rounding::{RoundedCut, below_on_grid, rounded};
 pub use row::{MadeRow, Row, row_of};
 pub use scales::divided;
 pub use sums::Sum;

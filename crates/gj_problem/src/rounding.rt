@@ -154,8 +154,8 @@ fn kept(x: Frac, grid: u64) -> Result<Option<Moved>, Wide>
     }
 }
 
-/// The greatest number on the grid that is at most x.
-fn below_on_grid(x: Frac, grid: u64) -> Result<Frac, Wide>
+/// The greatest multiple of 1/grid that is at most x. Wide only if grid times x does not fit.
+pub fn below_on_grid(x: Frac, grid: u64) -> Result<Frac, Wide>
     requires { 0 < grid }
     ensures value { IfOk result (λ y. IsBelowOnGrid grid (rational x) (rational y)) }
     ensures wide { OnErr result (IsWideTimes grid x) }

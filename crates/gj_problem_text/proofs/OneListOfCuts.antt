@@ -1,16 +1,14 @@
 -- A text of cuts spells one list of them.
-use Rattle.std.proofs.Common.{◌≡◌, ℕ, ◌<◌, List, [], ◌∷◌, ◌++◌, All, length, map, flat_map, codes, refl, sym, ap, ap₂, subst, ◌∙◌, arith}
-use Rattle.std.specs.List.{join_with_byte}
+use Rattle.std.proofs.Common.{◌≡◌, ℕ, ◌<◌, List, [], ◌∷◌, ◌++◌, All, length, map, flat_map, codes, refl, sym, ap, ap₂, subst, ◌∙◌}
 use Rattle.std.proofs.lemmas.Grind.{flat_map-append}
-use Rattle.std.proofs.lemmas.List.{append_assoc, append-nil, length-append}
-use Rattle.std.proofs.lemmas.List.Elements.{All-head, All-tail}
+use Rattle.std.proofs.lemmas.List.{append-nil}
+use Rattle.std.proofs.lemmas.List.Elements.{All-nil, All-cons, All-head, All-tail}
 use Rattle.gj_frac.specs.declared.Frac.{Frac}
-use Rattle.gj_forms.specs.TextLines.{HasStrictLine}
 use Rattle.gj_lex.proofs.CanonicalTexts.{same_from_fraction_text}
-use Rattle.gj_forms.proofs.StrictLines.{one_strict_line, plain_line}
-use Rattle.gj_forms.specs.LineForms.{Field, word_of, words_of, first_of, others_of, bytes_of}
+use Rattle.gj_forms.specs.LineForms.{Field, LineForm, words_of, first_of, others_of, line_of}
 use Rattle.gj_forms.specs.LineForms.Field.{word, fraction}
-use Rattle.gj_forms.proofs.FieldWords.{AreGood, head_and_tail, joined_words, words_are_plain}
+use Rattle.gj_forms.proofs.FieldWords.{AreGood, head_and_tail}
+use Rattle.gj_forms.proofs.LineLaws.{IsClear, same_lines}
 use Rattle.gj_forms.proofs.PlainWords.{apart, known, name_is_plain}
 use Rattle.gj_problem.specs.declared.problem.Entry.{Entry}
 use Rattle.gj_safe_cut.specs.declared.cut.SafeCut.{SafeCut}
@@ -35,8 +33,14 @@ fields_of other = word (codes "skip") ∷ word (codes "other") ∷ []
 fields_of (free name) = word (codes "skip") ∷ word (codes "free") ∷ word name ∷ []
 fields_of wide = word (codes "skip") ∷ word (codes "wide") ∷ []
 
+abbrev IsGoodLine : SafeLine → Type 0
+IsGoodLine l = AreGood (fields_of l)
+
+abbrev safe_form : LineForm SafeLine
+safe_form = record { fields = fields_of; HasForm = IsGoodLine; HasLine = IsGoodLine }
+
 abbrev line_bytes : SafeLine → List ℕ
-line_bytes l = bytes_of (fields_of l)
+line_bytes = line_of safe_form
 
 module _ (names : List (List ℕ)) where
   abbrev term_at : Entry → SafeLine
@@ -99,33 +103,8 @@ one_line wide other e = absurd (apart (codes "wide") (codes "other") refl (secon
 one_line wide (free n) e = absurd (apart (codes "wide") (codes "free") refl (second _ _ e))
 one_line a b e = absurd (apart (head a) (head b) refl (ap first_of e))
 
--- ---- bytes of lines tell them
-
-abbrev AreGoodLines : List SafeLine → Type 0
-AreGoodLines [] = Unit {0}
-AreGoodLines (l ∷ ls) = AreGood (fields_of l) × AreGoodLines ls
-
-strict_at : (fs : List Field) (rest : List ℕ) → AreGood fs → HasStrictLine (bytes_of fs ++ rest) (words_of fs) rest
-strict_at [] rest good = absurd good
-strict_at (f ∷ fs) rest good =
-    subst (λ t. HasStrictLine t (words_of (f ∷ fs)) rest)
-    (sym (ap (λ t. t ++ rest) (joined_words (f ∷ fs)) ∙ append_assoc (join_with_byte 32 (words_of (f ∷ fs))) (10 ∷ []) rest))
-    (plain_line (word_of f) (words_of fs) rest (words_are_plain (f ∷ fs) good))
-
-no_bytes : (fs : List Field) (rest : List ℕ) → AreGood fs → [] ≡ bytes_of fs ++ rest → ⊥
-no_bytes fs rest good e =
-    let spelled = e ∙ (strict_at fs rest good).spelled in
-    omega (arith, ap length spelled, length-append (join_with_byte 32 (words_of fs)) (10 ∷ rest))
-
-same_lines : (ls ms : List SafeLine) → AreGoodLines ls → AreGoodLines ms → flat_map line_bytes ls ≡ flat_map line_bytes ms → ls ≡ ms
-same_lines [] [] g h e = refl
-same_lines [] (m ∷ ms) g h e = absurd (no_bytes (fields_of m) (flat_map line_bytes ms) h.0 e)
-same_lines (l ∷ ls) [] g h e = absurd (no_bytes (fields_of l) (flat_map line_bytes ls) g.0 (sym e))
-same_lines (l ∷ ls) (m ∷ ms) g h e =
-    let both = one_strict_line (flat_map line_bytes (l ∷ ls)) (words_of (fields_of l)) (words_of (fields_of m)) (flat_map line_bytes ls)
-    (flat_map line_bytes ms) (strict_at (fields_of l) (flat_map line_bytes ls) g.0)
-    (subst (λ t. HasStrictLine t (words_of (fields_of m)) (flat_map line_bytes ms)) (sym e) (strict_at (fields_of m) (flat_map line_bytes ms) h.0)) in
-    ap₂ (λ k ks. k ∷ ks) (one_line l m both.0) (same_lines ls ms g.1 h.1 both.1)
+form_is_clear : IsClear safe_form
+form_is_clear = record { of_form = λ a h. h; good = λ a h. h; one = λ a b h k e. one_line a b e }
 
 -- ---- lines tell cuts
 
@@ -233,31 +212,44 @@ module _ (names : List (List ℕ)) (are : AreNames names) where
   good_name : (j : ℕ) → j < length names → AreGood (word (name_at names j) ∷ [])
   good_name j below = name_is_plain (name_at names j) (are.are j [] below)
 
-  good_terms : (es : List Entry) (ls : List SafeLine) → All IsBelow es → AreGoodLines ls → AreGoodLines (map (term_at names) es ++ ls)
+  good_terms : (es : List Entry) (ls : List SafeLine) → All IsBelow es → All IsGoodLine ls →
+      All IsGoodLine (map (term_at names) es ++ ls)
   good_terms [] ls h good = good
   good_terms (e ∷ es) ls h good =
-      ((known (codes "term") refl, (good_name e.column (All-head IsBelow e es h), tt)), good_terms es ls (All-tail IsBelow e es h) good)
+      All-cons IsGoodLine (term_at names e) (map (term_at names) es ++ ls)
+      (known (codes "term") refl, (good_name e.column (All-head IsBelow e es h), tt))
+      (good_terms es ls (All-tail IsBelow e es h) good)
 
-  good_lines : (cs : List SafeCut) → All IsKnownCut cs → AreGoodLines (flat_map (lines_of names) cs)
-  good_lines [] h = tt
-  good_lines (Cut q ∷ cs) h = (
-    (known (codes "cut") refl, tt),
-    good_terms q.entries (flat_map (lines_of names) cs) (All-head IsKnownCut (Cut q) cs h) (good_lines cs (All-tail IsKnownCut (Cut q) cs h)),
-  )
+  good_lines : (cs : List SafeCut) → All IsKnownCut cs → All IsGoodLine (flat_map (lines_of names) cs)
+  good_lines [] h = All-nil IsGoodLine
+  good_lines (Cut q ∷ cs) h =
+      let later = flat_map (lines_of names) cs in
+      All-cons IsGoodLine (cut q.right) (map (term_at names) q.entries ++ later)
+      (known (codes "cut") refl, tt)
+      (good_terms q.entries later (All-head IsKnownCut (Cut q) cs h)
+      (good_lines cs (All-tail IsKnownCut (Cut q) cs h)))
   good_lines (Integral ∷ cs) h =
-      ((known (codes "skip") refl, known (codes "integral") refl), good_lines cs (All-tail IsKnownCut Integral cs h))
+      All-cons IsGoodLine integral (flat_map (lines_of names) cs)
+      (known (codes "skip") refl, known (codes "integral") refl)
+      (good_lines cs (All-tail IsKnownCut Integral cs h))
   good_lines (OtherFraction ∷ cs) h =
-      ((known (codes "skip") refl, known (codes "other") refl), good_lines cs (All-tail IsKnownCut OtherFraction cs h))
-  good_lines (Free j ∷ cs) h = (
-    (known (codes "skip") refl, (known (codes "free") refl, good_name j (All-head IsKnownCut (Free j) cs h))),
-    good_lines cs (All-tail IsKnownCut (Free j) cs h),
-  )
+      All-cons IsGoodLine other (flat_map (lines_of names) cs)
+      (known (codes "skip") refl, known (codes "other") refl)
+      (good_lines cs (All-tail IsKnownCut OtherFraction cs h))
+  good_lines (Free j ∷ cs) h =
+      All-cons IsGoodLine (free (name_at names j)) (flat_map (lines_of names) cs) (
+        known (codes "skip") refl,
+        (known (codes "free") refl, good_name j (All-head IsKnownCut (Free j) cs h)),
+      )
+      (good_lines cs (All-tail IsKnownCut (Free j) cs h))
   good_lines (Wide ∷ cs) h =
-      ((known (codes "skip") refl, known (codes "wide") refl), good_lines cs (All-tail IsKnownCut Wide cs h))
+      All-cons IsGoodLine wide (flat_map (lines_of names) cs)
+      (known (codes "skip") refl, known (codes "wide") refl)
+      (good_lines cs (All-tail IsKnownCut Wide cs h))
 
   pub one_list : (cs ds : List SafeCut) → All IsKnownCut cs → All IsKnownCut ds → flat_map (cut_lines names) cs ≡ flat_map (cut_lines names) ds →
       cs ≡ ds
   one_list cs ds g h e =
       same_cuts cs ds g h
-      (same_lines (flat_map (lines_of names) cs) (flat_map (lines_of names) ds) (good_lines cs g) (good_lines ds h)
-      (sym (text_is names cs) ∙ e ∙ text_is names ds))
+      (same_lines safe_form form_is_clear (flat_map (lines_of names) cs) (flat_map (lines_of names) ds)
+      (good_lines cs g) (good_lines ds h) (sym (text_is names cs) ∙ e ∙ text_is names ds))

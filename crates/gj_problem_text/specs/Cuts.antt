@@ -4,9 +4,7 @@ use Rattle.gj_frac.specs.declared.Frac.{Frac}
 use Rattle.gj_problem.specs.RoundedCuts.{IsRoundedCut, IsFirstFreeEntry, IsWideRounding}
 use Rattle.gj_problem.specs.declared.problem.Inequality.{Inequality}
 use Rattle.gj_problem.specs.declared.problem.Problem.{Problem}
-use Rattle.gj_rule.specs.declared.kind.RuleKind.TheVariants as kind
-use Rattle.gj_mixed.specs.Slopes.{AreSlopesAtZero}
-use Rattle.gj_safe_cut.specs.SafeCuts.{IsGmicSafeCutOf, IsSafeCutOf}
+use Rattle.gj_safe_cut.specs.SafeCuts.{IsGmicSafeCutOf, IsFunctionSafeCutOf}
 use Rattle.gj_safe_cut.specs.declared.cut.SafeCut.{SafeCut}
 use Rattle.gj_safe_cut.specs.declared.cut.SafeCut.TheVariants.{Cut, Integral, OtherFraction, Free, Wide}
 use Rattle.gj_proof.specs.declared.cut.CutRule.{CutRule}
@@ -32,8 +30,7 @@ IsOnGridOf p None cut answer = answer ≡ cut
 -- the cut by the rule: the mixed-integer cut, or that by a function and its slopes at 0
 abbrev pub IsCutBy : CutRule → Problem → List Frac → List Bool → SafeCut → Type 0
 IsCutBy Gmic p multipliers at_upper cut = IsGmicSafeCutOf p multipliers at_upper cut
-IsCutBy (Table f) p multipliers at_upper cut =
-    (up : Frac) × (down : Frac) × AreSlopesAtZero f up down × IsSafeCutOf (kind.Table f) up down p multipliers at_upper cut
+IsCutBy (Table f) p multipliers at_upper cut = IsFunctionSafeCutOf f p multipliers at_upper cut
 
 -- what is answered to the multipliers, if these columns are turned by their upper bounds
 abbrev pub IsAnswer : CutRule → Task → List Frac → List Bool → SafeCut → Type 0

@@ -8,6 +8,5 @@ pub mod Cuts
 pub mod CutText
 pub mod AnswersMade
 pub mod SafeInputs
-pub mod CutRules
 pub mod PrintedProblem
 pub mod PrintedInput

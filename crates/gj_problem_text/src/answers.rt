@@ -4,20 +4,19 @@ ghost use Rattle.std.specs.Prelude.{IfSome, IfOk, OnOk};
 ghost use Rattle.gj_problem.specs.Problems.{Holds};
 ghost use Rattle.gj_safe_cut.specs.SafeCuts.{SafeCutHolds};
 ghost use Rattle.gj_safe_cut.specs.declared.cut.SafeCut.{SafeCut};
+ghost use Rattle.gj_proof.specs.CutRules.{MakesContinuousCuts};
 ghost use Rattle.gj_problem_text.specs.AnswersMade.{IsRequestStep};
 ghost use Rattle.gj_problem_text.specs.CutText.{cut_lines};
 ghost use Rattle.gj_problem_text.specs.Cuts.{IsRoundedTo, IsOnGridOf, IsCutBy, IsAnswer};
 ghost use Rattle.gj_problem_text.specs.Cuts.{AreAnswers, none_turned};
 ghost use Rattle.gj_problem_text.specs.Ready.{HasMultipliers, IsReady};
-ghost use Rattle.gj_problem_text.specs.CutRules.{MakesSafeCuts};
 
-use crate::function_cuts::function_cut;
 use crate::print::push_cut;
 use crate::task::{Request, Task};
 use gj_frac::Frac;
 use gj_problem::{Inequality, Problem, RoundedCut, rounded};
 use gj_proof::CutRule;
-use gj_safe_cut::{SafeCut, gmic_safe_cut};
+use gj_safe_cut::{SafeCut, function_safe_cut, gmic_safe_cut};
 use std::alloc::{AllocError, Global};
 
 /// Appends the lines of the cuts that the task asks for by the rule. A cut is made and printed
@@ -28,7 +27,7 @@ pub(crate) fn push_answers(
     rule: &CutRule,
     task: &Task,
 ) -> Result<(), AllocError>
-    requires makes { MakesSafeCuts rule.now }
+    requires makes { MakesContinuousCuts rule.now }
     requires ready { IsReady task.now }
     ensures { OnOk result ((cuts : List SafeCut)
         × AreAnswers rule.now task.now (none_turned task.now) task.now.requests cuts
@@ -61,7 +60,7 @@ fn push_request(
     at_upper: &mut Vec<bool>,
     request: &Request,
 ) -> Result<(), AllocError>
-    requires makes { MakesSafeCuts rule.now }
+    requires makes { MakesContinuousCuts rule.now }
     requires grid { IfSome task.now.grid (λ n. 0 < n) }
     requires multipliers { HasMultipliers (length task.now.problem.constraints) request.now }
     requires at_upper { length at_upper.old.items ≡ length task.now.problem.columns }
@@ -108,7 +107,7 @@ fn push_answer(
     multipliers: &[Frac],
     at_upper: &[bool],
 ) -> Result<(), AllocError>
-    requires makes { MakesSafeCuts rule.now }
+    requires makes { MakesContinuousCuts rule.now }
     requires grid { IfSome task.now.grid (λ n. 0 < n) }
     requires multipliers { length multipliers.now ≡ length task.now.problem.constraints }
     requires at_upper { length at_upper.now ≡ length task.now.problem.columns }
@@ -130,7 +129,7 @@ fn answer_of(
     multipliers: &[Frac],
     at_upper: &[bool],
 ) -> Result<SafeCut, AllocError>
-    requires makes { MakesSafeCuts rule.now }
+    requires makes { MakesContinuousCuts rule.now }
     requires grid { IfSome task.now.grid (λ n. 0 < n) }
     requires multipliers { length multipliers.now ≡ length task.now.problem.constraints }
     requires at_upper { length at_upper.now ≡ length task.now.problem.columns }
@@ -149,7 +148,7 @@ fn unrounded(
     multipliers: &[Frac],
     at_upper: &[bool],
 ) -> Result<SafeCut, AllocError>
-    requires makes { MakesSafeCuts rule.now }
+    requires makes { MakesContinuousCuts rule.now }
     requires multipliers { length multipliers.now ≡ length problem.now.constraints }
     requires at_upper { length at_upper.now ≡ length problem.now.columns }
     ensures is { IfOk result (IsCutBy rule.now problem.now multipliers.now at_upper.now) }
@@ -157,7 +156,7 @@ fn unrounded(
 {
     match rule {
         CutRule::Gmic => gmic_safe_cut(alloc, problem, multipliers, at_upper),
-        CutRule::Table(shape) => function_cut(alloc, shape, problem, multipliers, at_upper),
+        CutRule::Table(shape) => function_safe_cut(alloc, shape, problem, multipliers, at_upper),
     }
 }
 

@@ -6,7 +6,6 @@
 
 mod answers;
 mod faults;
-mod function_cuts;
 mod input;
 mod laws;
 mod lines;

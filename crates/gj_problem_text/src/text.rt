@@ -1,8 +1,8 @@
 //! The text of the cuts that a task asks for.
 ghost use Rattle.std.specs.Prelude.{IfOk};
+ghost use Rattle.gj_proof.specs.CutRules.{MakesContinuousCuts};
 ghost use Rattle.gj_problem_text.specs.CutText.{IsCutsTextBy};
 ghost use Rattle.gj_problem_text.specs.Ready.{IsReady};
-ghost use Rattle.gj_problem_text.specs.CutRules.{MakesSafeCuts};
 
 use crate::answers::push_answers;
 use crate::task::Task;
@@ -21,7 +21,7 @@ use std::alloc::{AllocError, Global};
 /// let text = cuts_text(alloc, &asked.rule, &asked.task)?;
 /// ```
 pub fn cuts_text(alloc: Global, rule: &CutRule, task: &Task) -> Result<Vec<u8>, AllocError>
-    requires makes { MakesSafeCuts rule.now }
+    requires makes { MakesContinuousCuts rule.now }
     requires ready { IsReady task.now }
     ensures { IfOk result (λ out. IsCutsTextBy rule.now task.now out.items) }
 {

@@ -5,3 +5,4 @@ pub mod HeadWords
 pub mod FirstFault
 pub mod Rules
 pub mod Meaning
+pub mod CutRules

@@ -14,10 +14,11 @@ use Rattle.gj_proof.specs.declared.cut.CutLine.TheVariants as cuts
 use Rattle.gj_proof.specs.declared.cut.CutTerm.{CutTerm}
 use Rattle.gj_function_text.proofs.FunctionTexts.{function_is_within}
 use Rattle.gj_function_text.proofs.LinesOfFunction.{lines_are_text}
+use Rattle.gj_proof.specs.CutRules.{MakesContinuousCuts}
 use Rattle.gj_proof.specs.ProofText.{IsBoundedRule}
 use Rattle.gj_proof.specs.declared.cut.CutRule.{CutRule}
 use Rattle.gj_proof.specs.declared.cut.CutRule.TheVariants.{Gmic, Table}
-use Rattle.gj_cut_text.specs.MixedLines.{AreMixedCutsOf, IsMixedCutBy, IsMixedLineFor, IsNamedTerm, MakesMixedCuts, NamesMixedCut}
+use Rattle.gj_cut_text.specs.MixedLines.{AreMixedCutsOf, IsMixedCutBy, IsMixedLineFor, IsNamedTerm, NamesMixedCut}
 use Rattle.gj_cut_text.specs.declared.mixed_lines.MixedLine.{MixedLine}
 use Rattle.gj_cut_text.specs.Columns.{continuous_columns}
 use Rattle.gj_problem_text.specs.declared.input.SafeInput.{SafeInput}
@@ -105,7 +106,7 @@ module _ {R : Type 0} (K : OrderedField R) (floors : HasFloor K) where
   named_holds columns row cut (cuts.Skip name right reason) weighed holds n = tt
 
   cut_holds : (r : CutRule) (columns : List (List ℕ)) (row : Row) (cut : MixedCut) →
-      IsBoundedRule r → MakesMixedCuts r → IsMixedCutBy r columns row cut → RealHoldsFor K row cut
+      IsBoundedRule r → MakesContinuousCuts r → IsMixedCutBy r columns row cut → RealHoldsFor K row cut
   cut_holds Gmic columns row cut bounds makes is =
       cut_by_gmic K floors (continuous_columns columns) row cut is
   cut_holds (Table f) columns row cut bounds makes (up, down, at_zero, is) =
@@ -113,7 +114,7 @@ module _ {R : Type 0} (K : OrderedField R) (floors : HasFloor K) where
       at_zero is
 
   lines_hold : (r : CutRule) (columns : List (List ℕ)) (rows : List Row) (lines : List MixedLine) →
-      IsBoundedRule r → MakesMixedCuts r → AllZip (IsMixedLineFor r columns) rows lines →
+      IsBoundedRule r → MakesContinuousCuts r → AllZip (IsMixedLineFor r columns) rows lines →
       All (RealMixedLineHolds K) lines
   lines_hold r columns [] [] bounds makes h = All-nil (RealMixedLineHolds K)
   lines_hold r columns [] (m ∷ lines) bounds makes h = absurd h
@@ -125,7 +126,7 @@ module _ {R : Type 0} (K : OrderedField R) (floors : HasFloor K) where
       (lines_hold r columns rows lines bounds makes h.1)
 
   mixed_cuts : (input : CutInput) (source text : List ℕ) → SpellsCutInput source input →
-      MakesMixedCuts input.rule → AreMixedCutsOf input.rule input.tableau text →
+      MakesContinuousCuts input.rule → AreMixedCutsOf input.rule input.tableau text →
       AreRealMixedCuts K input.rule input.tableau text
   mixed_cuts input source text spelled makes cuts = record {
     cuts = cuts;

@@ -9,7 +9,7 @@ use Rattle.gj_fields.proofs.Fractions.{le_yes, yes_le}
 use Rattle.gj_fields.proofs.Order.{either}
 use Rattle.gj_problem.specs.Rational.{Rational, reduced, over, whole, ◌+ℚ◌, ◌*ℚ◌, neg_ℚ, ◌-ℚ◌, ◌≤ℚ◌}
 use Rattle.gj_problem.proofs.RationalLaws.{equal_q, product_is, add_assoc_q, add_comm_q, mul_assoc_q, mul_comm_q, mul_add_q, whole_injective}
-use Rattle.gj_problem.proofs.RationalOrder.{IsNonnegativeQ, nonnegative_add, nonnegative_mul, difference_nonnegative, at_most_from_difference}
+use Rattle.gj_problem.proofs.RationalOrder.{IsNonnegativeQ, nonnegative_mul, difference_nonnegative, at_most_from_difference, at_most_trans}
 use Rattle.gj_problem.proofs.RationalRing.{by_ring_q, ring_q}
 
 -- ---- order
@@ -34,15 +34,6 @@ either_way x y =
 
 pub both : (x y : ℤ) → x ≤ℤ y → y ≤ℤ x → x ≡ y
 both x y h k = omega (arith, ints)
-
-pub transitive_q : (x y z : Rational) → x ≤ℚ y → y ≤ℚ z → x ≤ℚ z
-transitive_q x y z h k =
-    at_most_from_difference x z
-    (subst IsNonnegativeQ (chained x y z)
-    (nonnegative_add (y -ℚ x) (z -ℚ y) (difference_nonnegative x y h) (difference_nonnegative y z k)))
-  where
-    chained : (x y z : Rational) → (y -ℚ x) +ℚ (z -ℚ y) ≡ z -ℚ x
-    chained x y z = by_ring_q (x ∷ y ∷ z ∷ []) (search ring_q depth 40) refl
 
 pub plus_keeps_q : (x y z : Rational) → x ≤ℚ y → (x +ℚ z) ≤ℚ (y +ℚ z)
 plus_keeps_q x y z h =
@@ -158,7 +149,7 @@ rationals = record {
   total = λ x y. ⊎_elim (λ h. inl (yes_le _ _ h)) (λ h. inr (yes_le _ _ h))
       (either_way (x.top *ℤ y.bottom) (y.top *ℤ x.bottom));
   antisymmetric = λ x y h k. equal_q x y (both _ _ (le_yes _ _ h) (le_yes _ _ k));
-  transitive = λ x y z h k. most_is x z (transitive_q x y z (most_from x y h) (most_from y z k));
+  transitive = λ x y z h k. most_is x z (at_most_trans x y z (most_from x y h) (most_from y z k));
   plus_keeps = λ x y z h. most_is _ _ (plus_keeps_q x y z (most_from x y h));
   times_keeps = λ x y h k. most_is _ _ (times_keeps_q x y (most_from _ _ h) (most_from _ _ k));
 }

@@ -3,3 +3,4 @@ pub mod HeldCuts
 pub mod ValueParts
 pub mod TermSums
 pub mod CutRows
+pub mod OneCut

@@ -320,8 +320,8 @@ cut_at_point IsValue up down right point ps ks held given sound (z, adds) =
     ∙ ap (λ w. w *ℚ (combined_at point ks ps -ℚ whole (pos 1))) (sym (whole_mul (pos e) (pos g))))
     surplus))
 
-true_is : (b : Bool) → b ≡ true → IsTrue b
-true_is b e = subst IsTrue (sym e) (search rules)
+pub is_true : (b : Bool) → b ≡ true → IsTrue b
+is_true b e = subst IsTrue (sym e) (search rules)
 
 pub cut_over : (IsValue : Frac → Frac → Type 0) (up down right : Frac) (p : Problem) (ps : List Piece) (ks : List Frac) →
     AreCutsHeld IsValue up down right → AllZip (IsCoefficient IsValue up down) ps ks → All (IsSound p) ps →
@@ -331,6 +331,6 @@ cut_over IsValue up down right p ps ks held given sound adds point feasible =
     (λ k d below. let is = sound k d below in
     record {
       low = difference_nonnegative _ _ (is.holds point feasible);
-      is_whole = λ flag. is.is_whole (true_is _ flag) point feasible;
+      is_whole = λ flag. is.is_whole (is_true _ flag) point feasible;
     })
     (adds point feasible)

@@ -12,18 +12,12 @@ use Rattle.gj_problem.specs.declared.sums.Sum.{Sum}
 use Rattle.gj_problem.specs.Problems.{surplus_at}
 use Rattle.gj_problem.specs.Aggregates.{combined_at}
 use Rattle.gj_problem.proofs.AddedSums.{add_zero_q}
+use Rattle.gj_problem.proofs.MadePieces.{zip_joined}
 use Rattle.gj_problem.specs.Rows.{dot}
 use Rattle.gj_safe_cut.specs.SafeCuts.{IsCoefficient, IsWideSumOfTerms}
 use Rattle.gj_safe_cut.specs.AddedTerms.{sum_surplus_at, AreAdded, IsWideAdding}
 
 -- ---- two lists of pieces
-
-pub zip_joined : {A B : Type 0} (R : A → B → Type 0) (xs xs' : List A) (ys ys' : List B) → AllZip R xs ys → AllZip R xs' ys' →
-    AllZip R (xs ++ xs') (ys ++ ys')
-zip_joined R [] xs' [] ys' h k = k
-zip_joined R [] xs' (y ∷ ys) ys' h k = absurd h
-zip_joined R (x ∷ xs) xs' [] ys' h k = absurd h
-zip_joined R (x ∷ xs) xs' (y ∷ ys) ys' h k = (h.0, zip_joined R xs xs' ys ys' h.1 k)
 
 pub combined_joined : (R : Piece → Frac → Type 0) (point : List Rational) (ps qs : List Piece) (ks ls : List Frac) → AllZip R ps ks →
     combined_at point (ks ++ ls) (ps ++ qs) ≡ combined_at point ks ps +ℚ combined_at point ls qs

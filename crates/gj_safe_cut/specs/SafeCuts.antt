@@ -4,18 +4,19 @@ use Rattle.std.specs.Prelude.{◌≡◌, ◌⊎◌, ◌<◌, ◌^◌, ℕ, pos, 
 use Rattle.std.specs.List.{AllZip}
 use Rattle.gj_frac.specs.declared.Frac.{Frac}
 use Rattle.gj_frac.specs.Fraction.{IsWhole, HasDenominatorBelow}
+use Rattle.gj_shape.specs.FunctionData.{FunctionData}
 use Rattle.gj_shape.specs.Limits.{denominator_bound}
 use Rattle.gj_theory.specs.Cuts.{IsGmicValue}
 use Rattle.gj_rule.specs.Kind.{IsKindValue}
 use Rattle.gj_rule.specs.declared.kind.RuleKind.{RuleKind}
-use Rattle.gj_rule.specs.declared.kind.RuleKind.TheVariants.{Gmic}
+use Rattle.gj_rule.specs.declared.kind.RuleKind.TheVariants.{Gmic, Table}
 use Rattle.gj_cut.specs.RowCuts.{HasPart}
-use Rattle.gj_mixed.specs.Slopes.{IsWeight, AreGmicSlopes}
+use Rattle.gj_mixed.specs.Slopes.{IsWeight, AreGmicSlopes, AreSlopesAtZero}
 use Rattle.gj_problem.specs.declared.problem.Inequality.{Inequality}
 use Rattle.gj_problem.specs.declared.problem.Problem.{Problem}
 use Rattle.gj_problem.specs.declared.pieces.Piece.{Piece}
 use Rattle.gj_problem.specs.Rational.{Rational, whole, rational, ◌-ℚ◌}
-use Rattle.gj_problem.specs.Problems.{Holds, HasTerms, AreTermsWithin}
+use Rattle.gj_problem.specs.Problems.{Holds, HasTerms, AreTermsWithin, surplus_at}
 use Rattle.gj_problem.specs.Rows.{dot}
 use Rattle.gj_problem.specs.Aggregates.{combined_at, IsRow, IsFirstFree, IsTurnedBack}
 use Rattle.gj_problem.specs.Steps.{IsWideAt, IsWideWithin}
@@ -97,6 +98,11 @@ IsOfProblem IsOfRow p multipliers at_upper cut =
 abbrev pub IsSafeCutOf : RuleKind → Frac → Frac → Problem → List Frac → List Bool → SafeCut → Type 0
 IsSafeCutOf kind up down = IsOfProblem (IsCutOfRow kind up down)
 
+-- the cut of the problem by the multipliers and the function, with its slopes at 0
+abbrev pub IsFunctionSafeCutOf : FunctionData → Problem → List Frac → List Bool → SafeCut → Type 0
+IsFunctionSafeCutOf f p multipliers at_upper cut = (up : Frac) × (down : Frac)
+    × AreSlopesAtZero f up down × IsSafeCutOf (Table f) up down p multipliers at_upper cut
+
 -- the mixed-integer cut of a row for the fractional part f of its right side, or the right side is
 -- whole
 abbrev pub IsGmicCutOfRow : ℕ → List Piece → Frac → SafeCut → Type 0
@@ -111,6 +117,14 @@ IsGmicCutOfRow n pieces right Wide = (f : Frac) × (up : Frac) × (down : Frac) 
 -- the mixed-integer cut of the problem by the multipliers
 abbrev pub IsGmicSafeCutOf : Problem → List Frac → List Bool → SafeCut → Type 0
 IsGmicSafeCutOf = IsOfProblem IsGmicCutOfRow
+
+-- the cut, if there is one, is q: it says the same at each point
+abbrev pub IsSameCut : Inequality → SafeCut → Type 0
+IsSameCut q (Cut r) = (point : List Rational) → surplus_at point r ≡ surplus_at point q
+IsSameCut q Wide = Unit {0}
+IsSameCut q Integral = ⊥
+IsSameCut q OtherFraction = ⊥
+IsSameCut q (Free j) = ⊥
 
 -- the cut, if there is one, holds at all feasible points
 abbrev pub SafeCutHolds : Problem → SafeCut → Type 0

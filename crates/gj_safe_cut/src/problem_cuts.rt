@@ -21,9 +21,9 @@ use std::alloc::{AllocError, Global};
 ///
 /// There is a multiplier for each constraint, and nothing is asked of it. `at_upper` says of each
 /// column whether its upper bound is preferred. It is `Wide` only where a number of the row, a
-/// coefficient, or a number of the cut does not fit. Else it is `Integral` exactly if the right side of the row is whole, `Free` exactly at the first
-/// column that has no bound and cannot be left out, and never `OtherFraction`. The only error is
-/// want of memory.
+/// coefficient, or a number of the cut does not fit. Else it is `Integral` exactly if the right
+/// side of the row is whole, `Free` exactly at the first column that has no bound and cannot be left
+/// out, and never `OtherFraction`. The only error is want of memory.
 pub fn gmic_safe_cut(
     alloc: Global,
     problem: &Problem,
@@ -47,8 +47,8 @@ pub fn gmic_safe_cut(
 /// columns.
 ///
 /// It is `Wide` also where the rule is asked for its value at an entry whose denominator is 2^31 or
-/// more. Where it is not, it is `OtherFraction` exactly if the right side of the row is not whole and its
-/// fractional part is not the rule's f. For the rest see [`gmic_safe_cut`].
+/// more. Where it is not, it is `OtherFraction` exactly if the right side of the row is not whole
+/// and its fractional part is not the rule's f. For the rest see [`gmic_safe_cut`].
 pub fn safe_cut<E: Evaluator, G: Evaluator>(
     alloc: Global,
     rule: &Rule<E>,

@@ -19,7 +19,8 @@ use Rattle.gj_row.proofs.OneFirstFault.{one_first_fault as one_tableau_fault}
 use Rattle.gj_row.proofs.OneTableau.{one_tableau, one_each}
 use Rattle.gj_extreme.proofs.OneViolation.{one_violation}
 use Rattle.gj_check.proofs.FractionalParts.{part_of_whole, part_is, one_gmic}
-use Rattle.gj_check.proofs.ValuesOfCuts.{one_value}
+use Rattle.gj_values.proofs.OneValue.{one_value}
+use Rattle.gj_proof.specs.CutRules.{MakesCuts}
 use Rattle.gj_proof.specs.ProofText.{IsBoundedRule, IsProofText, violation_line}
 use Rattle.gj_proof.specs.Rules.{IsGmicCoefficient, MeetsFraction, MeetsValue}
 use Rattle.gj_proof.proofs.OneText.{one_text}
@@ -32,7 +33,6 @@ use Rattle.gj_proof.specs.declared.cut.CutTerm.{CutTerm}
 use Rattle.gj_proof.specs.declared.cut.SkipReason.{SkipReason}
 use Rattle.gj_proof.specs.declared.cut.SkipReason.TheVariants.{Integral, Other}
 use Rattle.gj_cut_text.specs.CutLines.{IsLineFor, IsTermFor}
-use Rattle.gj_cut_text.specs.CutRules.{MakesCuts}
 use Rattle.gj_top.specs.declared.reply.End.{End}
 use Rattle.gj_top.specs.declared.reply.End.TheVariants as end
 use Rattle.gj_top.specs.Objection.{NamesViolation}

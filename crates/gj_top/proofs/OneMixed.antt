@@ -1,15 +1,11 @@
 -- The command `mixed` has one answer.
-use Rattle.std.proofs.Common.{◌≡◌, ◌≢◌, ℕ, ◌-◌, Bool, true, false, pos, int_lt, neg_ℤ, ◌-ℤ◌, ◌*ℤ◌, ◌<ℤ◌, ◌≤ℤ◌, unsigned_abs, List, ◌++◌, codes, flat_map, refl, sym, ap₂, subst, ◌∙◌, arith}
-use Rattle.std.proofs.lemmas.Int.{ints}
-use Rattle.gj_lemmas.proofs.Integers.{mul_some_z, positive_some_z}
+use Rattle.std.proofs.Common.{◌≡◌, ℕ, ◌-◌, Bool, pos, ◌*ℤ◌, unsigned_abs, List, ◌++◌, codes, flat_map, refl, sym, ap₂, subst, ◌∙◌}
 use Rattle.gj_frac.specs.declared.Frac.{Frac}
-use Rattle.gj_frac.specs.Fraction.{IsInside, numerator, denominator, fraction_of, quotient_of}
-use Rattle.gj_frac.proofs.SameValues.{same_from_is}
+use Rattle.gj_frac.specs.Fraction.{IsInside, numerator, denominator}
 use Rattle.gj_function_lines.specs.FunctionLines.{line}
 use Rattle.gj_function_lines.proofs.OneTextOfLines.{one_text_of_lines}
-use Rattle.gj_shape.specs.FunctionData.{FunctionData, IsWithinBounds, at}
+use Rattle.gj_shape.specs.FunctionData.{FunctionData, IsWithinBounds}
 use Rattle.gj_shape.proofs.LeastDenominator.{denominator_some}
-use Rattle.gj_theory.specs.Cuts.{one_minus}
 use Rattle.gj_row.specs.declared.tableau.Entry.{Entry}
 use Rattle.gj_row.specs.declared.tableau.Row.{Row}
 use Rattle.gj_row.specs.declared.tableau.Tableau.{Tableau}
@@ -17,14 +13,15 @@ use Rattle.gj_rule.specs.declared.kind.RuleKind.TheVariants as kind
 use Rattle.gj_cut.specs.RowCuts.{IsTermOfKind}
 use Rattle.gj_cut.specs.declared.cut.Term.{Term}
 use Rattle.gj_mixed.specs.MixedCuts.{whole_entries, continuous_entries, IsWeightTerm, IsMixedCutOfKind, IsGmicMixedCutOf}
-use Rattle.gj_mixed.specs.Slopes.{IsWeight, AreGmicSlopes}
+use Rattle.gj_mixed.specs.Slopes.{AreGmicSlopes}
 use Rattle.gj_mixed.specs.declared.cut.MixedCut.{MixedCut}
 use Rattle.gj_mixed.specs.declared.cut.MixedCut.TheVariants as mixed_cut
 use Rattle.gj_cut_text.specs.Columns.{continuous_columns}
 use Rattle.gj_cut_text.specs.MixedLines.{IsNamedTerm, IsMixedCutBy, NamesMixedCut, IsMixedLineFor, AreMixedCutsOf, mixed_row_text}
 use Rattle.gj_cut_text.specs.declared.mixed_lines.MixedLine.{MixedLine}
-use Rattle.gj_check.proofs.FractionalParts.{one_part, part_inside, one_minus_some, one_gmic_value}
-use Rattle.gj_check.proofs.ValuesOfCuts.{one_value}
+use Rattle.gj_mixed.proofs.OneSlopes.{one_weight, one_up, one_down, one_up_at_zero, one_down_at_zero}
+use Rattle.gj_check.proofs.FractionalParts.{part_inside}
+use Rattle.gj_values.proofs.OneValue.{one_part, one_gmic_value, one_value}
 use Rattle.gj_proof.specs.ProofText.{IsBoundedRule, AreSubjectLines, subject_of_rule}
 use Rattle.gj_proof.specs.declared.cut.CutLine.{CutLine}
 use Rattle.gj_proof.specs.declared.cut.CutLine.TheVariants.{Cut, Skip}
@@ -40,25 +37,6 @@ use Rattle.gj_top.proofs.Determined.{IsDetermined}
 use Rattle.gj_row.proofs.OneTableau.{one_each}
 use Rattle.gj_top.proofs.OneCuts.{one_cut_spelled, one_cut_refusal, by_rule_bounds, same_cut_term}
 use Rattle.gj_top.proofs.OneObjection.{no_objection, one_objection}
-
--- ---- weights and values of mixed cuts
-
-one_weight : (up down c w v : Frac) → IsWeight up down c w → IsWeight up down c v → w ≡ v
-one_weight up down c w v h k = by_sign (int_lt c.num (pos 0)) refl
-  where
-    up_some : unsigned_abs (up.den *ℤ c.den) ≢ 0
-    up_some = mul_some_z up.den c.den (positive_some_z up.den up.lowest.positive) (positive_some_z c.den c.lowest.positive)
-
-    down_some : unsigned_abs (down.den *ℤ c.den) ≢ 0
-    down_some = mul_some_z down.den c.den (positive_some_z down.den down.lowest.positive) (positive_some_z c.den c.lowest.positive)
-
-    by_sign : (b : Bool) → int_lt c.num (pos 0) ≡ b → w ≡ v
-    by_sign true e =
-        let below : c.num <ℤ pos 0 = omega (arith, ints) in
-        same_from_is w v (down.num *ℤ neg_ℤ c.num) (down.den *ℤ c.den) down_some (h.falls below) (k.falls below)
-    by_sign false e =
-        let from : pos 0 ≤ℤ c.num = omega (arith, ints) in
-        same_from_is w v (up.num *ℤ c.num) (up.den *ℤ c.den) up_some (h.rises from) (k.rises from)
 
 -- ---- the terms of mixed cuts
 
@@ -98,16 +76,6 @@ one_cut_by_table f up down continuous row mixed_cut.OtherFraction mixed_cut.Inte
 one_cut_by_table f up down continuous row mixed_cut.OtherFraction mixed_cut.OtherFraction l h k = refl
 
 -- the mixed-integer cut, by the fractional part of a right side that is not whole
-one_up : (f up other : Frac) (down below : Frac) → IsInside f → AreGmicSlopes f up down → AreGmicSlopes f other below → up ≡ other
-one_up f up other down below inside h k =
-    same_from_is up other (pos 1 *ℤ f.den) (pos 1 *ℤ f.num) (mul_some_z (pos 1) f.num (omega (arith, ints)) (positive_some_z f.num inside.0)) h.up_is k.up_is
-
-one_down : (f up other : Frac) (down below : Frac) → IsInside f → AreGmicSlopes f up down → AreGmicSlopes f other below → down ≡ below
-one_down f up other down below inside h k =
-    let value = quotient_of (record { top = pos 1; bottom = pos 1 }) (one_minus (fraction_of f)) in
-    same_from_is down below value.top value.bottom
-    (mul_some_z (pos 1) (pos 1 *ℤ f.den -ℤ f.num *ℤ pos 1) (omega (arith, ints)) (one_minus_some f inside)) h.down_is k.down_is
-
 one_gmic_terms : (f up down : Frac) (continuous : List Bool) (row : Row) (ts ws us vs : List Term) →
     IsMixedCutOfKind (kind.Gmic f) up down continuous row (mixed_cut.Cut ts ws) →
     IsMixedCutOfKind (kind.Gmic f) up down continuous row (mixed_cut.Cut us vs) → (ts ≡ us) × (ws ≡ vs)
@@ -145,12 +113,8 @@ one_mixed_cut : (r : CutRule) (columns : List (List ℕ)) (row : Row) (a b : Mix
     IsMixedCutBy r columns row b → a ≡ b
 one_mixed_cut Gmic columns row a b l h k = one_cut_by_gmic (continuous_columns columns) row a b h k
 one_mixed_cut (Table f) columns row a b l (up, down, slopes, h) (other, below, slopes', k) =
-    let scale = l.scale_low in
-    let some : unsigned_abs (pos f.scale) ≢ 0 = omega (arith, ints) in
-    let ups : other ≡ up =
-    same_from_is other up (pos f.order *ℤ (at f.value 1 -ℤ at f.value 0)) (pos f.scale) some slopes'.up_is slopes.up_is in
-    let downs : below ≡ down =
-    same_from_is below down (pos f.order *ℤ (at f.value (f.order - 1) -ℤ at f.value 0)) (pos f.scale) some slopes'.down_is slopes.down_is in
+    let ups : other ≡ up = one_up_at_zero f other up below down l slopes' slopes in
+    let downs : below ≡ down = one_down_at_zero f other up below down l slopes' slopes in
     let by_up = subst (λ (x : Frac). IsMixedCutOfKind (kind.Table f) x below (continuous_columns columns) row b) ups k in
     one_cut_by_table f up down (continuous_columns columns) row a b l h
     (subst (λ (x : Frac). IsMixedCutOfKind (kind.Table f) up x (continuous_columns columns) row b) downs by_up)

@@ -1,24 +1,24 @@
 -- A rule has one objection, and none if it makes cuts.
 use Rattle.std.proofs.Common.{◌≡◌, ℕ, List, refl}
+use Rattle.gj_proof.specs.CutRules.{MakesContinuousCuts}
 use Rattle.gj_proof.specs.ProofText.{IsBoundedRule}
 use Rattle.gj_proof.specs.declared.cut.CutRule.{CutRule}
 use Rattle.gj_proof.specs.declared.cut.CutRule.TheVariants.{Gmic, Table}
-use Rattle.gj_cut_text.specs.MixedLines.{MakesMixedCuts}
 use Rattle.gj_top.specs.declared.reply.End.{End}
 use Rattle.gj_top.specs.declared.reply.End.TheVariants.{NotContinuous, NoFunction}
 use Rattle.gj_top.specs.Objection.{NamesViolation, NamesJump, IsObjection}
 use Rattle.gj_top.proofs.OneCuts.{one_violation_text, no_violation}
 use Rattle.gj_top.proofs.OneVerdict.{one_jump_text, no_jump_named}
 
-made_no_violation : (r : CutRule) (x : List ℕ) → IsBoundedRule r → MakesMixedCuts r → NamesViolation r x → ⊥
+made_no_violation : (r : CutRule) (x : List ℕ) → IsBoundedRule r → MakesContinuousCuts r → NamesViolation r x → ⊥
 made_no_violation Gmic x l h k = k
 made_no_violation (Table f) x l h k = no_violation f x l h.0 k
 
-made_no_jump : (r : CutRule) (x : List ℕ) → MakesMixedCuts r → NamesJump r x → ⊥
+made_no_jump : (r : CutRule) (x : List ℕ) → MakesContinuousCuts r → NamesJump r x → ⊥
 made_no_jump Gmic x h k = k
 made_no_jump (Table f) x h k = no_jump_named f x h.1 k.1
 
-pub no_objection : (r : CutRule) (e : End) (x : List ℕ) → IsBoundedRule r → MakesMixedCuts r → IsObjection r e x → ⊥
+pub no_objection : (r : CutRule) (e : End) (x : List ℕ) → IsBoundedRule r → MakesContinuousCuts r → IsObjection r e x → ⊥
 no_objection r NoFunction x l h k = made_no_violation r x l h k
 no_objection r NotContinuous x l h k = made_no_jump r x h k
 no_objection r e x l h k = k

@@ -10,7 +10,6 @@ use Rattle.gj_top.specs.declared.reply.End.TheVariants.{Done}
 use Rattle.gj_top.specs.Problem.{IsProblemReply, RefusesProblem, problem}
 use Rattle.gj_top.proofs.Determined.{RefusesOne, IsSettled, one_named_fault}
 use Rattle.gj_top.proofs.OneObjection.{no_objection, one_objection}
-use Rattle.gj_top.proofs.ProblemCuts.{mixed_of_safe}
 
 rule_is_bounded : (input : List ℕ) (asked : SafeInput) → IsSafeInput input asked → IsBoundedRule asked.rule
 rule_is_bounded input asked (rest, inl (is, (f, middle, function, (task, read, made)))) =
@@ -23,8 +22,8 @@ one_refusal input x y h k = one_named_fault _ (λ n m e d. one_fault input n m e
 module _ (Exact : Type 0) (other : Exact → ⊥) (asked : SafeInput) (l : IsBoundedRule asked.rule) where
   one_reply : (e d : End) (x y : List ℕ) → IsProblemReply asked e x → IsProblemReply asked d y → (e ≡ d) × ((e ≡ Done → Exact) → x ≡ y)
   one_reply Done Done x y h k = (refl, λ exact. absurd (other (exact refl)))
-  one_reply Done d x y h k = absurd (no_objection asked.rule d y l (mixed_of_safe asked.rule h.0) k)
-  one_reply e Done x y h k = absurd (no_objection asked.rule e x l (mixed_of_safe asked.rule k.0) h)
+  one_reply Done d x y h k = absurd (no_objection asked.rule d y l h.0 k)
+  one_reply e Done x y h k = absurd (no_objection asked.rule e x l k.0 h)
   one_reply e d x y h k = let same = one_objection asked.rule e d x y l h k in (same.0, λ exact. same.1)
 
 pub problem_is_settled : (Exact : Type 0) → (Exact → ⊥) → IsSettled problem Exact

@@ -2,9 +2,6 @@
 use Rattle.std.proofs.Common.{◌≡◌, ℕ, suc, Bool, true, List, [], ◌∷◌, length, slice_set, ap, ◌∙◌}
 use Rattle.gj_safe_cut.specs.declared.cut.SafeCut.{SafeCut}
 use Rattle.gj_proof.specs.declared.cut.CutRule.{CutRule}
-use Rattle.gj_proof.specs.declared.cut.CutRule.TheVariants.{Gmic, Table}
-use Rattle.gj_cut_text.specs.MixedLines.{MakesMixedCuts}
-use Rattle.gj_problem_text.specs.CutRules.{MakesSafeCuts}
 use Rattle.gj_problem_text.specs.Cuts.{AreAnswers, none_turned}
 use Rattle.gj_problem_text.specs.CutText.{IsCutsTextBy}
 use Rattle.gj_problem_text.specs.declared.input.SafeInput.{SafeInput}
@@ -12,15 +9,6 @@ use Rattle.gj_problem_text.specs.declared.task.Request.{Request}
 use Rattle.gj_problem_text.specs.declared.task.Request.TheVariants.{Upper, Sum}
 use Rattle.gj_problem_text.specs.declared.task.Task.{Task}
 use Rattle.gj_top.specs.Problem.{multipliers_of, AreProblemCuts}
-
--- the two words for rules that make cuts where columns are continuous
-pub safe_of_mixed : (r : CutRule) → MakesMixedCuts r → MakesSafeCuts r
-safe_of_mixed Gmic h = tt
-safe_of_mixed (Table f) h = h
-
-pub mixed_of_safe : (r : CutRule) → MakesSafeCuts r → MakesMixedCuts r
-mixed_of_safe Gmic h = tt
-mixed_of_safe (Table f) h = h
 
 -- each row has one answer
 counted : (r : CutRule) (s : Task) (at_upper : List Bool) (requests : List Request) (cuts : List SafeCut) → AreAnswers r s at_upper requests cuts →

@@ -12,6 +12,7 @@ use Rattle.gj_function_text.specs.RuleText.{rule_title_words, rule_name_words, B
 use Rattle.gj_row.specs.FirstFault.{IsFirstFaultOfTableau, reason_word}
 use Rattle.gj_row.specs.TableauText.{IsTableauText}
 use Rattle.gj_row.specs.declared.faults.RowReason.{RowReason}
+use Rattle.gj_proof.specs.CutRules.{MakesCuts}
 use Rattle.gj_proof.specs.Meaning.{CutLineHolds}
 use Rattle.gj_proof.specs.ProofText.{IsProofText}
 use Rattle.gj_proof.specs.Rules.{MeetsRules}
@@ -21,7 +22,6 @@ use Rattle.gj_proof.specs.declared.cut.CutRule.{CutRule}
 use Rattle.gj_proof.specs.declared.cut.CutRule.TheVariants.{Gmic, Table}
 use Rattle.gj_top.specs.Objection.{NamesViolation}
 use Rattle.gj_cut_text.specs.CutLines.{IsLineFor}
-use Rattle.gj_cut_text.specs.CutRules.{MakesCuts}
 pub use Rattle.gj_top.specs.declared.cut_input.CutInput.{CutInput}
 use Rattle.gj_top.specs.declared.reply.End.{End}
 use Rattle.gj_top.specs.declared.reply.End.TheVariants.{Done, NoFunction}

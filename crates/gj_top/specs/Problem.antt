@@ -6,8 +6,8 @@ use Rattle.gj_frac.specs.declared.Frac.{Frac}
 use Rattle.gj_function_lines.specs.FunctionLines.{line}
 use Rattle.gj_safe_cut.specs.SafeCuts.{SafeCutHolds}
 use Rattle.gj_safe_cut.specs.declared.cut.SafeCut.{SafeCut}
+use Rattle.gj_proof.specs.CutRules.{MakesContinuousCuts}
 use Rattle.gj_proof.specs.ProofText.{AreSubjectLines, subject_of_rule}
-use Rattle.gj_problem_text.specs.CutRules.{MakesSafeCuts}
 use Rattle.gj_problem_text.specs.CutText.{cut_lines, IsCutsTextBy}
 use Rattle.gj_problem_text.specs.SafeInputs.{IsSafeInput, IsFirstFaultOfInput}
 use Rattle.gj_problem_text.specs.declared.input.SafeInput.{SafeInput}
@@ -47,7 +47,7 @@ pub record AreProblemCuts (asked : SafeInput) (text : List ℕ) : Type 0 where
 
 -- the cuts of the rows by their multipliers, if the rule makes such cuts, and else why it does not
 abbrev pub IsProblemReply : SafeInput → End → List ℕ → Type 0
-IsProblemReply asked Done text = MakesSafeCuts asked.rule × IsCutsTextBy asked.rule asked.task text
+IsProblemReply asked Done text = MakesContinuousCuts asked.rule × IsCutsTextBy asked.rule asked.task text
 IsProblemReply asked end text = IsObjection asked.rule end text
 
 abbrev pub problem_promise : Promise

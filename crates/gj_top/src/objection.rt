@@ -1,8 +1,8 @@
 //! Why a rule makes no cuts.
 ghost use Rattle.std.specs.Prelude.{◌≡◌, ◌++◌, codes, IfOk, IfSome, IfNone};
+ghost use Rattle.gj_proof.specs.CutRules.{MakesContinuousCuts};
 ghost use Rattle.gj_proof.specs.ProofText.{IsBoundedRule, violation_line};
 ghost use Rattle.gj_cut_text.specs.CutRules.{PassesTests};
-ghost use Rattle.gj_cut_text.specs.MixedLines.{MakesMixedCuts};
 ghost use Rattle.gj_top.specs.Objection.{IsObjection, NamesJump};
 
 use crate::continuity::jump_reply;
@@ -17,7 +17,7 @@ use std::alloc::{AllocError, Global};
 pub(crate) fn objection_to(alloc: Global, rule: &CutRule) -> Result<Option<Reply>, AllocError>
     ensures some { IfOk result (λ found. IfSome found
         (λ reply. IsObjection rule.now reply.end reply.text.items)) }
-    ensures none { IfOk result (λ found. IfNone found (MakesMixedCuts rule.now)) }
+    ensures none { IfOk result (λ found. IfNone found (MakesContinuousCuts rule.now)) }
     ensures bounded { IfOk result (λ found. IfNone found (IsBoundedRule rule.now)) }
 {
     if let Some(violation) = violation_of_rule(rule) {
@@ -34,7 +34,7 @@ fn jump_of(alloc: Global, rule: &CutRule) -> Result<Option<Reply>, AllocError>
     requires tests { PassesTests rule.now }
     ensures some { IfOk result (λ found. IfSome found
         (λ reply. (reply.end ≡ End.NotContinuous) × NamesJump rule.now reply.text.items)) }
-    ensures none { IfOk result (λ found. IfNone found (MakesMixedCuts rule.now)) }
+    ensures none { IfOk result (λ found. IfNone found (MakesContinuousCuts rule.now)) }
     ensures bounded { IfOk result (λ found. IfNone found (IsBoundedRule rule.now)) }
 {
     match rule {

@@ -7,7 +7,7 @@ use std::alloc::Global;
 /// A read that fails in mid-stream leaves the bytes that were not taken, and the next call reads
 /// them.
 fn a_read_fails(alloc: Global) -> Option<bool> {
-    let given = vec![in alloc; 7; 8195].ok()?;
+    let given = vec![in alloc; 7; 515].ok()?;
     let mut source = MemSource::new(alloc, &given, &[2]).ok()?;
     let is_refused = read_all(alloc, &mut source, 10_000).is_err();
     let bytes = read_all(alloc, &mut source, 10_000).ok()?;

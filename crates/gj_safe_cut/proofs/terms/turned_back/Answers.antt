@@ -9,7 +9,8 @@ use Rattle.gj_problem.specs.Aggregates.{combined_at}
 use Rattle.gj_problem.proofs.AddedSums.{whole_ratio}
 use Rattle.gj_safe_cut.specs.SafeCuts.{IsCoefficient}
 use Rattle.gj_safe_cut.specs.AddedTerms.{sum_surplus_at, AreAdded, IsWideAdding}
-use Rattle.gj_safe_cut.proofs.TermSums.{IsBegun, zip_joined, combined_joined, against_one, wide_in_first, wide_in_second}
+use Rattle.gj_problem.proofs.MadePieces.{zip_joined}
+use Rattle.gj_safe_cut.proofs.TermSums.{IsBegun, combined_joined, against_one, wide_in_first, wide_in_second}
 use Rattle.gj_safe_cut.proofs.terms.turned_back.Goals as goal
 
 pub returns-in-Some-clause-cut : goal.returns-in-Some-clause-cut

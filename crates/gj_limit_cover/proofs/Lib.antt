@@ -1,0 +1,13 @@
+pub mod Joining
+pub mod NextLines
+pub mod Pending
+pub mod Advance
+pub mod Ends
+pub mod Classes
+pub mod Complexes
+pub mod LinkRows
+pub mod Reductions
+pub mod FaceSearch
+pub mod RowCovers
+pub mod LinkedRows
+pub mod CoveredByLines

@@ -1,0 +1,90 @@
+use Rattle.std.proofs.Common.{◌+◌, Some, refl, arith}
+use Rattle.std.specs.Vec.{with_item}
+use Rattle.gj_jumps.specs.LimitCover.{IsTightAt}
+use Rattle.gj_limit_cover.proofs.Advance.{line_more, joined_on, opened_on, fewer}
+use Rattle.gj_limit_cover.specs.declared.progress.Progress.{Progress}
+use Rattle.gj_limit_cover.proofs.progress.Progress.add.Goals as goal
+
+pub returns-then-line-clause-progress : goal.returns-then-line-clause-progress
+returns-then-line-clause-progress c =
+    let q = c.args.shape.now.order in
+    let T = IsTightAt c.args.shape.now in
+    let new : Progress = record {
+      component = with_item c.args.self.now.component c.args.line.interval
+          (Some c.unwrap_or-number.result);
+      free = c.remove.new.self;
+      near = c.or-self.result;
+      lines = c.push.new.self;
+      count = c.args.self.now.count;
+    } in
+    let more = line_more q T c.args.self.now new c.args.line c.unwrap_or-number.result
+    c.index.result.now
+    c.requires.progress c.requires.next c.index.ensures c.unwrap_or-number.ensures
+    c.in_ok-push.ensures.items refl
+    c.remove.ensures c.args.joined.now c.requires.joined c.or-self.ensures in
+    joined_on q T c.args.self.now new c.args.line c.unwrap_or-number.result c.requires.progress
+    c.requires.next more
+    c.if-line.true refl
+
+pub returns-then-line-clause-fewer : goal.returns-then-line-clause-fewer
+returns-then-line-clause-fewer c =
+    let q = c.args.shape.now.order in
+    let T = IsTightAt c.args.shape.now in
+    let new : Progress = record {
+      component = with_item c.args.self.now.component c.args.line.interval
+          (Some c.unwrap_or-number.result);
+      free = c.remove.new.self;
+      near = c.or-self.result;
+      lines = c.push.new.self;
+      count = c.args.self.now.count;
+    } in
+    let more = line_more q T c.args.self.now new c.args.line c.unwrap_or-number.result
+    c.index.result.now
+    c.requires.progress c.requires.next c.index.ensures c.unwrap_or-number.ensures
+    c.in_ok-push.ensures.items refl
+    c.remove.ensures c.args.joined.now c.requires.joined c.or-self.ensures in
+    let less = fewer q T c.args.self.now new c.args.line c.unwrap_or-number.result
+    c.requires.progress c.requires.next more in
+    omega (arith, less)
+
+pub returns-clause-progress : goal.returns-clause-progress
+returns-clause-progress c =
+    let q = c.args.shape.now.order in
+    let T = IsTightAt c.args.shape.now in
+    let new : Progress = record {
+      component = with_item c.args.self.now.component c.args.line.interval
+          (Some c.unwrap_or-number.result);
+      free = c.remove.new.self;
+      near = c.or-self.result;
+      lines = c.push.new.self;
+      count = c.args.self.now.count + 1;
+    } in
+    let more = line_more q T c.args.self.now new c.args.line c.unwrap_or-number.result
+    c.index.result.now
+    c.requires.progress c.requires.next c.index.ensures c.unwrap_or-number.ensures
+    c.in_ok-push.ensures.items refl
+    c.remove.ensures c.args.joined.now c.requires.joined c.or-self.ensures in
+    opened_on q T c.args.self.now new c.args.line c.unwrap_or-number.result c.requires.progress
+    c.requires.next more
+    c.if-line.false refl
+
+pub returns-clause-fewer : goal.returns-clause-fewer
+returns-clause-fewer c =
+    let q = c.args.shape.now.order in
+    let T = IsTightAt c.args.shape.now in
+    let new : Progress = record {
+      component = with_item c.args.self.now.component c.args.line.interval
+          (Some c.unwrap_or-number.result);
+      free = c.remove.new.self;
+      near = c.or-self.result;
+      lines = c.push.new.self;
+      count = c.args.self.now.count + 1;
+    } in
+    let more = line_more q T c.args.self.now new c.args.line c.unwrap_or-number.result
+    c.index.result.now
+    c.requires.progress c.requires.next c.index.ensures c.unwrap_or-number.ensures
+    c.in_ok-push.ensures.items refl
+    c.remove.ensures c.args.joined.now c.requires.joined c.or-self.ensures in
+    let less = fewer q T c.args.self.now new c.args.line c.unwrap_or-number.result
+    c.requires.progress c.requires.next more in
+    omega (arith, less)

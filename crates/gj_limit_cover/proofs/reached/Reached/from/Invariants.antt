@@ -1,0 +1,9 @@
+use Rattle.gj_limit_cover.specs.Reached.{AreReached, unfinished}
+use Rattle.gj_jumps.specs.LimitCover.{IsTightAt}
+use Rattle.gj_limit_cover.proofs.reached.Reached.from.Given as goal
+
+abbrev pub invariant-loop-interval : goal.invariant-loop-interval
+invariant-loop-interval l = AreReached l.shape.order (IsTightAt l.shape) l.start l.found
+
+abbrev pub decreases-loop-interval : goal.decreases-loop-interval
+decreases-loop-interval l = unfinished l.found 1024

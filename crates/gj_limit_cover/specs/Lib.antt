@@ -1,0 +1,7 @@
+pub mod LimitCover
+pub mod CoverOf
+pub mod FirstFaces
+pub mod Links
+pub mod Table
+pub mod Progress
+pub mod Reached

@@ -1,0 +1,4 @@
+pub mod TermsOf
+pub mod SideRows
+pub mod RowSets
+pub mod JoinRows

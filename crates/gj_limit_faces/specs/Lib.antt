@@ -1,0 +1,5 @@
+pub mod Terms
+pub mod Lanes
+pub mod TightLimits
+pub mod RowJoins
+pub mod Joins
