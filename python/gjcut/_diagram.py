@@ -1,5 +1,5 @@
-"""What pictures show of a function and its additive faces, as lines and polygons: plain geometry, for
-any program that draws. Each face is one of a faces text, and each component one of its cover lines.
+"""What pictures show of a function and its additive faces, as lines and polygons: plain geometry,
+for any program that draws. Each face stands in a faces text, each component in its cover lines.
 
 Corners of polygons, edges and points are in steps of 1/order.
 """
@@ -213,33 +213,37 @@ def _edges(
     by_kind: Dict[str, List[Corner]], components: List[Component], triangles: _Rows
 ) -> Dict[Component, Tuple[Segment, ...]]:
     """The edges of each component; those on one line that follow each other as one."""
-    order = triangles.order
-    # The steps on each line.
     lines: Dict[Tuple[Component, str, int], List[int]] = collections.defaultdict(list)
-    for a, b in by_kind["diagonal"]:
-        lines[components[a], "diagonal", a + b + 1].append(a)
-    for a, b in by_kind["horizontal"]:
-        if b:
-            lines[components[a], "horizontal", b].append(a)
-    for a, b in by_kind["vertical"]:
-        if a:
-            lines[components[b], "vertical", a].append(b)
-    # An edge at the border is drawn on each side that has no triangle with it.
-    low, high = triangles.lower, triangles.upper
-    for direction, first, last, listed in (
-        ("horizontal", low[0], high[-1], {a for a, b in by_kind["horizontal"] if not b}),
-        ("vertical", _column(low, 0), _column(high, order - 1), {b for a, b in by_kind["vertical"] if not a}),
-    ):
-        for i, component in enumerate(components):
-            is_in_first, is_in_last = first >> i & 1, last >> i & 1
-            if is_in_first or is_in_last or i in listed:
-                lines[component, direction, 0] += [] if is_in_first else [i]
-                lines[component, direction, order] += [] if is_in_last else [i]
+    for direction, line, i in (*_inner_edges(by_kind), *_border_edges(by_kind, triangles)):
+        lines[components[i], direction, line].append(i)
     found: Dict[Component, List[Segment]] = collections.defaultdict(list)
     for (component, direction, line), steps in lines.items():
         for first, last in _runs(steps):
             found[component].append(_segment(direction, line, first, last))
     return {component: tuple(sorted(each)) for component, each in found.items()}
+
+
+def _inner_edges(by_kind: Dict[str, List[Corner]]) -> Iterator[Tuple[str, int, int]]:
+    """The direction, the line and the step on it, which is an interval that the edge links."""
+    yield from (("diagonal", a + b + 1, a) for a, b in by_kind["diagonal"])
+    yield from (("horizontal", b, a) for a, b in by_kind["horizontal"] if b)
+    yield from (("vertical", a, b) for a, b in by_kind["vertical"] if a)
+
+
+def _border_edges(
+    by_kind: Dict[str, List[Corner]], triangles: _Rows
+) -> Iterator[Tuple[str, int, int]]:
+    """Those at the borders, each on every side that has no triangle with it."""
+    order, low, high = triangles.order, triangles.lower, triangles.upper
+    at_horizontals = low[0], high[-1], {a for a, b in by_kind["horizontal"] if not b}
+    columns = _column(low, 0), _column(high, order - 1)
+    at_verticals = *columns, {b for a, b in by_kind["vertical"] if not a}
+    for direction, at in (("horizontal", at_horizontals), ("vertical", at_verticals)):
+        for i in range(order):
+            is_below, is_above, is_alone = at[0] >> i & 1, at[1] >> i & 1, i in at[2]
+            if is_below or is_above or is_alone:
+                yield from () if is_below else ((direction, 0, i),)
+                yield from () if is_above else ((direction, order, i),)
 
 
 def _column(rows: List[int], a: int) -> int:

@@ -8,8 +8,8 @@ from ._library import LibraryMissing, call
 from ._optional import PackageMissing
 from ._verdicts import Verdict, function_of, verdict_of
 
-# The statuses: nothing is done with such a function; a file cannot be written; a package is missing;
-# the words are not understood.
+# The statuses: nothing is done with such a function; a file cannot be written; a package is
+# missing; the words are not understood.
 NOTHING, NOT_WRITTEN, NO_PACKAGE, NOT_UNDERSTOOD = 8, 5, 15, 2
 MINIMAL_AND_JUMPS = "minimal, and jumps: whether it is extreme is not decided"
 
@@ -27,10 +27,12 @@ def add_parsers(commands) -> None:
     way.add_argument("--halves", action="store_true", help=halves)
     plot.add_argument("files", metavar="FILE", nargs="?", default="-")
     help_ = "a page of HTML with pictures, verdicts and proofs in words"
-    report = commands.add_parser("report", help=help_, description=f"{help_[0].upper()}{help_[1:]}.")
+    words = f"{help_[0].upper()}{help_[1:]}."
+    report = commands.add_parser("report", help=help_, description=words)
     report.add_argument("files", metavar="FILE", nargs="*")
     for command, name in ((plot, "NAME"), (report, "NAME.html")):
-        command.add_argument("-o", "--output", metavar=name, required=True, help="the file to write")
+        output = "the file to write"
+        command.add_argument("-o", "--output", metavar=name, required=True, help=output)
         force = "replace a file of this name that is there already"
         command.add_argument("--force", action="store_true", help=force)
 
@@ -110,7 +112,7 @@ def _report_on(chosen: argparse.Namespace) -> int:
         print(_with_name(entry.name, entry.said), flush=True)
         entries.append(entry)
         worst = max(worst, status)
-    if not any(entry.function for entry in entries):
+    if all(entry.function is None for entry in entries):
         print(f"{chosen.output}: no file has a function, and no report was written")
         return worst
     page = _report.page_of(entries, _build.build(), not _build.RECORD.exists())

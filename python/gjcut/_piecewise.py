@@ -20,6 +20,8 @@ def from_piecewise(h: Any, f: Optional[Number] = None) -> Function:
     f is where the function is 1. It must be said if that is so at several of the end points. The
     numbers may be those of Sage, as far as they are fractions. An irrational number is a
     `ValueError`, and a float a `TypeError`, since it is not exact.
+
+        function = gjcut.from_piecewise(h)
     """
     for name in ("end_points", "limits"):
         if not callable(getattr(h, name, None)):

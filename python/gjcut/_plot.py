@@ -4,7 +4,9 @@ What is drawn are answers of the program: the function, its components and faces
 halves. Nothing is decided here.
 """
 import colorsys
+import contextlib
 import io
+import textwrap
 from fractions import Fraction
 from pathlib import Path
 from typing import Callable, Dict, Iterable, List, NamedTuple, Optional, Sequence, Tuple, Union
@@ -27,7 +29,7 @@ COLOURS = ("#0b6bb0", "#d1571a", "#0f8a62", "#a8468f", "#b58900", "#5b5bd6", "#8
 DATES = {"svg": {"Date": None}, "png": {"Software": None}, "pdf": {"CreationDate": None}}
 # Sizes in inches, of text in points, and of a digit in parts of that.
 WIDTH, SMALL, LABEL, DIGIT = 5.0, 7.5, 9.0, 0.64
-POINTS = 72
+POINTS, LEAST = 72, 0.05
 # More of these are drawn as dots of a picture, also where the file has lines.
 MOST_CORNERS, MOST_MARKS = 20_000, 1_000
 # No label has more digits over or under a bar, or letters in a line, and no legend more components.
@@ -108,7 +110,8 @@ def plot_faces(shown: Shown, figure=None, width: float = WIDTH) -> Picture:
     In the square of all x and y stand the maximal additive triangles, edges and points, with the
     colours of the components; at its borders the projections of the triangles, by x above, by y on
     the left, and by x + y below and on the right; and outside of these the graph, twice. The
-    complex is grey. A violation at two places is a point in it. Figure and width are as for `plot`.
+    complex is grey. If the verdict says where a function is not subadditive, a point shows it.
+    Figure and width are as for `plot`.
 
         gjcut.plot_faces(gjcut.family("gmic", "3/5")).save("faces.svg")
     """
@@ -161,13 +164,11 @@ def _module(name: str):
     return needed(f"matplotlib.{name}", "pictures", "python3-matplotlib")
 
 
-class _style:
+@contextlib.contextmanager
+def _style():
     """The settings of matplotlib, whatever those of the caller are."""
-
-    def __enter__(self):
-        matplotlib = needed("matplotlib", "pictures", "python3-matplotlib")
-        self.context = matplotlib.rc_context()
-        self.context.__enter__()
+    matplotlib = needed("matplotlib", "pictures", "python3-matplotlib")
+    with matplotlib.rc_context():
         matplotlib.rcdefaults()
         matplotlib.rcParams.update(
             {
@@ -185,9 +186,7 @@ class _style:
                 "savefig.facecolor": "auto",
             }
         )
-
-    def __exit__(self, *error):
-        return self.context.__exit__(*error)
+        yield
 
 
 class _Sheet:
@@ -203,6 +202,8 @@ class _Sheet:
 
     def axes(self, left: float, bottom: float, width: float, height: float):
         x, y = self.width, self.height
+        if min(width, height) < LEAST:
+            raise ValueError("figure: it has no room for this picture")
         made = self.figure.add_axes([left / x, bottom / y, width / x, height / y])
         made.set_axisbelow(True)
         return made
@@ -261,21 +262,27 @@ def _entries_of(pieces: Sequence[Piece]) -> List[_Entry]:
     return entries
 
 
-def _columns_of(entries: Sequence[_Entry], width: float) -> int:
-    """How many entries stand side by side, for a legend of this width."""
-    widths = [(len(entry.label) * 0.54 + 3.4) * SMALL / POINTS for entry in entries]
-    if sum(widths) <= width:
-        return max(1, len(entries))
-    return max(1, int(width / max(widths)))
+class _Legend(NamedTuple):
+    """Entries below a picture, so many of them side by side, and how high they are in inches."""
+
+    entries: Tuple[_Entry, ...]
+    columns: int
+    height: float
 
 
-def _height_of(entries: Sequence[_Entry], width: float) -> float:
-    columns = _columns_of(entries, width)
-    return (len(entries) + columns - 1) // columns * 1.65 * SMALL / POINTS if entries else 0.0
+def _legend_of(entries: Sequence[_Entry], width: float) -> _Legend:
+    """The entries for a picture of this width. Those that are too long take several lines."""
+    letters = width * POINTS / SMALL
+    widths = [0.54 * len(entry.label) + 3.4 for entry in entries]
+    columns = len(entries) if sum(widths) <= letters - 1 else int(letters / max(widths)) or 1
+    wrapped = [textwrap.wrap(entry.label, int((letters - 3.4) / 0.54)) for entry in entries]
+    fitted = [entry._replace(label="\n".join(lines)) for entry, lines in zip(entries, wrapped)]
+    rows = sum(map(len, wrapped)) if columns == 1 else -(-len(entries) // (columns or 1))
+    return _Legend(tuple(fitted), columns, rows * 1.65 * SMALL / POINTS)
 
 
-def _add_legend(sheet: _Sheet, entries: Sequence[_Entry]) -> None:
-    if not entries:
+def _add_legend(sheet: _Sheet, legend: _Legend) -> None:
+    if not legend.entries:
         return
     lines = _module("lines")
     handles = [
@@ -283,11 +290,11 @@ def _add_legend(sheet: _Sheet, entries: Sequence[_Entry]) -> None:
             [], [], color=entry.colour, linestyle=entry.line or "none", marker=entry.mark,
             linewidth=entry.width, markersize=6, markeredgewidth=0, label=entry.label,
         )
-        for entry in entries
+        for entry in legend.entries
     ]  # fmt: skip
     sheet.figure.legend(
         handles=handles, loc="lower center", bbox_to_anchor=(0.5, 0.0), frameon=False,
-        ncol=_columns_of(entries, sheet.width), fontsize=SMALL, handlelength=1.6, handletextpad=0.6,
+        ncol=legend.columns, fontsize=SMALL, handlelength=1.6, handletextpad=0.6,
         columnspacing=1.4, borderaxespad=0.1, borderpad=0.1, labelspacing=0.35,
     )  # fmt: skip
 
@@ -392,8 +399,9 @@ def _draw_graph(function: Function, verdict: Optional[Verdict], figure, width: f
     marks = _marks_of(function, violation) if violation else []
     entries = _entries_of(pieces)
     entries += [_Entry(mark.label, ALERT, line="", mark=mark.mark) for mark in marks]
-    sheet = _Sheet(figure, width, 0.52 * width + FOOT + _height_of(entries, width))
-    foot = FOOT + _height_of(entries, sheet.width)
+    sheet = _Sheet(figure, width, 0.52 * width + FOOT + _legend_of(entries, width).height)
+    legend = _legend_of(entries, sheet.width)
+    foot = FOOT + legend.height
     height = sheet.height - foot - HEAD
     heights = _heights_of(_values_of(function), height, (0, 1))
     axes = sheet.axes(heights.room, foot, sheet.width - heights.room - RIGHT, height)
@@ -401,14 +409,15 @@ def _draw_graph(function: Function, verdict: Optional[Verdict], figure, width: f
     _frame(axes, function)
     _label_places(axes.xaxis, function, sheet.width - heights.room - RIGHT)
     _mark_f(axes, function)
-    _add_pieces(axes, pieces)
+    _add_pieces(axes, pieces, 1.8)
     _add_dots(axes, function)
     for i, mark in enumerate(marks):
         axes.plot(
             [float(mark.x)], [float(mark.y)], mark.mark, color=ALERT, markersize=7,
-            markeredgecolor=PAPER, markeredgewidth=0.5, zorder=6, clip_on=False, gid=f"violation-{i}",
+            markeredgecolor=PAPER, markeredgewidth=0.5, zorder=6, clip_on=False,
+            gid=f"violation-{i}",
         )  # fmt: skip
-    _add_legend(sheet, entries)
+    _add_legend(sheet, legend)
     return sheet.picture("the graph", function)
 
 
@@ -429,8 +438,9 @@ def _mark_f(axes, function: Function) -> None:
     )  # fmt: skip
 
 
-def _add_pieces(axes, pieces: Sequence[Piece], turned: bool = False, width: float = 1.8) -> None:
+def _add_pieces(axes, pieces: Sequence[Piece], width: float, turned: bool = False) -> None:
     """The graph; turned, with the places upwards and the values to the left."""
+    width = width if len(pieces) <= MANY else 0.7
     collections = _module("collections")
     lines: Dict[Component, List[List[Tuple[float, float]]]] = {}
     for component, corners in pieces:
@@ -498,7 +508,8 @@ def _marks_of(function: Function, violation: Violation) -> List[_Mark]:
     if kind == "superadditive":
         return [*marks, mark(total, "D", f": slack {_flat(slack)}")]
     how = "twice that" if len(marks) == 1 else "together"
-    return [*marks[:-1], marks[-1]._replace(label=f"{marks[-1].label}: {how} {_flat(value)}, not 1")]
+    last = marks.pop()
+    return [*marks, last._replace(label=f"{last.label}: {how} {_flat(value)}, not 1")]
 
 
 # ---- two halves ----
@@ -513,8 +524,9 @@ def _draw_halves(function: Function, verdict: Verdict, figure, width: float) -> 
         _Entry("second half", COLOURS[1], line=DASHES),
         _Entry("first half less second", COLOURS[2]),
     ]
-    sheet = _Sheet(figure, width, 0.85 * width + FOOT + _height_of(entries, width))
-    foot = FOOT + _height_of(entries, sheet.width)
+    sheet = _Sheet(figure, width, 0.85 * width + FOOT + _legend_of(entries, width).height)
+    legend = _legend_of(entries, sheet.width)
+    foot = FOOT + legend.height
     height = sheet.height - foot - HEAD
     values = [value for each in (function, first, second) for value in _values_of(each)]
     upper = _heights_of(values, 0.66 * height, (0, 1))._replace(
@@ -536,7 +548,7 @@ def _draw_halves(function: Function, verdict: Verdict, figure, width: float) -> 
     _add_line(above, second, COLOURS[1], DASHES, "second-half", 1.5)
     _add_dots(above, function)
     _add_line(below, difference, COLOURS[2], "-", "difference", 1.5)
-    _add_legend(sheet, entries)
+    _add_legend(sheet, legend)
     return sheet.picture("two halves", function)
 
 
@@ -568,13 +580,12 @@ def _draw_faces(
     if point:
         label = _marks_of(function, point)[-1].label.partition(": ")[2]
         entries.append(_Entry(f"{label} at ({point.x}, {point.y})", ALERT, line="", mark="*"))
-    side, strip = 0.2 + GRAPH, BAR + 2 * GAP
-    left, right, top = side + strip, strip + 0.42, 0.25 + GRAPH + strip
-    below = strip + 0.48
-    sheet = _Sheet(
-        figure, width, width - left - right + top + below + _height_of(entries, width)
-    )
-    below += _height_of(entries, sheet.width)
+    strip = BAR + 2 * GAP
+    left, right, top, below = 0.2 + GRAPH + strip, strip + 0.42, 0.25 + GRAPH + strip, strip + 0.48
+    height = width - left - right + top + below + _legend_of(entries, width).height
+    sheet = _Sheet(figure, width, height)
+    legend = _legend_of(entries, sheet.width)
+    below += legend.height
     size = min(sheet.width - left - right, sheet.height - top - below)
     left += (sheet.width - left - right - size) / 2
     square = sheet.axes(left, below, size, size)
@@ -589,8 +600,10 @@ def _draw_faces(
     square.xaxis.set_tick_params(which="both", length=0, pad=22)
     square.yaxis.set_tick_params(which="both", length=0, pad=12)
     if point:
-        x, y = float(point.x % 1), float(point.y % 1)
-        square.plot([x], [y], "*", color=ALERT, markersize=11, zorder=7, clip_on=False, gid="violation")
+        square.plot(
+            [float(point.x % 1)], [float(point.y % 1)], "*", color=ALERT, markersize=11, zorder=7,
+            clip_on=False, gid="violation",
+        )  # fmt: skip
     _add_projections(sheet, diagram, left, below, size)
     heights = [float(y) for piece in pieces for _, y in piece.corners]
     low, high = min(*heights, 0.0), max(*heights, 1.0)
@@ -600,13 +613,13 @@ def _draw_faces(
     lefter.set(ylim=(0, 1), xlim=(high, low))
     for axes, turned in ((upper, False), (lefter, True)):
         axes.axis("off")
-        _add_pieces(axes, pieces, turned, 1.2)
+        _add_pieces(axes, pieces, 1.2, turned)
     upper.axhline(0, color=SOFT, linewidth=0.6, zorder=1)
     lefter.axvline(0, color=SOFT, linewidth=0.6, zorder=1)
     for line in (upper.axvline, lefter.axhline):
         line(float(function.f), color=SOFT, linewidth=0.8, linestyle=DASHES, zorder=1)
     _mark_f(upper, function)
-    _add_legend(sheet, entries)
+    _add_legend(sheet, legend)
     return sheet.picture("the additive faces", function)
 
 
@@ -620,7 +633,9 @@ def _add_complex(axes, function: Function, order: int) -> None:
         drawn = []
         for u in map(float, at):
             drawn += [[(u, 0), (u, 1)], [(0, u), (1, u)], [(0, u), (u, 0)], [(u, 1), (1, u)]]
-        made = collections.LineCollection(drawn, colors=colour, linewidths=width, zorder=1, gid=name)
+        made = collections.LineCollection(
+            drawn, colors=colour, linewidths=width, zorder=1, gid=name
+        )
         axes.add_collection(made, autolim=False)
 
 
@@ -633,7 +648,8 @@ def _add_diagram(axes, diagram: Diagram) -> None:
         corners, codes = [], []
         for loop in loops:
             corners += [(x / order, y / order) for x, y in (*loop, loop[0])]
-            codes += [paths.Path.MOVETO, *[paths.Path.LINETO] * (len(loop) - 1), paths.Path.CLOSEPOLY]
+            codes += [paths.Path.MOVETO, *[paths.Path.LINETO] * (len(loop) - 1)]
+            codes.append(paths.Path.CLOSEPOLY)
         drawn = collections.PathCollection(
             [paths.Path(corners, codes)], facecolors=[(*_rgb(colour), 0.42)], edgecolors=colour,
             linewidths=0.8 if len(loops) <= MANY else 0.3, joinstyle="round", zorder=2,
@@ -643,8 +659,9 @@ def _add_diagram(axes, diagram: Diagram) -> None:
     for component, segments in diagram.edges.items():
         lines = [[(x / order, y / order) for x, y in segment] for segment in segments]
         drawn = collections.LineCollection(
-            lines, colors=colour_of(component), linewidths=2.0 if len(lines) <= MANY else 0.7, capstyle="round",
-            zorder=3, clip_on=False, gid=_name("edges", component), rasterized=len(lines) > MOST_CORNERS,
+            lines, colors=colour_of(component), linewidths=2.0 if len(lines) <= MANY else 0.7,
+            capstyle="round", zorder=3, clip_on=False, gid=_name("edges", component),
+            rasterized=len(lines) > MOST_CORNERS,
         )  # fmt: skip
         axes.add_collection(drawn, autolim=False)
     if diagram.points:
@@ -660,7 +677,9 @@ def _rgb(colour: str) -> Tuple[float, ...]:
     return tuple(int(colour[i : i + 2], 16) / 255 for i in (1, 3, 5))
 
 
-def _add_projections(sheet: _Sheet, diagram: Diagram, left: float, below: float, size: float) -> None:
+def _add_projections(
+    sheet: _Sheet, diagram: Diagram, left: float, below: float, size: float
+) -> None:
     """A bar at each border: by x above, by y on the left, by x + y below and on the right."""
     by_x, by_y, by_sum = diagram.projections
     far, near = size + GAP, -GAP - BAR

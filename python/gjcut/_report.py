@@ -1,9 +1,9 @@
-"""A report on functions as one page of HTML: pictures, verdicts and proofs in words, without scripts
-and without anything from elsewhere. All that it says is the program's, or stands in its pages."""
+"""A report on functions as one page of HTML: pictures, verdicts and proofs in words, without
+scripts, and without anything from elsewhere."""
 import base64
 import re
 from html import escape
-from typing import Dict, Iterator, List, NamedTuple, Optional, Sequence, Tuple
+from typing import Dict, Iterator, NamedTuple, Optional, Sequence, Tuple
 
 from . import _plot
 from ._functions import Function

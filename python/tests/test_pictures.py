@@ -4,8 +4,8 @@ import contextlib
 import html.parser
 import io
 import itertools
+import os
 import random
-import re
 import subprocess
 import sys
 import tempfile
@@ -157,11 +157,14 @@ class Drawn(unittest.TestCase):
         self.assertEqual(left.get_segments()[0].tolist(), [[0, 0], [1, 0.6]])
 
     def test_no_words_lie_on_others(self):
-        three = [(0, 0), ("1/9", "5/9"), ("8/45", "2/9"), ("28/45", "7/9"), ("31/45", "4/9"), ("4/5", 1)]
+        three = [(0, 0), ("1/9", "5/9"), ("8/45", "2/9")]
+        three += [("28/45", "7/9"), ("31/45", "4/9"), ("4/5", 1)]
         fine = [(0, 0), ("499/1000", 1)]
         steep = [(0, 0), ("1/12", 1), ("1/6", "2/13"), ("11/12", "11/13")]
         near = [(0, 0), ("1/1000", "1/3"), ("498/1000", "2/3"), ("499/1000", 1)]
-        for points in (("4/5", three), ("499/1000", fine), ("1/12", steep), ("499/1000", near), SIX):
+        long = [(0, 0), ("1/97", "1/100003"), ("2/97", "99999/100003"), ("96/97", "1/7")]
+        all_points = ("4/5", three), ("499/1000", fine), ("1/12", steep), ("499/1000", near), SIX
+        for points in (*all_points, ("3/97", long)):
             function = gjcut.by_breakpoints(*points)
             verdict = gjcut.extreme(function)
             for shown, way, width in itertools.product(
@@ -244,8 +247,10 @@ class Commands(unittest.TestCase):
     @needs_matplotlib
     def test_pictures_of_each_kind(self):
         for kind, begin, words in (
-            ("svg", b"<?xml", ()), ("png", b"\x89PNG", ("--faces",)), ("pdf", b"%PDF", ("--halves",)),
-        ):  # fmt: skip
+            ("svg", b"<?xml", ()),
+            ("png", b"\x89PNG", ("--faces",)),
+            ("pdf", b"%PDF", ("--halves",)),
+        ):
             name = self.folder / f"six.{kind}"
             said, status = asked("plot", self.six, "-o", name, *words)
             self.assertEqual(status, 0, said)
@@ -298,16 +303,14 @@ class Commands(unittest.TestCase):
             words = [command, str(self.six), "-o", str(self.folder / "six.svg")]
             done = subprocess.run(
                 [sys.executable, "-c", code, *words],
-                env={"PYTHONPATH": str(Path(gjcut.__file__).parents[1]), **_environment()},
+                env={**os.environ, "PYTHONPATH": str(Path(gjcut.__file__).parents[1])},
                 capture_output=True,
                 text=True,
                 check=False,
             )
             self.assertEqual(done.returncode, 15, done.stderr)
-            self.assertEqual(
-                done.stdout.splitlines()[0::2][0], "None"
-            )
-            last = done.stdout.splitlines()[-1]
+            shown, *_, last = done.stdout.splitlines()
+            self.assertEqual(shown, "None")
             self.assertIn("pictures need the package matplotlib, which is not here", last)
             self.assertIn("apt-get install python3-matplotlib", last)
 
@@ -349,12 +352,6 @@ class Commands(unittest.TestCase):
             "prefers-color-scheme: dark",
         ):
             self.assertIn(words, text)
-
-
-def _environment():
-    import os
-
-    return {name: value for name, value in os.environ.items() if name != "PYTHONPATH"}
 
 
 class Page(html.parser.HTMLParser):

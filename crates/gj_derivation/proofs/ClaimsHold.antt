@@ -38,36 +38,49 @@ use Rattle.gj_derivation.proofs.ColumnSums.{column_sum, line_at, column_sum_zero
 
 -- ---- bounds of columns
 
-above_lower : (c : Column) (x : Rational) (b : Frac) → MeetsColumn c x → HasLower c b → IsNonnegativeQ (x -ℚ rational b)
+above_lower : (c : Column) (x : Rational) (b : Frac) → MeetsColumn c x → HasLower c b →
+    IsNonnegativeQ (x -ℚ rational b)
 above_lower c x b meets (l, is, rounded) =
     lower_rounded c.is_whole l b x rounded meets.is_whole
-    (difference_nonnegative (rational l) x (if_some (λ l. rational l ≤ℚ x) c.lower l is meets.lower))
+    (difference_nonnegative (rational l) x (if_some (λ l. rational l ≤ℚ x) c.lower l is
+    meets.lower))
 
-below_upper : (c : Column) (x : Rational) (b : Frac) → MeetsColumn c x → HasUpper c b → IsNonnegativeQ (rational b -ℚ x)
+below_upper : (c : Column) (x : Rational) (b : Frac) → MeetsColumn c x → HasUpper c b →
+    IsNonnegativeQ (rational b -ℚ x)
 below_upper c x b meets (u, is, rounded) =
     upper_rounded c.is_whole u b x rounded meets.is_whole
-    (difference_nonnegative x (rational u) (if_some (λ u. x ≤ℚ rational u) c.upper u is meets.upper))
+    (difference_nonnegative x (rational u) (if_some (λ u. x ≤ℚ rational u) c.upper u is
+    meets.upper))
 
 -- ---- moved coefficients
 
-move_low : (c : Column) (v x y shift : Rational) → MeetsColumn c v → IsMovedBy (HasLower c) (HasUpper c) x y shift →
+move_low : (c : Column) (v x y shift : Rational) → MeetsColumn c v →
+    IsMovedBy (HasLower c) (HasUpper c) x y shift →
     IsNonnegativeQ ((y -ℚ x) *ℚ v -ℚ shift)
 move_low c v x y shift meets =
     ⊎_elim
     (λ (h : IsUnmoved x y shift).
-    subst IsNonnegativeQ (kept_change x v ∙ ap₂ (λ a b. (a -ℚ x) *ℚ v -ℚ b) (sym h.same) (sym h.shift_is)) (nonnegative_whole (pos 0) (omega (arith, ints))))
+    subst IsNonnegativeQ (kept_change x v ∙ ap₂ (λ a b. (a -ℚ x) *ℚ v -ℚ b) (sym h.same)
+    (sym h.shift_is)) (nonnegative_whole (pos 0) (omega (arith, ints))))
     (⊎_elim
     (λ (h : IsMovedUp (HasLower c) x y shift).
-    subst IsNonnegativeQ (raised (y -ℚ x) v (rational h.bound) ∙ ap (λ w. (y -ℚ x) *ℚ v -ℚ w) (sym h.shift_is))
-    (nonnegative_mul (y -ℚ x) (v -ℚ rational h.bound) (difference_nonnegative x y h.greater) (above_lower c v h.bound meets h.bound_is)))
+    subst IsNonnegativeQ (raised (y -ℚ x) v (rational h.bound)
+    ∙ ap (λ w. (y -ℚ x) *ℚ v -ℚ w) (sym h.shift_is))
+    (nonnegative_mul (y -ℚ x) (v -ℚ rational h.bound) (difference_nonnegative x y h.greater)
+    (above_lower c v h.bound meets h.bound_is)))
     (λ (h : IsMovedDown (HasUpper c) x y shift).
-    subst IsNonnegativeQ (lowered x y v (rational h.bound) ∙ ap (λ w. (y -ℚ x) *ℚ v -ℚ w) (sym h.shift_is))
-    (nonnegative_mul (x -ℚ y) (rational h.bound -ℚ v) (difference_nonnegative y x h.lesser) (below_upper c v h.bound meets h.bound_is))))
+    subst IsNonnegativeQ (lowered x y v (rational h.bound)
+    ∙ ap (λ w. (y -ℚ x) *ℚ v -ℚ w) (sym h.shift_is))
+    (nonnegative_mul (x -ℚ y) (rational h.bound -ℚ v) (difference_nonnegative y x h.lesser)
+    (below_upper c v h.bound meets h.bound_is))))
 
-pub moves_low : (columns : List Column) (point : List Rational) (xs ys : ℕ → Rational) (total : Rational) → AllZip MeetsColumn columns point →
-    AreMovedBy columns xs ys total → IsNonnegativeQ ((column_sum point ys -ℚ column_sum point xs) -ℚ total)
+pub moves_low : (columns : List Column) (point : List Rational) (xs ys : ℕ → Rational)
+    (total : Rational) → AllZip MeetsColumn columns point →
+    AreMovedBy columns xs ys total → IsNonnegativeQ ((column_sum point ys -ℚ column_sum point xs) -ℚ
+    total)
 moves_low [] [] xs ys total meets h =
-    subst IsNonnegativeQ (no_change ∙ ap (λ w. (whole (pos 0) -ℚ whole (pos 0)) -ℚ w) (sym h)) (nonnegative_whole (pos 0) (omega (arith, ints)))
+    subst IsNonnegativeQ (no_change ∙ ap (λ w. (whole (pos 0) -ℚ whole (pos 0)) -ℚ w) (sym h))
+    (nonnegative_whole (pos 0) (omega (arith, ints)))
 moves_low [] (v ∷ point) xs ys total meets h = absurd meets
 moves_low (c ∷ columns) [] xs ys total meets h = absurd meets
 moves_low (c ∷ columns) (v ∷ point) xs ys total meets (shift, rest, moved, more, total_is) =
@@ -91,25 +104,32 @@ turned m s r = by_ring_q (m ∷ s ∷ r ∷ []) (search ring_q depth 40) refl
 met : (m r : Rational) → whole (pos 0) ≡ m *ℚ (r -ℚ r)
 met m r = by_ring_q (m ∷ r ∷ []) (search ring_q depth 40) refl
 
-signed_low : (sense : Sense) (m : Frac) (s r : Rational) → IsSignFor sense (numerator m) → Meets sense s r →
+signed_low : (sense : Sense) (m : Frac) (s r : Rational) → IsSignFor sense (numerator m) →
+    Meets sense s r →
     IsNonnegativeQ (rational m *ℚ (s -ℚ r))
-signed_low AtLeast m s r sign meets = nonnegative_mul (rational m) (s -ℚ r) (record { low = sign }) (difference_nonnegative r s meets)
+signed_low AtLeast m s r sign meets = nonnegative_mul (rational m) (s -ℚ r) (record { low = sign })
+    (difference_nonnegative r s meets)
 signed_low AtMost m s r sign meets =
     subst IsNonnegativeQ (turned (rational m) s r)
-    (nonnegative_mul (whole (pos 0) -ℚ rational m) (r -ℚ s) (difference_nonnegative (rational m) (whole (pos 0)) (at_most_zero m sign))
+    (nonnegative_mul (whole (pos 0) -ℚ rational m) (r -ℚ s)
+    (difference_nonnegative (rational m) (whole (pos 0)) (at_most_zero m sign))
     (difference_nonnegative s r meets))
 signed_low Equal m s r sign meets =
-    subst IsNonnegativeQ (met (rational m) r ∙ ap (λ w. rational m *ℚ (w -ℚ r)) (sym meets)) (nonnegative_whole (pos 0) (omega (arith, ints)))
+    subst IsNonnegativeQ (met (rational m) r ∙ ap (λ w. rational m *ℚ (w -ℚ r)) (sym meets))
+    (nonnegative_whole (pos 0) (omega (arith, ints)))
 
-pub in_constraint : {A : Type 0} (f : Constraint → A) (p : Problem) (i : ℕ) (c : Constraint) (d : A) → IsConstraint p i c →
+pub in_constraint : {A : Type 0} (f : Constraint → A) (p : Problem) (i : ℕ) (c : Constraint)
+    (d : A) → IsConstraint p i c →
     get_or (map f p.constraints) i d ≡ f c
 in_constraint f p i c d is = get_or-map f p.constraints i c d is.below ∙ ap f is.is
 
-sum_of_constraint : (p : Problem) (point : List Rational) (i : ℕ) (c : Constraint) → IsConstraint p i c →
+sum_of_constraint : (p : Problem) (point : List Rational) (i : ℕ) (c : Constraint) →
+    IsConstraint p i c →
     column_sum point (coefficient_at p i) ≡ sum_at point c.entries
 sum_of_constraint p point i c is =
     let same : coefficient_at p i ≡ coefficient_in c.entries =
-    λ k j. in_constraint (λ (d : Constraint). coefficient_in d.entries j) p i c (whole (pos 0)) is k in
+    λ k j. in_constraint (λ (d : Constraint). coefficient_in d.entries j) p i c (whole (pos 0)) is k
+    in
     ap (column_sum point) same ∙ sym (sum_by_columns point c.entries)
 
 one_added : (m a r f t : Rational) → m *ℚ (a -ℚ r) +ℚ (f -ℚ t) ≡ (m *ℚ a +ℚ f) -ℚ (m *ℚ r +ℚ t)
@@ -118,67 +138,85 @@ one_added m a r f t = by_ring_q (m ∷ a ∷ r ∷ f ∷ t ∷ []) (search ring_
 none_added : whole (pos 0) ≡ whole (pos 0) -ℚ whole (pos 0)
 none_added = by_ring_q [] (search ring_q depth 40) refl
 
-added_low : (p : Problem) (point : List Rational) (ms : List Multiplier) → IsFeasible p point → AreSigned Linear p ms →
+added_low : (p : Problem) (point : List Rational) (ms : List Multiplier) → IsFeasible p point →
+    AreSigned Linear p ms →
     IsNonnegativeQ (line_at point (added p ms))
 added_low p point [] feasible signs =
-    subst IsNonnegativeQ (none_added ∙ ap (λ w. w -ℚ whole (pos 0)) (sym (column_sum_zero point))) (nonnegative_whole (pos 0) (omega (arith, ints)))
+    subst IsNonnegativeQ (none_added ∙ ap (λ w. w -ℚ whole (pos 0)) (sym (column_sum_zero point)))
+    (nonnegative_whole (pos 0) (omega (arith, ints)))
 added_low p point (m ∷ ms) feasible signs =
     let Signed = IsSigned Linear p in
     let (c, is, sign) = All-head Signed m ms signs in
     let f = column_sum point (added p ms).coefficient in
     let here : IsNonnegativeQ (rational m.value *ℚ (sum_at point c.entries -ℚ rational c.right)) =
-    signed_low c.sense m.value (sum_at point c.entries) (rational c.right) sign (constraint_at p point m.line c is feasible) in
+    signed_low c.sense m.value (sum_at point c.entries) (rational c.right) sign
+    (constraint_at p point m.line c is feasible) in
     subst IsNonnegativeQ
     (one_added (rational m.value) (sum_at point c.entries) (rational c.right) f (added p ms).right
-    ∙ ap₂ (λ v w. (rational m.value *ℚ v +ℚ f) -ℚ (rational m.value *ℚ w +ℚ (added p ms).right)) (sym (sum_of_constraint p point m.line c is))
+    ∙ ap₂ (λ v w. (rational m.value *ℚ v +ℚ f) -ℚ (rational m.value *ℚ w +ℚ (added p ms).right))
+    (sym (sum_of_constraint p point m.line c is))
     (sym (in_constraint (λ (d : Constraint). rational d.right) p m.line c (whole (pos 0)) is))
     ∙ ap (λ w. w -ℚ (added p (m ∷ ms)).right)
-    (sym (column_sum_more point (rational m.value) (coefficient_at p m.line) (added p ms).coefficient)))
+    (sym (column_sum_more point (rational m.value) (coefficient_at p m.line)
+    (added p ms).coefficient)))
     (nonnegative_add _ _ here (added_low p point ms feasible (All-tail Signed m ms signs)))
 
 -- ---- bases
 
-held_low : (p : Problem) (q : Inequality) (point : List Rational) → Holds p q → IsFeasible p point → IsNonnegativeQ (line_at point (line_of q))
+held_low : (p : Problem) (q : Inequality) (point : List Rational) → Holds p q → IsFeasible p point →
+    IsNonnegativeQ (line_at point (line_of q))
 held_low p q point holds feasible =
     subst IsNonnegativeQ (ap (λ w. w -ℚ rational q.right) (sum_by_columns point q.entries))
     (difference_nonnegative (rational q.right) (sum_at point q.entries) (holds point feasible))
 
-cut_holds : (rule : StepRule) (f : Option FunctionData) (p : Problem) (ms : List Frac) (ups : List Bool) (cut : SafeCut) → IfSome f IsUsable →
+cut_holds : (rule : StepRule) (f : Option FunctionData) (p : Problem) (ms : List Frac)
+    (ups : List Bool) (cut : SafeCut) → IfSome f IsUsable →
     length ups ≡ length p.columns → IsCutBy rule f p ms ups cut → SafeCutHolds p cut
 cut_holds Linear f p ms ups cut usable count h = absurd h
 cut_holds Gmic f p ms ups cut usable count h = holds_by_gmic p ms ups cut count h
 cut_holds Function (Some f) p ms ups cut usable count (up, down, slopes, h) =
-    holds_by_rule (Table f) up down p ms ups cut count (λ q is. usable.bounds) usable.minimal (usable.continuous, slopes) h
+    holds_by_rule (Table f) up down p ms ups cut count (λ q is. usable.bounds) usable.minimal
+    (usable.continuous, slopes) h
 cut_holds Function None p ms ups cut usable count h = absurd h
 
-base_by_low : (rule : StepRule) (f : Option FunctionData) (p : Problem) (c : Combination) (base : Line) (point : List Rational) → IfSome f IsUsable →
-    AreSigned rule p c.multipliers → IsBaseBy rule f p c base → IsFeasible p point → IsNonnegativeQ (line_at point base)
+base_by_low : (rule : StepRule) (f : Option FunctionData) (p : Problem) (c : Combination)
+    (base : Line) (point : List Rational) → IfSome f IsUsable →
+    AreSigned rule p c.multipliers → IsBaseBy rule f p c base → IsFeasible p point →
+    IsNonnegativeQ (line_at point base)
 base_by_low Linear f p c base point usable signed h feasible =
-    subst (λ (l : Line). IsNonnegativeQ (line_at point l)) (sym h) (added_low p point c.multipliers feasible signed)
+    subst (λ (l : Line). IsNonnegativeQ (line_at point l)) (sym h)
+    (added_low p point c.multipliers feasible signed)
 base_by_low Gmic f p c base point usable signed (q, k, is) feasible =
     subst (λ (l : Line). IsNonnegativeQ (line_at point l)) (sym is)
-    (held_low p q point (cut_holds c.rule f p k.multipliers k.at_upper (Cut q) usable k.at_upper_are.count k.cut_is) feasible)
+    (held_low p q point (cut_holds c.rule f p k.multipliers k.at_upper (Cut q) usable
+    k.at_upper_are.count k.cut_is) feasible)
 base_by_low Function f p c base point usable signed (q, k, is) feasible =
     subst (λ (l : Line). IsNonnegativeQ (line_at point l)) (sym is)
-    (held_low p q point (cut_holds c.rule f p k.multipliers k.at_upper (Cut q) usable k.at_upper_are.count k.cut_is) feasible)
+    (held_low p q point (cut_holds c.rule f p k.multipliers k.at_upper (Cut q) usable
+    k.at_upper_are.count k.cut_is) feasible)
 
-base_low : (f : Option FunctionData) (p : Problem) (c : Combination) (base : Line) (point : List Rational) → IfSome f IsUsable →
+base_low : (f : Option FunctionData) (p : Problem) (c : Combination) (base : Line)
+    (point : List Rational) → IfSome f IsUsable →
     IsBase f p c base → IsFeasible p point → IsNonnegativeQ (line_at point base)
-base_low f p c base point usable h feasible = base_by_low c.rule f p c base point usable h.0 h.1 feasible
+base_low f p c base point usable h feasible = base_by_low c.rule f p c base point usable h.0 h.1
+    feasible
 
 -- ---- rounding up
 
-whole_term : (b : Bool) (y v : Rational) → (IsTrue b → IsWholeNumber v) → IsWholeTerm b y → IsWholeNumber (y *ℚ v)
+whole_term : (b : Bool) (y v : Rational) → (IsTrue b → IsWholeNumber v) → IsWholeTerm b y →
+    IsWholeNumber (y *ℚ v)
 whole_term true y v is_whole h = whole_product y v h (is_whole (search rules))
 whole_term false y v is_whole h = (pos 0, ap (λ w. w *ℚ v) h ∙ zero_mul_q v)
 
-whole_by_columns : (columns : List Column) (point : List Rational) (ys : ℕ → Rational) → AllZip MeetsColumn columns point →
+whole_by_columns : (columns : List Column) (point : List Rational) (ys : ℕ → Rational) →
+    AllZip MeetsColumn columns point →
     AreWholeTerms columns ys → IsWholeNumber (column_sum point ys)
 whole_by_columns [] [] ys meets h = (pos 0, refl)
 whole_by_columns [] (v ∷ point) ys meets h = absurd meets
 whole_by_columns (c ∷ columns) [] ys meets h = absurd meets
 whole_by_columns (c ∷ columns) (v ∷ point) ys meets h =
-    whole_sum (ys zero *ℚ v) (column_sum point (λ j. ys (suc j))) (whole_term c.is_whole (ys zero) v meets.0.is_whole h.0)
+    whole_sum (ys zero *ℚ v) (column_sum point (λ j. ys (suc j)))
+    (whole_term c.is_whole (ys zero) v meets.0.is_whole h.0)
     (whole_by_columns columns point (λ j. ys (suc j)) meets.1 h.1)
 
 negated_difference : (x y : Rational) → y -ℚ x ≡ neg_ℚ x -ℚ neg_ℚ y
@@ -186,19 +224,24 @@ negated_difference x y = by_ring_q (x ∷ y ∷ []) (search ring_q depth 40) ref
 
 pub at_most_negated : (x y : Rational) → x ≤ℚ y → neg_ℚ y ≤ℚ neg_ℚ x
 at_most_negated x y h =
-    at_most_from_difference (neg_ℚ y) (neg_ℚ x) (subst IsNonnegativeQ (negated_difference x y) (difference_nonnegative x y h))
+    at_most_from_difference (neg_ℚ y) (neg_ℚ x) (subst IsNonnegativeQ (negated_difference x y)
+    (difference_nonnegative x y h))
 
 -- a whole number that is at least x is at least x rounded up
-pub rounded_up_low : (x y z : Rational) → IsBelowOnGrid 1 (neg_ℚ x) (neg_ℚ y) → IsWholeNumber z → x ≤ℚ z → y ≤ℚ z
+pub rounded_up_low : (x y z : Rational) → IsBelowOnGrid 1 (neg_ℚ x) (neg_ℚ y) → IsWholeNumber z →
+    x ≤ℚ z → y ≤ℚ z
 rounded_up_low x y z rounded is_whole h =
     at_most_turned y z
     (rounded.greatest (neg_ℚ z)
-    (whole_product (whole (pos 1)) (neg_ℚ z) (pos 1, refl) (whole_product (whole (negsuc 0)) z (negsuc 0, refl) is_whole))
+    (whole_product (whole (pos 1)) (neg_ℚ z) (pos 1, refl)
+    (whole_product (whole (negsuc 0)) z (negsuc 0, refl) is_whole))
     (at_most_negated x z h))
 
-right_low : (Whole : Type 0) (x y sum : Rational) → IsRightFor Whole x y → (Whole → IsWholeNumber sum) → x ≤ℚ sum → y ≤ℚ sum
+right_low : (Whole : Type 0) (x y sum : Rational) → IsRightFor Whole x y →
+    (Whole → IsWholeNumber sum) → x ≤ℚ sum → y ≤ℚ sum
 right_low Whole x y sum h is_whole low =
-    ⊎_elim (λ (k : Whole × IsBelowOnGrid 1 (neg_ℚ x) (neg_ℚ y)). rounded_up_low x y sum k.1 (is_whole k.0) low)
+    ⊎_elim (λ (k : Whole × IsBelowOnGrid 1 (neg_ℚ x) (neg_ℚ y)). rounded_up_low x y sum k.1
+    (is_whole k.0) low)
     (λ (k : (Whole → ⊥) × (y ≡ x)). subst (λ w. w ≤ℚ sum) (sym k.1) low) h
 
 -- ---- steps
@@ -209,7 +252,8 @@ shown_sum y f x t r = by_ring_q (y ∷ f ∷ x ∷ t ∷ r ∷ []) (search ring_
 positive_low : (f : Frac) → pos 0 <ℤ numerator f → IsNonnegativeQ (rational f)
 positive_low f h = record { low = omega (arith, ints) }
 
-shown_low : (f : Option FunctionData) (p : Problem) (s : Step) (right : Rational) (point : List Rational) → IfSome f IsUsable →
+shown_low : (f : Option FunctionData) (p : Problem) (s : Step) (right : Rational)
+    (point : List Rational) → IfSome f IsUsable →
     IsShown f p s right → IsFeasible p point → right ≤ℚ sum_at point s.claim.entries
 shown_low f p s right point usable h feasible =
     let factor = s.combination.factor in
@@ -218,19 +262,25 @@ shown_low f p s right point usable h feasible =
     let ys = coefficient_in s.claim.entries in
     let x = column_sum point h.base.coefficient in
     let moved : IsNonnegativeQ ((column_sum point ys -ℚ a *ℚ x) -ℚ shift) =
-    subst (λ w. IsNonnegativeQ ((column_sum point ys -ℚ w) -ℚ shift)) (column_sum_times point a h.base.coefficient)
+    subst (λ w. IsNonnegativeQ ((column_sum point ys -ℚ w) -ℚ shift))
+    (column_sum_times point a h.base.coefficient)
     (moves_low p.columns point (times factor h.base) ys shift feasible.columns h.right_is.moved) in
     let times_low : IsNonnegativeQ (a *ℚ (x -ℚ h.base.right)) =
-    nonnegative_mul a (x -ℚ h.base.right) (positive_low factor h.factor_positive) (base_low f p s.combination h.base point usable h.base_is feasible) in
+    nonnegative_mul a (x -ℚ h.base.right) (positive_low factor h.factor_positive)
+    (base_low f p s.combination h.base point usable h.base_is feasible) in
     let low : (a *ℚ h.base.right +ℚ shift) ≤ℚ column_sum point ys =
-    at_most_from_difference _ _ (subst IsNonnegativeQ (shown_sum (column_sum point ys) a x shift h.base.right) (nonnegative_add _ _ moved times_low)) in
+    at_most_from_difference _ _ (subst IsNonnegativeQ (shown_sum (column_sum point ys) a x shift
+    h.base.right) (nonnegative_add _ _ moved times_low)) in
     subst (λ w. right ≤ℚ w) (sym (sum_by_columns point s.claim.entries))
-    (right_low (AreWholeTerms p.columns ys) (a *ℚ h.base.right +ℚ shift) right (column_sum point ys) h.right_is.right_is
+    (right_low (AreWholeTerms p.columns ys) (a *ℚ h.base.right +ℚ shift) right (column_sum point ys)
+    h.right_is.right_is
     (whole_by_columns p.columns point ys feasible.columns) low)
 
-pub claim_holds : (f : Option FunctionData) (p : Problem) (s : Step) → IfSome f IsUsable → Follows f p s → Holds p s.claim
+pub claim_holds : (f : Option FunctionData) (p : Problem) (s : Step) → IfSome f IsUsable →
+    Follows f p s → Holds p s.claim
 claim_holds f p s usable (right, shown, below) point feasible =
-    at_most_trans (rational s.claim.right) right (sum_at point s.claim.entries) below (shown_low f p s right point usable shown feasible)
+    at_most_trans (rational s.claim.right) right (sum_at point s.claim.entries) below
+    (shown_low f p s right point usable shown feasible)
 
 -- ---- derivations
 
@@ -239,14 +289,17 @@ without_claim p q r holds h point feasible =
     let claimed : Constraint = record { entries = q.entries; sense = AtLeast; right = q.right } in
     h point (record {
       columns = feasible.columns;
-      constraints = All-push (MeetsConstraint point) p.constraints claimed feasible.constraints (holds point feasible);
+      constraints = All-push (MeetsConstraint point) p.constraints claimed feasible.constraints
+          (holds point feasible);
     })
 
-pub claims_hold : (f : Option FunctionData) (p : Problem) (steps : List Step) → IfSome f IsUsable → IsDerivation f p steps →
+pub claims_hold : (f : Option FunctionData) (p : Problem) (steps : List Step) → IfSome f IsUsable →
+    IsDerivation f p steps →
     All (λ s. Holds p s.claim) steps
 claims_hold f p [] usable h = All-nil (λ s. Holds p s.claim)
 claims_hold f p (s ∷ steps) usable h =
     let holds = claim_holds f p s usable h.0 in
     All-cons (λ s. Holds p s.claim) s steps holds
-    (All-weaker (λ t. Holds (with_claim p s.claim) t.claim) (λ t. Holds p t.claim) (λ t. without_claim p s.claim t.claim holds) steps
+    (All-weaker (λ t. Holds (with_claim p s.claim) t.claim) (λ t. Holds p t.claim)
+    (λ t. without_claim p s.claim t.claim holds) steps
     (claims_hold f (with_claim p s.claim) steps usable h.1))

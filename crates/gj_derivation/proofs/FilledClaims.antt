@@ -1,9 +1,7 @@
 -- The claim of a draft as it is found.
-use Rattle.std.proofs.Common.{◌≡◌, ⊎_elim, inl, inr, ℕ, Option, List, pos, ◌<ℤ◌, refl, sym, ap, subst}
-use Rattle.gj_frac.specs.declared.Frac.{Frac}
+use Rattle.std.proofs.Common.{inl, inr, ℕ, Option, pos, ◌<ℤ◌, sym, subst}
 use Rattle.gj_frac.specs.Fraction.{numerator}
 use Rattle.gj_shape.specs.FunctionData.{FunctionData}
-use Rattle.gj_problem.specs.declared.problem.Inequality.{Inequality}
 use Rattle.gj_problem.specs.declared.problem.Problem.{Problem}
 use Rattle.gj_problem.specs.declared.sums.Sum.{Sum}
 use Rattle.gj_derivation.specs.declared.base.Base.TheVariants as base
@@ -30,13 +28,29 @@ module _ (f : Option FunctionData) (grid : Option ℕ) (p : Problem) (c : Combin
   baseless (Right b) h = absurd h
 
   module _ (sum : Sum) (made : IsBaseOf f p c (base.Line sum)) where
-    pub found_filled : (filled : Filled) → pos 0 <ℤ numerator c.factor → IsFoundIn grid p.columns c.factor (line_of_sum sum) filled →
+    pub found_filled : (filled : Filled) → pos 0 <ℤ numerator c.factor →
+        IsFoundIn grid p.columns c.factor (line_of_sum sum) filled →
         IsFilled f grid p c Absent filled
-    found_filled (Claim q) positive h =
-        (positive, made.0, made.1, subst (λ (l : Line). IsFoundClaim grid p.columns c.factor l q) made.2.same h)
+    found_filled (Claim q) positive h = (
+      positive,
+      made.0,
+      made.1,
+      subst (λ (l : Line). IsFoundClaim grid p.columns c.factor l q)
+          made.2.same h,
+    )
     found_filled (Against v) positive (j, is, h) =
-        subst (λ (w : Verdict). IsAgainst f grid p c Absent w) (sym is)
-        (made.0, made.1, subst (λ (l : Line). IsFirstNotFound grid p.columns (times c.factor l) j) made.2.same h)
+        subst (λ (w : Verdict). IsAgainst f grid p c Absent w) (sym is) (
+          made.0,
+          made.1,
+          subst (λ (l : Line). IsFirstNotFound grid p.columns (times c.factor l) j)
+              made.2.same h,
+        )
 
-    pub found_wide : IsWideFinding grid p.columns c.factor (line_of_sum sum) → IsAgainst f grid p c Absent Wide
-    found_wide wide = inr (made.0, made.1, subst (λ (l : Line). IsWideFinding grid p.columns c.factor l) made.2.same wide)
+    pub found_wide : IsWideFinding grid p.columns c.factor (line_of_sum sum) →
+        IsAgainst f grid p c Absent Wide
+    found_wide wide = inr (
+      made.0,
+      made.1,
+      subst (λ (l : Line). IsWideFinding grid p.columns
+          c.factor l) made.2.same wide,
+    )

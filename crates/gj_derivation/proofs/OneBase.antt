@@ -28,7 +28,8 @@ first_is c cs = ap (λ w. rational c *ℚ whole (pos 1) +ℚ w) (dot_none cs) �
 pub later_is : (c : Frac) (cs : List Frac) (i : ℕ) → dot (c ∷ cs) (unit (suc i)) ≡ dot cs (unit i)
 later_is c cs i = no_time (rational c) (dot cs (unit i))
 
-same_numbers : (cs ds : List Frac) → length cs ≡ length ds → ((i : ℕ) → dot cs (unit i) ≡ dot ds (unit i)) → cs ≡ ds
+same_numbers : (cs ds : List Frac) → length cs ≡ length ds →
+    ((i : ℕ) → dot cs (unit i) ≡ dot ds (unit i)) → cs ≡ ds
 same_numbers [] [] n h = refl
 same_numbers [] (d ∷ ds) n h = absurd (omega arith)
 same_numbers (c ∷ cs) [] n h = absurd (omega arith)
@@ -37,8 +38,10 @@ same_numbers (c ∷ cs) (d ∷ ds) n h =
     (rational_injective c d (sym (first_is c cs) ∙ h zero ∙ first_is d ds))
     (same_numbers cs ds (omega arith) (λ i. sym (later_is c cs i) ∙ h (suc i) ∙ later_is d ds i))
 
-one_multipliers : (p : Problem) (named : List Multiplier) (xs ys : List Frac) → AreMultipliers p named xs → AreMultipliers p named ys → xs ≡ ys
-one_multipliers p named xs ys h k = same_numbers xs ys (h.count ∙ sym k.count) (λ i. h.are i ∙ sym (k.are i))
+one_multipliers : (p : Problem) (named : List Multiplier) (xs ys : List Frac) →
+    AreMultipliers p named xs → AreMultipliers p named ys → xs ≡ ys
+one_multipliers p named xs ys h k = same_numbers xs ys (h.count ∙ sym k.count) (λ i. h.are i
+    ∙ sym (k.are i))
 
 same_flag : (a b : Bool) (P : Type 0) → (IsTrue a ↔ P) → (IsTrue b ↔ P) → a ≡ b
 same_flag true true P h k = refl
@@ -46,7 +49,8 @@ same_flag true false P h k = sym (k.1 (h.0 refl))
 same_flag false true P h k = h.1 (k.0 refl)
 same_flag false false P h k = refl
 
-same_flags : (P : ℕ → Type 0) (us vs : List Bool) → length us ≡ length vs → ((j : ℕ) → j < length us → (IsTrue (get_or us j false) ↔ P j)) →
+same_flags : (P : ℕ → Type 0) (us vs : List Bool) → length us ≡ length vs →
+    ((j : ℕ) → j < length us → (IsTrue (get_or us j false) ↔ P j)) →
     ((j : ℕ) → j < length us → (IsTrue (get_or vs j false) ↔ P j)) → us ≡ vs
 same_flags P [] [] n h k = refl
 same_flags P [] (b ∷ vs) n h k = absurd (omega arith)
@@ -54,27 +58,36 @@ same_flags P (a ∷ us) [] n h k = absurd (omega arith)
 same_flags P (a ∷ us) (b ∷ vs) n h k =
     ap₂ (λ (x : Bool) (xs : List Bool). x ∷ xs)
     (same_flag a b (P zero) (h zero (omega arith)) (k zero (omega arith)))
-    (same_flags (λ j. P (suc j)) us vs (omega arith) (λ j below. h (suc j) (omega arith)) (λ j below. k (suc j) (omega arith)))
+    (same_flags (λ j. P (suc j)) us vs (omega arith) (λ j below. h (suc j) (omega arith))
+    (λ j below. k (suc j) (omega arith)))
 
-one_at_upper : (p : Problem) (named : List ℕ) (us vs : List Bool) → AreAtUpper p named us → AreAtUpper p named vs → us ≡ vs
+one_at_upper : (p : Problem) (named : List ℕ) (us vs : List Bool) → AreAtUpper p named us →
+    AreAtUpper p named vs → us ≡ vs
 one_at_upper p named us vs h k =
     let count = h.count in
-    same_flags (λ j. Contains named j) us vs (h.count ∙ sym k.count) (λ j below. h.are j (omega arith)) (λ j below. k.are j (omega arith))
+    same_flags (λ j. Contains named j) us vs (h.count ∙ sym k.count)
+    (λ j below. h.are j (omega arith)) (λ j below. k.are j (omega arith))
 
 -- ---- one cut
 
-cut_by_is_one : (rule : StepRule) (f : Option FunctionData) (p : Problem) (ms : List Frac) (ups : List Bool) (q : Inequality) (cut : SafeCut) →
-    IfSome f IsUsable → IsCutBy rule f p ms ups (Cut q) → IsCutBy rule f p ms ups cut → IsSameCut q cut
+cut_by_is_one : (rule : StepRule) (f : Option FunctionData) (p : Problem) (ms : List Frac)
+    (ups : List Bool) (q : Inequality) (cut : SafeCut) →
+    IfSome f IsUsable → IsCutBy rule f p ms ups (Cut q) → IsCutBy rule f p ms ups cut →
+    IsSameCut q cut
 cut_by_is_one Linear f p ms ups q cut usable h k = absurd h
 cut_by_is_one Gmic f p ms ups q cut usable h k = one_gmic_cut p ms ups q cut h k
-cut_by_is_one Function (Some f) p ms ups q cut usable h k = one_function_cut f p ms ups q cut usable.bounds h k
+cut_by_is_one Function (Some f) p ms ups q cut usable h k =
+    one_function_cut f p ms ups q cut usable.bounds h k
 cut_by_is_one Function None p ms ups q cut usable h k = absurd h
 
-pub cut_is_one : (f : Option FunctionData) (p : Problem) (c : Combination) (q : Inequality) (cut : SafeCut) → IfSome f IsUsable →
+pub cut_is_one : (f : Option FunctionData) (p : Problem) (c : Combination) (q : Inequality)
+    (cut : SafeCut) → IfSome f IsUsable →
     IsCutOf f p c (Cut q) → IsCutOf f p c cut → IsSameCut q cut
 cut_is_one f p c q cut usable h k =
-    let multipliers : k.multipliers ≡ h.multipliers = one_multipliers p c.multipliers k.multipliers h.multipliers k.multipliers_are h.multipliers_are in
-    let flags : k.at_upper ≡ h.at_upper = one_at_upper p c.at_upper k.at_upper h.at_upper k.at_upper_are h.at_upper_are in
+    let multipliers : k.multipliers ≡ h.multipliers = one_multipliers p c.multipliers k.multipliers
+    h.multipliers k.multipliers_are h.multipliers_are in
+    let flags : k.at_upper ≡ h.at_upper = one_at_upper p c.at_upper k.at_upper h.at_upper
+    k.at_upper_are h.at_upper_are in
     cut_by_is_one c.rule f p h.multipliers h.at_upper q cut usable h.cut_is
     (subst (λ (ups : List Bool). IsCutBy c.rule f p h.multipliers ups cut) flags
     (subst (λ (ms : List Frac). IsCutBy c.rule f p ms k.at_upper cut) multipliers k.cut_is))
@@ -85,21 +98,25 @@ right_from : (r : Rational) → r ≡ whole (pos 0) -ℚ (whole (pos 0) -ℚ r)
 right_from r = by_ring_q (r ∷ []) (search ring_q depth 40) refl
 
 -- the right side and the coefficients, by what the inequality has above its right side
-pub right_of : (q : Inequality) (sum : List Rational → Rational) (r : Rational) → sum [] ≡ whole (pos 0) →
+pub right_of : (q : Inequality) (sum : List Rational → Rational) (r : Rational) →
+    sum [] ≡ whole (pos 0) →
     ((point : List Rational) → surplus_at point q ≡ sum point -ℚ r) → rational q.right ≡ r
 right_of q sum r none h =
     let at_none : whole (pos 0) -ℚ rational q.right ≡ whole (pos 0) -ℚ r =
     ap (λ w. w -ℚ rational q.right) (sym (nothing_sum q.entries)) ∙ h [] ∙ ap (λ w. w -ℚ r) none in
     right_from (rational q.right) ∙ ap (λ w. whole (pos 0) -ℚ w) at_none ∙ sym (right_from r)
 
-pub coefficients_of : (q : Inequality) (sum : List Rational → Rational) (r : Rational) → sum [] ≡ whole (pos 0) →
-    ((point : List Rational) → surplus_at point q ≡ sum point -ℚ r) → (j : ℕ) → coefficient_in q.entries j ≡ sum (unit j)
+pub coefficients_of : (q : Inequality) (sum : List Rational → Rational) (r : Rational) →
+    sum [] ≡ whole (pos 0) →
+    ((point : List Rational) → surplus_at point q ≡ sum point -ℚ r) → (j : ℕ) →
+    coefficient_in q.entries j ≡ sum (unit j)
 coefficients_of q sum r none h j =
     put_back (sum_at (unit j) q.entries) (rational q.right)
     ∙ ap₂ (λ v w. v +ℚ w) (h (unit j)) (right_of q sum r none h)
     ∙ sym (put_back (sum (unit j)) r)
 
-pub same_line : (q r : Inequality) → ((point : List Rational) → surplus_at point r ≡ surplus_at point q) → line_of r ≡ line_of q
+pub same_line : (q r : Inequality) → ((point : List Rational) →
+    surplus_at point r ≡ surplus_at point q) → line_of r ≡ line_of q
 same_line q r h =
     let sum = λ (point : List Rational). sum_at point q.entries in
     let none = nothing_sum q.entries in
@@ -110,17 +127,21 @@ same_line q r h =
 -- ---- one base
 
 -- a base that is no sum is a cut
-pub sum_or_cut : (rule : StepRule) (f : Option FunctionData) (p : Problem) (c : Combination) (base : Line) → IsBaseBy rule f p c base →
+pub sum_or_cut : (rule : StepRule) (f : Option FunctionData) (p : Problem) (c : Combination)
+    (base : Line) → IsBaseBy rule f p c base →
     (rule ≡ Linear) ⊎ ((q : Inequality) × IsCutOf f p c (Cut q) × (base ≡ line_of q))
 sum_or_cut Linear f p c base h = inl refl
 sum_or_cut Gmic f p c base h = inr h
 sum_or_cut Function f p c base h = inr h
 
 -- a sum is no cut
-pub no_cut_of_sum : (f : Option FunctionData) (p : Problem) (c : Combination) (cut : SafeCut) → c.rule ≡ Linear → IsCutOf f p c cut → ⊥
-no_cut_of_sum f p c cut linear h = subst (λ (rule : StepRule). IsCutBy rule f p h.multipliers h.at_upper cut) linear h.cut_is
+pub no_cut_of_sum : (f : Option FunctionData) (p : Problem) (c : Combination) (cut : SafeCut) →
+    c.rule ≡ Linear → IsCutOf f p c cut → ⊥
+no_cut_of_sum f p c cut linear h = subst (λ (rule : StepRule). IsCutBy rule f p h.multipliers
+    h.at_upper cut) linear h.cut_is
 
-base_by_is_one : (rule : StepRule) (f : Option FunctionData) (p : Problem) (c : Combination) (base other : Line) → IfSome f IsUsable →
+base_by_is_one : (rule : StepRule) (f : Option FunctionData) (p : Problem) (c : Combination)
+    (base other : Line) → IfSome f IsUsable →
     IsBaseBy rule f p c base → IsBaseBy rule f p c other → base ≡ other
 base_by_is_one Linear f p c base other usable h k = h ∙ sym k
 base_by_is_one Gmic f p c base other usable (q, h, is) (r, k, is') =
@@ -128,6 +149,7 @@ base_by_is_one Gmic f p c base other usable (q, h, is) (r, k, is') =
 base_by_is_one Function f p c base other usable (q, h, is) (r, k, is') =
     is ∙ same_line r q (cut_is_one f p c r (Cut q) usable k h) ∙ sym is'
 
-pub one_base : (f : Option FunctionData) (p : Problem) (c : Combination) (base other : Line) → IfSome f IsUsable → IsBase f p c base →
+pub one_base : (f : Option FunctionData) (p : Problem) (c : Combination) (base other : Line) →
+    IfSome f IsUsable → IsBase f p c base →
     IsBase f p c other → base ≡ other
 one_base f p c base other usable h k = base_by_is_one c.rule f p c base other usable h.1 k.1

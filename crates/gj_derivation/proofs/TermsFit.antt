@@ -1,5 +1,5 @@
 -- The terms of a cut are spread over the columns without a number that does not fit.
-use Rattle.std.proofs.Common.{◌≡◌, ◌≢◌, ◌⊎◌, ⊎_elim, ℕ, zero, suc, ◌+◌, ◌/◌, ◌<◌, ◌≤◌, ◌^◌, List, [], ◌∷◌, ◌++◌, length, get_or, ℤ, pos, ◌+ℤ◌, ◌*ℤ◌, unsigned_abs, refl, sym, ap, ap₂, subst, ◌∙◌, arith}
+use Rattle.std.proofs.Common.{◌≡◌, ⊎_elim, ℕ, zero, suc, ◌+◌, ◌/◌, ◌<◌, ◌≤◌, List, [], ◌∷◌, ◌++◌, length, get_or, ℤ, pos, ◌+ℤ◌, ◌*ℤ◌, unsigned_abs, refl, sym, ap, ap₂, subst, ◌∙◌, arith}
 use Rattle.std.proofs.lemmas.Int.{ints}
 use Rattle.std.proofs.Math.Nat.{eq-one_of_dvd-one}
 use Rattle.std.specs.Int.{◌∣◌}
@@ -8,12 +8,10 @@ use Rattle.gj_frac.specs.declared.Frac.{Frac}
 use Rattle.gj_frac.specs.Fraction.{Fits}
 use Rattle.gj_frac.specs.Fits.{FitsProduct, FitsSum}
 use Rattle.gj_problem.specs.Rational.{Rational, whole, rational, ◌+ℚ◌, ◌*ℚ◌}
-use Rattle.gj_problem.proofs.OneColumn.{nothing_value}
 use Rattle.gj_problem.proofs.RationalLaws.{whole_top, whole_bottom}
 use Rattle.gj_problem.proofs.RationalRing.{by_ring_q, ring_q}
 use Rattle.gj_problem.specs.declared.problem.Entry.{Entry}
 use Rattle.gj_problem.specs.Problems.{value_at, sum_at, AreTermsWithin}
-use Rattle.gj_problem.specs.Rows.{dot}
 use Rattle.gj_problem.specs.Steps.{IsWideAt}
 use Rattle.gj_derivation.specs.Derivations.{unit}
 use Rattle.gj_derivation.specs.Checks.{IsWideTerms}
@@ -44,8 +42,10 @@ added_to_zero x z num den g is =
     let part : unsigned_abs x.den / g ≡ 1 = ap₂ (λ (d : ℤ) (h : ℕ). unsigned_abs d / h) den one in
     let none : x.num *ℤ pos (unsigned_abs z.den / g) ≡ pos 0 =
     ap (λ a. a *ℤ pos (unsigned_abs z.den / g)) num ∙ zero-*ℤ (pos (unsigned_abs z.den / g)) in
-    let all : z.num *ℤ pos (unsigned_abs x.den / g) ≡ z.num = ap (λ (n : ℕ). z.num *ℤ pos n) part ∙ once_z z.num in
-    let under : pos (unsigned_abs x.den / g) *ℤ z.den ≡ z.den = ap (λ (n : ℕ). pos n *ℤ z.den) part ∙ one_mul_z z.den in
+    let all : z.num *ℤ pos (unsigned_abs x.den / g) ≡ z.num = ap (λ (n : ℕ). z.num *ℤ pos n) part
+    ∙ once_z z.num in
+    let under : pos (unsigned_abs x.den / g) *ℤ z.den ≡ z.den = ap (λ (n : ℕ). pos n *ℤ z.den) part
+    ∙ one_mul_z z.den in
     let nothing : Fits (pos 0) = omega arith in
     record {
       first = subst Fits (sym none) nothing;
@@ -57,11 +57,14 @@ added_to_zero x z num den g is =
     zero_first : (n : ℤ) → pos 0 +ℤ n ≡ n
     zero_first n = omega (arith, ints)
 
-pub not_wide_at : (x f v : Frac) → rational x ≡ whole (pos 0) → rational f ≡ whole (pos 1) → IsWideAt x f v → ⊥
+pub not_wide_at : (x f v : Frac) → rational x ≡ whole (pos 0) → rational f ≡ whole (pos 1) →
+    IsWideAt x f v → ⊥
 not_wide_at x f v none one wide =
     ⊎_elim
-    (λ (no_product : FitsProduct f v → ⊥). no_product (once_fits f v (num_of_whole f (pos 1) one) (den_of_whole f (pos 1) one)))
-    (λ (h : (z : Frac) × ((z.num *ℤ (f.den *ℤ v.den)) ≡ ((f.num *ℤ v.num) *ℤ z.den)) × (FitsSum x z → ⊥)).
+    (λ (no_product : FitsProduct f v → ⊥). no_product (once_fits f v (num_of_whole f (pos 1) one)
+    (den_of_whole f (pos 1) one)))
+    (λ (h : (z : Frac) × ((z.num *ℤ (f.den *ℤ v.den)) ≡ ((f.num *ℤ v.num) *ℤ z.den))
+    × (FitsSum x z → ⊥)).
     h.2 (added_to_zero x h.0 (num_of_whole x (pos 0) none) (den_of_whole x (pos 0) none)))
     wide
 
@@ -71,11 +74,14 @@ terms_end : (j n : ℕ) (es : List Entry) → AreTermsWithin j n es → j ≤ n
 terms_end j n [] h = h
 terms_end j n (e ∷ es) h = let rest = terms_end (e.column + 1) n es h.2 in omega (arith, h.0)
 
-terms_low : (j n : ℕ) (before : List Entry) (e : Entry) (after : List Entry) → AreTermsWithin j n (before ++ e ∷ after) → j ≤ e.column
+terms_low : (j n : ℕ) (before : List Entry) (e : Entry) (after : List Entry) →
+    AreTermsWithin j n (before ++ e ∷ after) → j ≤ e.column
 terms_low j n [] e after h = h.0
-terms_low j n (b ∷ before) e after h = let rest = terms_low (b.column + 1) n before e after h.2 in omega (arith, h.0)
+terms_low j n (b ∷ before) e after h = let rest = terms_low (b.column + 1) n before e after h.2 in
+    omega (arith, h.0)
 
-terms_below : (j n : ℕ) (before : List Entry) (e : Entry) (after : List Entry) → AreTermsWithin j n (before ++ e ∷ after) → e.column < n
+terms_below : (j n : ℕ) (before : List Entry) (e : Entry) (after : List Entry) →
+    AreTermsWithin j n (before ++ e ∷ after) → e.column < n
 terms_below j n [] e after h = let rest = terms_end (e.column + 1) n after h.2 in omega arith
 terms_below j n (b ∷ before) e after h = terms_below (b.column + 1) n before e after h.2
 
@@ -87,12 +93,14 @@ other_unit (suc i) (suc j) below = other_unit i j (omega arith)
 nothing_more : (v : Rational) → v *ℚ whole (pos 0) +ℚ whole (pos 0) ≡ whole (pos 0)
 nothing_more v = by_ring_q (v ∷ []) (search ring_q depth 40) refl
 
-none_before : (j n : ℕ) (before : List Entry) (e : Entry) (after : List Entry) → AreTermsWithin j n (before ++ e ∷ after) →
+none_before : (j n : ℕ) (before : List Entry) (e : Entry) (after : List Entry) →
+    AreTermsWithin j n (before ++ e ∷ after) →
     sum_at (unit e.column) before ≡ whole (pos 0)
 none_before j n [] e after h = refl
 none_before j n (b ∷ before) e after h =
     let low = terms_low (b.column + 1) n before e after h.2 in
-    ap₂ (λ v w. rational b.value *ℚ v +ℚ w) (other_unit e.column b.column (omega arith)) (none_before (b.column + 1) n before e after h.2)
+    ap₂ (λ v w. rational b.value *ℚ v +ℚ w) (other_unit e.column b.column (omega arith))
+    (none_before (b.column + 1) n before e after h.2)
     ∙ nothing_more (rational b.value)
 
 nothing_reached : (f : Rational) → whole (pos 0) +ℚ f *ℚ whole (pos 0) ≡ whole (pos 0)
@@ -102,7 +110,8 @@ pub terms_fit : (n : ℕ) (es : List Entry) → AreTermsWithin 0 n es → IsWide
 terms_fit n es terms h =
     let w = h.wide in
     let e = w.entry in
-    let placed : AreTermsWithin 0 n (w.before ++ e ∷ w.after) = subst (AreTermsWithin 0 n) w.place terms in
+    let placed : AreTermsWithin 0 n (w.before ++ e ∷ w.after) =
+    subst (AreTermsWithin 0 n) w.place terms in
     let column : e.column < n = terms_below 0 n w.before e w.after placed in
     let count = w.count in
     let all = h.count in
@@ -110,8 +119,10 @@ terms_fit n es terms h =
     (λ (past : length w.reached ≤ e.column). absurd (omega arith))
     (λ (k : (x : Frac) × (get_or w.reached e.column x ≡ x) × IsWideAt x h.one e.value).
     let none : rational k.0 ≡ whole (pos 0) =
-    sym (ap rational k.1) ∙ sym (dot_unit w.reached e.column k.0 (omega arith)) ∙ w.adds (unit e.column)
-    ∙ ap₂ (λ a b. a +ℚ rational h.one *ℚ b) (h.are_none (unit e.column)) (none_before 0 n w.before e w.after placed)
+    sym (ap rational k.1) ∙ sym (dot_unit w.reached e.column k.0 (omega arith))
+    ∙ w.adds (unit e.column)
+    ∙ ap₂ (λ a b. a +ℚ rational h.one *ℚ b) (h.are_none (unit e.column))
+    (none_before 0 n w.before e w.after placed)
     ∙ nothing_reached (rational h.one) in
     not_wide_at k.0 h.one e.value none h.one_is k.2)
     w.wide

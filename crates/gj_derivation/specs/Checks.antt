@@ -1,5 +1,5 @@
 -- What a check of a step answers (own).
-use Rattle.std.specs.Prelude.{◌≡◌, ◌⊎◌, ℕ, pos, ◌<◌, ◌≤◌, ◌<ℤ◌, ◌^◌, Option, None, List, ◌∷◌, ◌++◌, length, take, All, slice_index_or}
+use Rattle.std.specs.Prelude.{◌≡◌, ◌⊎◌, ℕ, pos, ◌<◌, ◌≤◌, ◌<ℤ◌, ◌^◌, Option, None, List, ◌∷◌, ◌++◌, length, take, slice_index_or}
 use Rattle.gj_frac.specs.declared.Frac.{Frac}
 use Rattle.gj_frac.specs.Fits.{FitsProduct, FitsSum}
 use Rattle.gj_frac.specs.Fraction.{numerator}
@@ -32,14 +32,15 @@ use Rattle.gj_derivation.specs.Derivations.{Line, unit, coefficient_in, line_of,
 -- ---- the base
 
 -- the line of the first multiplier that has not its sign, or no constraint
-pub record IsFirstUnsigned (rule : StepRule) (p : Problem) (ms : List Multiplier) (i : ℕ) : Type 0 where
-  pub before : List Multiplier
-  pub multiplier : Multiplier
-  pub after : List Multiplier
-  pub place : ms ≡ before ++ multiplier ∷ after
-  pub signed_before : AreSigned rule p before
-  pub unsigned : IsSigned rule p multiplier → ⊥
-  pub line : i ≡ multiplier.line
+pub record IsFirstUnsigned (rule : StepRule) (p : Problem) (ms : List Multiplier) (i : ℕ) : Type 0
+  where
+    pub before : List Multiplier
+    pub multiplier : Multiplier
+    pub after : List Multiplier
+    pub place : ms ≡ before ++ multiplier ∷ after
+    pub signed_before : AreSigned rule p before
+    pub unsigned : IsSigned rule p multiplier → ⊥
+    pub line : i ≡ multiplier.line
 
 -- the constraint of one more multiplier is added
 pub record IsAdded (p : Problem) (m : Multiplier) (old new : Sum) : Type 0 where
@@ -56,11 +57,13 @@ pub record IsSumOf (p : Problem) (ms : List Multiplier) (sum : Sum) : Type 0 whe
 -- a number of the sum does not fit when this multiple of an inequality is added, or an entry has no
 -- column
 abbrev pub IsWideMore : Sum → Frac → List Entry → Frac → Type 0
-IsWideMore sum factor entries right = IsWideWithin sum.coefficients.items factor entries ⊎ IsWideAt sum.right factor right
+IsWideMore sum factor entries right = IsWideWithin sum.coefficients.items factor entries
+    ⊎ IsWideAt sum.right factor right
 
 -- so it is with the constraint of the multiplier
 abbrev pub IsWideAddition : Problem → Multiplier → Sum → Type 0
-IsWideAddition p m sum = (c : Constraint) × IsConstraint p m.line c × IsWideMore sum m.value c.entries c.right
+IsWideAddition p m sum = (c : Constraint) × IsConstraint p m.line c
+    × IsWideMore sum m.value c.entries c.right
 
 -- so it is at some multiplier, when those before it have been added
 pub record IsWideAdded (p : Problem) (ms : List Multiplier) : Type 0 where
@@ -100,7 +103,10 @@ IsBaseless f p c (Right b) = ⊥
 
 -- the sum as an inequality
 abbrev pub line_of_sum : Sum → Line
-line_of_sum sum = record { coefficient = λ j. dot sum.coefficients.items (unit j); right = rational sum.right }
+line_of_sum sum = record {
+  coefficient = λ j. dot sum.coefficients.items (unit j);
+  right = rational sum.right;
+}
 
 -- the sum is a line over all n columns
 pub record IsSumFor (n : ℕ) (line : Line) (sum : Sum) : Type 0 where
@@ -108,7 +114,8 @@ pub record IsSumFor (n : ℕ) (line : Line) (sum : Sum) : Type 0 where
   pub same : line_of_sum sum ≡ line
 
 abbrev pub IsBaseOf : Option FunctionData → Problem → Combination → Base → Type 0
-IsBaseOf f p c (base.Line sum) = (line : Line) × IsBase f p c line × IsSumFor (length p.columns) line sum
+IsBaseOf f p c (base.Line sum) = (line : Line) × IsBase f p c line
+    × IsSumFor (length p.columns) line sum
 IsBaseOf f p c (base.Against v) = IsBaseless f p c v
 
 -- what the cut is as a base
@@ -143,7 +150,8 @@ claimed_at claimed j = dot claimed (unit j)
 
 abbrev pub IsMovedRight : List Column → Frac → Line → (ℕ → Rational) → Moved → Type 0
 IsMovedRight columns factor base ys (moved.Right b) = IsRightOf columns factor base ys (rational b)
-IsMovedRight columns factor base ys (moved.Bound j) = IsFirstUnmovable columns (times factor base) ys j
+IsMovedRight columns factor base ys (moved.Bound j) = IsFirstUnmovable columns (times factor base)
+    ys j
 
 -- a number does not fit when the terms are added to none in n columns, or a term has no column
 pub record IsWideTerms (n : ℕ) (entries : List Entry) : Type 0 where
@@ -171,10 +179,12 @@ IsWideShift c x y = ((m : Frac) × (rational m ≡ neg_ℚ (rational x)) × (Fit
 abbrev pub IsWideMoved : Column → Frac → Frac → Frac → Frac → Type 0
 IsWideMoved c factor coefficient y right = (FitsProduct factor coefficient → ⊥)
     ⊎ ((x : Frac) × (rational x ≡ rational factor *ℚ rational coefficient) × (IsWideShift c x y
-    ⊎ ((s : Frac) × IsMovedBy (HasLower c) (HasUpper c) (rational x) (rational y) (rational s) × (FitsSum right s → ⊥))))
+    ⊎ ((s : Frac) × IsMovedBy (HasLower c) (HasUpper c) (rational x) (rational y) (rational s)
+    × (FitsSum right s → ⊥))))
 
 -- so it is at some column, when those before it have been moved
-pub record IsWideColumn (columns : List Column) (factor : Frac) (base : Line) (ys : ℕ → Rational) : Type 0 where
+pub record IsWideColumn (columns : List Column) (factor : Frac) (base : Line) (ys : ℕ →
+    Rational) : Type 0 where
   pub index : ℕ
   pub below : index < length columns
   pub column : Column
@@ -203,9 +213,11 @@ IsWideFor columns factor base entries =
     IsWideTerms (length columns) entries ⊎ IsWideMoving columns factor base (coefficient_in entries)
 
 -- what stands against these terms: the base, the first column that lacks a bound, or a number
-abbrev pub IsAgainstTerms : Option FunctionData → Problem → Combination → List Entry → Verdict → Type 0
+abbrev pub IsAgainstTerms : Option FunctionData → Problem → Combination → List Entry → Verdict →
+    Type 0
 IsAgainstTerms f p c entries (Bound j) =
-    (base : Line) × IsBase f p c base × IsFirstUnmovable p.columns (times c.factor base) (coefficient_in entries) j
+    (base : Line) × IsBase f p c base × IsFirstUnmovable p.columns (times c.factor base)
+    (coefficient_in entries) j
 IsAgainstTerms f p c entries Wide = IsBaseless f p c Wide
     ⊎ ((base : Line) × IsBase f p c base × IsWideFor p.columns c.factor base entries)
 IsAgainstTerms f p c entries (Sign i) = IsBaseless f p c (Sign i)

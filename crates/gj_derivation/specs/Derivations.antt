@@ -49,14 +49,16 @@ line_of q = record { coefficient = coefficient_in q.entries; right = rational q.
 
 -- column j, and the right side, in constraint i; 0 past the last
 abbrev pub coefficient_at : Problem → ℕ → ℕ → Rational
-coefficient_at p i j = slice_index_or (map (λ c. coefficient_in c.entries j) p.constraints) i (whole (pos 0))
+coefficient_at p i j = slice_index_or (map (λ c. coefficient_in c.entries j) p.constraints) i
+    (whole (pos 0))
 
 abbrev pub right_at : Problem → ℕ → Rational
 right_at p i = slice_index_or (map (λ c. rational c.right) p.constraints) i (whole (pos 0))
 
 abbrev pub added_coefficient : Problem → List Multiplier → ℕ → Rational
 added_coefficient p [] j = whole (pos 0)
-added_coefficient p (m ∷ ms) j = rational m.value *ℚ coefficient_at p m.line j +ℚ added_coefficient p ms j
+added_coefficient p (m ∷ ms) j = rational m.value *ℚ coefficient_at p m.line j +ℚ added_coefficient
+    p ms j
 
 abbrev pub added_right : Problem → List Multiplier → Rational
 added_right p [] = whole (pos 0)
@@ -74,7 +76,8 @@ IsSignIn Function sense m = Unit {0}
 
 -- it is a multiplier of a constraint, with that sign
 abbrev pub IsSigned : StepRule → Problem → Multiplier → Type 0
-IsSigned rule p m = (c : Constraint) × IsConstraint p m.line c × IsSignIn rule c.sense (numerator m.value)
+IsSigned rule p m = (c : Constraint) × IsConstraint p m.line c
+    × IsSignIn rule c.sense (numerator m.value)
 
 abbrev pub AreSigned : StepRule → Problem → List Multiplier → Type 0
 AreSigned rule p = All (IsSigned rule p)
@@ -87,24 +90,29 @@ multiplier_of [] i = whole (pos 0)
 multiplier_of (m ∷ ms) i = rational m.value *ℚ value_at (unit i) m.line +ℚ multiplier_of ms i
 
 -- one for each constraint
-pub record AreMultipliers (p : Problem) (named : List Multiplier) (multipliers : List Frac) : Type 0 where
-  pub count : length multipliers ≡ length p.constraints
-  pub are : (i : ℕ) → dot multipliers (unit i) ≡ multiplier_of named i
+pub record AreMultipliers (p : Problem) (named : List Multiplier) (multipliers : List Frac) : Type 0
+  where
+    pub count : length multipliers ≡ length p.constraints
+    pub are : (i : ℕ) → dot multipliers (unit i) ≡ multiplier_of named i
 
 -- each column is turned by its upper bound if it is named
 pub record AreAtUpper (p : Problem) (named : List ℕ) (at_upper : List Bool) : Type 0 where
   pub count : length at_upper ≡ length p.columns
-  pub are : (j : ℕ) → j < length p.columns → (IsTrue (slice_index_or at_upper j false) ↔ Contains named j)
+  pub are : (j : ℕ) → j < length p.columns → (IsTrue (slice_index_or at_upper j false) ↔ Contains
+      named j)
 
 -- what the rule makes of a problem by multipliers; f is the function of the steps by a function
-abbrev pub IsCutBy : StepRule → Option FunctionData → Problem → List Frac → List Bool → SafeCut → Type 0
+abbrev pub IsCutBy : StepRule → Option FunctionData → Problem → List Frac → List Bool → SafeCut →
+    Type 0
 IsCutBy Linear f p multipliers at_upper cut = ⊥
 IsCutBy Gmic f p multipliers at_upper cut = IsGmicSafeCutOf p multipliers at_upper cut
-IsCutBy Function (Some f) p multipliers at_upper cut = IsFunctionSafeCutOf f p multipliers at_upper cut
+IsCutBy Function (Some f) p multipliers at_upper cut = IsFunctionSafeCutOf f p multipliers at_upper
+    cut
 IsCutBy Function None p multipliers at_upper cut = ⊥
 
 -- what it makes of the row of the multipliers that are named
-pub record IsCutOf (f : Option FunctionData) (p : Problem) (c : Combination) (cut : SafeCut) : Type 0 where
+pub record IsCutOf (f : Option FunctionData) (p : Problem) (c : Combination) (cut : SafeCut) : Type
+    0 where
   pub multipliers : List Frac
   pub multipliers_are : AreMultipliers p c.multipliers multipliers
   pub at_upper : List Bool
@@ -131,7 +139,8 @@ IsWholeTerm false x = x ≡ whole (pos 0)
 
 abbrev pub AreWholeTerms : List Column → (ℕ → Rational) → Type 0
 AreWholeTerms [] xs = Unit {0}
-AreWholeTerms (c ∷ columns) xs = IsWholeTerm c.is_whole (xs zero) × AreWholeTerms columns (λ j. xs (suc j))
+AreWholeTerms (c ∷ columns) xs = IsWholeTerm c.is_whole (xs zero)
+    × AreWholeTerms columns (λ j. xs (suc j))
 
 -- y is the least whole number that is at least x
 abbrev pub IsRoundedUp : Rational → Rational → Type 0
@@ -146,17 +155,21 @@ abbrev pub times : Frac → Line → ℕ → Rational
 times factor base j = rational factor *ℚ base.coefficient j
 
 -- the right side that a line, times the factor, shows for other coefficients
-pub record IsRightOf (columns : List Column) (factor : Frac) (base : Line) (ys : ℕ → Rational) (right : Rational) : Type 0 where
+pub record IsRightOf (columns : List Column) (factor : Frac) (base : Line) (ys : ℕ → Rational)
+    (right : Rational) : Type 0 where
   pub shift : Rational
   pub moved : AreMovedBy columns (times factor base) ys shift
-  pub right_is : IsRightFor (AreWholeTerms columns ys) (rational factor *ℚ base.right +ℚ shift) right
+  pub right_is : IsRightFor (AreWholeTerms columns ys) (rational factor *ℚ base.right +ℚ shift)
+      right
 
 -- the right side that the step shows for the terms of its claim
-pub record IsShown (f : Option FunctionData) (p : Problem) (s : Step) (right : Rational) : Type 0 where
-  pub base : Line
-  pub base_is : IsBase f p s.combination base
-  pub factor_positive : pos 0 <ℤ numerator s.combination.factor
-  pub right_is : IsRightOf p.columns s.combination.factor base (coefficient_in s.claim.entries) right
+pub record IsShown (f : Option FunctionData) (p : Problem) (s : Step) (right : Rational) : Type 0
+  where
+    pub base : Line
+    pub base_is : IsBase f p s.combination base
+    pub factor_positive : pos 0 <ℤ numerator s.combination.factor
+    pub right_is : IsRightOf p.columns s.combination.factor base (coefficient_in s.claim.entries)
+        right
 
 -- the claim follows: its right side is at most the one shown
 abbrev pub Follows : Option FunctionData → Problem → Step → Type 0
@@ -168,7 +181,8 @@ Follows f p s = (right : Rational) × IsShown f p s right × (rational s.claim.r
 abbrev pub with_claim : Problem → Inequality → Problem
 with_claim p q = record {
   columns = p.columns;
-  constraints = p.constraints ++ record { entries = q.entries; sense = AtLeast; right = q.right } ∷ [];
+  constraints = p.constraints ++ record { entries = q.entries; sense = AtLeast; right = q.right } ∷
+      [];
 }
 
 -- each step follows from the constraints and the claims of the steps before it

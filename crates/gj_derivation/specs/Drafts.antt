@@ -1,5 +1,5 @@
 -- Steps whose claims may be left open, and what is found for them (own).
-use Rattle.std.specs.Prelude.{◌≡◌, ◌⊎◌, ◌<◌, ◌^◌, pos, ◌<ℤ◌, ℕ, zero, suc, Option, Some, None, List, [], ◌∷◌, ◌++◌, length, map, take, Any, slice_index_or}
+use Rattle.std.specs.Prelude.{◌≡◌, ◌⊎◌, ◌<◌, ◌^◌, pos, ◌<ℤ◌, ℕ, Option, Some, None, List, [], ◌∷◌, ◌++◌, length, map, take, Any, slice_index_or}
 use Rattle.std.specs.List.{AllZip, range_with_len}
 use Rattle.gj_frac.specs.declared.Frac.{Frac}
 use Rattle.gj_frac.specs.Fits.{FitsProduct}
@@ -26,7 +26,6 @@ use Rattle.gj_derivation.specs.declared.draft.Filled.TheVariants as filled
 use Rattle.gj_derivation.specs.declared.draft.Reached.{Reached}
 use Rattle.gj_derivation.specs.declared.draft.Shown.{Shown}
 use Rattle.gj_derivation.specs.declared.draft.Shown.TheVariants as shown
-use Rattle.gj_derivation.specs.declared.steps.Failure.{Failure}
 use Rattle.gj_derivation.specs.declared.terms.Found.{Found}
 use Rattle.gj_derivation.specs.declared.terms.Found.TheVariants as found
 use Rattle.gj_derivation.specs.Derivations.{Line, coefficient_in, times, IsBase, IsRightOf, IsShown, Follows, with_claim, IsDerivation}
@@ -42,10 +41,12 @@ IsFoundFor (Some n) c x y = IsGridCoefficient n c.lower c.upper x y
 
 abbrev pub AreFoundFor : Option ℕ → List Column → (ℕ → Rational) → (ℕ → Rational) → Type 0
 AreFoundFor grid columns xs ys =
-    (j : ℕ) (c : Column) → j < length columns → c ≡ slice_index_or columns j c → IsFoundFor grid c (xs j) (ys j)
+    (j : ℕ) (c : Column) → j < length columns → c ≡ slice_index_or columns j c →
+    IsFoundFor grid c (xs j) (ys j)
 
 -- the first column for which none is found: it has no bounds, and is off the grid
-pub record IsFirstNotFound (grid : Option ℕ) (columns : List Column) (xs : ℕ → Rational) (j : ℕ) : Type 0 where
+pub record IsFirstNotFound (grid : Option ℕ) (columns : List Column) (xs : ℕ → Rational)
+    (j : ℕ) : Type 0 where
   pub below : j < length columns
   pub column : Column
   pub is : column ≡ slice_index_or columns j column
@@ -58,7 +59,8 @@ IsFoundOrNone grid c x (Some y) = IsFoundFor grid c x (rational y)
 IsFoundOrNone grid c x None = (y : Rational) → IsFoundFor grid c x y → ⊥
 
 abbrev pub IsFound : Option ℕ → List Column → (ℕ → Rational) → Found → Type 0
-IsFound grid columns xs (found.Terms ys) = (length ys.items ≡ length columns) × AreFoundFor grid columns xs (claimed_at ys.items)
+IsFound grid columns xs (found.Terms ys) = (length ys.items ≡ length columns)
+    × AreFoundFor grid columns xs (claimed_at ys.items)
 IsFound grid columns xs (found.Bound j) = IsFirstNotFound grid columns xs j
 
 -- ---- when a number does not fit
@@ -66,16 +68,19 @@ IsFound grid columns xs (found.Bound j) = IsFirstNotFound grid columns xs j
 -- to bring x to the grid by these bounds takes a number that does not fit
 abbrev pub IsWideGrid : Option ℕ → Option Frac → Option Frac → Frac → Type 0
 IsWideGrid None lower upper x = ⊥
-IsWideGrid (Some n) (Some l) upper x = (m : Frac) × (rational m ≡ neg_ℚ (rational x)) × IsWideTimes n m
+IsWideGrid (Some n) (Some l) upper x = (m : Frac) × (rational m ≡ neg_ℚ (rational x))
+    × IsWideTimes n m
 IsWideGrid (Some n) None upper x = IsWideTimes n x
 
 -- the factor times the coefficient does not fit, or a number that brings it to the grid
 abbrev pub IsWideFoundAt : Option ℕ → Column → Frac → Frac → Type 0
 IsWideFoundAt grid c factor coefficient = (FitsProduct factor coefficient → ⊥)
-    ⊎ ((x : Frac) × (rational x ≡ rational factor *ℚ rational coefficient) × IsWideGrid grid c.lower c.upper x)
+    ⊎ ((x : Frac) × (rational x ≡ rational factor *ℚ rational coefficient)
+    × IsWideGrid grid c.lower c.upper x)
 
 -- so it is at some column
-pub record IsWideFound (grid : Option ℕ) (columns : List Column) (factor : Frac) (base : Line) : Type 0 where
+pub record IsWideFound (grid : Option ℕ) (columns : List Column) (factor : Frac)
+    (base : Line) : Type 0 where
   pub index : ℕ
   pub below : index < length columns
   pub column : Column
@@ -88,7 +93,8 @@ pub record IsWideFound (grid : Option ℕ) (columns : List Column) (factor : Fra
 -- than 2^32 columns
 abbrev pub IsWideFinding : Option ℕ → List Column → Frac → Line → Type 0
 IsWideFinding grid columns factor base = IsWideFound grid columns factor base
-    ⊎ (((ys : ℕ → Rational) × AreFoundFor grid columns (times factor base) ys × IsWideMoving columns factor base ys)
+    ⊎ (((ys : ℕ → Rational) × AreFoundFor grid columns (times factor base) ys
+    × IsWideMoving columns factor base ys)
     ⊎ (2 ^ 32 < length columns))
 
 -- the claim that is found for a base, or the first column for which no coefficient is found
@@ -99,21 +105,28 @@ IsFoundClaim grid columns factor base q = AreTermsWithin 0 (length columns) q.en
 
 abbrev pub IsFoundIn : Option ℕ → List Column → Frac → Line → Filled → Type 0
 IsFoundIn grid columns factor base (filled.Claim q) = IsFoundClaim grid columns factor base q
-IsFoundIn grid columns factor base (filled.Against v) = (j : ℕ) × (v ≡ Bound j) × IsFirstNotFound grid columns (times factor base) j
+IsFoundIn grid columns factor base (filled.Against v) = (j : ℕ) × (v ≡ Bound j)
+    × IsFirstNotFound grid columns (times factor base) j
 
 -- ---- one draft
 
 -- the claim of a draft: the terms that are found, or given, with the right side that is shown for
 -- them, or all of it, if it follows
-abbrev pub IsClaimOf : Option FunctionData → Option ℕ → Problem → Combination → Claim → Inequality → Type 0
+abbrev pub IsClaimOf : Option FunctionData → Option ℕ → Problem → Combination → Claim → Inequality →
+    Type 0
 IsClaimOf f grid p c Absent q = (pos 0 <ℤ numerator c.factor)
     × (base : Line) × IsBase f p c base × IsFoundClaim grid p.columns c.factor base q
-IsClaimOf f grid p c (Terms entries) q = (q.entries ≡ entries) × IsShown f p (record { combination = c; claim = q }) (rational q.right)
-IsClaimOf f grid p c (Given claim) q = (q ≡ claim) × Follows f p (record { combination = c; claim = q })
+IsClaimOf f grid p c (Terms entries) q = (q.entries ≡ entries)
+    × IsShown f p (record { combination = c; claim = q }) (rational q.right)
+IsClaimOf f grid p c (Given claim) q = (q ≡ claim) × Follows f p (record {
+  combination = c;
+  claim = q;
+})
 
 -- what stands against an absent claim: the base, the first column for which no coefficient is
 -- found, or a number
-abbrev pub IsAgainstFinding : Option FunctionData → Option ℕ → Problem → Combination → Verdict → Type 0
+abbrev pub IsAgainstFinding : Option FunctionData → Option ℕ → Problem → Combination → Verdict →
+    Type 0
 IsAgainstFinding f grid p c (Bound j) =
     (base : Line) × IsBase f p c base × IsFirstNotFound grid p.columns (times c.factor base) j
 IsAgainstFinding f grid p c Wide = IsBaseless f p c Wide
@@ -125,17 +138,21 @@ IsAgainstFinding f grid p c Other = IsBaseless f p c Other
 IsAgainstFinding f grid p c Accepted = ⊥
 IsAgainstFinding f grid p c (Right b) = ⊥
 
-abbrev pub IsAgainst : Option FunctionData → Option ℕ → Problem → Combination → Claim → Verdict → Type 0
+abbrev pub IsAgainst : Option FunctionData → Option ℕ → Problem → Combination → Claim → Verdict →
+    Type 0
 IsAgainst f grid p c Absent v = IsAgainstFinding f grid p c v
 IsAgainst f grid p c (Terms entries) v = IsAgainstTerms f p c entries v
-IsAgainst f grid p c (Given q) v = IsVerdict f p (record { combination = c; claim = q }) v × (v ≡ Accepted → ⊥)
+IsAgainst f grid p c (Given q) v = IsVerdict f p (record { combination = c; claim = q }) v
+    × (v ≡ Accepted → ⊥)
 
-abbrev pub IsFilled : Option FunctionData → Option ℕ → Problem → Combination → Claim → Filled → Type 0
+abbrev pub IsFilled : Option FunctionData → Option ℕ → Problem → Combination → Claim → Filled →
+    Type 0
 IsFilled f grid p c claim (filled.Claim q) = IsClaimOf f grid p c claim q
 IsFilled f grid p c claim (filled.Against v) = IsAgainst f grid p c claim v
 
 -- the step of a combination with this claim, or what stands against it
-abbrev pub IsShownBy : Option FunctionData → Option ℕ → Problem → Combination → Claim → Shown → Type 0
+abbrev pub IsShownBy : Option FunctionData → Option ℕ → Problem → Combination → Claim → Shown →
+    Type 0
 IsShownBy f grid p c claim (shown.Step s) = (s.combination ≡ c) × IsClaimOf f grid p c claim s.claim
 IsShownBy f grid p c claim (shown.Against v) = IsAgainst f grid p c claim v
 
@@ -164,12 +181,14 @@ line_at r i = slice_index_or r.lines i None
 -- the combination with the lines of the problem that is reached in the place of those of the drafts
 pub record IsPlaced (r : Reached) (c placed : Combination) : Type 0 where
   pub rule : placed.rule ≡ c.rule
-  pub multipliers : AllZip (λ (m n : Multiplier). (line_at r m.line ≡ Some n.line) × (n.value ≡ m.value)) c.multipliers placed.multipliers
+  pub multipliers : AllZip (λ (m n : Multiplier). (line_at r m.line ≡ Some n.line)
+      × (n.value ≡ m.value)) c.multipliers placed.multipliers
   pub at_upper : placed.at_upper ≡ c.at_upper
   pub factor : placed.factor ≡ c.factor
 
 abbrev pub IsNext : Option FunctionData → Option ℕ → Reached → Draft → Shown → Type 0
-IsNext f grid r d x = (c : Combination) × IsPlaced r d.combination c × IsShownBy f grid r.problem c d.claim x
+IsNext f grid r d x = (c : Combination) × IsPlaced r d.combination c
+    × IsShownBy f grid r.problem c d.claim x
 
 -- what stands against a claim that is given ends the steps
 abbrev pub Ends : Claim → Shown → Type 0
@@ -181,7 +200,8 @@ Ends (Given q) (shown.Against v) = Unit {0}
 -- what the drafts show, one after another
 abbrev pub AreShown : Option FunctionData → Option ℕ → Reached → List Draft → List Shown → Type 0
 AreShown f grid r [] [] = Unit {0}
-AreShown f grid r (d ∷ drafts) (x ∷ xs) = IsNext f grid r d x × (Ends d.claim x → ⊥) × AreShown f grid (reach r x) drafts xs
+AreShown f grid r (d ∷ drafts) (x ∷ xs) = IsNext f grid r d x × (Ends d.claim x → ⊥)
+    × AreShown f grid (reach r x) drafts xs
 AreShown f grid r [] (x ∷ xs) = ⊥
 AreShown f grid r (d ∷ drafts) [] = ⊥
 

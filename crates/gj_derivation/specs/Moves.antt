@@ -43,7 +43,8 @@ HasUpper c b = (u : Frac) × (c.upper ≡ Some u) × IsUpperBound c.is_whole u b
 abbrev pub AreMovedBy : List Column → (ℕ → Rational) → (ℕ → Rational) → Rational → Type 0
 AreMovedBy [] xs ys total = total ≡ whole (pos 0)
 AreMovedBy (c ∷ columns) xs ys total =
-    (shift : Rational) × (rest : Rational) × IsMovedBy (HasLower c) (HasUpper c) (xs zero) (ys zero) shift
+    (shift : Rational) × (rest : Rational) × IsMovedBy (HasLower c) (HasUpper c) (xs zero) (ys zero)
+    shift
     × AreMovedBy columns (λ j. xs (suc j)) (λ j. ys (suc j)) rest × (total ≡ shift +ℚ rest)
 
 -- ---- to a grid

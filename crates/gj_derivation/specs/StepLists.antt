@@ -16,7 +16,8 @@ with_claims p [] = p
 with_claims p (s ∷ steps) = with_claims (with_claim p s.claim) steps
 
 -- the steps before it are a derivation, and over the problem with their claims it is not accepted
-pub record IsFailure (f : Option FunctionData) (p : Problem) (steps : List Step) (failure : Failure) : Type 0 where
+pub record IsFailure (f : Option FunctionData) (p : Problem) (steps : List Step)
+    (failure : Failure) : Type 0 where
   pub before : List Step
   pub step : Step
   pub after : List Step

@@ -19,9 +19,10 @@ use std::alloc::{AllocError, Global};
 /// Checks a step over the problem with the earlier claims as constraints.
 ///
 /// `Wide` comes only where a number of the base, of the claim or of the moves does not fit, or an
-/// entry has no column. Else the answer is `Accepted` exactly if the step follows. It takes time for
-/// the entries of the constraints that are named and of the claim, and clears a few vectors with a
-/// place for each column, or for each constraint. The only error is want of memory.
+/// entry has no column. Else the answer is `Accepted` exactly if the step follows. It takes time
+/// for the entries of the constraints that are named and of the claim, and for a few passes over
+/// the columns and the constraints that clear a vector or look for what is not 0. The only error
+/// is want of memory.
 pub fn check_step(
     alloc: Global,
     function: Option<&Shape>,

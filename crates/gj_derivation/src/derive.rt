@@ -27,11 +27,11 @@ use std::alloc::{AllocError, Global};
 
 /// The step of a draft over the problem, whose constraints are its lines.
 ///
-/// A claim that is absent gets the terms that are shown, times the factor, with no 0 and the columns
-/// ascending, and the right side that is shown for them; with a grid N each coefficient goes to a
-/// multiple of 1/N, up where the column has a lower bound, and down where it has only an upper one.
-/// Terms get the greatest right side that they may have. A claim that is given is checked. The only
-/// error is want of memory.
+/// A claim that is absent gets the terms that are shown, times the factor, with no 0 and the
+/// columns ascending, and the right side that is shown for them. With a grid N each coefficient
+/// goes to a multiple of 1/N, up where the column has a lower bound, and down where it has only an
+/// upper one. Terms get the greatest right side that they may have. A claim that is given is
+/// checked. The only error is want of memory.
 pub fn derived_step(
     alloc: Global,
     function: Option<&Shape>,
@@ -85,8 +85,8 @@ fn filled(
     requires grid { IfSome grid (λ n. 0 < n) }
     ensures is { IfOk result (IsFilled (option_copied function.entry) grid problem.now
         combination.now claim.now) }
-    ensures wide { result ≡ Err Fault.Wide → IsAgainst (option_copied function.entry) grid problem.now
-        combination.now claim.now wide }
+    ensures wide { result ≡ Err Fault.Wide → IsAgainst (option_copied function.entry)
+        grid problem.now combination.now claim.now wide }
 {
     match claim {
         Claim::Absent => found_claim(alloc, function, problem, combination, grid),
@@ -109,8 +109,8 @@ fn found_claim(
     requires grid { IfSome grid (λ n. 0 < n) }
     ensures is { IfOk result (IsFilled (option_copied function.entry) grid problem.now
         combination.now Absent) }
-    ensures wide { result ≡ Err Fault.Wide → IsAgainst (option_copied function.entry) grid problem.now
-        combination.now Absent wide }
+    ensures wide { result ≡ Err Fault.Wide → IsAgainst (option_copied function.entry)
+        grid problem.now combination.now Absent wide }
 {
     match base_of(alloc, function, problem, combination)? {
         Base::Line(sum) => found_in(alloc, problem, combination.factor, &sum, grid),
@@ -145,8 +145,8 @@ fn found_in(
     }
 }
 
-/// The inequality of these coefficients against the right side. Wide only if there are more than 2^32
-/// columns.
+/// The inequality of these coefficients against the right side. Wide only if there are more than
+/// 2^32 columns.
 fn claim_from(alloc: Global, terms: Vec<Frac>, right: Frac) -> Result<Inequality, Fault>
     ensures terms { IfOk result (λ q.
         AreTermsWithin 0 (length terms.items) q.entries) }
@@ -176,8 +176,8 @@ fn claim_with(
     requires { IsReady (option_copied function) combination.now }
     ensures is { IfOk result (IsFilled (option_copied function.entry) None problem.now
         combination.now (Terms entries.now)) }
-    ensures wide { result ≡ Err Fault.Wide → IsAgainst (option_copied function.entry) None problem.now
-        combination.now (Terms entries.now) wide }
+    ensures wide { result ≡ Err Fault.Wide → IsAgainst (option_copied function.entry)
+        None problem.now combination.now (Terms entries.now) wide }
 {
     match base_of(alloc, function, problem, combination)? {
         Base::Line(sum) => {
@@ -204,8 +204,8 @@ fn given_claim(
     requires { IsReady (option_copied function) combination.now }
     ensures is { IfOk result (IsFilled (option_copied function.entry) None problem.now
         combination.now (Given claim.now)) }
-    ensures wide { result ≡ Err Fault.Wide → IsAgainst (option_copied function.entry) None problem.now
-        combination.now (Given claim.now) wide }
+    ensures wide { result ≡ Err Fault.Wide → IsAgainst (option_copied function.entry)
+        None problem.now combination.now (Given claim.now) wide }
 {
     match verdict_of(alloc, function, problem, combination, claim)? {
         Verdict::Accepted => Ok(Filled::Claim(Inequality {

@@ -43,7 +43,8 @@ pub fn check_steps(
 ) -> Result<Checked, AllocError>
     requires { All (IsReadyStep (option_copied function)) steps.now }
     ensures is { IfOk result (IsChecked (option_copied function.entry) problem steps.now) }
-    ensures exact { IfOk result (λ c. IsDerivation (option_copied function.entry) problem steps.now →
+    ensures exact { IfOk result (λ c.
+        IsDerivation (option_copied function.entry) problem steps.now →
         (c ≡ Checked.Accepted) ⊎ IsWideFailure c) }
     ensures holds { IfOk result (λ c. c ≡ Checked.Accepted →
         All (λ s. Holds problem s.claim) steps.now) }

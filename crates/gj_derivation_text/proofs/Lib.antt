@@ -11,3 +11,5 @@ pub mod ReadableSteps
 pub mod ReadableProblem
 pub mod ReadableText
 pub mod DerivedReadable
+pub mod PrintedPairs
+pub mod PrintedSteps

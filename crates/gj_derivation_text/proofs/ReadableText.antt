@@ -6,7 +6,8 @@ use Rattle.std.proofs.lemmas.List.{length-map}
 use Rattle.gj_forms.specs.Parts.{IsExactPart}
 use Rattle.gj_forms.proofs.LineNumbers as numbers
 use Rattle.gj_forms.proofs.PartLaws.{made_part_is_exact}
-use Rattle.gj_shape.specs.FunctionData.{FunctionData}
+use Rattle.gj_shape.specs.FunctionData.{FunctionData, IsWithinBounds}
+use Rattle.gj_function_text.proofs.FunctionTexts.{function_is_within}
 use Rattle.gj_derivation.specs.declared.draft.Draft.{Draft}
 use Rattle.gj_derivation.specs.declared.step.Step.{Step}
 use Rattle.gj_problem_text.specs.FirstFault.{IsMemoryFault}
@@ -42,11 +43,12 @@ no_steps f drafts s h =
 abbrev IsSo : Option FunctionData → Bool → Drafts → Type 0
 IsSo f drafts s = AreReadable f s × (drafts ≡ false → All HasGivenClaim s.steps)
 
-are_so : (f : Option FunctionData) (drafts : Bool) (s t : Drafts) → IsProblem s → AreSteps f drafts s.task (length s.task.problem.constraints) t →
+are_so : (f : Option FunctionData) (drafts : Bool) (s t : Drafts) → IfSome f IsWithinBounds → IsProblem s → AreSteps f drafts s.task (length s.task.problem.constraints) t →
     IsSo f drafts t
-are_so f drafts s t p h =
+are_so f drafts s t within p h =
     let same = sym h.same_task in (
       record {
+        function = within;
         problem = subst (λ (u : Task). IsReadableProblem u.names u.problem) same (record {
           names = p.task.names;
           column_count = p.task.column_count;
@@ -64,18 +66,18 @@ are_so f drafts s t p h =
     )
 
 part_is_so : (f : Option FunctionData) (drafts has_function : Bool) (text rest : List ℕ) (t : Drafts) → (IsTrue has_function → IsSome f) →
-    (derivation_part drafts has_function).Reads text t rest → IsSo f drafts t
-part_is_so f drafts has_function text rest t has (u, lines, title, (s, middle, problem, (all, end, steps, (same, at, nothing)))) =
+    IfSome f IsWithinBounds → (derivation_part drafts has_function).Reads text t rest → IsSo f drafts t
+part_is_so f drafts has_function text rest t has within (u, lines, title, (s, middle, problem, (all, end, steps, (same, at, nothing)))) =
     let p = problem_in_turn drafts s middle no_drafts lines problem no_problem in
     let read = steps_readable f drafts has_function s.task (length s.task.problem.constraints) has all end s middle steps (no_steps f drafts s p) in
-    subst (IsSo f drafts) (sym same) (are_so f drafts s all p read)
+    subst (IsSo f drafts) (sym same) (are_so f drafts s all within p read)
 
 pub input_is_so : (drafts : Bool) (text : List ℕ) (a : DraftInput) → Tells (input_part drafts) text a → IsSo a.function drafts a.drafts
 input_is_so drafts text a (rest, inl (is, (f, middle, function, (s, part, made)))) =
-    subst (λ (b : DraftInput). IsSo b.function drafts b.drafts) (sym made) (part_is_so (Some f) drafts true middle rest s (λ t. refl) part)
+    subst (λ (b : DraftInput). IsSo b.function drafts b.drafts) (sym made) (part_is_so (Some f) drafts true middle rest s (λ t. refl) (function_is_within text f middle function) part)
 input_is_so drafts text a (rest, inr (not, (s, part, made))) =
     subst (λ (b : DraftInput). IsSo b.function drafts b.drafts) (sym made)
-    (part_is_so None drafts false text rest s (λ on. absurd (false≢true on)) part)
+    (part_is_so None drafts false text rest s (λ on. absurd (false≢true on)) tt part)
 
 pub drafts_are_readable : (text : List ℕ) (a : DraftInput) → Tells (input_part true) text a → AreReadable a.function a.drafts
 drafts_are_readable text a h = (input_is_so true text a h).0
@@ -93,7 +95,7 @@ pub derivation_is_readable : (text : List ℕ) (d : DerivationInput) → Tells d
     IsReadableDerivation d × (length d.left ≡ length d.steps)
 derivation_is_readable text d (rest, (a, h, is)) =
     let readable = subst (λ (b : DraftInput). AreReadable b.function b.drafts) is (input_is_so false text a (rest, h)).0 in (
-      record { problem = readable.problem; steps = readable.steps },
+      record { function = readable.function; problem = readable.problem; steps = readable.steps },
       readable.left ∙ length-map d.steps as_draft,
     )
 

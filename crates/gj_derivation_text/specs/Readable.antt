@@ -1,7 +1,7 @@
 -- What each derivation has that a text tells (own).
 use Rattle.std.specs.Prelude.{ℕ, ◌+◌, ◌≡◌, pos, ◌<ℤ◌, ◌<◌, ◌≤◌, Option, IsSome, IfSome, List, [], ◌∷◌, ◌++◌, All, Contains, length, map}
 use Rattle.gj_frac.specs.Fraction.{numerator}
-use Rattle.gj_shape.specs.FunctionData.{FunctionData}
+use Rattle.gj_shape.specs.FunctionData.{FunctionData, IsWithinBounds}
 use Rattle.gj_problem.specs.declared.problem.Entry.{Entry}
 use Rattle.gj_problem.specs.declared.problem.Problem.{Problem}
 use Rattle.gj_derivation.specs.declared.draft.Claim.{Claim}
@@ -78,11 +78,13 @@ pub record AreReadableSteps (f : Option FunctionData) (columns constraints : ℕ
   pub readable : AreReadableDrafts f columns constraints steps
 
 pub record AreReadable (f : Option FunctionData) (s : Drafts) : Type 0 where
+  pub function : IfSome f IsWithinBounds
   pub problem : IsReadableProblem s.task.names s.task.problem
   pub steps : AreReadableSteps f (length s.task.names) (length s.task.problem.constraints) s.lines s.steps
   pub grid : IfSome s.task.grid (λ n. 0 < n)
   pub left : length s.left ≡ length s.steps
 
 pub record IsReadableDerivation (d : DerivationInput) : Type 0 where
+  pub function : IfSome d.function IsWithinBounds
   pub problem : IsReadableProblem d.columns d.problem
   pub steps : AreReadableSteps d.function (length d.columns) (length d.problem.constraints) d.lines (map as_draft d.steps)

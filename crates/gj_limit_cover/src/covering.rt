@@ -1,5 +1,5 @@
 //! The cover of a function that may jump.
-ghost use Rattle.std.specs.Prelude.{ℕ, ◌↔◌, ◌<◌, IfOk};
+ghost use Rattle.std.specs.Prelude.{ℕ, ◌↔◌, ◌<◌, ◌≤◌, IfOk};
 ghost use Rattle.gj_jumps.specs.LimitCover.{IsTightAt, IsCoveredByLimits};
 ghost use Rattle.gj_shape.specs.Cover.{HasCoverLine};
 ghost use Rattle.gj_limit_cover.specs.CoverOf.{IsCoverOf};
@@ -27,6 +27,7 @@ pub fn cover_by_limits(alloc: Global, shape: &Shape) -> Result<Cover, AllocError
     ensures cover { IfOk result (IsCoverOf shape.now.order (IsTightAt shape.now)) }
     ensures covered { IfOk result (λ cover. (i : ℕ) → i < shape.now.order →
         HasCoverLine cover.lines i ↔ IsCoveredByLimits shape.now i) }
+    ensures few { IfOk result (λ cover. cover.count ≤ shape.now.order) }
 {
     let table = Table::of(alloc, shape)?;
     let found = Progress::of(alloc, shape, &table)?;

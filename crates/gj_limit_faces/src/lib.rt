@@ -16,4 +16,5 @@ mod tight_limits;
 
 pub use joins::Joins;
 pub use row_joins::RowJoins;
+pub use terms::{Side, Terms, terms_of};
 pub use tight_limits::TightLimits;

@@ -1,13 +1,13 @@
 //! What makes up a limit of the slack.
 ghost use Rattle.std.specs.Prelude.{◌≡◌, ◌<◌, ◌≤◌, length};
 ghost use Rattle.gj_shape.specs.Faces.{corners_of};
-ghost use Rattle.gj_limit_faces.specs.Terms.{AreTermsOf};
+ghost use Rattle.gj_limit_faces.specs.Terms.{AreTermsOf, terms_at};
 
 use gj_shape::FaceKind;
 
 /// A limit of a function at a point, or its value there.
 #[derive(Clone, Copy, Drop)]
-pub(crate) enum Side {
+pub enum Side {
     /// The limit from the left.
     Left,
     /// The value.
@@ -19,14 +19,14 @@ pub(crate) enum Side {
 /// The sides at x, at y and at x + y of which a limit of the slack at a corner is made, and where
 /// the corner stands in its square.
 #[derive(Clone, Copy, Drop)]
-pub(crate) struct Terms {
-    pub(crate) x: Side,
-    pub(crate) y: Side,
-    pub(crate) sum: Side,
+pub struct Terms {
+    pub x: Side,
+    pub y: Side,
+    pub sum: Side,
     /// By how much x is above the first index of the square, from 0 to 1.
-    pub(crate) right: u32,
+    pub right: u32,
     /// By how much y is above the second index of it, from 0 to 1.
-    pub(crate) above: u32,
+    pub above: u32,
 }
 
 /// The terms with these sides and this place.
@@ -43,9 +43,10 @@ fn made_of(x: Side, y: Side, sum: Side, right: u32, above: u32) -> Terms
 }
 
 /// The terms of the limit from inside the faces of this kind at a corner.
-pub(crate) fn terms_of(kind: FaceKind, corner: u32) -> Terms
+pub fn terms_of(kind: FaceKind, corner: u32) -> Terms
     requires { corner < length (corners_of kind 0 0) }
     ensures value { AreTermsOf kind corner result }
+    ensures table { result ≡ terms_at kind corner }
     ensures right { result.right ≤ 1 }
     ensures above { result.above ≤ 1 }
 {

@@ -14,7 +14,8 @@ use Rattle.gj_line.specs.FieldForms.{named_form, tail_of, AllGood, AreClearField
 
 -- ---- bytes
 
-tail_bytes : (f : Field) (fs : List Field) → bytes_of (f ∷ fs) ≡ word_of f ++ tail_of fs
+-- the word of the first field, and those behind it
+pub tail_bytes : (f : Field) (fs : List Field) → bytes_of (f ∷ fs) ≡ word_of f ++ tail_of fs
 tail_bytes f [] = refl
 tail_bytes f (g ∷ fs) = ap (λ t. word_of f ++ 32 ∷ t) (tail_bytes g fs)
 

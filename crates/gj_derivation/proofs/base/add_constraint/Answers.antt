@@ -1,4 +1,4 @@
-use Rattle.std.proofs.Common.{◌<◌, List, length, get_or, sym, ap, subst, ◌∙◌}
+use Rattle.std.proofs.Common.{List, get_or, sym, ap, subst, ◌∙◌}
 use Rattle.std.proofs.lemmas.Result.{IfOk-weaker}
 use Rattle.gj_frac.proofs.Refusals.{on_err_along}
 use Rattle.gj_problem.specs.declared.problem.Constraint.{Constraint}
@@ -17,14 +17,18 @@ returns-clause-added c =
     let new = c.add.new.self in
     let is : IsConstraint p m.line d = record {
       below = c.requires;
-      is = sym (c.index-as_slice-multiplier.is ∙ ap (λ (cs : List Constraint). get_or cs m.line d) c.as_slice.ensures);
+      is = sym (c.index-as_slice-multiplier.is ∙ ap (λ (cs : List Constraint). get_or cs m.line d)
+          c.as_slice.ensures);
     } in
     IfOk-weaker c.add.result
-    (λ done. IsMore old.coefficients.items new.coefficients.items old.right new.right m.value c.as_slice-2.result.now d.right)
+    (λ done. IsMore old.coefficients.items new.coefficients.items old.right new.right m.value
+    c.as_slice-2.result.now d.right)
     (λ done. IsAdded p m old new)
-    (λ done (h : IsMore old.coefficients.items new.coefficients.items old.right new.right m.value c.as_slice-2.result.now d.right).
+    (λ done (h : IsMore old.coefficients.items new.coefficients.items old.right new.right m.value
+    c.as_slice-2.result.now d.right).
     constraint_added p m d old new is
-    (subst (λ (es : List Entry). IsMore old.coefficients.items new.coefficients.items old.right new.right m.value es d.right) c.as_slice-2.ensures h))
+    (subst (λ (es : List Entry). IsMore old.coefficients.items new.coefficients.items old.right
+    new.right m.value es d.right) c.as_slice-2.ensures h))
     c.add.ensures.added
 
 pub returns-clause-wide : goal.returns-clause-wide
@@ -34,9 +38,15 @@ returns-clause-wide c =
     let m = c.args.multiplier in
     let is : IsConstraint p m.line d = record {
       below = c.requires;
-      is = sym (c.index-as_slice-multiplier.is ∙ ap (λ (cs : List Constraint). get_or cs m.line d) c.as_slice.ensures);
+      is = sym (c.index-as_slice-multiplier.is ∙ ap (λ (cs : List Constraint). get_or cs m.line d)
+          c.as_slice.ensures);
     } in
-    on_err_along c.add.result (IsWideMore c.args.sum.now m.value c.as_slice-2.result.now d.right) (IsWideAddition p m c.args.sum.now)
-    (λ (wide : IsWideMore c.args.sum.now m.value c.as_slice-2.result.now d.right).
-    (d, is, subst (λ (es : List Entry). IsWideMore c.args.sum.now m.value es d.right) c.as_slice-2.ensures wide))
+    on_err_along c.add.result (IsWideMore c.args.sum.now m.value c.as_slice-2.result.now d.right)
+    (IsWideAddition p m c.args.sum.now)
+    (λ (wide : IsWideMore c.args.sum.now m.value c.as_slice-2.result.now d.right). (
+      d,
+      is,
+      subst (λ (es : List Entry). IsWideMore c.args.sum.now m.value es d.right)
+          c.as_slice-2.ensures wide,
+    ))
     c.add.ensures.wide

@@ -1,11 +1,11 @@
-use Rattle.std.proofs.Common.{◌<◌, ℕ, List, Bool, length, All, sym, subst, ◌∙◌}
+use Rattle.std.proofs.Common.{◌<◌, ℕ, List, Bool, length, All, sym, subst}
 use Rattle.std.proofs.lemmas.List.Elements.{All-weaker}
 use Rattle.std.proofs.lemmas.Result.{IfOk-weaker}
 use Rattle.std.specs.Option.{option_copied}
 use Rattle.gj_frac.specs.declared.Frac.{Frac}
 use Rattle.gj_derivation.specs.declared.base.Base.{Base}
 use Rattle.gj_derivation.specs.declared.step.Multiplier.{Multiplier}
-use Rattle.gj_derivation.specs.Derivations.{IsSigned, AreMultipliers, AreAtUpper, IsCutBy, IsCutOf}
+use Rattle.gj_derivation.specs.Derivations.{IsSigned, AreMultipliers, AreAtUpper, IsCutOf}
 use Rattle.gj_derivation.specs.Checks.{IsBaseOf, IsBaseFrom}
 use Rattle.gj_derivation.proofs.MadeBases.{cut_is_base}
 use Rattle.gj_derivation.proofs.NamedLines.{line_below}
@@ -15,8 +15,10 @@ pub multipliers_of-requires : goal.multipliers_of-requires
 multipliers_of-requires c =
     let p = c.args.problem.now in
     let k = c.args.combination.now in
-    subst (λ (ms : List Multiplier). All (λ m. m.line < length p.constraints) ms) (sym c.as_slice.ensures)
-    (All-weaker (IsSigned k.rule p) (λ m. m.line < length p.constraints) (λ m h. line_below k.rule p m h) k.multipliers c.requires.signed)
+    subst (λ (ms : List Multiplier). All (λ m. m.line < length p.constraints) ms)
+    (sym c.as_slice.ensures)
+    (All-weaker (IsSigned k.rule p) (λ m. m.line < length p.constraints)
+    (λ m h. line_below k.rule p m h) k.multipliers c.requires.signed)
 
 pub returns-clause-is : goal.returns-clause-is
 returns-clause-is c =
@@ -26,13 +28,18 @@ returns-clause-is c =
     let cut = c.in_ok-cut.cut in
     let made : IsCutOf f p k cut = record {
       multipliers = c.as_slice-3.result.now;
-      multipliers_are = subst (λ (ms : List Frac). AreMultipliers p k.multipliers ms) (sym c.as_slice-3.ensures.value)
-          (subst (λ (named : List Multiplier). AreMultipliers p named c.in_ok-multipliers.multipliers.items) c.as_slice.ensures
+      multipliers_are = subst (λ (ms : List Frac). AreMultipliers p k.multipliers ms)
+          (sym c.as_slice-3.ensures.value)
+          (subst (λ (named : List Multiplier). AreMultipliers p named
+          c.in_ok-multipliers.multipliers.items) c.as_slice.ensures
           c.in_ok-multipliers.ensures.are);
       at_upper = c.as_slice-4.result.now;
-      at_upper_are = subst (λ (us : List Bool). AreAtUpper p k.at_upper us) (sym c.as_slice-4.ensures.value)
-          (subst (λ (named : List ℕ). AreAtUpper p named c.in_ok-at_upper.at_upper.items) c.as_slice-2.ensures c.in_ok-at_upper.ensures);
+      at_upper_are = subst (λ (us : List Bool). AreAtUpper p k.at_upper us)
+          (sym c.as_slice-4.ensures.value)
+          (subst (λ (named : List ℕ). AreAtUpper p named c.in_ok-at_upper.at_upper.items)
+          c.as_slice-2.ensures c.in_ok-at_upper.ensures);
       cut_is = c.in_ok-cut.ensures.is;
     } in
     IfOk-weaker c.base_from.result (IsBaseFrom (length p.columns) cut) (IsBaseOf f p k)
-    (λ (b : Base) (h : IsBaseFrom (length p.columns) cut b). cut_is_base f p k cut b c.requires.rule c.requires.signed made h) c.base_from.ensures.is
+    (λ (b : Base) (h : IsBaseFrom (length p.columns) cut b). cut_is_base f p k cut b c.requires.rule
+    c.requires.signed made h) c.base_from.ensures.is

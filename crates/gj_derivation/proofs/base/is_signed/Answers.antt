@@ -19,5 +19,6 @@ returns-in-Some c =
       λ t. (d, is, c.has_sign.ensures.0 t),
       λ (e, e_is, sign).
           c.has_sign.ensures.1
-          (subst (λ (x : Constraint). IsSignIn c.args.rule x.sense (numerator m.value)) (one_constraint p m.line e d e_is is) sign),
+          (subst (λ (x : Constraint). IsSignIn c.args.rule x.sense (numerator m.value))
+          (one_constraint p m.line e d e_is is) sign),
     )

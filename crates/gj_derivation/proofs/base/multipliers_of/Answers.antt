@@ -13,7 +13,8 @@ pub loop-multiplier-init : goal.loop-multiplier-init
 loop-multiplier-init c =
     let items = c.in_ok-multipliers.ensures.items_if_clones_equal (λ (y : Frac) h. h) in
     record {
-      count = ap (λ (cs : List Frac). length cs) items ∙ length-replicate _ c.ratio.result ∙ ap (λ cs. length cs) c.as_slice-count.ensures;
+      count = ap (λ (cs : List Frac). length cs) items ∙ length-replicate _ c.ratio.result
+          ∙ ap (λ cs. length cs) c.as_slice-count.ensures;
       are = λ (i : ℕ).
           ap (λ (cs : List Frac). dot cs (unit i)) items
           ∙ dot_zero _ c.ratio.result (unit i) (whole_ratio c.ratio.result (pos 0) c.ratio.ensures);
@@ -25,9 +26,12 @@ returns-in_err-sum-clause-wide c = λ fault.
     let m = c.multiplier-item.result in
     let p = c.args.problem.now in
     let line : m.line < length p.constraints =
-    subst (λ (x : Multiplier). x.line < length p.constraints) (sym c.multiplier-item.is) (c.requires i m c.loop-multiplier-test.true) in
-    let value : c.index.result.now ≡ get_or c.loop-multiplier.multipliers.items m.line c.index.result.now = search rules in
-    wide_named p c.args.named.now i m c.loop-multiplier.multipliers.items c.index.result.now c.loop-multiplier-test.true c.multiplier-item.is line
+    subst (λ (x : Multiplier). x.line < length p.constraints) (sym c.multiplier-item.is)
+    (c.requires i m c.loop-multiplier-test.true) in
+    let value : c.index.result.now ≡ get_or c.loop-multiplier.multipliers.items m.line
+    c.index.result.now = search rules in
+    wide_named p c.args.named.now i m c.loop-multiplier.multipliers.items c.index.result.now
+    c.loop-multiplier-test.true c.multiplier-item.is line
     c.loop-multiplier.invariant value c.in_err-sum.ensures.wide
 
 pub loop-multiplier-preserved : goal.loop-multiplier-preserved
@@ -36,10 +40,14 @@ loop-multiplier-preserved c =
     let m = c.multiplier-item.result in
     let p = c.args.problem.now in
     let line : m.line < length p.constraints =
-    subst (λ (x : Multiplier). x.line < length p.constraints) (sym c.multiplier-item.is) (c.requires i m c.loop-multiplier-test.true) in
-    let value : c.index.result.now ≡ get_or c.loop-multiplier.multipliers.items m.line c.index.result.now = search rules in
-    let sum : rational c.in_ok-sum.sum ≡ rational (get_or c.loop-multiplier.multipliers.items m.line c.index.result.now) +ℚ rational m.value =
+    subst (λ (x : Multiplier). x.line < length p.constraints) (sym c.multiplier-item.is)
+    (c.requires i m c.loop-multiplier-test.true) in
+    let value : c.index.result.now ≡ get_or c.loop-multiplier.multipliers.items m.line
+    c.index.result.now = search rules in
+    let sum : rational c.in_ok-sum.sum ≡ rational (get_or c.loop-multiplier.multipliers.items m.line
+    c.index.result.now) +ℚ rational m.value =
     sum_value c.index.result.now m.value c.in_ok-sum.sum c.in_ok-sum.ensures.value
     ∙ ap (λ (x : Frac). rational x +ℚ rational m.value) value in
-    named_more p c.args.named.now i m c.loop-multiplier.multipliers.items _ c.in_ok-sum.sum c.index.result.now c.loop-multiplier-test.true
+    named_more p c.args.named.now i m c.loop-multiplier.multipliers.items _ c.in_ok-sum.sum
+    c.index.result.now c.loop-multiplier-test.true
     c.multiplier-item.is line c.loop-multiplier.invariant sum refl

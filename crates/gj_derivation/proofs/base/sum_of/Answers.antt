@@ -10,23 +10,28 @@ use Rattle.gj_derivation.proofs.base.sum_of.Goals as goal
 
 pub loop-multiplier-init : goal.loop-multiplier-init
 loop-multiplier-init c =
-    no_sum c.args.problem.now c.in_ok-sum.sum (c.in_ok-sum.ensures.count ∙ ap (λ xs. length xs) c.as_slice.ensures)
-    (ap rational c.in_ok-sum.ensures.right ∙ whole_ratio c.ratio.result (pos 0) c.ratio.ensures) c.in_ok-sum.ensures.none
+    no_sum c.args.problem.now c.in_ok-sum.sum (c.in_ok-sum.ensures.count
+    ∙ ap (λ xs. length xs) c.as_slice.ensures)
+    (ap rational c.in_ok-sum.ensures.right ∙ whole_ratio c.ratio.result (pos 0) c.ratio.ensures)
+    c.in_ok-sum.ensures.none
 
 pub add_constraint-requires : goal.add_constraint-requires
 add_constraint-requires c =
     let i = c.loop-multiplier.multiplier-index in
     let ms = c.args.multipliers.now in
     let m = c.multiplier-item.result in
-    subst (λ (x : Multiplier). x.line < length c.args.problem.now.constraints) (sym c.multiplier-item.is)
-    (line_below Linear c.args.problem.now (get_or ms i m) (c.requires i m c.loop-multiplier-test.true))
+    subst (λ (x : Multiplier). x.line < length c.args.problem.now.constraints)
+    (sym c.multiplier-item.is)
+    (line_below Linear c.args.problem.now (get_or ms i m)
+    (c.requires i m c.loop-multiplier-test.true))
 
 pub returns-in_err-add_constraint-clause-wide : goal.returns-in_err-add_constraint-clause-wide
 returns-in_err-add_constraint-clause-wide c = λ fault. record {
   before = take c.loop-multiplier.multiplier-index c.args.multipliers.now;
   next = c.multiplier-item.result;
   after = drop (c.loop-multiplier.multiplier-index + 1) c.args.multipliers.now;
-  place = split_at c.args.multipliers.now c.loop-multiplier.multiplier-index c.multiplier-item.result c.loop-multiplier-test.true c.multiplier-item.is;
+  place = split_at c.args.multipliers.now c.loop-multiplier.multiplier-index
+      c.multiplier-item.result c.loop-multiplier-test.true c.multiplier-item.is;
   sum = c.loop-multiplier.sum;
   sum_is = c.loop-multiplier.invariant;
   wide = c.in_err-add_constraint.ensures.wide;
@@ -34,6 +39,8 @@ returns-in_err-add_constraint-clause-wide c = λ fault. record {
 
 pub loop-multiplier-preserved : goal.loop-multiplier-preserved
 loop-multiplier-preserved c =
-    sum_more c.args.problem.now c.args.multipliers.now c.loop-multiplier.multiplier-index c.multiplier-item.result c.loop-multiplier.sum
-    c.add_constraint.new.sum c.loop-multiplier-test.true c.multiplier-item.is c.loop-multiplier.invariant c.in_ok-add_constraint.ensures.count
+    sum_more c.args.problem.now c.args.multipliers.now c.loop-multiplier.multiplier-index
+    c.multiplier-item.result c.loop-multiplier.sum
+    c.add_constraint.new.sum c.loop-multiplier-test.true c.multiplier-item.is
+    c.loop-multiplier.invariant c.in_ok-add_constraint.ensures.count
     c.in_ok-add_constraint.ensures.added

@@ -7,4 +7,5 @@ pub returns-in-Ok-clause-exact : goal.returns-in-Ok-clause-exact
 returns-in-Ok-clause-exact c =
     let f = option_copied c.args.function in
     verdict_exact f c.args.problem.now c.args.step.now c.in-Ok.verdict
-    (usable_function f c.args.step.now.combination.rule c.read_bounds.ensures c.requires.function) c.in-Ok.ensures.is
+    (usable_function f c.args.step.now.combination.rule c.read_bounds.ensures c.requires.function)
+    c.in-Ok.ensures.is

@@ -14,9 +14,11 @@ returns-in_err-moved-in-Line-clause-wide c = λ fault.
     let p = c.args.problem.now in
     let k = c.args.combination.now in
     let q = c.args.claim.now in
-    let made : IsBaseOf f p k (Line c.in-Line.sum) = subst (λ (b : Base). IsBaseOf f p k b) c.in-Line.is c.in_ok-sum.ensures.is in
+    let made : IsBaseOf f p k (Line c.in-Line.sum) = subst (λ (b : Base). IsBaseOf f p k b)
+    c.in-Line.is c.in_ok-sum.ensures.is in
     wide_for f p k q c.in-Line.sum made
-    (subst (λ (es : List Entry). IsWideFor p.columns k.factor (line_of_sum c.in-Line.sum) es) c.as_slice-entries.ensures
+    (subst (λ (es : List Entry). IsWideFor p.columns k.factor (line_of_sum c.in-Line.sum) es)
+    c.as_slice-entries.ensures
     (c.in_err-moved-in-Line.ensures.wide (search rules)))
 
 pub returns-in_ok-moved-in-Line-clause-is : goal.returns-in_ok-moved-in-Line-clause-is
@@ -25,7 +27,10 @@ returns-in_ok-moved-in-Line-clause-is c =
     let p = c.args.problem.now in
     let k = c.args.combination.now in
     let q = c.args.claim.now in
-    let made : IsBaseOf f p k (Line c.in-Line.sum) = subst (λ (b : Base). IsBaseOf f p k b) c.in-Line.is c.in_ok-sum.ensures.is in
-    verdict_from f p k q c.in-Line.sum made c.in_ok-moved-in-Line.moved c.compared.result c.requires.factor_positive
-    (subst (λ (es : List Entry). IsMovedRight p.columns k.factor (line_of_sum c.in-Line.sum) (coefficient_in es) c.in_ok-moved-in-Line.moved)
+    let made : IsBaseOf f p k (Line c.in-Line.sum) = subst (λ (b : Base). IsBaseOf f p k b)
+    c.in-Line.is c.in_ok-sum.ensures.is in
+    verdict_from f p k q c.in-Line.sum made c.in_ok-moved-in-Line.moved c.compared.result
+    c.requires.factor_positive
+    (subst (λ (es : List Entry). IsMovedRight p.columns k.factor (line_of_sum c.in-Line.sum)
+    (coefficient_in es) c.in_ok-moved-in-Line.moved)
     c.as_slice-entries.ensures c.in_ok-moved-in-Line.ensures.is) c.compared.ensures

@@ -12,7 +12,8 @@ pub returns-in-Some-clause-right : goal.returns-in-Some-clause-right
 returns-in-Some-clause-right c =
     let cs = c.args.terms.items in
     let r = rational c.args.right in
-    let surplus = if_some (λ (q : Inequality). (point : List Rational) → surplus_at point q ≡ dot cs point -ℚ r) c.in_ok-claim.field-0 c.in-Some.claim
+    let surplus = if_some (λ (q : Inequality). (point : List Rational) →
+    surplus_at point q ≡ dot cs point -ℚ r) c.in_ok-claim.field-0 c.in-Some.claim
     c.in-Some.is c.in_ok-claim.ensures.surplus in
     right_of c.in-Some.claim (dot cs) r (dot_none cs) surplus
 
@@ -20,6 +21,7 @@ pub returns-in-Some-clause-coefficients : goal.returns-in-Some-clause-coefficien
 returns-in-Some-clause-coefficients c =
     let cs = c.args.terms.items in
     let r = rational c.args.right in
-    let surplus = if_some (λ (q : Inequality). (point : List Rational) → surplus_at point q ≡ dot cs point -ℚ r) c.in_ok-claim.field-0 c.in-Some.claim
+    let surplus = if_some (λ (q : Inequality). (point : List Rational) →
+    surplus_at point q ≡ dot cs point -ℚ r) c.in_ok-claim.field-0 c.in-Some.claim
     c.in-Some.is c.in_ok-claim.ensures.surplus in
     coefficients_of c.in-Some.claim (dot cs) r (dot_none cs) surplus

@@ -4,4 +4,5 @@ use Rattle.gj_derivation.proofs.DerivedSteps.{AreShownTo}
 use Rattle.gj_derivation.proofs.derive.derived_steps.Given as goal
 
 abbrev pub invariant-loop-i : goal.invariant-loop-i
-invariant-loop-i l = AreShownTo (option_copied l.function) l.grid l.fn.problem (take l.i l.drafts) l.shown.items l.reached
+invariant-loop-i l = AreShownTo (option_copied l.function) l.grid l.fn.problem (take l.i l.drafts)
+    l.shown.items l.reached

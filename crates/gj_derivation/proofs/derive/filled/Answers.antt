@@ -13,4 +13,5 @@ returns-in-Terms-clause-wide c = λ fault.
     let p = c.args.problem.now in
     let k = c.args.combination.now in
     subst (λ (claim : Claim). IsAgainst f c.args.grid p k claim Wide) (sym c.in-Terms.is)
-    (subst (λ (es : List Entry). IsAgainstTerms f p k es Wide) c.as_slice.ensures (c.claim_with.ensures.wide fault))
+    (subst (λ (es : List Entry). IsAgainstTerms f p k es Wide) c.as_slice.ensures
+    (c.claim_with.ensures.wide fault))

@@ -14,14 +14,18 @@ returns-in-Line-clause-is c =
     let f = option_copied c.args.function in
     let p = c.args.problem.now in
     let k = c.args.combination.now in
-    let made : IsBaseOf f p k (base.Line c.in-Line.sum) = subst (λ (b : Base). IsBaseOf f p k b) c.in-Line.is c.in_ok-sum.ensures.is in
-    IfOk-weaker c.found_in.result (IsFoundIn c.args.grid p.columns k.factor (line_of_sum c.in-Line.sum)) (IsFilled f c.args.grid p k Absent)
-    (λ filled h. found_filled f c.args.grid p k c.in-Line.sum made filled c.requires.ready.factor_positive h) c.found_in.ensures.is
+    let made : IsBaseOf f p k (base.Line c.in-Line.sum) =
+    subst (λ (b : Base). IsBaseOf f p k b) c.in-Line.is c.in_ok-sum.ensures.is in
+    IfOk-weaker c.found_in.result (IsFoundIn c.args.grid p.columns k.factor
+    (line_of_sum c.in-Line.sum)) (IsFilled f c.args.grid p k Absent)
+    (λ filled h. found_filled f c.args.grid p k c.in-Line.sum made filled
+    c.requires.ready.factor_positive h) c.found_in.ensures.is
 
 pub returns-in-Line-clause-wide : goal.returns-in-Line-clause-wide
 returns-in-Line-clause-wide c = λ fault.
     let f = option_copied c.args.function in
     let p = c.args.problem.now in
     let k = c.args.combination.now in
-    let made : IsBaseOf f p k (base.Line c.in-Line.sum) = subst (λ (b : Base). IsBaseOf f p k b) c.in-Line.is c.in_ok-sum.ensures.is in
+    let made : IsBaseOf f p k (base.Line c.in-Line.sum) =
+    subst (λ (b : Base). IsBaseOf f p k b) c.in-Line.is c.in_ok-sum.ensures.is in
     found_wide f c.args.grid p k c.in-Line.sum made (c.found_in.ensures.wide fault)

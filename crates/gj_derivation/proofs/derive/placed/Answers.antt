@@ -12,13 +12,17 @@ returns-in_default c =
       m,
       subst (λ (ms : List Multiplier). i < length ms) items c.loop-multiplier-test.true,
       sym (c.multiplier-item.is ∙ ap (λ (ms : List Multiplier). get_or ms i m) items),
-      sym (c.constraint_of.ensures ∙ ap (λ (ls : List (Option ℕ)). get_or ls m.line None) c.as_slice.ensures) ∙ c.in_default.is,
+      sym (c.constraint_of.ensures ∙ ap (λ (ls : List (Option ℕ)). get_or ls m.line None)
+          c.as_slice.ensures) ∙ c.in_default.is,
     )
 
 pub loop-multiplier-preserved : goal.loop-multiplier-preserved
 loop-multiplier-preserved c =
-    one_placed c.args.reached.now c.as_slice-multiplier-items.result.now c.loop-multiplier.multiplier-index c.multiplier-item.result
-    (record { line = c.in-Some.line; value = c.multiplier-item.result.value }) c.loop-multiplier.multipliers.items c.push.new.self.items
+    one_placed c.args.reached.now c.as_slice-multiplier-items.result.now
+    c.loop-multiplier.multiplier-index c.multiplier-item.result
+    (record { line = c.in-Some.line; value = c.multiplier-item.result.value })
+    c.loop-multiplier.multipliers.items c.push.new.self.items
     c.loop-multiplier-test.true c.multiplier-item.is
-    (sym (c.constraint_of.ensures ∙ ap (λ (ls : List (Option ℕ)). get_or ls c.multiplier-item.result.line None) c.as_slice.ensures) ∙ c.in-Some.is)
+    (sym (c.constraint_of.ensures ∙ ap (λ (ls : List (Option ℕ)). get_or ls
+    c.multiplier-item.result.line None) c.as_slice.ensures) ∙ c.in-Some.is)
     refl c.in_ok-push.ensures.items c.loop-multiplier.invariant

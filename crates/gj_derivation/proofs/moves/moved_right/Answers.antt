@@ -9,91 +9,138 @@ use Rattle.gj_derivation.proofs.moves.moved_right.Goals as goal
 
 pub loop-j-init : goal.loop-j-init
 loop-j-init c =
-    none_up_to c.args.columns.now c.args.factor c.args.sum.now c.args.claimed.now c.in_ok-right.right
-    (product_value c.args.factor c.args.sum.now.right c.in_ok-right.right c.in_ok-right.ensures.value)
+    none_up_to c.args.columns.now c.args.factor c.args.sum.now c.args.claimed.now
+    c.in_ok-right.right
+    (product_value c.args.factor c.args.sum.now.right c.in_ok-right.right
+    c.in_ok-right.ensures.value)
 
 pub loop-j-preserved : goal.loop-j-preserved
 loop-j-preserved c =
-    let coefficient_is : c.index-coefficient.result.now ≡ get_or c.args.sum.now.coefficients.items c.loop-j.j c.index-coefficient.result.now = search rules in
-    one_up_to c.args.columns.now c.args.factor c.args.sum.now c.args.claimed.now c.loop-j.j c.index-columns-j.result c.index-coefficient.result.now c.in_ok-x.x
+    let coefficient_is : c.index-coefficient.result.now ≡ get_or c.args.sum.now.coefficients.items
+    c.loop-j.j c.index-coefficient.result.now = search rules in
+    one_up_to c.args.columns.now c.args.factor c.args.sum.now c.args.claimed.now c.loop-j.j
+    c.index-columns-j.result c.index-coefficient.result.now c.in_ok-x.x
     c.index-claimed-j.result c.in-Some.shift c.loop-j.right c.in_ok-right-2.right c.loop-j.is_whole
-    c.stays_whole-is_whole.result c.loop-j-test.true c.requires.sum c.requires.claimed c.index-columns-j.is coefficient_is
-    (product_value c.args.factor c.index-coefficient.result.now c.in_ok-x.x c.in_ok-x.ensures.value) c.index-claimed-j.is
+    c.stays_whole-is_whole.result c.loop-j-test.true c.requires.sum c.requires.claimed
+    c.index-columns-j.is coefficient_is
+    (product_value c.args.factor c.index-coefficient.result.now c.in_ok-x.x c.in_ok-x.ensures.value)
+    c.index-claimed-j.is
     (MatchOption-at_some _ _ c.in-Some.shift c.in-Some.is c.in_ok-shift.ensures.is)
-    (sum_value c.loop-j.right c.in-Some.shift c.in_ok-right-2.right c.in_ok-right-2.ensures.value) c.stays_whole-is_whole.ensures c.loop-j.invariant
+    (sum_value c.loop-j.right c.in-Some.shift c.in_ok-right-2.right c.in_ok-right-2.ensures.value)
+    c.stays_whole-is_whole.ensures c.loop-j.invariant
 
 pub loop-j-preserved-then-is_zero-2 : goal.loop-j-preserved-then-is_zero-2
 loop-j-preserved-then-is_zero-2 c =
-    let coefficient_is : c.index-coefficient.result.now ≡ get_or c.args.sum.now.coefficients.items c.loop-j.j c.index-coefficient.result.now = search rules in
-    none_more c.args.columns.now c.args.factor c.args.sum.now c.args.claimed.now c.loop-j.j c.index-columns-j.result c.index-coefficient.result.now
-    c.index-claimed-j.result c.loop-j.right c.loop-j.is_whole c.loop-j-test.true c.requires.sum c.requires.claimed c.index-columns-j.is coefficient_is
+    let coefficient_is : c.index-coefficient.result.now ≡ get_or c.args.sum.now.coefficients.items
+    c.loop-j.j c.index-coefficient.result.now = search rules in
+    none_more c.args.columns.now c.args.factor c.args.sum.now c.args.claimed.now c.loop-j.j
+    c.index-columns-j.result c.index-coefficient.result.now
+    c.index-claimed-j.result c.loop-j.right c.loop-j.is_whole c.loop-j-test.true c.requires.sum
+    c.requires.claimed c.index-columns-j.is coefficient_is
     c.index-claimed-j.is (c.is_zero.ensures.0 (is_true c.is_zero.result c.if-is_zero.true))
-    (c.is_zero-then-is_zero.ensures.0 (is_true c.is_zero-then-is_zero.result c.if-is_zero-2.true)) c.loop-j.invariant
+    (c.is_zero-then-is_zero.ensures.0 (is_true c.is_zero-then-is_zero.result c.if-is_zero-2.true))
+    c.loop-j.invariant
 
 pub returns-in_default-clause-is : goal.returns-in_default-clause-is
 returns-in_default-clause-is c =
-    let coefficient_is : c.index-coefficient.result.now ≡ get_or c.args.sum.now.coefficients.items c.loop-j.j c.index-coefficient.result.now = search rules in
-    subst (IsFirstUnmovable c.args.columns.now (scaled c.args.factor c.args.sum.now) (claimed_at c.args.claimed.now)) (sym c.in-Ok.ensures.1)
-    (stuck_at c.args.columns.now c.args.factor c.args.sum.now c.args.claimed.now c.loop-j.j c.index-columns-j.result c.index-coefficient.result.now c.in_ok-x.x
-    c.index-claimed-j.result c.loop-j.right c.loop-j.is_whole c.loop-j-test.true c.requires.sum c.requires.claimed c.index-columns-j.is coefficient_is
-    (product_value c.args.factor c.index-coefficient.result.now c.in_ok-x.x c.in_ok-x.ensures.value) c.index-claimed-j.is
-    (subst (IsShift c.index-columns-j.result c.in_ok-x.x c.index-claimed-j.result) c.in_default.is c.in_ok-shift.ensures.is) c.loop-j.invariant)
+    let coefficient_is : c.index-coefficient.result.now ≡ get_or c.args.sum.now.coefficients.items
+    c.loop-j.j c.index-coefficient.result.now = search rules in
+    subst (IsFirstUnmovable c.args.columns.now (scaled c.args.factor c.args.sum.now)
+    (claimed_at c.args.claimed.now)) (sym c.in-Ok.ensures.1)
+    (stuck_at c.args.columns.now c.args.factor c.args.sum.now c.args.claimed.now c.loop-j.j
+    c.index-columns-j.result c.index-coefficient.result.now c.in_ok-x.x
+    c.index-claimed-j.result c.loop-j.right c.loop-j.is_whole c.loop-j-test.true c.requires.sum
+    c.requires.claimed c.index-columns-j.is coefficient_is
+    (product_value c.args.factor c.index-coefficient.result.now c.in_ok-x.x c.in_ok-x.ensures.value)
+    c.index-claimed-j.is
+    (subst (IsShift c.index-columns-j.result c.in_ok-x.x c.index-claimed-j.result) c.in_default.is
+    c.in_ok-shift.ensures.is) c.loop-j.invariant)
 
 pub returns-clause-is : goal.returns-clause-is
 returns-clause-is c =
-    all_up_to c.args.columns.now c.args.factor c.args.sum.now c.args.claimed.now c.loop-j.j c.loop-j.right c.rounded_if.result c.loop-j.is_whole
+    all_up_to c.args.columns.now c.args.factor c.args.sum.now c.args.claimed.now c.loop-j.j
+    c.loop-j.right c.rounded_if.result c.loop-j.is_whole
     c.loop-j-test.false c.rounded_if.ensures c.loop-j.invariant
 
 pub returns-in_err-right-clause-wide : goal.returns-in_err-right-clause-wide
 returns-in_err-right-clause-wide c =
     on_err c.from_residual.result
-    (IsWideMoving c.args.columns.now c.args.factor (line_of_sum c.args.sum.now) (claimed_at c.args.claimed.now))
+    (IsWideMoving c.args.columns.now c.args.factor (line_of_sum c.args.sum.now)
+    (claimed_at c.args.claimed.now))
     (inl (c.args.sum.now.right, refl, c.in_err-right.ensures.wide))
 
 pub returns-in_err-x-clause-wide : goal.returns-in_err-x-clause-wide
 returns-in_err-x-clause-wide c =
-    let coefficient_is : c.index-coefficient.result.now ≡ get_or c.args.sum.now.coefficients.items c.loop-j.j c.index-coefficient.result.now = search rules in
+    let coefficient_is : c.index-coefficient.result.now ≡ get_or c.args.sum.now.coefficients.items
+    c.loop-j.j c.index-coefficient.result.now = search rules in
     on_err c.from_residual-in_err-x.result
-    (IsWideMoving c.args.columns.now c.args.factor (line_of_sum c.args.sum.now) (claimed_at c.args.claimed.now))
-    (wide_at c.args.columns.now c.args.factor c.args.sum.now c.args.claimed.now c.loop-j.j c.index-columns-j.result c.index-coefficient.result.now
-    c.index-claimed-j.result c.loop-j.right c.loop-j.is_whole c.loop-j-test.true c.requires.sum c.requires.claimed c.index-columns-j.is coefficient_is
+    (IsWideMoving c.args.columns.now c.args.factor (line_of_sum c.args.sum.now)
+    (claimed_at c.args.claimed.now))
+    (wide_at c.args.columns.now c.args.factor c.args.sum.now c.args.claimed.now c.loop-j.j
+    c.index-columns-j.result c.index-coefficient.result.now
+    c.index-claimed-j.result c.loop-j.right c.loop-j.is_whole c.loop-j-test.true c.requires.sum
+    c.requires.claimed c.index-columns-j.is coefficient_is
     c.index-claimed-j.is
     (inl c.in_err-x.ensures.wide) c.loop-j.invariant)
 
 pub returns-in_err-shift-clause-wide : goal.returns-in_err-shift-clause-wide
 returns-in_err-shift-clause-wide c =
-    let coefficient_is : c.index-coefficient.result.now ≡ get_or c.args.sum.now.coefficients.items c.loop-j.j c.index-coefficient.result.now = search rules in
+    let coefficient_is : c.index-coefficient.result.now ≡ get_or c.args.sum.now.coefficients.items
+    c.loop-j.j c.index-coefficient.result.now = search rules in
     on_err c.from_residual-in_err-shift.result
-    (IsWideMoving c.args.columns.now c.args.factor (line_of_sum c.args.sum.now) (claimed_at c.args.claimed.now))
-    (wide_at c.args.columns.now c.args.factor c.args.sum.now c.args.claimed.now c.loop-j.j c.index-columns-j.result c.index-coefficient.result.now
-    c.index-claimed-j.result c.loop-j.right c.loop-j.is_whole c.loop-j-test.true c.requires.sum c.requires.claimed c.index-columns-j.is coefficient_is
+    (IsWideMoving c.args.columns.now c.args.factor (line_of_sum c.args.sum.now)
+    (claimed_at c.args.claimed.now))
+    (wide_at c.args.columns.now c.args.factor c.args.sum.now c.args.claimed.now c.loop-j.j
+    c.index-columns-j.result c.index-coefficient.result.now
+    c.index-claimed-j.result c.loop-j.right c.loop-j.is_whole c.loop-j-test.true c.requires.sum
+    c.requires.claimed c.index-columns-j.is coefficient_is
     c.index-claimed-j.is
-    (inr (c.in_ok-x.x, product_value c.args.factor c.index-coefficient.result.now c.in_ok-x.x c.in_ok-x.ensures.value, inl c.in_err-shift.ensures.wide))
+    (inr (
+      c.in_ok-x.x,
+      product_value c.args.factor c.index-coefficient.result.now c.in_ok-x.x
+          c.in_ok-x.ensures.value,
+      inl c.in_err-shift.ensures.wide,
+    ))
     c.loop-j.invariant)
 
 pub returns-in_err-right-2-clause-wide : goal.returns-in_err-right-2-clause-wide
 returns-in_err-right-2-clause-wide c =
-    let coefficient_is : c.index-coefficient.result.now ≡ get_or c.args.sum.now.coefficients.items c.loop-j.j c.index-coefficient.result.now = search rules in
+    let coefficient_is : c.index-coefficient.result.now ≡ get_or c.args.sum.now.coefficients.items
+    c.loop-j.j c.index-coefficient.result.now = search rules in
     on_err c.from_residual-in_err-right-2.result
-    (IsWideMoving c.args.columns.now c.args.factor (line_of_sum c.args.sum.now) (claimed_at c.args.claimed.now))
-    (wide_at c.args.columns.now c.args.factor c.args.sum.now c.args.claimed.now c.loop-j.j c.index-columns-j.result c.index-coefficient.result.now
-    c.index-claimed-j.result c.loop-j.right c.loop-j.is_whole c.loop-j-test.true c.requires.sum c.requires.claimed c.index-columns-j.is coefficient_is
+    (IsWideMoving c.args.columns.now c.args.factor (line_of_sum c.args.sum.now)
+    (claimed_at c.args.claimed.now))
+    (wide_at c.args.columns.now c.args.factor c.args.sum.now c.args.claimed.now c.loop-j.j
+    c.index-columns-j.result c.index-coefficient.result.now
+    c.index-claimed-j.result c.loop-j.right c.loop-j.is_whole c.loop-j-test.true c.requires.sum
+    c.requires.claimed c.index-columns-j.is coefficient_is
     c.index-claimed-j.is
     (inr (
       c.in_ok-x.x,
-      product_value c.args.factor c.index-coefficient.result.now c.in_ok-x.x c.in_ok-x.ensures.value,
-      inr (c.in-Some.shift, MatchOption-at_some _ _ c.in-Some.shift c.in-Some.is c.in_ok-shift.ensures.is, c.in_err-right-2.ensures.wide),
+      product_value c.args.factor c.index-coefficient.result.now c.in_ok-x.x
+          c.in_ok-x.ensures.value,
+      inr (
+        c.in-Some.shift,
+        MatchOption-at_some _ _ c.in-Some.shift c.in-Some.is
+            c.in_ok-shift.ensures.is,
+        c.in_err-right-2.ensures.wide,
+      ),
     )) c.loop-j.invariant)
 
 pub returns-in_default-try_from-clause-wide : goal.returns-in_default-try_from-clause-wide
 returns-in_default-try_from-clause-wide c =
-    let coefficient_is : c.index-coefficient.result.now ≡ get_or c.args.sum.now.coefficients.items c.loop-j.j c.index-coefficient.result.now = search rules in
+    let coefficient_is : c.index-coefficient.result.now ≡ get_or c.args.sum.now.coefficients.items
+    c.loop-j.j c.index-coefficient.result.now = search rules in
     inr (inr (
       c.loop-j.j,
-      stuck_at c.args.columns.now c.args.factor c.args.sum.now c.args.claimed.now c.loop-j.j c.index-columns-j.result c.index-coefficient.result.now c.in_ok-x.x
-          c.index-claimed-j.result c.loop-j.right c.loop-j.is_whole c.loop-j-test.true c.requires.sum c.requires.claimed c.index-columns-j.is
-          coefficient_is (product_value c.args.factor c.index-coefficient.result.now c.in_ok-x.x c.in_ok-x.ensures.value) c.index-claimed-j.is
-          (subst (IsShift c.index-columns-j.result c.in_ok-x.x c.index-claimed-j.result) c.in_default.is c.in_ok-shift.ensures.is)
+      stuck_at c.args.columns.now c.args.factor c.args.sum.now c.args.claimed.now c.loop-j.j
+          c.index-columns-j.result c.index-coefficient.result.now c.in_ok-x.x
+          c.index-claimed-j.result c.loop-j.right c.loop-j.is_whole c.loop-j-test.true
+          c.requires.sum c.requires.claimed c.index-columns-j.is
+          coefficient_is (product_value c.args.factor c.index-coefficient.result.now c.in_ok-x.x
+          c.in_ok-x.ensures.value) c.index-claimed-j.is
+          (subst (IsShift c.index-columns-j.result c.in_ok-x.x c.index-claimed-j.result)
+          c.in_default.is c.in_ok-shift.ensures.is)
           c.loop-j.invariant,
       omega (arith, c.in_default-try_from.ensures),
     ))

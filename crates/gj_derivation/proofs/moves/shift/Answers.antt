@@ -13,44 +13,58 @@ use Rattle.gj_derivation.proofs.moves.shift.Goals as goal
 pub returns-then-is_zero-clause-is : goal.returns-then-is_zero-clause-is
 returns-then-is_zero-clause-is c =
     let change = c.in_ok-change.change in
-    let is : rational change ≡ rational c.args.y -ℚ rational c.args.x = sum_value c.args.y c.neg.result change c.in_ok-change.ensures.value
+    let is : rational change ≡ rational c.args.y -ℚ rational c.args.x =
+    sum_value c.args.y c.neg.result change c.in_ok-change.ensures.value
     ∙ ap (λ w. rational c.args.y +ℚ w) (negation_value c.args.x c.neg.result c.neg.ensures) in
-    moved_none c.args.column c.args.x c.args.y change c.ratio.result is (c.is_zero.ensures.0 c.if-is_zero.true)
+    moved_none c.args.column c.args.x c.args.y change c.ratio.result is
+    (c.is_zero.ensures.0 c.if-is_zero.true)
     (whole_ratio c.ratio.result (pos 0) c.ratio.ensures)
 
 pub returns-then-is_positive-clause-is : goal.returns-then-is_positive-clause-is
 returns-then-is_positive-clause-is c =
     let change = c.in_ok-change.change in
-    let is : rational change ≡ rational c.args.y -ℚ rational c.args.x = sum_value c.args.y c.neg.result change c.in_ok-change.ensures.value
+    let is : rational change ≡ rational c.args.y -ℚ rational c.args.x =
+    sum_value c.args.y c.neg.result change c.in_ok-change.ensures.value
     ∙ ap (λ w. rational c.args.y +ℚ w) (negation_value c.args.x c.neg.result c.neg.ensures) in
-    IfOk-weaker c.times_lower.result (IsTimesLower c.args.column change) (IsShift c.args.column c.args.x c.args.y)
+    IfOk-weaker c.times_lower.result (IsTimesLower c.args.column change)
+    (IsShift c.args.column c.args.x c.args.y)
     (λ (made : Option Frac) (h : IsTimesLower c.args.column change made).
-    shift_up c.args.column c.args.x c.args.y change made is (c.is_positive.ensures.0 c.if-is_positive.true) h)
+    shift_up c.args.column c.args.x c.args.y change made is
+    (c.is_positive.ensures.0 c.if-is_positive.true) h)
     c.times_lower.ensures.is
 
 pub returns-clause-is : goal.returns-clause-is
 returns-clause-is c =
     let change = c.in_ok-change.change in
-    let is : rational change ≡ rational c.args.y -ℚ rational c.args.x = sum_value c.args.y c.neg.result change c.in_ok-change.ensures.value
+    let is : rational change ≡ rational c.args.y -ℚ rational c.args.x =
+    sum_value c.args.y c.neg.result change c.in_ok-change.ensures.value
     ∙ ap (λ w. rational c.args.y +ℚ w) (negation_value c.args.x c.neg.result c.neg.ensures) in
-    IfOk-weaker c.times_upper.result (IsTimesUpper c.args.column change) (IsShift c.args.column c.args.x c.args.y)
+    IfOk-weaker c.times_upper.result (IsTimesUpper c.args.column change)
+    (IsShift c.args.column c.args.x c.args.y)
     (λ (made : Option Frac) (h : IsTimesUpper c.args.column change made).
     shift_down c.args.column c.args.x c.args.y change made is
-    (sign_left (numerator change) c.is_zero.result c.is_positive.result c.is_zero.ensures c.is_positive.ensures c.if-is_zero.false
+    (sign_left (numerator change) c.is_zero.result c.is_positive.result c.is_zero.ensures
+    c.is_positive.ensures c.if-is_zero.false
     c.if-is_positive.false) h)
     c.times_upper.ensures.is
 
 pub returns-in_err-change-clause-wide : goal.returns-in_err-change-clause-wide
 returns-in_err-change-clause-wide c =
     on_err c.from_residual.result (IsWideShift c.args.column c.args.x c.args.y)
-    (inl (c.neg.result, negation_value c.args.x c.neg.result c.neg.ensures, c.in_err-change.ensures.wide))
+    (inl (
+      c.neg.result,
+      negation_value c.args.x c.neg.result c.neg.ensures,
+      c.in_err-change.ensures.wide,
+    ))
 
 pub returns-then-is_positive-clause-wide : goal.returns-then-is_positive-clause-wide
 returns-then-is_positive-clause-wide c =
     let change = c.in_ok-change.change in
-    let is : rational change ≡ rational c.args.y -ℚ rational c.args.x = sum_value c.args.y c.neg.result change c.in_ok-change.ensures.value
+    let is : rational change ≡ rational c.args.y -ℚ rational c.args.x =
+    sum_value c.args.y c.neg.result change c.in_ok-change.ensures.value
     ∙ ap (λ w. rational c.args.y +ℚ w) (negation_value c.args.x c.neg.result c.neg.ensures) in
-    on_err_along c.times_lower.result (IsWideTimesBound (HasLower c.args.column) change) (IsWideShift c.args.column c.args.x c.args.y)
+    on_err_along c.times_lower.result (IsWideTimesBound (HasLower c.args.column) change)
+    (IsWideShift c.args.column c.args.x c.args.y)
     (λ (wide : IsWideTimesBound (HasLower c.args.column) change).
     inr (change, is, inl (c.is_positive.ensures.0 c.if-is_positive.true, wide)))
     c.times_lower.ensures.wide
@@ -58,15 +72,18 @@ returns-then-is_positive-clause-wide c =
 pub returns-clause-wide : goal.returns-clause-wide
 returns-clause-wide c =
     let change = c.in_ok-change.change in
-    let is : rational change ≡ rational c.args.y -ℚ rational c.args.x = sum_value c.args.y c.neg.result change c.in_ok-change.ensures.value
+    let is : rational change ≡ rational c.args.y -ℚ rational c.args.x =
+    sum_value c.args.y c.neg.result change c.in_ok-change.ensures.value
     ∙ ap (λ w. rational c.args.y +ℚ w) (negation_value c.args.x c.neg.result c.neg.ensures) in
-    on_err_along c.times_upper.result (IsWideTimesBound (HasUpper c.args.column) change) (IsWideShift c.args.column c.args.x c.args.y)
+    on_err_along c.times_upper.result (IsWideTimesBound (HasUpper c.args.column) change)
+    (IsWideShift c.args.column c.args.x c.args.y)
     (λ (wide : IsWideTimesBound (HasUpper c.args.column) change).
     inr (
       change,
       is,
       inr (
-        sign_left (numerator change) c.is_zero.result c.is_positive.result c.is_zero.ensures c.is_positive.ensures
+        sign_left (numerator change) c.is_zero.result c.is_positive.result c.is_zero.ensures
+            c.is_positive.ensures
             c.if-is_zero.false c.if-is_positive.false,
         wide,
       ),

@@ -8,7 +8,8 @@ pub returns-clause-is : goal.returns-clause-is
 returns-clause-is c = (
   c.upper_bound-bound.result,
   (c.in-Some.upper, c.in-Some.is, c.upper_bound-bound.ensures),
-  product_value c.args.change c.upper_bound-bound.result c.in_ok-shift.shift c.in_ok-shift.ensures.value,
+  product_value c.args.change c.upper_bound-bound.result c.in_ok-shift.shift
+      c.in_ok-shift.ensures.value,
 )
 
 pub returns-in_err-shift-clause-wide : goal.returns-in_err-shift-clause-wide

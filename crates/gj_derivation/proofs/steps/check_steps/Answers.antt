@@ -1,4 +1,4 @@
-use Rattle.std.proofs.Common.{refl, subst}
+use Rattle.std.proofs.Common.{subst}
 use Rattle.std.specs.Option.{option_copied}
 use Rattle.gj_derivation.specs.declared.step.Verdict.{Verdict}
 use Rattle.gj_derivation.specs.declared.steps.Checked.TheVariants.{Accepted, Failed}
@@ -10,12 +10,17 @@ use Rattle.gj_derivation.proofs.steps.check_steps.Goals as goal
 pub returns-in_default : goal.returns-in_default
 returns-in_default c =
     let f = option_copied c.args.function in
-    let failure : IsFailure f c.args.problem c.args.steps.now (record { step = c.loop-i.i; verdict = c.in_ok-verdict.verdict }) =
-    failed_at f c.args.problem c.loop-i.grown c.args.steps.now c.loop-i.i c.index-steps-i.result c.in_ok-verdict.verdict c.loop-i-test.true
+    let failure : IsFailure f c.args.problem c.args.steps.now (record {
+      step = c.loop-i.i;
+      verdict = c.in_ok-verdict.verdict;
+    }) =
+    failed_at f c.args.problem c.loop-i.grown c.args.steps.now c.loop-i.i c.index-steps-i.result
+    c.in_ok-verdict.verdict c.loop-i-test.true
     c.index-steps-i.is c.loop-i.invariant c.in_ok-verdict.ensures.is c.in_default.not-Accepted in
     record {
       is = failure;
-      exact = ready_exact f c.args.problem c.args.steps.now (Failed (record { step = c.loop-i.i; verdict = c.in_ok-verdict.verdict }))
+      exact = ready_exact f c.args.problem c.args.steps.now
+          (Failed (record { step = c.loop-i.i; verdict = c.in_ok-verdict.verdict }))
           c.read_bounds.ensures c.requires failure;
       holds = λ is. absurd (cc);
     }
@@ -23,13 +28,16 @@ returns-in_default c =
 pub loop-i-preserved : goal.loop-i-preserved
 loop-i-preserved c =
     let f = option_copied c.args.function in
-    added_more f c.args.problem c.loop-i.grown c.in_ok-grown.grown c.args.steps.now c.loop-i.i c.index-steps-i.result c.loop-i-test.true
+    added_more f c.args.problem c.loop-i.grown c.in_ok-grown.grown c.args.steps.now c.loop-i.i
+    c.index-steps-i.result c.loop-i-test.true
     c.index-steps-i.is c.loop-i.invariant
-    (subst (λ (v : Verdict). IsVerdict f c.loop-i.grown c.index-steps-i.result v) c.in-Accepted.is c.in_ok-verdict.ensures.is)
+    (subst (λ (v : Verdict). IsVerdict f c.loop-i.grown c.index-steps-i.result v) c.in-Accepted.is
+    c.in_ok-verdict.ensures.is)
     c.in_ok-grown.ensures
 
 pub returns-clause-holds : goal.returns-clause-holds
 returns-clause-holds c =
     let f = option_copied c.args.function in
     accepted_holds f c.args.problem c.args.steps.now Accepted c.read_bounds.ensures c.requires
-    (all_added f c.args.problem c.loop-i.grown c.args.steps.now c.loop-i.i c.loop-i-test.false c.loop-i.invariant)
+    (all_added f c.args.problem c.loop-i.grown c.args.steps.now c.loop-i.i c.loop-i-test.false
+    c.loop-i.invariant)

@@ -4,4 +4,5 @@ use Rattle.gj_derivation.proofs.FoundTerms.{AreFoundUpTo}
 use Rattle.gj_derivation.proofs.terms.found_terms.Given as goal
 
 abbrev pub invariant-loop-j : goal.invariant-loop-j
-invariant-loop-j l = AreFoundUpTo l.grid l.columns (times l.factor (line_of_sum l.sum)) l.j l.terms.items
+invariant-loop-j l = AreFoundUpTo l.grid l.columns (times l.factor (line_of_sum l.sum)) l.j
+    l.terms.items

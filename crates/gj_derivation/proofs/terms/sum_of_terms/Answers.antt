@@ -9,7 +9,8 @@ use Rattle.gj_derivation.proofs.terms.sum_of_terms.Goals as goal
 pub returns-in_err-add-clause-wide : goal.returns-in_err-add-clause-wide
 returns-in_err-add-clause-wide c = λ fault.
     let none = c.in_ok-sum.sum in
-    let right = ap rational c.in_ok-sum.ensures.right ∙ whole_ratio c.ratio.result (pos 0) c.ratio.ensures in
+    let right = ap rational c.in_ok-sum.ensures.right ∙ whole_ratio c.ratio.result (pos 0)
+    c.ratio.ensures in
     let one = whole_ratio c.ratio-2.result (pos 1) c.ratio-2.ensures in
     record {
       none = none.coefficients.items;
@@ -18,14 +19,17 @@ returns-in_err-add-clause-wide c = λ fault.
       one = c.ratio-2.result;
       one_is = one;
       wide = ⊎_elim
-          (λ (wide : IsWideWithin none.coefficients.items c.ratio-2.result c.args.entries.now). wide)
-          (λ (wide : IsWideAt none.right c.ratio-2.result c.args.right). absurd (not_wide_at none.right c.ratio-2.result c.args.right right one wide))
+          (λ (wide : IsWideWithin none.coefficients.items c.ratio-2.result c.args.entries.now).
+          wide)
+          (λ (wide : IsWideAt none.right c.ratio-2.result c.args.right). absurd
+          (not_wide_at none.right c.ratio-2.result c.args.right right one wide))
           c.in_err-add.ensures.wide;
     }
 
 pub returns-clause-is : goal.returns-clause-is
 returns-clause-is c =
-    terms_are c.args.columns c.in_ok-sum.sum c.add.new.self c.ratio-2.result c.args.entries.now c.args.right c.in_ok-sum.ensures.count
+    terms_are c.args.columns c.in_ok-sum.sum c.add.new.self c.ratio-2.result c.args.entries.now
+    c.args.right c.in_ok-sum.ensures.count
     c.in_ok-add.ensures.count c.in_ok-add.ensures.added c.in_ok-sum.ensures.none
     (ap rational c.in_ok-sum.ensures.right ∙ whole_ratio c.ratio.result (pos 0) c.ratio.ensures)
     (whole_ratio c.ratio-2.result (pos 1) c.ratio-2.ensures)

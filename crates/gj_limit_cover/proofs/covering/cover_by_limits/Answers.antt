@@ -1,4 +1,4 @@
-use Rattle.std.proofs.Common.{◌↔◌, ap, sym, subst}
+use Rattle.std.proofs.Common.{◌≤◌, ◌↔◌, ap, sym, subst, arith}
 use Rattle.gj_jumps.specs.LimitCover.{IsTightAt, IsCoveredByLimits}
 use Rattle.gj_shape.specs.Cover.{HasCoverLine}
 use Rattle.gj_limit_cover.specs.CoverOf.{IsCoverOf}
@@ -32,3 +32,8 @@ returns-clause-covered c i below =
     (ap (λ cover. cover.lines) (sym c.with_class.ensures))
     (covered_by_lines t c.in_ok-found.found c.in_ok-found.ensures.progress
     c.in_ok-found.ensures.complete i below)
+
+pub returns-clause-few : goal.returns-clause-few
+returns-clause-few c =
+    let few = c.in_ok-found.ensures.progress.few in
+    subst (λ cover. cover.count ≤ c.args.shape.now.order) (sym c.with_class.ensures) (omega (arith, few))

@@ -1,0 +1,11 @@
+pub mod VertexSlacks
+pub mod NamedRows
+pub mod Components
+pub mod Slopes
+pub mod FromRows
+pub mod FromLimits
+pub mod Insertions
+pub mod Signs
+pub mod VertexSets
+pub mod RowPushes
+pub mod RowNumbers
