@@ -41,6 +41,18 @@ use Rattle.gj_problem_text.specs.SafeInputs.{IsSafeInput}
 use Rattle.gj_problem_text.specs.declared.input.SafeInput.{SafeInput}
 use Rattle.gj_problem_text.proofs.InputParts.{one_input}
 use Rattle.gj_problem_text.proofs.PrintedInputs.{printed_is_read}
+use Rattle.gj_problem.specs.Problems.{Holds}
+use Rattle.gj_problem.specs.declared.problem.Problem.{Problem}
+use Rattle.gj_derivation.specs.Drafts.{steps_of}
+use Rattle.gj_derivation.specs.declared.step.Step.{Step}
+use Rattle.gj_derivation_text.specs.DerivationInputs.{IsDerivationText, IsDraftText}
+use Rattle.gj_derivation_text.specs.declared.input.DerivationInput.{DerivationInput}
+use Rattle.gj_derivation_text.specs.declared.input.DraftInput.{DraftInput}
+use Rattle.gj_derivation_text.proofs.PrintedDerivations.{derived_is_read}
+use Rattle.gj_top.specs.Check.{Checkable, SpellsCheckable, IsTrueCheck}
+use Rattle.gj_top.specs.Derive.{IsTrueDerivedText}
+use Rattle.gj_top.specs.Told.{Told, IsTold}
+use Rattle.gj_top.proofs.DerivationForms.{one_derivation, proof_begins_otherwise, derivation_begins}
 use Rattle.gj_top.specs.Problem.{AreProblemCuts}
 use Rattle.gj_top.specs.Extreme.{IsTrueExtremality, IsDecisionText}
 use Rattle.gj_top.specs.Forms.{IsFunctionInput, IsProofOf, function_promise}
@@ -51,6 +63,7 @@ use Rattle.gj_top.specs.Show.{IsShownText}
 use Rattle.gj_top.specs.Task.{IsReply}
 use Rattle.gj_commands.specs.CommandTexts.{HasWritten, IsTextOf, IsProofWith, Calls, Reports, TellsMinimality, TellsExtremality}
 use Rattle.gj_commands.specs.CommandTexts.{ShowsNotMinimal, ShowsNotExtreme, accepted, IsTextOfCutLines, IsTextOfMixedLines}
+use Rattle.gj_commands.specs.CommandTexts.{IsPrintedDerivation, AreTrueSteps}
 use Rattle.gj_top.proofs.Clauses.{weaker}
 use Rattle.gj_top.proofs.Commands.{one_named}
 use Rattle.gj_top.proofs.OneCuts.{one_cut_spelled}
@@ -396,29 +409,117 @@ says_cuts (claim.Extreme f lines rows) input p holds e = absurd (cc)
 says_cuts (claim.ExtremeByResidues f lines rows) input p holds e = absurd (cc)
 says_cuts (claim.NotExtreme f h) input p holds e = absurd (cc)
 
+-- ---- derivations
+
+-- the printed text of a derivation tells it
+printed_derivation_is_read : (d : DerivationInput) (text : List ℕ) → IsPrintedDerivation d text →
+    (left : List ℕ) × IsDerivationText text (record d { left = left })
+printed_derivation_is_read d text h = derived_is_read d h.constraint_names h.names h.shown text h.readable h.text_is
+
+-- no claim has the word of a derivation
+no_claim_word : (c : Claim) → claim_word c ≡ codes "derivation" → ⊥
+no_claim_word (claim.Minimal f) e = omega (arith, same_number 109 100 (ap (letter 0) e))
+no_claim_word (claim.NotMinimal f v) e = omega (arith, same_number 110 100 (ap (letter 0) e))
+no_claim_word (claim.Cut r rows) e = omega (arith, same_number 99 100 (ap (letter 0) e))
+no_claim_word (claim.Extreme f lines rows) e = omega (arith, same_number 101 100 (ap (letter 0) e))
+no_claim_word (claim.ExtremeByResidues f lines rows) e = omega (arith, same_number 101 100 (ap (letter 0) e))
+no_claim_word (claim.NotExtreme f h) e = omega (arith, same_number 110 100 (ap (letter 0) e))
+
+-- the input is the proof text of a claim that holds, and the text says that it is accepted
+abbrev IsAcceptedClaim : List ℕ → List ℕ → Type 0
+IsAcceptedClaim input text = (c : Claim) × IsProofOf input c × ClaimHolds c × (text ≡ accepted (claim_word c))
+
+-- it tells steps whose claims hold, and the text says that the derivation is accepted
+abbrev IsAcceptedDerivation : List ℕ → List ℕ → Type 0
+IsAcceptedDerivation input text = (d : DerivationInput) × IsDerivationText input d × AreTrueSteps d × (text ≡ accepted (codes "derivation"))
+
+said : (input text : List ℕ) (thing : Checkable) → SpellsCheckable input thing → IsTrueCheck thing text →
+    IsAcceptedClaim input text ⊎ IsAcceptedDerivation input text
+said input text (inl c) spelled h = inl (c, spelled, h.0, h.1)
+said input text (inr t) spelled h = inr (t.told, spelled.1, h.0, h.1)
+
+-- what holds of each claim with a word that is no derivation's holds if the text says that word
+by_word : {P : Type 0} (word input text : List ℕ) → IsAcceptedClaim input text ⊎ IsAcceptedDerivation input text → text ≡ accepted word →
+    (codes "derivation" ≡ word → ⊥) → ((c : Claim) → IsProofOf input c → ClaimHolds c → claim_word c ≡ word → P) → P
+by_word word input text (inl (c, p, holds, is)) e other says = says c p holds (one_word text _ _ is e)
+by_word word input text (inr (d, told, hold, is)) e other says = absurd (other (one_word text _ _ is e))
+
 module _ (input text : List ℕ) (reply : IsReply (task_for (plain command.Check)) input end.Done text) where
+  all_said : IsAcceptedClaim input text ⊎ IsAcceptedDerivation input text
+  all_said = let kept = true_of (plain command.Check) input text reply in said input text kept.thing kept.spelled kept.holds
+
   pub check_minimal : text ≡ accepted (codes "minimal") →
       (f : FunctionData) × IsWithinBounds f × Calls f input (codes "minimal") × IsMinimal f
-  check_minimal e = says_minimal reply.thing input reply.spelled reply.replied.holds (one_word text _ _ reply.replied.spelled e)
+  check_minimal e =
+      by_word (codes "minimal") input text all_said e (λ same. omega (arith, same_number 100 109 (ap (letter 0) same)))
+      (λ c p holds word. says_minimal c input p holds word)
 
   pub check_not_minimal : text ≡ accepted (codes "not-minimal") →
       (f : FunctionData) × IsWithinBounds f × Calls f input (codes "not-minimal") × (IsMinimal f → ⊥)
-  check_not_minimal e = says_not_minimal reply.thing input reply.spelled reply.replied.holds (one_word text _ _ reply.replied.spelled e)
+  check_not_minimal e =
+      by_word (codes "not-minimal") input text all_said e (λ same. omega (arith, same_number 100 110 (ap (letter 0) same)))
+      (λ c p holds word. says_not_minimal c input p holds word)
 
   pub check_extreme : text ≡ accepted (codes "extreme") →
       (f : FunctionData) × IsWithinBounds f × Calls f input (codes "extreme") × IsContinuous f × IsExtreme f
-  check_extreme e = says_extreme reply.thing input reply.spelled reply.replied.holds (one_word text _ _ reply.replied.spelled e)
+  check_extreme e =
+      by_word (codes "extreme") input text all_said e (λ same. omega (arith, same_number 100 101 (ap (letter 0) same)))
+      (λ c p holds word. says_extreme c input p holds word)
 
   pub check_not_extreme : text ≡ accepted (codes "not-extreme") →
       (f : FunctionData) × IsWithinBounds f × Calls f input (codes "not-extreme") × IsContinuous f × IsMinimal f × (IsExtreme f → ⊥)
-  check_not_extreme e = says_not_extreme reply.thing input reply.spelled reply.replied.holds (one_word text _ _ reply.replied.spelled e)
+  check_not_extreme e =
+      by_word (codes "not-extreme") input text all_said e (λ same. omega (arith, same_number 100 110 (ap (letter 0) same)))
+      (λ c p holds word. says_not_extreme c input p holds word)
 
   pub check_cut : text ≡ accepted (codes "cut") →
       (r : CutRule) × (lines : List CutLine) × IsTextOfCutLines r lines input × All CutLineHolds lines
-  check_cut e = says_cuts reply.thing input reply.spelled reply.replied.holds (one_word text _ _ reply.replied.spelled e)
+  check_cut e =
+      by_word (codes "cut") input text all_said e (λ same. omega (arith, same_number 100 99 (ap (letter 0) same)))
+      (λ c p holds word. says_cuts c input p holds word)
 
-  pub check_claimed : (c : Claim) × IsProofOf input c × ClaimHolds c × (text ≡ accepted (claim_word c))
-  check_claimed = (reply.thing, reply.spelled, reply.replied.holds, reply.replied.spelled)
+  pub check_claimed : ((c : Claim) × IsProofOf input c × ClaimHolds c × (text ≡ accepted (claim_word c))) ⊎ (text ≡ accepted (codes "derivation"))
+  check_claimed = elim all_said [
+    | inl accepted_claim ↦ inl accepted_claim
+    | inr (d, told, hold, is) ↦ inr is
+  ]
+
+  -- the steps of an accepted derivation
+  pub check_steps : text ≡ accepted (codes "derivation") → (d : DerivationInput) × IsDerivationText input d × AreTrueSteps d
+  check_steps e = elim all_said [
+    | inl (c, p, holds, is) ↦ absurd (no_claim_word c (one_word text _ _ is e))
+    | inr (d, told, hold, is) ↦ (d, told, hold)
+  ]
+
+  -- an input that is the printed text of a derivation
+  pub check_printed : (d : DerivationInput) → IsPrintedDerivation d input → AreTrueSteps d × (text ≡ accepted (codes "derivation"))
+  check_printed d printed =
+      let (left, told) = printed_derivation_is_read d input printed in
+      by_case d left told all_said
+    where
+      by_case : (d : DerivationInput) (left : List ℕ) → IsDerivationText input (record d { left = left }) →
+          IsAcceptedClaim input text ⊎ IsAcceptedDerivation input text → AreTrueSteps d × (text ≡ accepted (codes "derivation"))
+      by_case d left told (inl (c, p, holds, is)) =
+          absurd (proof_begins_otherwise c input p.spelled (derivation_begins input (record d { left = left }) told))
+      by_case d left told (inr (e, other, hold, is)) =
+          (subst AreTrueSteps (one_derivation input e (record d { left = left }) other told) hold, is)
+
+-- ---- `derive`
+
+module _ (input text : List ℕ) (reply : IsReply (task_for (plain command.Derive)) input end.Done text) where
+  pub derived_of_input : (t : Told DraftInput) × IsTold IsDraftText input t × IsTrueDerivedText t text
+  derived_of_input = let kept = true_of (plain command.Derive) input text reply in (kept.thing, kept.spelled, kept.holds)
+
+  pub derived_told : (d : DerivationInput) × IsPrintedDerivation d text × AreTrueSteps d
+  derived_told =
+      let (t, told, h) = derived_of_input in
+      let filled = h.filled_in in
+      let d = filled.derivation in (
+        d,
+        record { readable = filled.readable; constraint_names = _; names = _; shown = h.shown; text_is = filled.text_is },
+        subst (λ (steps : List Step). All (λ (s : Step). Holds d.problem s.claim) steps) (sym filled.text_is.steps)
+            (subst (λ (p : Problem). All (λ (s : Step). Holds p s.claim) (steps_of h.shown)) (sym filled.problem) h.hold),
+      )
 
 -- ---- cuts
 

@@ -1,5 +1,5 @@
 -- What one command writes, in the fewest words (own).
-use Rattle.std.specs.Prelude.{ℕ, ◌≡◌, ◌⊎◌, List, ◌++◌, codes, flat_map, map, IfSome, Option, Some, String, string_bytes}
+use Rattle.std.specs.Prelude.{ℕ, ◌≡◌, ◌⊎◌, List, ◌++◌, All, codes, flat_map, map, IfSome, Option, Some, String, string_bytes}
 use Rattle.std.specs.declared.alloc.Global.{Global}
 use Rattle.gj_forms.specs.LineForms.{bytes_of}
 use Rattle.gj_shape.specs.Extreme.{IsExtreme}
@@ -19,6 +19,12 @@ use Rattle.gj_proof.specs.declared.numbers.Numbers.{Numbers}
 use Rattle.gj_proof.specs.declared.numbers.Numbers.TheVariants.{Whole}
 use Rattle.gj_cut_text.specs.MixedLines.{mixed_row_text}
 use Rattle.gj_cut_text.specs.declared.mixed_lines.MixedLine.{MixedLine}
+use Rattle.gj_problem.specs.Problems.{Holds}
+use Rattle.gj_derivation.specs.declared.draft.Shown.{Shown}
+use Rattle.gj_derivation.specs.declared.step.Step.{Step}
+use Rattle.gj_derivation_text.specs.PrintedDerivation.{IsDerivedText}
+use Rattle.gj_derivation_text.specs.Readable.{IsReadableDerivation}
+use Rattle.gj_derivation_text.specs.declared.input.DerivationInput.{DerivationInput}
 use Rattle.gj_top.specs.declared.status.Status.{Status}
 use Rattle.gj_top.specs.declared.status.Status.TheVariants.{Done}
 
@@ -92,3 +98,17 @@ pub record IsTextOfMixedLines («rule» : CutRule) (lines : List MixedLine) (tex
   pub rule_lines : List ℕ
   pub are_rule_lines : AreSubjectLines (subject_of_rule «rule») rule_lines
   pub spelled : text ≡ line (codes "gj-mixed 1") ++ rule_lines ++ flat_map mixed_row_text lines ++ line (codes "end")
+
+-- ---- derivations
+
+-- the text is the printed one of the derivation; steps that are left out are comments in it
+pub record IsPrintedDerivation (d : DerivationInput) (text : List ℕ) : Type 0 where
+  pub readable : IsReadableDerivation d
+  pub constraint_names : List (List ℕ)
+  pub names : List (List ℕ)
+  pub shown : List Shown
+  pub text_is : IsDerivedText d constraint_names names shown text
+
+-- each claim holds at all feasible points of the problem
+abbrev pub AreTrueSteps : DerivationInput → Type 0
+AreTrueSteps d = All (λ (s : Step). Holds d.problem s.claim) d.steps

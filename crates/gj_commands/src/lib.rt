@@ -32,6 +32,11 @@ ghost use Rattle.gj_problem_text.specs.PrintedInput.{IsPrintedInput};
 ghost use Rattle.gj_problem_text.specs.SafeInputs.{IsSafeInput};
 ghost use Rattle.gj_problem_text.specs.declared.input.SafeInput.{SafeInput};
 ghost use Rattle.gj_top.specs.Problem.{AreProblemCuts};
+ghost use Rattle.gj_derivation_text.specs.DerivationInputs.{IsDerivationText, IsDraftText};
+ghost use Rattle.gj_derivation_text.specs.declared.input.DerivationInput.{DerivationInput};
+ghost use Rattle.gj_derivation_text.specs.declared.input.DraftInput.{DraftInput};
+ghost use Rattle.gj_top.specs.Derive.{IsTrueDerivedText};
+ghost use Rattle.gj_top.specs.Told.{Told, IsTold};
 ghost use Rattle.gj_top.specs.Fill.{IsFillText};
 ghost use Rattle.gj_top.specs.Group.{IsTrueGroupText};
 ghost use Rattle.gj_top.specs.Transform.{IsTimesText, IsMirrorText, IsRestrictionText};
@@ -39,6 +44,7 @@ ghost use Rattle.gj_commands.specs.CommandTexts.{HasWritten, IsTextOf, Calls, Re
 ghost use Rattle.gj_commands.specs.CommandTexts.{TellsMinimality, TellsExtremality};
 ghost use Rattle.gj_commands.specs.CommandTexts.{ShowsNotMinimal, ShowsNotExtreme};
 ghost use Rattle.gj_commands.specs.CommandTexts.{IsTextOfCutLines, IsTextOfMixedLines};
+ghost use Rattle.gj_commands.specs.CommandTexts.{IsPrintedDerivation, AreTrueSteps};
 
 mod laws;
 
@@ -141,10 +147,35 @@ pub fn run_command<S: Source, K: Sink>(
         IsTextOfCutLines r lines input × All CutLineHolds lines)
         words.now result (S.left source.old) (K.written sink.old) (K.written sink.new) }
 
-    // The input is the proof text of a claim that holds.
+    // The input is the proof text of a claim that holds, or what is accepted is a derivation.
     ensures check_claim { HasWritten (codes "check" ∷ [])
-        (λ input text. (c : Claim) × IsProofOf input c × ClaimHolds c ×
-        (text ≡ accepted (claim_word c)))
+        (λ input text. ((c : Claim) × IsProofOf input c × ClaimHolds c ×
+        (text ≡ accepted (claim_word c))) ⊎ (text ≡ accepted (codes "derivation")))
+        words.now result (S.left source.old) (K.written sink.old) (K.written sink.new) }
+
+    // Of an input that is the printed text of a derivation: each claim holds at all feasible points
+    // of the problem, and `check` writes that it accepts the derivation.
+    ensures check_derivation { HasWritten (codes "check" ∷ [])
+        (λ input text. (d : DerivationInput) → IsPrintedDerivation d input →
+        AreTrueSteps d × (text ≡ accepted (codes "derivation")))
+        words.now result (S.left source.old) (K.written sink.old) (K.written sink.new) }
+
+    // And so of the derivation that any input tells.
+    ensures check_derivation_input { HasWritten (codes "check" ∷ [])
+        (λ input text. text ≡ accepted (codes "derivation") →
+        (d : DerivationInput) × IsDerivationText input d × AreTrueSteps d)
+        words.now result (S.left source.old) (K.written sink.old) (K.written sink.new) }
+
+    // What `derive` writes is the printed text of a derivation, and each claim holds at all feasible
+    // points of its problem.
+    ensures derive { HasWritten (codes "derive" ∷ [])
+        (λ input text. (d : DerivationInput) × IsPrintedDerivation d text × AreTrueSteps d)
+        words.now result (S.left source.old) (K.written sink.old) (K.written sink.new) }
+
+    // Its problem is that of the input, and so is the function in front of it.
+    ensures derive_input { HasWritten (codes "derive" ∷ [])
+        (λ input text. (t : Told DraftInput) × IsTold IsDraftText input t ×
+        IsTrueDerivedText t text)
         words.now result (S.left source.old) (K.written sink.old) (K.written sink.new) }
 
     // Each cut that `cut` or `mixed` writes holds at every solution of the row that stands with

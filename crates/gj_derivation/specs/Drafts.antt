@@ -206,13 +206,12 @@ AreShown f grid r [] (x ∷ xs) = ⊥
 AreShown f grid r (d ∷ drafts) [] = ⊥
 
 -- the draft with this index, and what those before it show
-pub record IsReached (f : Option FunctionData) (grid : Option ℕ) (p : Problem) (drafts : List Draft)
-    (i : ℕ) (r : Reached) (draft : Draft) : Type 0 where
+pub record IsReached (f : Option FunctionData) (grid : Option ℕ) (p : Problem) (drafts : List Draft) (i : ℕ) (shown : List Shown) (r : Reached)
+    (draft : Draft) : Type 0 where
   pub before : List Draft
   pub after : List Draft
   pub place : drafts ≡ before ++ draft ∷ after
   pub index : i ≡ length before
-  pub shown : List Shown
   pub are_shown : AreShown f grid (begun p) before shown
   pub reached : r ≡ reach_all (begun p) shown
 
@@ -222,12 +221,9 @@ IsLost r c = Any (λ (m : Multiplier). line_at r m.line ≡ None) c.multipliers
 
 abbrev pub IsDerivedBy : Option FunctionData → Option ℕ → Problem → List Draft → Derived → Type 0
 IsDerivedBy f grid p drafts (All xs) = AreShown f grid (begun p) drafts xs
-IsDerivedBy f grid p drafts (Lost i) = (r : Reached) × (d : Draft) × IsReached f grid p drafts i r d
-    × IsLost r d.combination
-IsDerivedBy f grid p drafts (Failed failure) = (r : Reached) × (d : Draft)
-    × IsReached f grid p drafts failure.step r d
-    × IsNext f grid r d (shown.Against failure.verdict)
-    × Ends d.claim (shown.Against failure.verdict)
+IsDerivedBy f grid p drafts (Lost i xs) = (r : Reached) × (d : Draft) × IsReached f grid p drafts i xs r d × IsLost r d.combination
+IsDerivedBy f grid p drafts (Failed failure xs) = (r : Reached) × (d : Draft) × IsReached f grid p drafts failure.step xs r d
+    × IsNext f grid r d (shown.Against failure.verdict) × Ends d.claim (shown.Against failure.verdict)
 
 -- ---- the steps that come back
 
@@ -238,5 +234,5 @@ steps_of (shown.Against v ∷ xs) = steps_of xs
 
 abbrev pub DerivedIsDerivation : Option FunctionData → Problem → Derived → Type 0
 DerivedIsDerivation f p (All xs) = IsDerivation f p (steps_of xs)
-DerivedIsDerivation f p (Lost i) = Unit {0}
-DerivedIsDerivation f p (Failed failure) = Unit {0}
+DerivedIsDerivation f p (Lost i xs) = Unit {0}
+DerivedIsDerivation f p (Failed failure xs) = Unit {0}

@@ -253,12 +253,13 @@ pub fn derived_steps(
     let mut shown = Vec::new(alloc);
     for (i, draft) in drafts.iter().enumerate() {
         let Some(combination) = placed(alloc, &reached, &draft.combination)? else {
-            return Ok(Derived::Lost(i));
+            return Ok(Derived::Lost(i, List::of(shown)));
         };
         let claim = &draft.claim;
         let next = shown_by(alloc, function, &reached.problem, combination, claim, grid)?;
         if let Some(verdict) = end_of(claim, &next) {
-            return Ok(Derived::Failed(Failure { step: i, verdict }));
+            let failure = Failure { step: i, verdict };
+            return Ok(Derived::Failed(failure, List::of(shown)));
         }
         reached = reached_with(alloc, reached, &next)?;
         shown.push(next)?;

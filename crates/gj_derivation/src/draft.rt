@@ -47,16 +47,17 @@ pub enum Shown {
 pub enum Derived {
     /// For each draft its step, or why it is left out.
     All(List<Shown>),
-    /// This draft, counted from 0, names one that is left out, or that does not come before it.
-    Lost(usize),
-    /// The claim of this draft is given, and it does not follow.
-    Failed(Failure),
+    /// This draft, counted from 0, names one that is left out, or that does not come before it; and
+    /// what those before it show.
+    Lost(usize, List<Shown>),
+    /// The claim of this draft is given, and it does not follow; and what those before it show.
+    Failed(Failure, List<Shown>),
 }
 
 /// What drafts have reached: the problem with the claims that they show, and where the lines that
 /// drafts name are among its constraints.
 #[derive(Drop)]
-pub(crate) struct Reached {
+pub struct Reached {
     /// The problem.
     pub(crate) problem: Problem,
     /// For each line that drafts may name its constraint, or nothing if it is left out.

@@ -19,6 +19,6 @@ pub mod theorems;
 
 pub use check::check_step;
 pub use derive::{derived_step, derived_steps};
-pub use draft::{Claim, Derived, Draft, Shown};
+pub use draft::{Claim, Derived, Draft, Reached, Shown};
 pub use step::{Combination, Multiplier, Step, StepRule, Verdict};
 pub use steps::{Checked, Failure, check_steps};

@@ -9,7 +9,7 @@ use Rattle.gj_port.specs.MemorySource.{MemorySource, never_fails}
 use Rattle.gj_port.specs.Runs.{IsSourceFault}
 use Rattle.gj_words.specs.Grammar.{HasFlag, command_words, json_word}
 use Rattle.gj_words.specs.declared.requests.Command.{Command}
-use Rattle.gj_words.specs.declared.requests.Command.TheVariants.{Minimal, Extreme, Cut, Check, Show, Faces, Demo, Mixed, Problem, Fill, Group, Times, Mirror, Restrict}
+use Rattle.gj_words.specs.declared.requests.Command.TheVariants.{Minimal, Extreme, Cut, Check, Show, Faces, Demo, Mixed, Problem, Derive, Fill, Group, Times, Mirror, Restrict}
 use Rattle.gj_top.specs.declared.status.Status.{Status}
 use Rattle.gj_top.specs.declared.status.Status.TheVariants.{WriteFault, Memory}
 use Rattle.gj_top.specs.Answer.{IsAnswer}
@@ -40,6 +40,7 @@ unflagged Faces e = cc
 unflagged (Demo n) e = cc
 unflagged Mixed e = cc
 unflagged Problem e = cc
+unflagged Derive e = cc
 unflagged Fill e = cc
 unflagged Group e = cc
 unflagged (Times n j) e = cc

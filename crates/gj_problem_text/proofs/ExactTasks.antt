@@ -17,27 +17,27 @@ use Rattle.gj_problem_text.proofs.ClearLines.{told_rule_is_exact}
 
 -- ---- demands in their order
 
-abbrev IsOnce : (Reason → Type 0) → Type 0
+abbrev pub IsOnce : (Reason → Type 0) → Type 0
 IsOnce Q = (e d : Reason) → Q e → Q d → e ≡ d
 
-never : IsOnce Never
+pub never : IsOnce Never
 never e d h k = absurd h
 
 -- a demand is not met, or the next ones have one reason
-unless : (So : Type 0) (because : Reason) (Next : Reason → Type 0) → IsOnce Next → IsOnce (Unless So because Next)
+pub unless : (So : Type 0) (because : Reason) (Next : Reason → Type 0) → IsOnce Next → IsOnce (Unless So because Next)
 unless So because Next once e d (inl h) (inl k) = h.1 ∙ sym k.1
 unless So because Next once e d (inl h) (inr k) = absurd (h.0 k.0)
 unless So because Next once e d (inr h) (inl k) = absurd (k.0 h.0)
 unless So because Next once e d (inr h) (inr k) = once e d h.1 k.1
 
 -- the demand is met, and the next ones are
-met : (So Because Next : Type 0) → So → (Next → ⊥) → ((So → ⊥) × Because) ⊎ (So × Next) → ⊥
+pub met : (So Because Next : Type 0) → So → (Next → ⊥) → ((So → ⊥) × Because) ⊎ (So × Next) → ⊥
 met So Because Next so next (inl h) = h.0 so
 met So Because Next so next (inr h) = next h.1
 
 -- ---- one task
 
-one_bound : (word : List ℕ) (a b : Option Frac) → SpellsBound word a → SpellsBound word b → a ≡ b
+pub one_bound : (word : List ℕ) (a b : Option Frac) → SpellsBound word a → SpellsBound word b → a ≡ b
 one_bound word None None h k = refl
 one_bound word None (Some y) h k = absurd (k.0 h)
 one_bound word (Some x) None h k = absurd (h.0 k)
@@ -46,7 +46,7 @@ one_bound word (Some x) (Some y) h k = ap Some (one_fraction Lenient word x y h.
 one_some : (i j : ℕ) → Some i ≡ Some j → i ≡ j
 one_some i j e = cc
 
-one_index : (i j : ℕ) (at : Option ℕ) → at ≡ Some i → at ≡ Some j → i ≡ j
+pub one_index : (i j : ℕ) (at : Option ℕ) → at ≡ Some i → at ≡ Some j → i ≡ j
 one_index i j at h k = one_some i j (sym h ∙ k)
 
 abbrev with_column : Task → List ℕ → Bool → Option Frac → Option Frac → Task
@@ -92,7 +92,7 @@ one_upper : (s : Task) (name : List ℕ) (t u : Task) → AddsUpper s name t →
 one_upper s name t u h k =
     h.added ∙ ap (with_upper s) (one_index h.index k.index (index_of s name) h.index_is k.index_is) ∙ sym k.added
 
-one_task : (s : Task) (line : ProblemLine) (t u : Task) → Adds s line t → Adds s line u → t ≡ u
+pub one_task : (s : Task) (line : ProblemLine) (t u : Task) → Adds s line t → Adds s line u → t ≡ u
 one_task s (column name is_whole low high) t u h k = one_column s name is_whole low high t u h k
 one_task s (constraint name sense right) t u h k = h.added ∙ sym k.added
 one_task s (entry name value) t u h k = one_entry s name value t u h k
@@ -102,7 +102,7 @@ one_task s (grid n) t u h k = h.added ∙ sym k.added
 
 -- ---- one reason
 
-one_reason : (s : Task) (line : ProblemLine) (e d : Reason) → Refuses s line e → Refuses s line d → e ≡ d
+pub one_reason : (s : Task) (line : ProblemLine) (e d : Reason) → Refuses s line e → Refuses s line d → e ≡ d
 one_reason s (column name is_whole low high) e d =
     unless _ _ _ (unless _ _ _ (unless _ _ _ (unless _ _ _ (unless _ _ Never never)))) e d
 one_reason s (constraint name sense right) e d = unless _ _ _ (unless _ _ _ (unless _ _ Never never)) e d
@@ -113,7 +113,7 @@ one_reason s (grid n) e d = unless _ _ Never never e d
 
 -- ---- not both
 
-not_both : (s : Task) (line : ProblemLine) (t : Task) (e : Reason) → Adds s line t → Refuses s line e → ⊥
+pub not_both : (s : Task) (line : ProblemLine) (t : Task) (e : Reason) → Adds s line t → Refuses s line e → ⊥
 not_both s (column name is_whole low high) t e h r =
     met _ _ _ h.is_name
     (met (IsBound low) _ _ (h.lower, h.lower_is) (met (IsBound high) _ _ (h.upper, h.upper_is) (met _ _ _ h.few (met _ _ _ h.new (λ k. k))))) r

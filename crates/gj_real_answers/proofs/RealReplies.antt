@@ -2,7 +2,7 @@
 use Rattle.std.proofs.Common.{◌≡◌, ℕ, map, refl, sym, ap₂, subst, subst₂, Bool, true, false, inl, inr, List, [], ◌∷◌, All, Option, String}
 use Rattle.std.specs.List.{AllZip}
 use Rattle.std.specs.declared.alloc.Global.{Global}
-use Rattle.std.proofs.lemmas.List.Elements.{All-nil, All-cons}
+use Rattle.std.proofs.lemmas.List.Elements.{All-nil, All-cons, All-weaker}
 use Rattle.gj_shape.specs.FunctionData.{FunctionData, IsWithinBounds}
 use Rattle.gj_frac.specs.declared.Frac.{Frac}
 use Rattle.gj_row.specs.declared.tableau.Row.{Row}
@@ -21,9 +21,14 @@ use Rattle.gj_proof.specs.declared.cut.CutRule.TheVariants.{Gmic, Table}
 use Rattle.gj_cut_text.specs.MixedLines.{AreMixedCutsOf, IsMixedCutBy, IsMixedLineFor, IsNamedTerm, NamesMixedCut}
 use Rattle.gj_cut_text.specs.declared.mixed_lines.MixedLine.{MixedLine}
 use Rattle.gj_cut_text.specs.Columns.{continuous_columns}
+use Rattle.gj_problem.specs.Problems.{Holds}
+use Rattle.gj_problem.specs.declared.problem.Problem.{Problem as Program}
 use Rattle.gj_problem_text.specs.declared.input.SafeInput.{SafeInput}
+use Rattle.gj_derivation.specs.Drafts.{steps_of}
+use Rattle.gj_derivation.specs.declared.step.Step.{Step}
+use Rattle.gj_derivation_text.specs.declared.input.DraftInput.{DraftInput}
 use Rattle.gj_words.specs.declared.requests.Command.{Command}
-use Rattle.gj_words.specs.declared.requests.Command.TheVariants.{Minimal, Extreme, Cut, Show, Check, Faces, Demo, Mixed, Problem, Fill, Group, Times, Mirror, Restrict}
+use Rattle.gj_words.specs.declared.requests.Command.TheVariants.{Minimal, Extreme, Cut, Show, Check, Faces, Demo, Mixed, Problem, Derive, Fill, Group, Times, Mirror, Restrict}
 use Rattle.gj_top.specs.declared.reply.End.TheVariants.{Done}
 use Rattle.gj_top.specs.Promise.{Spells}
 use Rattle.gj_top.specs.Command.{promise_with, work_with}
@@ -31,6 +36,9 @@ use Rattle.gj_top.specs.Causes.{IsDoneRun}
 use Rattle.gj_top.specs.Minimal.{IsTrueVerdict}
 use Rattle.gj_top.specs.Extreme.{IsTrueExtremality}
 use Rattle.gj_top.specs.Problem.{AreProblemCuts}
+use Rattle.gj_top.specs.Check.{Checkable, SpellsCheckable, IsTrueCheck}
+use Rattle.gj_top.specs.Derive.{IsTrueDerivedText}
+use Rattle.gj_top.specs.Told.{Told}
 use Rattle.gj_top.specs.declared.cut_input.CutInput.{CutInput}
 use Rattle.gj_top.specs.Cut.{SpellsCutInput, HasLinesOfRule}
 use Rattle.gj_top.proofs.OneReport.{reported}
@@ -41,9 +49,11 @@ use Rattle.gj_reals.proofs.OnlyExtremeAtReals.{extreme_from_reals}
 use Rattle.gj_real_cuts.specs.RealRows.{RealCutHolds}
 use Rattle.gj_real_answers.specs.RealMeaning.{RealHoldsFor}
 use Rattle.gj_real_problems.proofs.Cuts.{cuts_transferred}
+use Rattle.gj_real_problems.proofs.Transfer.{transferred}
+use Rattle.gj_real_problems.specs.RealProblems.{RealHolds}
 use Rattle.gj_real_answers.proofs.Claims.{minimal_at_reals, minimal_from_reals, extreme_at_reals, claim_at_reals}
 use Rattle.gj_real_answers.proofs.MixedCuts.{cut_by_function, cut_by_gmic}
-use Rattle.gj_real_answers.specs.RealAnswers.{IsRealVerdict, IsRealExtremality, RealLineHolds, RealMixedLineHolds, AreRealMixedCuts, AreRealProblemCuts, real_headline, IsTrueRealRun}
+use Rattle.gj_real_answers.specs.RealAnswers.{IsRealVerdict, IsRealExtremality, RealLineHolds, RealMixedLineHolds, IsRealCheck, IsRealDerivedText, AreRealMixedCuts, AreRealProblemCuts, real_headline, IsTrueRealRun}
 
 -- a function of a rule that is read is within the limits
 rule_is_bounded : (r : CutRule) (text rest : List ℕ) → HasLinesOfRule text r rest → IsBoundedRule r
@@ -141,6 +151,25 @@ module _ {R : Type 0} (K : OrderedField R) (floors : HasFloor K) where
     hold = cuts_transferred K floors asked.task.problem cuts.cuts cuts.hold;
   }
 
+  claims_transferred : (p : Program) (steps : List Step) → All (λ s. Holds p s.claim) steps →
+      All (λ s. RealHolds K p s.claim) steps
+  claims_transferred p steps hold =
+      All-weaker (λ (s : Step). Holds p s.claim) (λ (s : Step). RealHolds K p s.claim)
+      (λ s holds. transferred K floors p s.claim holds) steps hold
+
+  checked : (thing : Checkable) (input text : List ℕ) → SpellsCheckable input thing →
+      IsTrueCheck thing text → IsRealCheck K floors thing text
+  checked (inl c) input text spelled h = (claim_at_reals K floors c spelled.bounded h.0, h.1)
+  checked (inr t) input text spelled h =
+      (claims_transferred t.told.problem t.told.steps h.0, h.1)
+
+  pub derived : (t : Told DraftInput) (text : List ℕ) → IsTrueDerivedText t text →
+      IsRealDerivedText K t text
+  derived t text h = record {
+    derived = h;
+    hold = claims_transferred t.told.drafts.task.problem (steps_of h.shown) h.hold;
+  }
+
   real_reply : (command : Command) (json : Bool) (thing : (promise_with command json).Thing)
       (input text : List ℕ) → Spells (promise_with command json).form input thing →
       (work_with command json).replies thing Done text →
@@ -156,11 +185,11 @@ module _ {R : Type 0} (K : OrderedField R) (floors : HasFloor K) where
       (λ proof. extremality f proof (json_is_bounded input f spelled)) text h
   real_reply Extreme false f input text spelled replied h =
       extremality f text (function_is_bounded input f spelled) h
-  real_reply Check json c input text spelled replied h =
-      (claim_at_reals K floors c spelled.bounded h.0, h.1)
+  real_reply Check json thing input text spelled replied h = checked thing input text spelled h
   real_reply Mixed json thing input text spelled replied h =
       mixed_cuts thing input text spelled replied.0 h
   real_reply Problem json asked input text spelled replied h = problem_cuts asked text h
+  real_reply Derive json t input text spelled replied h = derived t text h
   real_reply Show true thing input text spelled replied h = h
   real_reply Show false thing input text spelled replied h = h
   real_reply Faces json thing input text spelled replied h = h

@@ -1,6 +1,7 @@
 -- What a run that ends with Done says over a field in which each number lies between a whole number
 -- and the next, so over the real numbers (own; the words are those of Gomory and Johnson 1972).
 use Rattle.std.specs.Prelude.{ℕ, ◌≡◌, ◌⊎◌, Bool, true, false, List, ◌++◌, All, map, Option, Some, String}
+use Rattle.std.proofs.Common.{inl, inr}
 use Rattle.std.specs.declared.alloc.Global.{Global}
 use Rattle.gj_shape.specs.FunctionData.{FunctionData}
 use Rattle.gj_shape.specs.declared.violations.Violation.{Violation}
@@ -14,21 +15,26 @@ use Rattle.gj_proof.specs.declared.cut.CutTerm.{CutTerm}
 use Rattle.gj_cut_text.specs.MixedLines.{AreMixedCutsOf}
 use Rattle.gj_cut_text.specs.declared.mixed_lines.MixedLine.{MixedLine}
 use Rattle.gj_problem_text.specs.declared.input.SafeInput.{SafeInput}
+use Rattle.gj_derivation.specs.Drafts.{steps_of}
+use Rattle.gj_derivation_text.specs.VerdictLines.{accepted_line as accepted_derivation}
+use Rattle.gj_derivation_text.specs.declared.input.DraftInput.{DraftInput}
 use Rattle.gj_words.specs.declared.requests.Command.{Command}
-use Rattle.gj_words.specs.declared.requests.Command.TheVariants.{Minimal, Extreme, Cut, Show, Check, Faces, Demo, Mixed, Problem, Fill, Group, Times, Mirror, Restrict}
+use Rattle.gj_words.specs.declared.requests.Command.TheVariants.{Minimal, Extreme, Cut, Show, Check, Faces, Demo, Mixed, Problem, Derive, Fill, Group, Times, Mirror, Restrict}
 use Rattle.gj_words.specs.declared.requests.Request.{Request}
 use Rattle.gj_top.specs.Promise.{Spells}
 use Rattle.gj_top.specs.Command.{IsNamed, promise_with, promise_for}
 use Rattle.gj_top.specs.Minimal.{IsMinimalText, IsNotMinimalText}
 use Rattle.gj_top.specs.Extreme.{IsExtremeText, IsNotExtremeText}
-use Rattle.gj_top.specs.Check.{accepted_line}
+use Rattle.gj_top.specs.Check.{Checkable, accepted_line}
+use Rattle.gj_top.specs.Derive.{IsTrueDerivedText}
+use Rattle.gj_top.specs.Told.{Told}
 use Rattle.gj_top.specs.declared.cut_input.CutInput.{CutInput}
 use Rattle.gj_top.specs.Problem.{AreProblemCuts}
 use Rattle.gj_top.specs.Report.{IsReportOf}
 use Rattle.gj_fields.specs.Fields.{OrderedField, HasFloor}
 use Rattle.gj_real_answers.specs.RealMeaning.{IsRealMinimal, IsRealExtreme, RealClaimHolds}
 use Rattle.gj_real_cuts.specs.RealRows.{RealCutHolds}
-use Rattle.gj_real_problems.specs.RealProblems.{RealSafeCutHolds}
+use Rattle.gj_real_problems.specs.RealProblems.{RealHolds, RealSafeCutHolds}
 
 -- the text calls f minimal, and f is minimal among the valid functions; or not minimal, and it is
 -- not
@@ -48,10 +54,29 @@ IsRealExtremality K floors f text =
     × (IsRealExtreme K floors f → ⊥))
     ⊎ ((v : Violation) × IsNotMinimalText f v text × (IsRealMinimal K floors f → ⊥))
 
+-- ---- what is claimed
+
 -- the text calls the claim accepted, and so it is over the field
 abbrev pub IsRealAcceptance : {R : Type 0} (K : OrderedField R) → HasFloor K → Claim → List ℕ →
     Type 0
 IsRealAcceptance K floors c text = RealClaimHolds K floors c × (text ≡ accepted_line c)
+
+-- the text calls what is checked accepted; a claim holds over the field, and the claims of a
+-- derivation hold at all feasible points of real numbers
+abbrev pub IsRealCheck : {R : Type 0} (K : OrderedField R) → HasFloor K → Checkable → List ℕ →
+    Type 0
+IsRealCheck K floors (inl c) text = IsRealAcceptance K floors c text
+IsRealCheck K floors (inr t) text =
+    All (λ s. RealHolds K t.told.problem s.claim) t.told.steps × (text ≡ accepted_derivation)
+
+-- the text is the printed one of a derivation, and each claim holds at all feasible points of real
+-- numbers
+pub record IsRealDerivedText {R : Type 0} (K : OrderedField R) (t : Told DraftInput)
+    (text : List ℕ) : Type 0 where
+  pub derived : IsTrueDerivedText t text
+  pub hold : All (λ s. RealHolds K t.told.drafts.task.problem s.claim) (steps_of derived.shown)
+
+-- ---- cuts
 
 -- the cut of a line, if it has one, holds at all whole and real amounts
 abbrev pub RealLineHolds : {R : Type 0} → OrderedField R → CutLine → List CutTerm → Type 0
@@ -83,10 +108,11 @@ real_headline K floors Minimal true = λ f text. IsReportOf (IsRealVerdict K flo
 real_headline K floors Minimal false = IsRealVerdict K floors
 real_headline K floors Extreme true = λ f text. IsReportOf (IsRealExtremality K floors f) text
 real_headline K floors Extreme false = IsRealExtremality K floors
-real_headline K floors Check json = IsRealAcceptance K floors
+real_headline K floors Check json = IsRealCheck K floors
 real_headline K floors Mixed json =
     λ (input : CutInput) text. AreRealMixedCuts K input.rule input.tableau text
 real_headline K floors Problem json = AreRealProblemCuts K
+real_headline K floors Derive json = IsRealDerivedText K
 real_headline K floors Show true = (promise_with Show true).headline
 real_headline K floors Show false = (promise_with Show false).headline
 real_headline K floors Faces json = (promise_with Faces json).headline

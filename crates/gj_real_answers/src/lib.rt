@@ -55,8 +55,9 @@ pub fn problem_cuts_hold_over_reals<K: Reals>()
 /// truth of all real numbers. What it calls minimal is minimal among all valid functions. What it
 /// calls extreme is minimal, and no average of two different valid functions. What it calls not
 /// minimal, or not extreme, is not. So it is with the claims that it accepts. Each mixed cut that
-/// it writes holds at all whole and real amounts, and each cut of a problem at all feasible points
-/// of real numbers. No limit is asked: a function that is read is within the limits.
+/// it writes holds at all whole and real amounts. Each cut of a problem, and each claim of a
+/// derivation that is accepted or written, holds at all feasible points of real numbers. No limit is
+/// asked: a function that is read is within the limits.
 pub fn runs_are_true_over_reals<K: Reals>()
     ensures { (words : List (String Global)) (input before : List ℕ) (written : Option (List ℕ)) →
         IsDoneRun words input before written →

@@ -2,6 +2,7 @@
 //! none if a call gives none.
 mod callers;
 mod cuts;
+mod derivations;
 mod faces;
 mod fractions;
 mod numbers;

@@ -13,7 +13,7 @@ use Rattle.gj_top.specs.declared.status.Status.TheVariants.{Done}
 use Rattle.gj_top.specs.Task.{IsReply}
 use Rattle.gj_top.specs.Forms.{IsFunctionInput, IsProofOf}
 use Rattle.gj_top.specs.Minimal.{IsVerdict, minimal}
-use Rattle.gj_top.specs.Check.{IsJudgement, check}
+use Rattle.gj_top.specs.Check.{Checkable, SpellsCheckable, IsJudgement, IsCheckReply, check}
 use Rattle.gj_top.specs.Cut.{cut}
 use Rattle.gj_top.specs.Extreme.{extreme}
 use Rattle.gj_top.specs.Written.{IsWrittenProof}
@@ -22,6 +22,7 @@ use Rattle.gj_top.specs.Answer.{IsAnswerTo}
 use Rattle.gj_top.specs.Answer.IsAnswerTo.{too_long, refused, replied}
 use Rattle.gj_check.proofs.DemandsOfClaims.{no_failure}
 use Rattle.gj_top.proofs.CutForm.{lines_are_bounded}
+use Rattle.gj_top.proofs.DerivationForms.{proof_begins_otherwise, derivation_begins}
 use Rattle.gj_top.proofs.Sound.{check_sound}
 use Rattle.gj_top.proofs.TextLaws.{function_is_bounded, minimal_proof, not_minimal_proof, one_proof, proof_text_is_short}
 
@@ -56,18 +57,26 @@ good_end c end.Done answer rules j = refl
 good_end c end.Rejected answer rules j = absurd (no_failure c j.at_line j.rule j.first rules)
 good_end c e answer rules j = absurd j
 
+-- and such a text spells no steps
+good_reply : (text : List ℕ) (thing : Checkable) (e : End) (answer : List ℕ) → IsGoodProof text → SpellsCheckable text thing →
+    IsCheckReply thing e answer → e ≡ end.Done
+good_reply text (inl c) e answer g spelled j =
+    let same : g.about ≡ c = one_proof text g.about c g.proof spelled in
+    good_end c e answer (subst MeetsRules same g.rules) j
+good_reply text (inr t) e answer g spelled j =
+    absurd (proof_begins_otherwise g.about text g.proof.spelled (derivation_begins text t.told spelled.1))
+
 -- so the reply to such a text ends with Done
 pub accepted_reply : (text answer : List ℕ) (e : End) → IsGoodProof text → IsReply check text e answer → e ≡ end.Done
 accepted_reply text answer e g r =
-    let same : g.about ≡ r.thing = one_proof text g.about r.thing g.proof r.spelled in
-    good_end r.thing e answer (subst MeetsRules same g.rules) r.replied
+    good_reply text r.thing e answer g r.spelled r.replied
 
 -- and within the limit of length it is answered so
 pub accepted : (text answer : List ℕ) (s : Status) → length text ≤ input_limit → IsGoodProof text → IsAnswerTo check text s answer → s ≡ Done
 accepted text answer s short g (too_long a) =
     let long = a.long in
     absurd (omega arith)
-accepted text answer s short g (refused a) = absurd (check_sound.form text answer g.about g.proof a.refused)
+accepted text answer s short g (refused a) = absurd (check_sound.form text answer (inl g.about) g.proof a.refused)
 accepted text answer s short g (replied a) =
     let ended : a.end ≡ end.Done = accepted_reply text answer a.end g a.reply in
     let is = a.status_is in

@@ -3,6 +3,10 @@ pub mod ByOrder4q
 pub mod Clauses
 pub mod Commands
 pub mod CutForm
+pub mod DerivationForms
+pub mod DerivationReplies
+pub mod DerivedAccepted
+pub mod DerivedTexts
 pub mod Determined
 pub mod Ends
 pub mod EveryRun
@@ -12,6 +16,7 @@ pub mod InputRead
 pub mod Made
 pub mod NeverWide
 pub mod OneAnswer
+pub mod OneCheck
 pub mod OneCuts
 pub mod OneListing
 pub mod OneMade

@@ -26,9 +26,9 @@ module _ (Exact : Type 0) (other : Exact → ⊥) (asked : SafeInput) (l : IsBou
   one_reply e Done x y h k = absurd (no_objection asked.rule e x l k.0 h)
   one_reply e d x y h k = let same = one_objection asked.rule e d x y l h k in (same.0, λ exact. same.1)
 
-pub problem_is_settled : (Exact : Type 0) → (Exact → ⊥) → IsSettled problem Exact
-problem_is_settled Exact other = record {
+pub problem_is_settled : (Known : SafeInput → Type 0) (Exact : Type 0) → (Exact → ⊥) → IsSettled problem Known Exact
+problem_is_settled Known Exact other = record {
   spells = λ input a b. one_input input a b;
   refuses = one_refusal;
-  replies = λ input asked spelled. one_reply Exact other asked (rule_is_bounded input asked spelled);
+  replies = λ input asked known spelled. one_reply Exact other asked (rule_is_bounded input asked spelled);
 }

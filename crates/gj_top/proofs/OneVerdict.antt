@@ -1,4 +1,4 @@
--- The command `check` has one answer, and a function one verdict.
+-- A claim has one judgement, and a function one verdict.
 use Rattle.std.proofs.Common.{◌≡◌, inl, inr, ℕ, Bool, true, false, pos, ◌++◌, List, codes, decimal, refl, sym, ap, ap₂, subst, ◌∙◌, arith}
 use Rattle.std.proofs.lemmas.Bool.{cases_lt}
 use Rattle.std.proofs.lemmas.Int.{ints}
@@ -14,7 +14,7 @@ use Rattle.gj_json.proofs.OneReason.{one_reason as one_json_reason}
 use Rattle.gj_proof.specs.declared.claim.Claim.{Claim}
 use Rattle.gj_proof.specs.declared.claim.Claim.TheVariants.{Minimal, NotMinimal, Cut, Extreme, ExtremeByResidues, NotExtreme}
 use Rattle.gj_proof.specs.ProofText.{IsProofText}
-use Rattle.gj_proof.proofs.OneText.{one_text, one_fault as one_proof_fault}
+use Rattle.gj_proof.proofs.OneText.{one_text}
 use Rattle.gj_check.proofs.DemandsOfClaims.{one_failure, no_failure}
 use Rattle.gj_check.specs.RuleWords.{rule_word}
 use Rattle.gj_extreme.specs.Decision.{IsDecided}
@@ -26,12 +26,12 @@ use Rattle.gj_extreme.proofs.TwoSlopeDecisions.{continuous_no_jump}
 use Rattle.gj_top.specs.declared.reply.End.{End}
 use Rattle.gj_top.specs.declared.reply.End.TheVariants as end
 use Rattle.gj_top.specs.Continuity.{NamesFirstJump, IsContinuousReply}
-use Rattle.gj_top.specs.Check.{IsJudgement, IsRejected, check}
+use Rattle.gj_top.specs.Check.{IsJudgement, IsRejected}
 use Rattle.gj_top.specs.Extreme.{IsDecisionText, IsExtremality, IsJumpText, IsWideText}
-use Rattle.gj_top.specs.Forms.{proof_form, RefusesFunction, RefusesProofText, json_refused_line, function_task}
+use Rattle.gj_top.specs.Forms.{RefusesFunction, json_refused_line, function_task}
 use Rattle.gj_top.specs.Minimal.{IsVerdict}
-use Rattle.gj_top.proofs.Determined.{SpellsOne, RefusesOne, AnswersOne, IsDetermined, one_named_fault}
-use Rattle.gj_top.proofs.TextLaws.{spelled_is_bounded, one_spelled, one_proof}
+use Rattle.gj_top.proofs.Determined.{RefusesOne, AnswersOne, IsDetermined, one_named_fault}
+use Rattle.gj_top.proofs.TextLaws.{spelled_is_bounded, one_spelled}
 
 -- ---- the forms
 
@@ -48,12 +48,6 @@ of_functions json headline replies one = record {
   refuses = one_refusal json;
   replies = λ input f spelled. one f (spelled_is_bounded json input f spelled);
 }
-
-one_proof_spelled : SpellsOne proof_form
-one_proof_spelled input c d h k = one_proof input c d h k
-
-one_proof_refusal : RefusesOne RefusesProofText
-one_proof_refusal input x y h k = one_named_fault _ (λ n m e d. one_proof_fault input n m e d) x y h k
 
 -- ---- the first jump
 
@@ -103,7 +97,7 @@ one_rejection c x y h k =
     let same = one_failure c h.at_line k.at_line h.rule k.rule h.first k.first in
     h.spelled ∙ ap₂ (λ n r. line (codes "rejected line " ++ decimal n ++ codes " " ++ rule_word r)) same.0 same.1 ∙ sym k.spelled
 
-one_judgement : (c : Claim) (e d : End) (x y : List ℕ) → IsJudgement c e x → IsJudgement c d y → (e ≡ d) × (x ≡ y)
+pub one_judgement : (c : Claim) (e d : End) (x y : List ℕ) → IsJudgement c e x → IsJudgement c d y → (e ≡ d) × (x ≡ y)
 one_judgement c end.Done end.Done x y h k = (refl, h.spelled ∙ sym k.spelled)
 one_judgement c end.Done end.Rejected x y h k = absurd (no_failure c k.at_line k.rule k.first h.rules)
 one_judgement c end.Rejected end.Done x y h k = absurd (no_failure c h.at_line h.rule h.first k.rules)
@@ -111,13 +105,6 @@ one_judgement c end.Rejected end.Rejected x y h k = (refl, one_rejection c x y h
 one_judgement c end.Done d x y h k = absurd k
 one_judgement c end.Rejected d x y h k = absurd k
 one_judgement c e d x y h k = absurd h
-
-pub check_is_determined : IsDetermined check
-check_is_determined = record {
-  spells = one_proof_spelled;
-  refuses = one_proof_refusal;
-  replies = λ input c spelled. one_judgement c;
-}
 
 -- ---- decisions on extremality
 

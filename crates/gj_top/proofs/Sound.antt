@@ -3,7 +3,7 @@
 use Rattle.std.proofs.Common.{inl, inr, ℕ, Bool, true, false, List, IsTrue, refl}
 use Rattle.gj_shape.specs.FunctionData.{FunctionData, IsWithinBounds, IsContinuous}
 use Rattle.gj_words.specs.declared.requests.Command.{Command}
-use Rattle.gj_words.specs.declared.requests.Command.TheVariants.{Minimal, Extreme, Cut, Check, Show, Faces, Demo, Mixed, Problem, Fill, Group, Times, Mirror, Restrict}
+use Rattle.gj_words.specs.declared.requests.Command.TheVariants.{Minimal, Extreme, Cut, Check, Show, Faces, Demo, Mixed, Problem, Derive, Fill, Group, Times, Mirror, Restrict}
 use Rattle.gj_words.specs.declared.requests.Request.{Request}
 use Rattle.gj_top.specs.declared.reply.End.{End}
 use Rattle.gj_top.specs.declared.reply.End.TheVariants.{Done}
@@ -11,10 +11,14 @@ use Rattle.gj_top.specs.Promise.{reads, Spells}
 use Rattle.gj_top.specs.Task.{Task, EndsDone}
 use Rattle.gj_json.proofs.OneFunction.{no_reason}
 use Rattle.gj_top.specs.Forms.{SpellsFunction, IsProofOf, RefusesFunction, RefusesProofText, function_task}
+use Rattle.gj_derivation.proofs.ClaimsHold.{claims_hold}
+use Rattle.gj_derivation.specs.Drafts.{steps_of}
+use Rattle.gj_top.proofs.DerivationForms.{no_draft_fault, no_derivation_fault, proof_begins_otherwise, derivation_begins}
 use Rattle.gj_top.specs.Minimal.{IsVerdict, IsTrueVerdict}
 use Rattle.gj_top.specs.Extreme.{IsExtremality, IsTrueExtremality, extreme}
 use Rattle.gj_top.specs.Show.{IsShownText, show}
-use Rattle.gj_top.specs.Check.{check}
+use Rattle.gj_top.specs.Check.{Checkable, SpellsCheckable, RefusesCheckable, IsCheckReply, IsTrueCheck, check}
+use Rattle.gj_top.specs.Derive.{IsDerivedReply, IsTrueDerivedText, derive}
 use Rattle.gj_verdict_text.specs.FacesText.{IsFacesText}
 use Rattle.gj_top.specs.Continuity.{IsContinuousReply}
 use Rattle.gj_top.specs.Cut.{cut}
@@ -91,11 +95,35 @@ extreme_sound json = of_proofs json IsTrueExtremality IsExtremality extremality_
 pub show_sound : (json : Bool) → IsSound (show json)
 show_sound json = of_functions json (IsShownText json) (EndsDone (IsShownText json)) (λ f text within shown. shown)
 
+check_text_sound : RefusesOnlyOthers SpellsCheckable RefusesCheckable
+check_text_sound input text (inl c) spelled (inl (begins, refused)) = proof_begins_otherwise c input spelled.spelled begins
+check_text_sound input text (inl c) spelled (inr (not, refused)) = proof_text_sound input text c spelled refused
+check_text_sound input text (inr t) spelled (inl (begins, refused)) =
+    no_derivation_fault input t.told refused.at_line refused.reason spelled.1 refused.first
+check_text_sound input text (inr t) spelled (inr (not, refused)) = not (derivation_begins input t.told spelled.1)
+
+check_true : (thing : Checkable) (text : List ℕ) → IsCheckReply thing Done text → IsTrueCheck thing text
+check_true (inl c) text accepted = (accepted.holds, accepted.spelled)
+check_true (inr t) text (usable, accepted) =
+    (claims_hold t.told.function t.told.problem t.told.steps usable accepted.derivation, accepted.spelled)
+
 pub check_sound : IsSound check
 check_sound = record {
-  form = proof_text_sound;
+  form = check_text_sound;
   refusals = λ input text refused. refl;
-  work = λ input c text spelled accepted. (accepted.holds, accepted.spelled);
+  work = λ input thing text spelled replied. check_true thing text replied;
+}
+
+derive_sound : IsSound derive
+derive_sound = record {
+  form = λ input text t spelled refused. no_draft_fault input t.told refused.at_line refused.reason spelled.1 refused.first;
+  refusals = λ input text refused. refl;
+  work = λ input t text spelled replied. record {
+    shown = replied.1.shown;
+    filled_in = replied.1.filled_in;
+    derivation = replied.1.derivation;
+    hold = claims_hold t.told.function t.told.drafts.task.problem (steps_of replied.1.shown) replied.0 replied.1.derivation;
+  };
 }
 
 pub cut_sound : IsSound cut
@@ -156,6 +184,7 @@ sound_with Faces json = of_continuous (λ f text. IsContinuous f) (EndsDone IsFa
 sound_with (Demo n) json = demo_sound n
 sound_with Mixed json = mixed_sound
 sound_with Problem json = problem_sound
+sound_with Derive json = derive_sound
 sound_with Fill json = of_continuous IsFillText IsFillReply (λ f text continuous filled. filled)
 sound_with Group json = of_continuous IsTrueGroupText IsGroupReply group_true
 sound_with (Times n j) json = of_functions false (IsTimesText n j) (IsTimesReply n j) (λ f text within shown. shown)

@@ -3,7 +3,7 @@ use Rattle.std.specs.Prelude.{Bool, List, map, String, string_bytes, IfSome, IfN
 use Rattle.std.specs.declared.alloc.Global.{Global}
 use Rattle.gj_words.specs.Grammar.{SpellRequest}
 use Rattle.gj_words.specs.declared.requests.Command.{Command}
-use Rattle.gj_words.specs.declared.requests.Command.TheVariants.{Minimal, Extreme, Cut, Show, Check, Faces, Demo, Mixed, Problem, Fill, Group, Times, Mirror, Restrict}
+use Rattle.gj_words.specs.declared.requests.Command.TheVariants.{Minimal, Extreme, Cut, Show, Check, Faces, Demo, Mixed, Problem, Derive, Fill, Group, Times, Mirror, Restrict}
 use Rattle.gj_words.specs.declared.requests.Request.{Request}
 use Rattle.gj_top.specs.Promise.{Promise}
 use Rattle.gj_top.specs.Task.{Work, Task}
@@ -16,6 +16,7 @@ use Rattle.gj_top.specs.Cut.{cut, cut_promise}
 use Rattle.gj_top.specs.Demo.{demo, demo_promise}
 use Rattle.gj_top.specs.Mixed.{mixed, mixed_promise}
 use Rattle.gj_top.specs.Problem.{problem, problem_promise}
+use Rattle.gj_top.specs.Derive.{derive, derive_promise}
 use Rattle.gj_top.specs.Fill.{fill, fill_promise}
 use Rattle.gj_top.specs.Group.{group, group_promise}
 use Rattle.gj_top.specs.Transform.{times, times_promise, mirror, mirror_promise, restriction, restriction_promise}
@@ -31,6 +32,7 @@ promise_with Cut json = cut_promise
 promise_with (Demo n) json = demo_promise n
 promise_with Mixed json = mixed_promise
 promise_with Problem json = problem_promise
+promise_with Derive json = derive_promise
 promise_with Fill json = fill_promise
 promise_with Group json = group_promise
 promise_with (Times n j) json = times_promise n j
@@ -51,6 +53,7 @@ work_with Cut json = cut.work
 work_with (Demo n) json = (demo n).work
 work_with Mixed json = mixed.work
 work_with Problem json = problem.work
+work_with Derive json = derive.work
 work_with Fill json = fill.work
 work_with Group json = group.work
 work_with (Times n j) json = (times n j).work

@@ -6,12 +6,15 @@ pub mod Forms
 pub mod Report
 pub mod Minimal
 pub mod Show
-pub mod Check
 pub mod Continuity
 pub mod Faces
 pub mod Extreme
 pub mod Demo
 pub mod Objection
+pub mod Told
+pub mod Derivation
+pub mod Check
+pub mod Derive
 pub mod Cut
 pub mod Written
 pub mod Mixed
@@ -20,6 +23,7 @@ pub mod Fill
 pub mod Group
 pub mod Transform
 pub mod Command
+pub mod Answerable
 pub mod Reply
 pub mod Answer
 pub mod Causes

@@ -1,18 +1,42 @@
-//! The command `check`: what the checker says of a proof text.
-ghost use Rattle.std.specs.Prelude.{IfOk};
+//! The command `check`: what the checker says of a proof text or of a derivation.
+ghost use Rattle.std.specs.Prelude.{◌↔◌, IsTrue, IfOk};
 ghost use Rattle.gj_proof.specs.ProofText.{IsBounded};
 ghost use Rattle.gj_top.specs.Task.{IsAnswering};
+ghost use Rattle.gj_top.specs.Derivation.{BeginsAsDerivation};
 ghost use Rattle.gj_top.specs.Check.{IsJudgement, check};
 
+use crate::derivation::derivation_answer;
 use crate::forms::proof_of;
 use crate::lines::{numbered_line, worded_line};
 use crate::reply::{End, Reply, Unanswered};
 use gj_check::{CheckFault, check};
+use gj_forms::begins_with_word;
+use gj_lex::Spelling;
 use gj_proof::Proof;
 use std::alloc::{AllocError, Global};
 
-/// What the checker says of the proof that the input spells.
+/// What the checker says of the proof, or of the derivation, that the input spells.
 pub(crate) fn reply(alloc: Global, input: &[u8]) -> Result<Reply, Unanswered>
+    ensures { IsAnswering check input.now result }
+{
+    if begins_as_derivation(input) {
+        derivation_answer(alloc, input)
+    } else {
+        claim_answer(alloc, input)
+    }
+}
+
+/// Whether the input is read as a derivation: by its first word.
+fn begins_as_derivation(input: &[u8]) -> bool
+    ensures { IsTrue result ↔ BeginsAsDerivation input.now }
+{
+    begins_with_word(Spelling::Lenient, input, b"gj-derivation")
+        || begins_with_word(Spelling::Lenient, input, b"gj-function")
+}
+
+/// What the checker says of the proof that the input spells.
+fn claim_answer(alloc: Global, input: &[u8]) -> Result<Reply, Unanswered>
+    requires { BeginsAsDerivation input.now → ⊥ }
     ensures { IsAnswering check input.now result }
 {
     let proof = proof_of(alloc, input)?;

@@ -7,7 +7,7 @@ ghost use Rattle.gj_top.specs.Task.{IsAnswering};
 
 use crate::reply::{Reply, Unanswered};
 use crate::{
-    check, cut, demo, extreme, faces, fill, group, minimal, mixed, problem, show, transform,
+    check, cut, demo, derive, extreme, faces, fill, group, minimal, mixed, problem, show, transform,
 };
 use gj_words::{Command, Request, WordFault, read_words};
 use std::alloc::{AllocError, Global};
@@ -48,6 +48,7 @@ pub(crate) fn reply_to(alloc: Global, request: Request, input: &[u8]) -> Result<
         Command::Demo(n) => demo::reply(alloc, n),
         Command::Mixed => mixed::reply(alloc, input),
         Command::Problem => problem::reply(alloc, input),
+        Command::Derive => derive::reply(alloc, input),
         Command::Fill => fill::reply(alloc, input),
         Command::Group => group::reply(alloc, input),
         Command::Times(n, j) => transform::times_reply(alloc, input, n, j),

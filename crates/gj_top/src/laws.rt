@@ -5,7 +5,7 @@ ghost use Rattle.std.specs.declared.alloc.Global.{Global};
 ghost use Rattle.gj_top.specs.declared.reply.End.{End};
 ghost use Rattle.gj_top.specs.declared.reply.End.TheVariants as end;
 ghost use Rattle.gj_top.specs.declared.status.Status.{Status};
-ghost use Rattle.gj_top.specs.declared.status.Status.TheVariants.{Done};
+ghost use Rattle.gj_top.specs.declared.status.Status.TheVariants.{Done, Rejected};
 ghost use Rattle.gj_shape.specs.FunctionData.{FunctionData};
 ghost use Rattle.gj_shape.specs.Table.{IsMinimal};
 ghost use Rattle.gj_shape.specs.TwoSlopes.{HasTwoSlopes};
@@ -19,9 +19,12 @@ ghost use Rattle.gj_words.specs.declared.requests.Request.{Request};
 ghost use Rattle.gj_top.specs.Task.{IsReply};
 ghost use Rattle.gj_top.specs.Forms.{SpellsFunction};
 ghost use Rattle.gj_top.specs.Command.{IsNamed, task_for};
+ghost use Rattle.gj_top.specs.Answerable.{TellsNoSteps};
 ghost use Rattle.gj_top.specs.Minimal.{minimal};
 ghost use Rattle.gj_top.specs.Show.{show};
 ghost use Rattle.gj_top.specs.Check.{check};
+ghost use Rattle.gj_top.specs.Derivation.{IsWideAnswer};
+ghost use Rattle.gj_top.specs.Derive.{derive};
 ghost use Rattle.gj_top.specs.Written.{IsWrittenProof};
 ghost use Rattle.gj_top.specs.Decisive.{CallsExtreme, IsExtremeByOrder4q};
 ghost use Rattle.gj_top.specs.Extreme.{extreme};
@@ -38,6 +41,16 @@ pub fn written_proofs_are_accepted()
     ensures short { (input text : List ℕ) → IsReply (minimal false) input end.Done text ⊎
         IsReply (extreme false) input end.Done text →
         length text ≤ input_limit }
+{}
+
+/// What `derive` writes is a derivation that `check` accepts, unless a number does not fit, if its
+/// text is within the limit of length of an input.
+pub fn derived_texts_are_accepted()
+    ensures reply { (input text answer : List ℕ) (e : End) → IsReply derive input end.Done text →
+        IsReply check text e answer → (e ≡ end.Done) ⊎ ((e ≡ end.Rejected) × IsWideAnswer answer) }
+    ensures answer { (input text answer : List ℕ) (s : Status) →
+        IsReply derive input end.Done text → length text ≤ input_limit →
+        IsAnswerTo check text s answer → (s ≡ Done) ⊎ ((s ≡ Rejected) × IsWideAnswer answer) }
 {}
 
 /// What `extreme` writes calls the function extreme exactly if it is continuous and its table of
@@ -89,14 +102,15 @@ pub fn one_proof_in_a_report()
 
 /// To words and an input there is one status, and one text: words name at most one request, and a
 /// request has one answer to an input. If that ends with Done it is the reply. Of the text of the
-/// cuts of a problem it is not said that there is only one.
+/// cuts of a problem it is not said that there is only one, and of an answer to steps of a
+/// derivation neither.
 pub fn one_answer()
     ensures request { (words : List (String Global)) (r q : Request) → IsNamed words r →
         IsNamed words q → r ≡ q }
     ensures status { (r : Request) (input : List ℕ) (s t : Status) (x y : List ℕ) →
-        IsAnswerTo (task_for r) input s x → IsAnswerTo (task_for r) input t y → s ≡ t }
+        TellsNoSteps r.command input → IsAnswerTo (task_for r) input s x → IsAnswerTo (task_for r) input t y → s ≡ t }
     ensures text { (r : Request) (input : List ℕ) (s t : Status) (x y : List ℕ) →
-        (r.command ≢ Problem) ⊎ (s ≢ Done) →
+        TellsNoSteps r.command input → (r.command ≢ Problem) ⊎ (s ≢ Done) →
         IsAnswerTo (task_for r) input s x → IsAnswerTo (task_for r) input t y → x ≡ y }
     ensures done { (r : Request) (input text : List ℕ) → IsAnswerTo (task_for r) input Done text →
         IsReply (task_for r) input end.Done text }

@@ -15,6 +15,8 @@ mod continuity;
 mod cut;
 mod cut_input;
 mod demo;
+mod derivation;
+mod derive;
 mod extreme;
 mod faces;
 mod fill;
@@ -35,8 +37,8 @@ mod transform;
 use answer::answer_to;
 pub use group::group_reply;
 pub use laws::{
-    extreme_exactly_if_order_4q_is, one_answer, one_proof_in_a_report, shown_text_is_read,
-    two_slopes_are_called_extreme, written_proofs_are_accepted,
+    derived_texts_are_accepted, extreme_exactly_if_order_4q_is, one_answer, one_proof_in_a_report,
+    shown_text_is_read, two_slopes_are_called_extreme, written_proofs_are_accepted,
 };
 pub use mixed::mixed_reply;
 pub use reply::{End, Reply};
@@ -49,21 +51,23 @@ pub use status::Status;
 /// minimal, or that it is not, with the first violation. `extreme` reads one and writes the proof
 /// text of the claim that the function is extreme, or that it is not, with two halves, or that it
 /// is not minimal. `show` reads a function text and writes its canonical text. `check` reads a
-/// proof text and says whether every rule of the checker holds. `cut` reads a function text or a
-/// rule text with a tableau behind it, and writes the proof text of the cuts of its rows. `faces`
-/// reads the function text of a continuous function and writes its maximal additive faces and its
-/// covered intervals. With `--json`, `minimal`, `extreme` and `show` read a function in JSON, and
-/// `minimal` and `extreme` write a report of the proof text, `show` the function in JSON. `demo`
-/// reads nothing, and writes the summary of the decision on a function of its own. `mixed` reads
-/// what `cut` reads and writes the cuts of the rows, of which columns with a name that begins with
-/// `c:` are continuous. `problem` reads a mixed-integer program with multipliers and a rule, or a
-/// function text in front of it, and writes the cuts of the rows that the multipliers make, in the
-/// columns of the program. `fill` reads the function text of a continuous function and writes its
-/// two-slope fill-in by breakpoints. `group` reads the function text of a continuous function and
-/// says whether the table of its own order is extreme. `times`, `mirror` and `restrict` read a
-/// function text and write the canonical text of the function of n x, of that of -x, or of a
-/// restriction. The whole input is read first, at most 16,777,216 bytes of it, and the whole answer
-/// is made before its first byte is written.
+/// proof text and says whether every rule of the checker holds; or it reads a derivation, a text
+/// that begins with the word `gj-derivation` or `gj-function`, and says whether each step follows.
+/// `cut` reads a function text or a rule text with a tableau behind it, and writes the proof text of
+/// the cuts of its rows. `faces` reads the function text of a continuous function and writes its
+/// maximal additive faces and its covered intervals. With `--json`, `minimal`, `extreme` and `show`
+/// read a function in JSON, and `minimal` and `extreme` write a report of the proof text, `show` the
+/// function in JSON. `demo` reads nothing, and writes the summary of the decision on a function of
+/// its own. `mixed` reads what `cut` reads and writes the cuts of the rows, of which columns with a
+/// name that begins with `c:` are continuous. `problem` reads a mixed-integer program with
+/// multipliers and a rule, or a function text in front of it, and writes the cuts of the rows that
+/// the multipliers make, in the columns of the program. `derive` reads a derivation whose steps may
+/// lack claims, and writes the derivation in which each claim is filled in. `fill` reads the
+/// function text of a continuous function and writes its two-slope fill-in by breakpoints. `group`
+/// reads the function text of a continuous function and says whether the table of its own order is
+/// extreme. `times`, `mirror` and `restrict` read a function text and write the canonical text of
+/// the function of n x, of that of -x, or of a restriction. The whole input is read first, at most
+/// 16,777,216 bytes of it, and the whole answer is made before its first byte is written.
 ///
 /// The status is `Words` if the words name no request, and nothing is read then. It is `Input` if
 /// the input is outside its form or longer than the limit. The sink has then taken a line that says

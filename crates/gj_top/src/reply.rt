@@ -10,7 +10,7 @@ use std::alloc::AllocError;
 pub enum End {
     /// The input was answered.
     Done,
-    /// A rule of the checker failed.
+    /// A rule of the checker failed, or a step of a derivation.
     Rejected,
     /// A number passed its bound.
     Wide,

@@ -5,15 +5,16 @@ ghost use Rattle.gj_top.specs.Code.{code_of};
 /// How a run of the program ended: as its answer has it, or for want of memory, or since the sink
 /// failed.
 ///
-/// `Rejected` comes with the command `check` alone, `Wide` with `extreme` and `group`,
-/// `NotContinuous` with `extreme`, `faces`, `mixed`, `problem`, `fill`, `group` and `restrict`,
-/// `NoFunction` with `cut`, `mixed` and `problem`, `NotSubadditive` with `fill`, `OrderLimit` with
-/// `times` and `group`, and `BadOrder` with `restrict`.
+/// `Rejected` comes with the commands `check` and `derive` alone, `Wide` with `extreme` and `group`,
+/// `NotContinuous` with `extreme`, `faces`, `mixed`, `problem`, `check`, `derive`, `fill`, `group`
+/// and `restrict`, `NoFunction` with `cut`, `mixed`, `problem`, `check` and `derive`,
+/// `NotSubadditive` with `fill`, `OrderLimit` with `times` and `group`, and `BadOrder` with
+/// `restrict`.
 #[derive(Clone, Copy, Debug, PartialEq, Eq)]
 pub enum Status {
     /// The answer was written.
     Done,
-    /// A rule of the checker failed.
+    /// A rule of the checker failed, or a step of a derivation.
     Rejected,
     /// The words name no request.
     Words,

@@ -12,7 +12,7 @@ use Rattle.gj_words.specs.Grammar.{HasFlag, IsInBounds, SpellRequest, command_wo
 use Rattle.gj_words.specs.Line.{IsCommandLineOf, IsRequestOf}
 use Rattle.gj_words.specs.declared.line.Line.{Line}
 use Rattle.gj_words.specs.declared.requests.Command.{Command}
-use Rattle.gj_words.specs.declared.requests.Command.TheVariants.{Minimal, Extreme, Cut, Check, Show, Faces, Demo, Mixed, Problem, Fill, Group, Times, Mirror, Restrict}
+use Rattle.gj_words.specs.declared.requests.Command.TheVariants.{Minimal, Extreme, Cut, Check, Show, Faces, Demo, Mixed, Problem, Derive, Fill, Group, Times, Mirror, Restrict}
 use Rattle.gj_words.specs.declared.requests.Request.{Request}
 use Rattle.gj_words.specs.declared.requests.WordFault.{WordFault}
 use Rattle.gj_words.specs.declared.requests.WordFault.TheVariants.{Refused}
@@ -39,6 +39,7 @@ hyphenless Faces h = refl
 hyphenless (Demo n) h = rw (number_hyphenless n (omega arith)) refl
 hyphenless Mixed h = refl
 hyphenless Problem h = refl
+hyphenless Derive h = refl
 hyphenless Fill h = refl
 hyphenless Group h = refl
 hyphenless (Times n j) h = rw (number_hyphenless n (omega arith), number_hyphenless j (omega arith)) refl
@@ -56,6 +57,7 @@ one_to_three Faces = (_, _, omega arith, refl)
 one_to_three (Demo n) = (_, _, omega arith, refl)
 one_to_three Mixed = (_, _, omega arith, refl)
 one_to_three Problem = (_, _, omega arith, refl)
+one_to_three Derive = (_, _, omega arith, refl)
 one_to_three Fill = (_, _, omega arith, refl)
 one_to_three Group = (_, _, omega arith, refl)
 one_to_three (Times n j) = (_, _, omega arith, refl)
@@ -86,8 +88,9 @@ command_at name rest = cond (bytes_eq name (codes "minimal")) Minimal (cond (byt
     (cond (bytes_eq name (codes "cut")) Cut (cond (bytes_eq name (codes "check")) Check (cond (bytes_eq name (codes "show")) Show
     (cond (bytes_eq name (codes "faces")) Faces (cond (bytes_eq name (codes "mixed")) Mixed (cond (bytes_eq name (codes "fill")) Fill
     (cond (bytes_eq name (codes "group")) Group (cond (bytes_eq name (codes "problem")) Problem
-    (cond (bytes_eq name (codes "mirror")) Mirror (cond (bytes_eq name (codes "restrict")) (Restrict (first_number rest))
-    (cond (bytes_eq name (codes "times")) (Times (first_number rest) (second_number rest)) (Demo (first_number rest))))))))))))))
+    (cond (bytes_eq name (codes "derive")) Derive (cond (bytes_eq name (codes "mirror")) Mirror
+    (cond (bytes_eq name (codes "restrict")) (Restrict (first_number rest))
+    (cond (bytes_eq name (codes "times")) (Times (first_number rest) (second_number rest)) (Demo (first_number rest)))))))))))))))
 
 abbrev command_in : List Text → Command
 command_in [] = Cut
@@ -103,6 +106,7 @@ read_back Faces h = refl
 read_back (Demo n) h = ap Demo (decimal_is_IsNumeral n (omega (arith, h.1))).1
 read_back Mixed h = refl
 read_back Problem h = refl
+read_back Derive h = refl
 read_back Fill h = refl
 read_back Group h = refl
 read_back (Times n j) h = ap₂ Times (decimal_is_IsNumeral n (omega (arith, h.1))).1 (decimal_is_IsNumeral j (omega (arith, h.1, h.2))).1

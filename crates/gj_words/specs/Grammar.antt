@@ -2,7 +2,7 @@
 use Rattle.std.specs.Prelude.{◌≡◌, ◌≤◌, ◌<◌, ℕ, Bool, true, false, List, [], ◌∷◌, ◌++◌, codes, decimal}
 use Rattle.gj_shape.specs.Limits.{greatest_order}
 use Rattle.gj_words.specs.declared.requests.Command.{Command}
-use Rattle.gj_words.specs.declared.requests.Command.TheVariants.{Minimal, Extreme, Cut, Check, Show, Faces, Demo, Mixed, Problem, Fill, Group, Times, Mirror, Restrict}
+use Rattle.gj_words.specs.declared.requests.Command.TheVariants.{Minimal, Extreme, Cut, Check, Show, Faces, Demo, Mixed, Problem, Derive, Fill, Group, Times, Mirror, Restrict}
 use Rattle.gj_words.specs.declared.requests.Request.{Request}
 
 -- the words of a command
@@ -16,6 +16,7 @@ command_words Faces = codes "faces" ∷ []
 command_words (Demo n) = codes "demo" ∷ decimal n ∷ []
 command_words Mixed = codes "mixed" ∷ []
 command_words Problem = codes "problem" ∷ []
+command_words Derive = codes "derive" ∷ []
 command_words Fill = codes "fill" ∷ []
 command_words Group = codes "group" ∷ []
 command_words (Times n j) = codes "times" ∷ decimal n ∷ decimal j ∷ []

@@ -1,9 +1,9 @@
 //! The words of the command line as one grammar.
 //!
 //! A command line is one command word, `minimal`, `extreme`, `cut`, `check`, `show`, `faces`,
-//! `mixed`, `problem`, `fill`, `group`, `mirror`, `demo`, `restrict` or `times`, and behind `demo`
-//! one number from 1 to 249, behind `restrict` one from 2 to 1,000, and behind `times` two, the
-//! first from 1 to 500, the second from 0 on below the first; each in digits, without a leading
+//! `mixed`, `problem`, `derive`, `fill`, `group`, `mirror`, `demo`, `restrict` or `times`, and behind
+//! `demo` one number from 1 to 249, behind `restrict` one from 2 to 1,000, and behind `times` two,
+//! the first from 1 to 500, the second from 0 on below the first; each in digits, without a leading
 //! zero unless it is `0`. The flag `--json` may stand once, at any place, with `minimal`, `extreme`
 //! and `show`. Every other word that begins with `-` is refused, so `--` and `--help` are.
 //!

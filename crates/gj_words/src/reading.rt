@@ -135,6 +135,7 @@ fn plain_command(name: &str) -> Option<Command>
         "faces" => Some(Command::Faces),
         "mixed" => Some(Command::Mixed),
         "problem" => Some(Command::Problem),
+        "derive" => Some(Command::Derive),
         "fill" => Some(Command::Fill),
         "group" => Some(Command::Group),
         "mirror" => Some(Command::Mirror),

@@ -15,7 +15,7 @@ pub enum Command {
     Extreme,
     /// Makes a cut of each row of a tableau.
     Cut,
-    /// Checks a proof text.
+    /// Checks a proof text or a derivation.
     Check,
     /// Prints a function in its one canonical spelling.
     Show,
@@ -28,6 +28,8 @@ pub enum Command {
     Mixed,
     /// Makes a cut of each row that multipliers make of a mixed-integer program.
     Problem,
+    /// Finds the claims of the steps of a derivation that lack them.
+    Derive,
     /// Prints the two-slope fill-in of a function by its breakpoints.
     Fill,
     /// Decides whether the table of a function's own order is extreme.

@@ -7,6 +7,7 @@ use Rattle.gj_top.specs.Transform.{IsTimesText, IsMirrorText, IsRestrictionText}
 use Rattle.gj_commands.proofs.ByCommand.{written, input_of, minimal_told, minimal_of_input, minimal_shown, minimal_claimed}
 use Rattle.gj_commands.proofs.ByCommand.{extreme_told, extreme_of_input, extreme_shown, extreme_claimed}
 use Rattle.gj_commands.proofs.ByCommand.{check_minimal, check_not_minimal, check_extreme, check_not_extreme, check_cut, check_claimed}
+use Rattle.gj_commands.proofs.ByCommand.{check_printed, check_steps, derived_told, derived_of_input}
 use Rattle.gj_commands.proofs.ByCommand.{cut_told, mixed_told, problem_told, problem_of_printed, cut_of_input, mixed_of_input, of_input, of_text, faces_told, demo_told}
 use Rattle.gj_commands.proofs.ByCommand.{written_with, minimal_json, extreme_json, show_json}
 use Rattle.gj_commands.proofs.run_command.Goals as goal
@@ -68,6 +69,18 @@ returns-clause-check_cut g c = written command.Check _ tt check_cut _ _ _ _ _ c.
 
 pub returns-clause-check_claim : goal.returns-clause-check_claim
 returns-clause-check_claim g c = written command.Check _ tt check_claimed _ _ _ _ _ c.run.ensures.is_run.reply
+
+pub returns-clause-check_derivation : goal.returns-clause-check_derivation
+returns-clause-check_derivation g c = written command.Check _ tt check_printed _ _ _ _ _ c.run.ensures.is_run.reply
+
+pub returns-clause-check_derivation_input : goal.returns-clause-check_derivation_input
+returns-clause-check_derivation_input g c = written command.Check _ tt check_steps _ _ _ _ _ c.run.ensures.is_run.reply
+
+pub returns-clause-derive : goal.returns-clause-derive
+returns-clause-derive g c = written command.Derive _ tt derived_told _ _ _ _ _ c.run.ensures.is_run.reply
+
+pub returns-clause-derive_input : goal.returns-clause-derive_input
+returns-clause-derive_input g c = written command.Derive _ tt derived_of_input _ _ _ _ _ c.run.ensures.is_run.reply
 
 pub returns-clause-cut : goal.returns-clause-cut
 returns-clause-cut g c = written command.Cut _ tt cut_told _ _ _ _ _ c.run.ensures.is_run.reply

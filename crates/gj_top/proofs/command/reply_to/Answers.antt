@@ -27,6 +27,9 @@ returns-in-Mixed c = rw c.in-Mixed.is c.reply-in-Mixed.ensures
 pub returns-in-Problem : goal.returns-in-Problem
 returns-in-Problem c = rw c.in-Problem.is c.reply-in-Problem.ensures
 
+pub returns-in-Derive : goal.returns-in-Derive
+returns-in-Derive c = rw c.in-Derive.is c.reply-in-Derive.ensures
+
 pub returns-in-Fill : goal.returns-in-Fill
 returns-in-Fill c = rw c.in-Fill.is c.reply-in-Fill.ensures
 

@@ -1,0 +1,15 @@
+pub mod StepKinds
+pub mod WordLines
+pub mod ExactSteps
+pub mod ExactText
+pub mod ProblemRead
+pub mod StepsRead
+pub mod TextRead
+pub mod GivenClaims
+pub mod NamesTold
+pub mod ReadableSteps
+pub mod ReadableProblem
+pub mod ReadableText
+pub mod DerivedReadable
+pub mod PrintedPairs
+pub mod PrintedSteps

@@ -1,0 +1,9 @@
+pub mod StepLines
+pub mod OpenSteps
+pub mod DerivationText
+pub mod DerivationInputs
+pub mod Readable
+pub mod PrintedDerivation
+pub mod VerdictLines
+pub mod LinesRead
+pub mod KnownWords

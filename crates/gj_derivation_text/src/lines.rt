@@ -1,0 +1,315 @@
+//! The lines of a step, read.
+ghost use Rattle.std.specs.Prelude.{◌≡◌, ◌≢◌, ◌∷◌, ◌++◌, [], ℕ, List, codes, refl, IfOk, IfErr, IfSome, IfNone};
+ghost use Rattle.std.specs.Prelude.{OnOk};
+ghost use Rattle.gj_lex.specs.Words.{word_texts};
+ghost use Rattle.gj_lex.specs.declared.spelling.Spelling.TheVariants.{Lenient};
+ghost use Rattle.gj_forms.specs.SpelledForms.{Spell, rule_in};
+ghost use Rattle.gj_derivation.specs.declared.step.StepRule.{StepRule};
+ghost use Rattle.gj_derivation_text.specs.StepLines.{rule_word, rule_kind, line_form};
+ghost use Rattle.gj_derivation_text.specs.KnownWords.{step_word, by_word, upper_word, times_word};
+ghost use Rattle.gj_derivation_text.specs.KnownWords.{claim_word, term_word, rule_is_clear};
+ghost use Rattle.gj_derivation_text.specs.LinesRead.{line_told};
+
+use gj_derivation::StepRule;
+use gj_forms::{behind_text, only_word};
+use gj_frac::Frac;
+use gj_lex::{Reason, Spelling};
+use gj_line::{Field, Fields, Fraction, KnownWord, NameWord, Named, PositiveFraction};
+use std::alloc::AllocError;
+
+/// The rule of a step, as a field of its first line.
+#[derive(Clone, Copy)]
+pub(crate) struct RuleWord;
+
+impl<'a> Field<'a> for RuleWord {
+    type Value = StepRule;
+
+    ghost Told = { StepRule };
+
+    ghost told = { λ v. v };
+
+    ghost is_field = { λ f. Unit {0} };
+
+    ghost form = { λ f. rule_kind };
+
+    ghost is_clear = { λ f h. rule_is_clear };
+
+    #[inline(always)]
+    fn printed(&self, text: &'a [u8]) -> Option<(StepRule, &'a [u8])> {
+        if let Some(rest) = behind_text(text, b"linear") {
+            return Some((StepRule::Linear, rest));
+        }
+        if let Some(rest) = behind_text(text, b"gmic") {
+            return Some((StepRule::Gmic, rest));
+        }
+        if let Some(rest) = behind_text(text, b"function") {
+            return Some((StepRule::Function, rest));
+        }
+        None
+    }
+
+    fn of_word(&self, _spelling: Spelling, word: &'a [u8]) -> Result<StepRule, Reason> {
+        match rule_of(word) {
+            Some(rule) => Ok(rule),
+            None => Err(Reason::Form),
+        }
+    }
+
+    fn push(&self, out: &mut Vec<u8>, value: StepRule) -> Result<(), AllocError> {
+        out.push(b' ')?;
+        out.extend_from_slice(rule_word(value))
+    }
+}
+
+/// The rule that the word names.
+fn rule_of(word: &[u8]) -> Option<StepRule>
+    ensures found { IfSome result (λ rule. word.now ≡ rule_word rule) }
+    ensures none { IfNone result ((rule : StepRule) → word.now ≡ rule_word rule → ⊥) }
+{
+    if word == b"linear".as_slice() {
+        return Some(StepRule::Linear);
+    }
+    if word == b"gmic".as_slice() {
+        return Some(StepRule::Gmic);
+    }
+    if word == b"function".as_slice() {
+        return Some(StepRule::Function);
+    }
+    None
+}
+
+/// The word of the rule.
+fn rule_word(rule: StepRule) -> &'static [u8]
+    ensures { result.now ≡ rule_word rule }
+{
+    match rule {
+        StepRule::Linear => b"linear",
+        StepRule::Gmic => b"gmic",
+        StepRule::Function => b"function",
+    }
+}
+
+/// `step`
+#[derive(Clone, Copy)]
+pub(crate) struct StepWord;
+
+impl KnownWord for StepWord {
+    ghost spelled = { codes "step" };
+
+    ghost is_word = { step_word };
+
+    fn text(&self) -> &'static [u8] {
+        b"step"
+    }
+}
+
+/// `by`
+#[derive(Clone, Copy)]
+pub(crate) struct ByWord;
+
+impl KnownWord for ByWord {
+    ghost spelled = { codes "by" };
+
+    ghost is_word = { by_word };
+
+    fn text(&self) -> &'static [u8] {
+        b"by"
+    }
+}
+
+/// `upper`
+#[derive(Clone, Copy)]
+pub(crate) struct UpperWord;
+
+impl KnownWord for UpperWord {
+    ghost spelled = { codes "upper" };
+
+    ghost is_word = { upper_word };
+
+    fn text(&self) -> &'static [u8] {
+        b"upper"
+    }
+}
+
+/// `times`
+#[derive(Clone, Copy)]
+pub(crate) struct TimesWord;
+
+impl KnownWord for TimesWord {
+    ghost spelled = { codes "times" };
+
+    ghost is_word = { times_word };
+
+    fn text(&self) -> &'static [u8] {
+        b"times"
+    }
+}
+
+/// `claim`
+#[derive(Clone, Copy)]
+pub(crate) struct ClaimWord;
+
+impl KnownWord for ClaimWord {
+    ghost spelled = { codes "claim" };
+
+    ghost is_word = { claim_word };
+
+    fn text(&self) -> &'static [u8] {
+        b"claim"
+    }
+}
+
+/// `term`
+#[derive(Clone, Copy)]
+pub(crate) struct TermWord;
+
+impl KnownWord for TermWord {
+    ghost spelled = { codes "term" };
+
+    ghost is_word = { term_word };
+
+    fn text(&self) -> &'static [u8] {
+        b"term"
+    }
+}
+
+/// `step NAME RULE`, the first line of a step.
+pub(crate) const STEP: Named<StepWord, (NameWord, (RuleWord, ()))> = Named {
+    word: StepWord,
+    fields: (NameWord, (RuleWord, ())),
+};
+
+/// `by NAME MULTIPLIER`.
+pub(crate) const BY: Named<ByWord, (NameWord, (Fraction, ()))> = Named {
+    word: ByWord,
+    fields: (NameWord, (Fraction, ())),
+};
+
+/// `upper NAME`.
+pub(crate) const UPPER: Named<UpperWord, (NameWord, ())> = Named {
+    word: UpperWord,
+    fields: (NameWord, ()),
+};
+
+/// `times FACTOR`.
+pub(crate) const TIMES: Named<TimesWord, (PositiveFraction, ())> = Named {
+    word: TimesWord,
+    fields: (PositiveFraction, ()),
+};
+
+/// `claim RIGHT`.
+pub(crate) const CLAIM: Named<ClaimWord, (Fraction, ())> = Named {
+    word: ClaimWord,
+    fields: (Fraction, ()),
+};
+
+/// `term NAME VALUE`.
+pub(crate) const TERM: Named<TermWord, (NameWord, (Fraction, ()))> = Named {
+    word: TermWord,
+    fields: (NameWord, (Fraction, ())),
+};
+
+/// A line of a step behind its first with what it tells: a claim as it is spelled.
+#[derive(Clone, Copy)]
+pub(crate) enum Line<'a> {
+    /// A multiplier of the line with this name.
+    By(&'a [u8], Frac),
+    /// The column with this name is turned by its upper bound.
+    Upper(&'a [u8]),
+    /// The factor of the step.
+    Times(Frac),
+    /// The word of the right side of the claim.
+    Claim(&'a [u8]),
+    /// A term of the claim: the name of its column, and its value.
+    Term(&'a [u8], Frac),
+}
+
+/// What a line tells that begins with the word and goes on so, or which rule it breaks.
+pub(crate) fn line_with<'a>(word: &[u8], rest: &'a [u8]) -> Result<Line<'a>, Reason>
+    ensures told { IfOk result (λ l. Spell Lenient line_form (word.now ∷ word_texts rest.now)
+        (line_told l)) }
+    ensures broken { IfErr result
+        ((rule_in Lenient line_form).Breaks (word.now ∷ word_texts rest.now)) }
+{
+    if word == b"term".as_slice() {
+        return term_in(rest);
+    }
+    if word == b"by".as_slice() {
+        return by_in(rest);
+    }
+    if word == b"claim".as_slice() {
+        return claim_in(rest);
+    }
+    if word == b"upper".as_slice() {
+        return upper_in(rest);
+    }
+    if word == b"times".as_slice() {
+        return times_in(rest);
+    }
+    Err(Reason::Form)
+}
+
+/// What `by` tells with these words behind it.
+fn by_in(rest: &[u8]) -> Result<Line<'_>, Reason>
+    ensures told { IfOk result (λ l. Spell Lenient line_form (codes "by" ∷ word_texts rest.now)
+        (line_told l)) }
+    ensures broken { IfErr result
+        ((rule_in Lenient line_form).Breaks (codes "by" ∷ word_texts rest.now)) }
+{
+    match BY.fields.of_words(Spelling::Lenient, rest) {
+        Ok((name, (value, ()))) => Ok(Line::By(name, value)),
+        Err(reason) => Err(reason),
+    }
+}
+
+/// What `upper` tells with these words behind it.
+fn upper_in(rest: &[u8]) -> Result<Line<'_>, Reason>
+    ensures told { IfOk result (λ l. Spell Lenient line_form (codes "upper" ∷ word_texts rest.now)
+        (line_told l)) }
+    ensures broken { IfErr result
+        ((rule_in Lenient line_form).Breaks (codes "upper" ∷ word_texts rest.now)) }
+{
+    match UPPER.fields.of_words(Spelling::Lenient, rest) {
+        Ok((name, ())) => Ok(Line::Upper(name)),
+        Err(reason) => Err(reason),
+    }
+}
+
+/// What `times` tells with these words behind it.
+fn times_in(rest: &[u8]) -> Result<Line<'_>, Reason>
+    ensures told { IfOk result (λ l. Spell Lenient line_form (codes "times" ∷ word_texts rest.now)
+        (line_told l)) }
+    ensures broken { IfErr result
+        ((rule_in Lenient line_form).Breaks (codes "times" ∷ word_texts rest.now)) }
+{
+    match TIMES.fields.of_words(Spelling::Lenient, rest) {
+        Ok((factor, ())) => Ok(Line::Times(factor)),
+        Err(reason) => Err(reason),
+    }
+}
+
+/// What `claim` tells with these words behind it.
+fn claim_in(rest: &[u8]) -> Result<Line<'_>, Reason>
+    ensures told { IfOk result (λ l. Spell Lenient line_form (codes "claim" ∷ word_texts rest.now)
+        (line_told l)) }
+    ensures broken { IfErr result
+        ((rule_in Lenient line_form).Breaks (codes "claim" ∷ word_texts rest.now)) }
+{
+    match only_word(rest) {
+        Some(word) => Ok(Line::Claim(word)),
+        None => Err(Reason::Form),
+    }
+}
+
+/// What `term` tells with these words behind it.
+fn term_in(rest: &[u8]) -> Result<Line<'_>, Reason>
+    ensures told { IfOk result (λ l. Spell Lenient line_form (codes "term" ∷ word_texts rest.now)
+        (line_told l)) }
+    ensures broken { IfErr result
+        ((rule_in Lenient line_form).Breaks (codes "term" ∷ word_texts rest.now)) }
+{
+    match TERM.fields.of_words(Spelling::Lenient, rest) {
+        Ok((name, (value, ()))) => Ok(Line::Term(name, value)),
+        Err(reason) => Err(reason),
+    }
+}

@@ -1,0 +1,4 @@
+pub mod ThenLaws
+pub mod NamedLines
+pub mod KindLaws
+pub mod SpelledNumbers

@@ -1,0 +1,2 @@
+pub mod FieldForms
+pub mod FieldLaws

@@ -1,0 +1,51 @@
+-- The commands `check` and `derive` have one answer, but to steps of derivations.
+use Rattle.std.proofs.Common.{◌≡◌, inl, inr, ℕ, List, ap}
+use Rattle.gj_proof.specs.declared.claim.Claim.{Claim}
+use Rattle.gj_proof.proofs.OneText.{one_fault as one_proof_fault}
+use Rattle.gj_derivation_text.specs.DerivationInputs.{IsDerivationText, IsDraftText}
+use Rattle.gj_derivation_text.specs.declared.input.DerivationInput.{DerivationInput}
+use Rattle.gj_derivation_text.specs.declared.input.DraftInput.{DraftInput}
+use Rattle.gj_top.specs.declared.reply.End.{End}
+use Rattle.gj_top.specs.declared.reply.End.TheVariants.{Done}
+use Rattle.gj_top.specs.Check.{Checkable, SpellsCheckable, check_form, RefusesCheckable, IsCheckReply, check}
+use Rattle.gj_top.specs.Derive.{draft_form, RefusesDrafts, derive}
+use Rattle.gj_top.specs.Told.{Told}
+use Rattle.gj_top.proofs.DerivationForms.{one_draft_fault, one_derivation_fault, one_drafts, one_derivation, one_told, proof_begins_otherwise, derivation_begins}
+use Rattle.gj_top.proofs.Determined.{SpellsOne, RefusesOne, EndsOne, IsSettled, one_named_fault}
+use Rattle.gj_top.proofs.OneVerdict.{one_judgement}
+use Rattle.gj_top.proofs.TextLaws.{one_proof}
+
+-- it is a claim
+abbrev pub IsClaim : Checkable → Type 0
+IsClaim (inl c) = Unit {0}
+IsClaim (inr t) = ⊥
+
+one_checkable : SpellsOne check_form
+one_checkable input (inl c) (inl d) h k = ap inl (one_proof input c d h k)
+one_checkable input (inl c) (inr t) h k = absurd (proof_begins_otherwise c input h.spelled (derivation_begins input t.told k.1))
+one_checkable input (inr t) (inl c) h k = absurd (proof_begins_otherwise c input k.spelled (derivation_begins input t.told h.1))
+one_checkable input (inr t) (inr u) h k = ap inr (one_told IsDerivationText one_derivation input t u h k)
+
+one_refusal : RefusesOne RefusesCheckable
+one_refusal input x y (inl (begins, h)) (inl (begins', k)) = one_named_fault _ (λ n m e d. one_derivation_fault input n m e d) x y h k
+one_refusal input x y (inl (begins, h)) (inr (not, k)) = absurd (not begins)
+one_refusal input x y (inr (not, h)) (inl (begins, k)) = absurd (not begins)
+one_refusal input x y (inr (not, h)) (inr (not', k)) = one_named_fault _ (λ n m e d. one_proof_fault input n m e d) x y h k
+
+one_reply : (Exact : Type 0) → EndsOne check_form IsCheckReply IsClaim Exact
+one_reply Exact input (inl c) known spelled e d x y h k = let same = one_judgement c e d x y h k in (same.0, λ exact. same.1)
+one_reply Exact input (inr t) known spelled e d x y h k = absurd known
+
+pub check_is_settled : (Exact : Type 0) → IsSettled check IsClaim Exact
+check_is_settled Exact = record { spells = one_checkable; refuses = one_refusal; replies = one_reply Exact }
+
+-- no steps are known
+abbrev pub Never : Told DraftInput → Type 0
+Never t = ⊥
+
+pub derive_is_settled : (Exact : Type 0) → IsSettled derive Never Exact
+derive_is_settled Exact = record {
+  spells = one_told IsDraftText one_drafts;
+  refuses = λ input x y h k. one_named_fault _ (λ n m e d. one_draft_fault input n m e d) x y h k;
+  replies = λ input t known spelled e d x y h k. absurd known;
+}
