@@ -5,6 +5,10 @@ pub mod ExactText
 pub mod ProblemRead
 pub mod StepsRead
 pub mod TextRead
+pub mod PrintedProblemLines
+pub mod PrintedStepLines
+pub mod PrintedLeftOut
+pub mod PrintedDerivations
 pub mod GivenClaims
 pub mod NamesTold
 pub mod ReadableSteps

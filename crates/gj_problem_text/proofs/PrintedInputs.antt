@@ -34,7 +34,7 @@ use Rattle.gj_problem_text.proofs.TextParts.{title_line, rule_line, whole_text}
 -- ---- a line
 
 -- it is no comment
-no_comment : (l : ProblemLine) → get_or (first_of (words_of (problem_fields l))) 0 0 ≢ 35
+pub no_comment : (l : ProblemLine) → get_or (first_of (words_of (problem_fields l))) 0 0 ≢ 35
 no_comment (column name is_whole low high) = λ is. omega arith
 no_comment (constraint name sense right) = λ is. omega arith
 no_comment (entry name value) = λ is. omega arith
@@ -117,7 +117,7 @@ first_line : (title lines end behind : List ℕ) →
     (title ++ lines ++ end) ++ behind ≡ title ++ (lines ++ (end ++ behind))
 first_line title lines end behind = simp append_assoc
 
-begins_as_function : (f : FunctionData) (function behind text : List ℕ) →
+pub begins_as_function : (f : FunctionData) (function behind text : List ℕ) →
     IsCanonicalText function f → text ≡ function ++ behind → BeginsAsFunction text
 begins_as_function f function behind text canonical is =
     let rest = canonical.lines ++ (line (codes "end") ++ behind) in

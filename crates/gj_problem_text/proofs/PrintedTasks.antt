@@ -62,7 +62,7 @@ adds_behind s u t (l ∷ ls) ms (v, good, one, more) h =
 -- ---- names
 
 -- a name that differs from those before has no place among them
-no_place : (names : List (List ℕ)) (name : List ℕ) →
+pub no_place : (names : List (List ℕ)) (name : List ℕ) →
     ((i : ℕ) → i < length names → name_at names i ≢ name) →
     position (pointwise nat_eq name) names ≡ None
 no_place names name differs =
@@ -78,7 +78,7 @@ no_place names name differs =
         (λ below. absurd (omega arith))
 
 -- one of different names has its own place
-own_place : (names : List (List ℕ)) (j : ℕ) → AreNames names → j < length names →
+pub own_place : (names : List (List ℕ)) (j : ℕ) → AreNames names → j < length names →
     position (pointwise nat_eq (name_at names j)) names ≡ Some j
 own_place names j are below = rw (first, lt-ltb j (length names) below) refl
   where
@@ -94,7 +94,7 @@ own_place names j are below = rw (first, lt-ltb j (length names) below) refl
         (λ is. (bytes_decides (name_at names j) (name_at names j)).1 refl)
 
 -- the next of different names is none of those before
-next_differs : (before : List (List ℕ)) (name : List ℕ) (behind : List (List ℕ)) →
+pub next_differs : (before : List (List ℕ)) (name : List ℕ) (behind : List (List ℕ)) →
     AreNames (before ++ name ∷ behind) → (i : ℕ) → i < length before → name_at before i ≢ name
 next_differs before name behind are i below same =
     let all = before ++ name ∷ behind in
@@ -105,12 +105,12 @@ next_differs before name behind are i below same =
     let is : i ≡ length before = are.different i (length before) (omega arith) count at in
     omega arith
 
-name_is : (before : List (List ℕ)) (name : List ℕ) (behind : List (List ℕ)) →
+pub name_is : (before : List (List ℕ)) (name : List ℕ) (behind : List (List ℕ)) →
     AreNames (before ++ name ∷ behind) → IsName name
 name_is before name behind are =
     All-head IsName name behind (All-back IsName before (name ∷ behind) are.are)
 
-name_at_is : (names : List (List ℕ)) (j : ℕ) → AreNames names → j < length names →
+pub name_at_is : (names : List (List ℕ)) (j : ℕ) → AreNames names → j < length names →
     IsName (name_at names j)
 name_at_is names j are below = All-get_or IsName names j [] below are.are
 
@@ -136,7 +136,7 @@ no_dash x is =
     (canonical_fraction Lenient x) in
     no_number text.top d text.written
 
-bound_is_spelled : (b : Option Frac) → SpellsBound (bound_word b) b
+pub bound_is_spelled : (b : Option Frac) → SpellsBound (bound_word b) b
 bound_is_spelled None = refl
 bound_is_spelled (Some x) = (no_dash x, canonical_fraction Lenient x)
 
