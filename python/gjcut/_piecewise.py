@@ -20,6 +20,14 @@ def from_piecewise(h: Any, f: Optional[Number] = None) -> Function:
     f is where the function is 1. It must be said if that is so at several of the end points. The
     numbers may be those of Sage, as far as they are fractions. An irrational number is a
     `ValueError`, and a float a `TypeError`, since it is not exact.
+
+    >>> class Hat:
+    ...     def end_points(self):
+    ...         return [0, Fraction(3, 5), 1]
+    ...     def limits(self, x):
+    ...         return [int(x == Fraction(3, 5))] * 3
+    >>> from_piecewise(Hat()) == gjcut.family("gmic", "3/5")
+    True
     """
     for name in ("end_points", "limits"):
         if not callable(getattr(h, name, None)):

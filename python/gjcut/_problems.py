@@ -152,10 +152,10 @@ def _lines(given: Given) -> Iterator[str]:
             if type(value) is not int or abs(value) > WIDEST:
                 value = word(value, "constraints", i, repr(column))
             yield f"entry {column} {value}\n"
-    for i, name in enumerate(given.at_upper):
-        yield line("upper", _name(name, "at_upper", i))
     if given.grid is not None:
         yield line("grid", written(given.grid, "grid"))
+    for i, name in enumerate(given.at_upper):
+        yield line("upper", _name(name, "at_upper", i))
 
 
 def _places(given: Given) -> Iterator[Place]:
@@ -167,9 +167,9 @@ def _places(given: Given) -> Iterator[Place]:
     for i, (_, entries, _, right) in enumerate(given.constraints):
         yield Place("constraints", i, RIGHT if _is_wide(right) else None)
         yield from (Place("constraints", i, repr(column)) for column in entries)
-    yield from (Place("at_upper", i) for i, _ in enumerate(given.at_upper))
     if given.grid is not None:
         yield Place("grid")
+    yield from (Place("at_upper", i) for i, _ in enumerate(given.at_upper))
 
 
 def _name(given: str, *place) -> str:
