@@ -1,6 +1,6 @@
 """What a proof text shows, line by line, in words."""
 from fractions import Fraction
-from typing import Dict, Iterator, List, Tuple
+from typing import Dict, Iterator, List, Mapping, Tuple
 
 from ._arguments import number, text as text_of
 from ._faces import CORNERS, merged
@@ -299,6 +299,12 @@ def sum_skipped_in_words(why: str, *name: str) -> str:
     if why == "free" and len(name) == 1:
         return f"{name[0]} has no bound and cannot be left out, or its coefficient is off the grid"
     raise ValueError(f"why: there is no {' '.join(words)!r}")
+
+
+def sum_in_words(terms: Mapping[str, object]) -> str:
+    """The sum of columns, each times its coefficient."""
+    shown = " + ".join(f"{value} {name}" for name, value in terms.items())
+    return shown.replace("+ -", "- ") or "0"
 
 
 def explained(text: str) -> Iterator[Tuple[str, str]]:
