@@ -7,6 +7,7 @@ from typing import Sequence, Tuple, Union
 
 from ._arguments import Number, fields, items, number, text as text_of, whole, word, written, wrong
 from ._asked import refused
+from ._explain_derivation import sum_in_words
 from ._functions import Function, function as a_function, line, printed
 from ._library import Answer, call
 from ._problems import A_NAME, Column, Constraint, Multiplier, column_line, column_place
@@ -14,7 +15,6 @@ from ._problems import columns_of, constraint_lines, constraint_places, constrai
 from ._problems import names_of, rounded
 from ._refusals import REFUSED, Place
 from ._verdicts import Judgement
-from .explain import sum_in_words
 from .sentences import cause_in_words
 
 TITLE = "gj-derivation 1\n"
@@ -56,7 +56,8 @@ class Step(NamedTuple):
     right: Fraction
 
     def __str__(self) -> str:
-        return f"{sum_in_words(self.terms)} >= {self.right}"
+        terms = [(name, str(value)) for name, value in self.terms.items()]
+        return f"{sum_in_words(terms)} >= {self.right}"
 
 
 class Rejected(ValueError):
@@ -219,7 +220,7 @@ class Derivation:
         >>> x, y = Column("x", True, 0, None), Column("y", True, 0, None)
         >>> chain = Derivation([x, y], [Constraint("c", {"x": 2, "y": 2}, "<=", 3)])
         >>> print(chain.linear({"c": "-1/2"}))
-        -1 x - 1 y >= -1
+        -x - y >= -1
         """
         return self._add(Draft(by, times=times, name=name), grid)
 
@@ -277,7 +278,7 @@ class Derivation:
         >>> for each in chain.extend([Draft({"c": 1}, "gmic"), Draft({"c": "1/2"}, "gmic")]):
         ...     print(each)
         step 's1': the right side of the sum is whole, with its columns turned to their bounds
-        -1 x >= -3
+        -x >= -3
         """
         wanted = f"Draft({', '.join(Draft._fields)})"
         given = []

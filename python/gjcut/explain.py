@@ -1,11 +1,13 @@
 """What a proof text shows, line by line, in words."""
 from fractions import Fraction
-from typing import Dict, Iterator, List, Mapping, Tuple
+from typing import Dict, Iterator, List, Tuple
 
 from ._arguments import number, text as text_of
+from ._explain_derivation import DerivationReader, lines_of
 from ._faces import CORNERS, merged
 from ._functions import Function, function as a_function, printed, short
 from ._verdicts import function_of as _function_of
+from .sentences import is_derivation
 
 CLAIMS = {
     "minimal": "the function is minimal",
@@ -13,6 +15,7 @@ CLAIMS = {
     "extreme": "the function is extreme",
     "not-extreme": "the function is minimal and not extreme",
     "cut": "each cut holds at all solutions of its row",
+    "derivation": "each claim follows, and holds at all feasible points",
 }
 # How many points each violation has, and why a row has no cut.
 VIOLATIONS = {"zero": 0, "negative": 1, "asymmetric": 1, "superadditive": 2}
@@ -301,14 +304,10 @@ def sum_skipped_in_words(why: str, *name: str) -> str:
     raise ValueError(f"why: there is no {' '.join(words)!r}")
 
 
-def sum_in_words(terms: Mapping[str, object]) -> str:
-    """The sum of columns, each times its coefficient."""
-    shown = " + ".join(f"{value} {name}" for name, value in terms.items())
-    return shown.replace("+ -", "- ") or "0"
-
-
 def explained(text: str) -> Iterator[Tuple[str, str]]:
-    """Each line of a proof text that `check` reads, and what it says."""
-    reader = _Reader(text_of(text, "text"))
-    lines: List[str] = text.splitlines()
+    """Each line of a proof text or a derivation that `check` reads, and what it says."""
+    if is_derivation(text_of(text, "text")):
+        reader, lines = DerivationReader(text), lines_of(text)
+    else:
+        reader, lines = _Reader(text), text.splitlines()
     return ((line, reader.words(line)) for line in lines)
