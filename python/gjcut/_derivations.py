@@ -278,7 +278,7 @@ class Derivation:
         >>> for each in chain.extend([Draft({"c": 1}, "gmic"), Draft({"c": "1/2"}, "gmic")]):
         ...     print(each)
         step 's1': the right side of the sum is whole, with its columns turned to their bounds
-        -x >= -3
+        -2 x >= -6
         """
         wanted = f"Draft({', '.join(Draft._fields)})"
         given = []
