@@ -296,7 +296,8 @@ def _judged(text: str, status: int, said: str) -> str:
     function = None if is_of_steps else function_of_proof(text)
     which = f"\n  the function: {function_in_words(function)}" if function else ""
     if not status and is_of_steps:
-        which = "".join(f"\n  the last step, {name}: {claim}" for name, claim in [last_claim(text)])
+        name, claim = last_claim(text)
+        which = f"\n  the last step, {name}: {claim}" if name else ""
     if not status:
         return f"accepted: {CLAIMS[words[1]]}{which}"
     _, line, _ = line_at_fault(text, said)

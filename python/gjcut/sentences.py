@@ -114,8 +114,8 @@ CAUSES = {
     "whole",
     "integral": "the right side of the sum is whole, with its columns turned to their bounds",
     "other": "the fractional part of the right side of the sum is not the f of the function",
-    "bound": "the coefficient of {} is not the one that is shown, and {} lacks the bound that would "
-    "move it: the lower one moves it up, the upper one down",
+    "bound": "the coefficient of {} would have to move, to the one that is claimed or to the grid, "
+    "and {} lacks the bound for that: the lower one moves it up, the upper one down",
     "right": "with these terms the right side is at most {}",
     "wide": "a number would have more than 127 bits",
     "lost": "it names {}, which shows nothing",
