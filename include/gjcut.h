@@ -23,7 +23,9 @@ extern "C" {
  * alone. */
 enum gjcut_status {
     GJCUT_DONE = 0,            /* the answer was written */
-    GJCUT_REJECTED = 1,        /* `check`: a rule of the checker fails */
+    GJCUT_REJECTED = 1,        /* `check`: a rule of the checker fails, or a step does not follow;
+                                * `derive`: a claim does not follow, or a step names one that shows
+                                * nothing */
     GJCUT_WORDS = 2,           /* the words name no request */
     GJCUT_INPUT = 3,           /* the input is outside its form or a limit */
     GJCUT_NO_ROOM = 5,         /* the output has no room for the answer, which can be any other,
@@ -32,9 +34,10 @@ enum gjcut_status {
                                 * reckoned */
     GJCUT_NO_MEMORY = 6,       /* there was no memory: nothing was written, and `*written` is 0 */
     GJCUT_WIDE = 7,            /* `extreme`, `group`: a number passed its bound */
-    GJCUT_NOT_CONTINUOUS = 8,  /* the function jumps; of `extreme`, `mixed`, `problem`: and is
+    GJCUT_NOT_CONTINUOUS = 8,  /* the function jumps; of `extreme`, `mixed`, `problem`, `derive` and
+                                * `check`: and is minimal */
+    GJCUT_NO_FUNCTION = 9,     /* `cut`, `mixed`, `problem`, `derive`, `check`: the function is not
                                 * minimal */
-    GJCUT_NO_FUNCTION = 9,     /* `cut`, `mixed`, `problem`: the function is not minimal */
     GJCUT_NOT_SUBADDITIVE = 10, /* `fill`: the function is not subadditive */
     GJCUT_ORDER_LIMIT = 11,    /* `times`: the order would pass 1,000; `group`: it is above 120 */
     GJCUT_BAD_ORDER = 12       /* `restrict`: the function has no restriction of that order */
@@ -88,8 +91,8 @@ GJCUT_INLINE int gjcut_has_word(const uint8_t *words, size_t words_length, const
 }
 
 /* How many bytes of output to try for the answer to the words over an input of this length. It is
- * room for every answer, but for `problem`: there for one cut of every problem, and for several of
- * most. That a proof of `extreme` has at most 12,000,000 bytes is proved; the other figures are
+ * room for every answer, but for `problem` and `derive`: there for one cut, or one open claim, of
+ * every program, and for several of most. That a proof of `extreme` has at most 12,000,000 bytes is proved; the other figures are
  * reckoned from the forms and limits of the texts, and tested. Most answers are far shorter: where
  * time counts, try first with 131,072 bytes, though a second call costs the work again. */
 GJCUT_INLINE size_t gjcut_room(const uint8_t *words, size_t words_length, size_t input_length) {
@@ -114,6 +117,8 @@ GJCUT_INLINE size_t gjcut_room(const uint8_t *words, size_t words_length, size_t
     /* The line of a column takes 18 bytes of the input or more, and its name; in a cut 87, and its
      * name. A cut has a line for each column, and there is one for each line `sum`. */
     if (gjcut_has_word(words, words_length, "problem")) return function + 5 * input_length;
+    /* And the text in canonical spelling: a decimal has there at most twice the digits. */
+    if (gjcut_has_word(words, words_length, "derive")) return function + 8 * input_length;
     if (gjcut_has_word(words, words_length, "fill")) return 400000; /* 2,000 points of 170 bytes */
     return function;
 }

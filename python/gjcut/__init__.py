@@ -8,13 +8,14 @@ Functions of the package, each with an example in its help:
     by_text(text)                   from a function text
     minimal(function)               whether it is minimal, a Verdict
     extreme(function)               whether it is extreme, a Verdict
-    check(text)                     whether a proof text is right, a Judgement
+    check(text)                     whether a proof text or a derivation is right, a Judgement
     faces(function)                 its maximal additive faces, Faces
     covered(function)               its components of covered intervals, Covered
     group(function)                 whether the table of its own order is extreme
     cut(rule, columns, rows)        the cuts of rows of whole columns, Cuts
     mixed(rule, columns, rows)      the cuts of rows with continuous columns, Cuts
     safe_cut(columns, constraints, multipliers)   a cut of a mixed-integer program, a SafeCut
+    Derivation(columns, constraints)              your own cuts, step by step, each by what shows it
     fill(function), times(function, n, j), mirror(function), restrict(function, order)
                                     functions made of functions
     literature.gmic(f), ..          functions of the literature by their parameters
@@ -31,8 +32,7 @@ sums and multiples. A Verdict has .is_extreme, .is_minimal, .violation, .halves,
 The library is called with the standard library of Python alone, and everything comes back as
 `Fraction`s, with what the program writes as `text`. A number is an int, a `Fraction`, a `Decimal`,
 or a text such as "3/5" or "0.25"; a float is refused, since it is seldom the number that was meant,
-and so is a bool. Only the multipliers of `safe_cut` may be floats: it makes cuts of a mixed-integer
-program. Where a list is wanted, each iterable serves but a text, a mapping and a set. What has
+and so is a bool. Only the multipliers of `safe_cut` and of a `Derivation` may be floats. Where a list is wanted, each iterable serves but a text, a mapping and a set. What has
 another type than it should raises `TypeError`, which says where it stands. An input that is
 refused, and a function with which a command does nothing, raise `Refused`, which says what it means
 and what to do.
@@ -54,6 +54,8 @@ from . import _build
 from ._arguments import Number, fields as _fields, items as _items, number as _number
 from ._arguments import text as _text, whole as _whole, word as _word, written as _written
 from ._asked import done as _done, of_function as _of_function, refused as _refused
+from ._derivations import Derivation, Draft, Rejected, Step
+from ._derivations import judged as _judged
 from ._faces import Cover, Covered, Face, Faces
 from ._faces import covered_of as _covered_of, faces_of as _faces_of
 from ._functions import Function, Point, Rule
@@ -72,13 +74,15 @@ from ._verdicts import Judgement, TableVerdict, Verdict, Violation
 from ._verdicts import function_of as _function_of, lines_of_function as _lines_of_function
 from ._verdicts import table_verdict_of as _table_verdict_of, verdict_of as _verdict_of
 from ._violations import violations_of as _violations_of
+from .sentences import is_derivation as _is_derivation
 
 __version__ = _build.version()
 
 __all__ = [
-    "Answer", "Column", "Constraint", "Cover", "Covered", "Cut", "Cuts", "Face", "Faces",
-    "Function", "Judgement", "LibraryMissing", "Number", "PackageMissing", "Picture", "Place",
-    "Point", "Refused", "SafeCut", "TableVerdict", "Term", "Verdict", "Violation",
+    "Answer", "Column", "Constraint", "Cover", "Covered", "Cut", "Cuts", "Derivation", "Draft",
+    "Face", "Faces", "Function", "Judgement", "LibraryMissing", "Number", "PackageMissing",
+    "Picture", "Place", "Point", "Refused", "Rejected", "SafeCut", "Step", "TableVerdict", "Term",
+    "Verdict", "Violation",
     "by_breakpoints", "by_text", "by_values", "call", "check", "covered", "cut", "extreme", "faces",
     "family", "fill", "group", "minimal", "mirror", "mixed", "plot", "plot_faces", "restrict",
     "safe_cut", "times",
@@ -233,7 +237,7 @@ def extreme(function: Function, violations: int = 1) -> Verdict:
 
 def check(text: Union[str, bytes]) -> Judgement:
     """What the checker says of a proof text, as that of a verdict or of cuts, and of which function
-    it is.
+    it is; or of a derivation. If a step of that does not follow, `rule` is what stands against it.
 
     >>> judgement = check(extreme(family("gmic", "3/5")).text)
     >>> judgement.accepted, judgement.claim, judgement.function == family("gmic", "3/5")
@@ -241,11 +245,13 @@ def check(text: Union[str, bytes]) -> Judgement:
     >>> if judgement: print("it is accepted")
     it is accepted
     """
-    answer = call("check", text)
+    answer, read = call("check", text), text if isinstance(text, str) else text.decode("latin-1")
+    if _is_derivation(read):
+        return _judged(read, answer)
     if answer.status > 1:
         raise _refused("check", text, answer)
     words = answer.text.split()
-    function = _function_of(text if isinstance(text, str) else text.decode())
+    function = _function_of(read)
     if answer.status:
         return Judgement(False, None, int(words[2]), words[3], answer.text, function)
     return Judgement(True, words[1], None, None, answer.text, function)

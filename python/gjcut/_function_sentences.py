@@ -66,13 +66,6 @@ FUNCTION_SENTENCES = [
         words="minimal", input="", answer="refused line 1 form",
         when="refused line 1 form", text=r"\A\s*\Z",
     ),
-    Sentence(
-        see="`refused line 1 form` from `check`",
-        means="this is a function and no proof",
-        do="let `extreme` or `minimal` write the proof, and hand that to `check`",
-        words="check", input=FIVE, answer="refused line 1 form",
-        when="refused line 1 form", command=CHECK, text=r"\A\s*gj-function",
-    ),
     *(
         Sentence(
             see="`refused line 1 form` from `check`",
@@ -88,7 +81,7 @@ FUNCTION_SENTENCES = [
             ),
             (
                 "problem", "safe", "cuts of a problem", "rule gmic",
-                "let `problem` make the cuts of the same sums again, and compare",
+                "write the program and the cut as a [derivation](#derivation) with one step",
             ),
             (
                 "group", "group", "the decision of a table", "order 2",

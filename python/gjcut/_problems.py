@@ -4,8 +4,8 @@ import math
 import numbers
 from collections import abc
 from fractions import Fraction
-from typing import Dict, Iterable, Iterator, List, Mapping, NamedTuple, Optional, Sequence
-from typing import Union
+from typing import Container, Dict, Iterable, Iterator, List, Mapping, NamedTuple, Optional
+from typing import Sequence, Union
 
 from ._arguments import Number, fields, items, number, text as text_of, whole, word, written, wrong
 from ._asked import refused
@@ -103,14 +103,15 @@ def safe_cut(
     """
     given = Given(
         _front(rule),
-        [Column(*each) for each in _records(columns, Column, "columns")],
-        [Constraint(*each) for each in _records(constraints, Constraint, "constraints")],
-        # The order of these names says nothing, so that a set serves too.
-        list(at_upper) if isinstance(at_upper, abc.Set) else items(at_upper, NAMES, "at_upper"),
+        columns_of(columns),
+        constraints_of(constraints),
+        names_of(at_upper, "at_upper"),
         None if grid is None else whole(grid, "grid"),
     )
     text, found = "".join(_lines(given)), SafeCut({}, None, "wide", "")
-    for tried in _rounded(items(multipliers, NUMBERS, "multipliers")):
+    given_multipliers = items(multipliers, NUMBERS, "multipliers")
+    places = [("multipliers", i) for i, _ in enumerate(given_multipliers)]
+    for tried in rounded(given_multipliers, places):
         found = _answer(text, given, tried)
         if found.skipped != "wide":
             break
@@ -123,6 +124,19 @@ def _front(rule: Rule) -> Sequence[str]:
     return GMIC if text is None else [*text.splitlines(keepends=True), GMIC[0]]
 
 
+def columns_of(given: Iterable[Column]) -> List[Column]:
+    return [Column(*each) for each in _records(given, Column, "columns")]
+
+
+def constraints_of(given: Iterable[Constraint]) -> List[Constraint]:
+    return [Constraint(*each) for each in _records(given, Constraint, "constraints")]
+
+
+def names_of(given: Iterable[str], *place) -> List[str]:
+    """Names whose order says nothing, so that a set serves too."""
+    return list(given) if isinstance(given, abc.Set) else items(given, NAMES, *place)
+
+
 def _records(given: Iterable, kind: type, argument: str) -> Iterator[List]:
     """The fields of each column, or of each constraint."""
     wanted = f"{kind.__name__}({', '.join(kind._fields)})"
@@ -130,49 +144,68 @@ def _records(given: Iterable, kind: type, argument: str) -> Iterator[List]:
         yield fields(each, len(kind._fields), wanted, argument, i)
 
 
+def column_line(i: int, column: Column) -> str:
+    given_name, is_whole, *bounds = column
+    name = name_of(given_name, "columns", i)
+    words = [name, _kind(is_whole, "columns", i, f"is_whole of {name!r}")]
+    for side, bound in zip(SIDES, bounds):
+        words.append("-" if bound is None else word(bound, "columns", i, side))
+    return line("column", *words)
+
+
+def constraint_lines(i: int, constraint: Constraint, known: Container[str]) -> Iterator[str]:
+    """The line of a constraint, and those of its entries; the names of columns that are known need
+    no test."""
+    name, entries, sense, right = constraint
+    words = [name_of(name, "constraints", i), _sense(sense, "constraints", i)]
+    yield line("constraint", *words, word(right, "constraints", i, RIGHT))
+    if not isinstance(entries, abc.Mapping):
+        raise wrong(entries, ENTRIES, "constraints", i, "the entries")
+    for column, value in entries.items():
+        if type(column) is not str or column not in known:
+            column = name_of(column, "constraints", i, repr(column))
+        if type(value) is not int or abs(value) > WIDEST:
+            value = word(value, "constraints", i, repr(column))
+        yield f"entry {column} {value}\n"
+
+
+def column_place(i: int, column: Column) -> Place:
+    """The value at fault in the line of a column, where its number is."""
+    sides = zip(SIDES, column[2:])
+    return Place("columns", i, next((side for side, x in sides if x is not None and is_wide(x)), None))
+
+
+def constraint_places(i: int, constraint: Constraint) -> Iterator[Place]:
+    """The value in each line of a constraint."""
+    yield Place("constraints", i, RIGHT if is_wide(constraint.right) else None)
+    yield from (Place("constraints", i, repr(column)) for column in constraint.entries)
+
+
 def _lines(given: Given) -> Iterator[str]:
     """The lines of the problem, up to the sum."""
     yield from given.front
-    known = set()
-    for i, (given_name, is_whole, *bounds) in enumerate(given.columns):
-        name = _name(given_name, "columns", i)
-        words = [name, _kind(is_whole, "columns", i, f"is_whole of {name!r}")]
-        for side, bound in zip(SIDES, bounds):
-            words.append("-" if bound is None else word(bound, "columns", i, side))
-        known.add(name)
-        yield line("column", *words)
-    for i, (name, entries, sense, right) in enumerate(given.constraints):
-        words = [_name(name, "constraints", i), _sense(sense, "constraints", i)]
-        yield line("constraint", *words, word(right, "constraints", i, RIGHT))
-        if not isinstance(entries, abc.Mapping):
-            raise wrong(entries, ENTRIES, "constraints", i, "the entries")
-        for column, value in entries.items():
-            if type(column) is not str or column not in known:
-                column = _name(column, "constraints", i, repr(column))
-            if type(value) is not int or abs(value) > WIDEST:
-                value = word(value, "constraints", i, repr(column))
-            yield f"entry {column} {value}\n"
-    for i, name in enumerate(given.at_upper):
-        yield line("upper", _name(name, "at_upper", i))
+    yield from (column_line(i, each) for i, each in enumerate(given.columns))
+    known = {column.name for column in given.columns}
+    for i, constraint in enumerate(given.constraints):
+        yield from constraint_lines(i, constraint, known)
     if given.grid is not None:
         yield line("grid", written(given.grid, "grid"))
+    for i, name in enumerate(given.at_upper):
+        yield line("upper", name_of(name, "at_upper", i))
 
 
 def _places(given: Given) -> Iterator[Place]:
     """The value in each of these lines."""
     yield from (Place("rule") for _ in given.front)
-    for i, (_, _, *bounds) in enumerate(given.columns):
-        wide = (side for side, bound in zip(SIDES, bounds) if bound is not None and _is_wide(bound))
-        yield Place("columns", i, next(wide, None))
-    for i, (_, entries, _, right) in enumerate(given.constraints):
-        yield Place("constraints", i, RIGHT if _is_wide(right) else None)
-        yield from (Place("constraints", i, repr(column)) for column in entries)
-    yield from (Place("at_upper", i) for i, _ in enumerate(given.at_upper))
+    yield from (column_place(i, each) for i, each in enumerate(given.columns))
+    for i, constraint in enumerate(given.constraints):
+        yield from constraint_places(i, constraint)
     if given.grid is not None:
         yield Place("grid")
+    yield from (Place("at_upper", i) for i, _ in enumerate(given.at_upper))
 
 
-def _name(given: str, *place) -> str:
+def name_of(given: str, *place) -> str:
     name = text_of(given, *place, wanted=A_NAME)
     if not NAME.fullmatch(name):
         how = "write 1 to 255 visible ASCII characters, without a blank or a double quote"
@@ -199,15 +232,18 @@ def _sense(given: str, *place) -> str:
     return text_of(given, *place)
 
 
-def _rounded(multipliers: Sequence[Multiplier]) -> Iterator[List[Fraction]]:
-    """The multipliers as fractions, in each way that is tried; without a float there is one."""
+def rounded(
+    multipliers: Sequence[Multiplier], places: Sequence[Sequence]
+) -> Iterator[List[Fraction]]:
+    """The multipliers as fractions, in each way that is tried; without a float there is one. The
+    places are those of the multipliers, in the words of a `Place`."""
     floats = [_is_float(given) for given in multipliers]
-    values = [_value(given, "multipliers", i) for i, given in enumerate(multipliers)]
+    values = [_value(given, *place) for given, place in zip(multipliers, places)]
     for parts in DENOMINATORS if any(floats) else (1,):
         pairs = zip(values, floats)
         taken = [Fraction(round(x * parts), parts) if is_float else x for x, is_float in pairs]
         # What has more bits cannot be written.
-        if not any(is_float and _is_wide(x) for x, is_float in zip(taken, floats)):
+        if not any(is_float and is_wide(x) for x, is_float in zip(taken, floats)):
             yield taken
 
 
@@ -237,12 +273,12 @@ def _place(given: Given, multipliers: Sequence[Fraction], said: str) -> Optional
     found = REFUSED.fullmatch(said)
     if not found:
         return None
-    wide = (i for i, value in enumerate(multipliers) if _is_wide(value))
+    wide = (i for i, value in enumerate(multipliers) if is_wide(value))
     places = itertools.chain(_places(given), [Place("multipliers", next(wide, None))])
     return next(itertools.islice(places, int(found[2]) - 1, None), None)
 
 
-def _is_wide(given: Number) -> bool:
+def is_wide(given: Number) -> bool:
     value = number(given)
     return max(abs(value.numerator), value.denominator) > WIDEST
 

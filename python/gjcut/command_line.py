@@ -9,13 +9,14 @@ from typing import Dict, List, NamedTuple, Optional, Tuple
 
 from . import _build
 from ._arguments import items, text as text_of
+from ._explain_derivation import DerivationReader, last_claim, sum_in_words
 from ._functions import printed
 from ._library import LibraryMissing, call, find
 from ._verdicts import function_of as function_of_proof, lines_of_function
 from ._violations import violations_of
 from .explain import CLAIMS, explained, function_in_words, function_of, skipped_in_words
 from .explain import sum_skipped_in_words, violation_in_words
-from .sentences import RULES, line_at_fault, told
+from .sentences import RULES, cause_in_words, is_derivation, line_at_fault, told
 
 # The status of a file that cannot be read, and where there is no library.
 NO_FILE, NO_LIBRARY = 4, 14
@@ -23,11 +24,12 @@ NO_FILE, NO_LIBRARY = 4, 14
 COMMANDS: Dict[str, Tuple[Tuple[str, ...], str]] = {
     "minimal": ((), "whether a function is minimal"),
     "extreme": ((), "whether a function is extreme"),
-    "check": ((), "whether a proof text is right"),
-    "explain": ((), "what a proof text shows, line by line"),
+    "check": ((), "whether a proof text or a derivation is right"),
+    "explain": ((), "what a proof text or a derivation shows, line by line"),
     "cut": ((), "the cuts of tableau rows"),
     "mixed": ((), "the cuts of rows; columns whose names begin with c: are continuous"),
     "problem": ((), "the cuts of a mixed-integer program, by multipliers of its constraints"),
+    "derive": ((), "the claims of a derivation, filled in"),
     "show": ((), "a function by its values at all multiples of 1/q"),
     "faces": ((), "the maximal additive faces, the covered and the uncovered intervals"),
     "fill": ((), "the two-slope fill-in of a continuous function"),
@@ -39,7 +41,7 @@ COMMANDS: Dict[str, Tuple[Tuple[str, ...], str]] = {
 }
 WITH_JSON = ("minimal", "extreme", "show")
 WITH_VIOLATIONS = ("minimal", "extreme")
-WITH_PROOF = ("minimal", "extreme", "cut", "mixed", "problem", "group", "check")
+WITH_PROOF = ("minimal", "extreme", "cut", "mixed", "problem", "derive", "group", "check")
 
 
 class Result(NamedTuple):
@@ -243,6 +245,8 @@ def _sentence(chosen: argparse.Namespace, text: str, status: int, said: str) -> 
         return "\n".join(_cuts(said))
     if command == "problem":
         return "\n".join(_cuts_of_problem(said))
+    if command == "derive":
+        return _judged(text, status, said) if status else "\n".join(_derived(said))
     return _group(text, said) if command == "group" else said
 
 
@@ -288,12 +292,17 @@ def _group(text: str, said: str) -> str:
 
 
 def _judged(text: str, status: int, said: str) -> str:
-    words, function = said.split(), function_of_proof(text)
+    words, is_of_steps = said.split(), is_derivation(text)
+    function = None if is_of_steps else function_of_proof(text)
     which = f"\n  the function: {function_in_words(function)}" if function else ""
+    if not status and is_of_steps:
+        name, claim = last_claim(text)
+        which = f"\n  the last step, {name}: {claim}" if name else ""
     if not status:
         return f"accepted: {CLAIMS[words[1]]}{which}"
     _, line, _ = line_at_fault(text, said)
-    return f"rejected: line {words[2]}, `{line}`: {RULES[words[3]]}{which}"
+    why = cause_in_words(words[3:]) if is_of_steps else RULES[words[3]]
+    return f"rejected: line {words[2]}, `{line}`: {why}{which}"
 
 
 def _cuts(said: str) -> List[str]:
@@ -317,22 +326,34 @@ def _end_of_cut(parts: List[str]) -> str:
 
 def _cuts_of_problem(said: str) -> List[str]:
     """A line for each sum, in their order."""
-    found: List[Tuple[Optional[str], List[str], str]] = []
+    found: List[Tuple[Optional[str], List[Tuple[str, str]], str]] = []
     for kind, *words in map(str.split, said.splitlines()):
         if kind == "skip":
             found.append((None, [], f"no cut, since {sum_skipped_in_words(*words)}"))
         elif kind == "cut":
             found.append((words[0], [], ""))
         elif kind == "term":
-            found[-1][1].append(f"{words[1]} {words[0]}")
+            found[-1][1].append((words[0], words[1]))
     shown = [why if right is None else _inequality(terms, right) for right, terms, why in found]
     lines = [f"sum {i}: {each}" for i, each in enumerate(shown, 1)]
     return lines or ["no cut, since the problem has no line `sum`"]
 
 
-def _inequality(terms: List[str], right: str) -> str:
+def _derived(said: str) -> List[str]:
+    """A line for each step, in their order."""
+    found: List[str] = []
+    steps = DerivationReader(said).known
+    for kind, *words in filter(None, map(str.split, said.splitlines())):
+        if kind == "step":
+            found.append(f"step {words[0]}: at each feasible point {steps[words[0]]}")
+        elif kind == "#":
+            found.append(f"step {words[0]}: left out, since {cause_in_words(words[1:])}")
+    return found or ["the derivation has no step"]
+
+
+def _inequality(terms: List[Tuple[str, str]], right: str) -> str:
     if terms:
-        return f"at each feasible point {' + '.join(terms).replace('+ -', '- ')} >= {right}"
+        return f"at each feasible point {sum_in_words(terms)} >= {right}"
     if printed(right) > 0:
         return f"no point is feasible: there 0 >= {right}"
     return f"the cut says nothing: 0 >= {right}"

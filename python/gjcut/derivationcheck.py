@@ -17,6 +17,7 @@ inequality is a constraint, or the claim of an earlier step.
 """
 import re
 import sys
+from dataclasses import dataclass, field
 from fractions import Fraction
 from math import ceil, floor, lcm
 from typing import NamedTuple, Optional
@@ -53,6 +54,11 @@ def number(word):
 def bound(word):
     """A bound of a column; "-" is none."""
     return word if word == "-" else number(word)
+
+
+def positive(word):
+    value = number(word)
+    return value if value is not None and value > 0 else None
 
 
 def count(word):
@@ -234,15 +240,28 @@ class Known(NamedTuple):
     right: Fraction
 
 
-class Step(NamedTuple):
-    """What a step is made of, by which rule, and what it claims."""
+@dataclass
+class Step:
+    """What a step is made of, by which rule, and what it claims: the right side and the terms."""
 
     line: int
     rule: str
-    multipliers: dict
-    at_upper: set
-    factor: Fraction
-    claim: Known
+    multipliers: dict = field(default_factory=dict)
+    at_upper: set = field(default_factory=set)
+    factor: Optional[Fraction] = None
+    right: Optional[Fraction] = None
+    terms: dict = field(default_factory=dict)
+
+    @property
+    def has_claim(self):
+        return self.right is not None
+
+
+# The lines of a step. The number of a claim is judged after its place.
+STEP_FORMS = (
+    ("by", NAME, number), ("upper", NAME), ("times", positive), ("claim", ".*"),
+    ("term", NAME, number),
+)  # fmt: skip
 
 
 def column_of(kind, lower, upper):
@@ -264,9 +283,10 @@ class Derivation:
         readers = {
             "column": self.read_column, "constraint": self.read_constraint, "entry": self.read_entry
         }
-        while lines.words[0] in readers:
-            readers[lines.words[0]]()
-        while lines.words[0] == "step":
+        while lines.words[0] not in ("step", "end"):
+            # No form fits another word.
+            readers.get(lines.words[0], lines.read)()
+        while lines.words[0] != "end":
             self.read_step()
         lines.read(("end",))
         if lines.words != [""]:
@@ -284,50 +304,56 @@ class Derivation:
         self.columns[name] = column_of(*said)
 
     def read_constraint(self):
-        name, sense, right = self.lines.read(("constraint", NAME, "<=|>=|=", number))
+        name, sense, right = self.lines.read(("constraint", ".*", "<=|>=|=", number))
+        self.ask(re.fullmatch(NAME, name), "form")
         self.ask(len(self.known) < MOST, "large")
         self.ask(name not in self.known, "place")
         self.known[name] = Known([], sense, right)
 
     def read_entry(self):
-        self.add_entry("entry", list(self.known.values())[-1:])
-
-    def add_entry(self, word, known):
-        """A line with the name of a column and a value, which is put to the inequality before."""
-        name, value = self.lines.read((word, NAME, number))
-        self.ask(known, "form")
+        """An entry of the last constraint. Entries in one column add up."""
+        name, value = self.lines.read(("entry", ".*", number))
+        self.ask(self.known, "form")
         self.ask(self.entries < MOST_ENTRIES, "large")
         self.ask(name in self.columns, "place")
-        known[0].entries.append((name, value))
+        next(reversed(self.known.values())).entries.append((name, value))
         self.entries += 1
 
     def read_step(self):
-        lines = self.lines
-        name, rule = lines.read(("step", NAME, "linear|gmic|function"))
-        line, multipliers, at_upper, factor = lines.line, {}, set(), None
+        name, rule = self.lines.read(("step", NAME, "linear|gmic|function"))
         self.ask(rule != "function" or self.function, "form")
         self.ask(len(self.steps) < MOST, "large")
         self.ask(name not in self.known and name not in self.steps, "place")
-        while lines.words[0] in ("by", "upper", "times"):
-            if lines.words[0] == "by":
-                other, multiplier = lines.read(("by", NAME, number))
-                self.ask(other in self.known or other in self.steps, "place")
-                self.ask(other not in multipliers, "place")
-                multipliers[other] = multiplier
-            elif lines.words[0] == "upper":
-                (column,) = lines.read(("upper", NAME))
-                self.ask(rule != "linear", "form")
-                self.ask(column in self.columns, "place")
-                at_upper.add(column)
-            else:
-                said = lines.read(("times", number))
-                self.ask(factor is None, "form")
-                (factor,) = said
-                self.ask(factor > 0, "number")
-        claim = Known([], ">=", *lines.read(("claim", number)))
-        while lines.words[0] == "term":
-            self.add_entry("term", [claim])
-        self.steps[name] = Step(line, rule, multipliers, at_upper, factor or Fraction(1), claim)
+        step = Step(self.lines.line, rule)
+        while not (step.has_claim and self.lines.words[0] in ("step", "end")):
+            self.read_line_of(step)
+        self.steps[name] = step
+
+    def read_line_of(self, step):
+        """A line of the step. Each name stands once among those of its kind, and the terms stand
+        after the claim, which is the one line that is judged so before its number is."""
+        kind = self.lines.words[0]
+        said = self.lines.read(*STEP_FORMS)
+        self.ask(step.has_claim == (kind == "term"), "form")
+        if kind == "by":
+            name, multiplier = said
+            self.ask(name in self.known or name in self.steps, "place")
+            self.ask(name not in step.multipliers, "place")
+            step.multipliers[name] = multiplier
+        elif kind == "upper":
+            self.ask(step.rule != "linear", "form")
+            self.ask(said[0] in self.columns and said[0] not in step.at_upper, "place")
+            step.at_upper.add(said[0])
+        elif kind == "times":
+            self.ask(step.factor is None, "form")
+            (step.factor,) = said
+        elif kind == "claim":
+            step.right = number(said[0])
+            self.ask(step.has_claim, "number")
+        else:
+            name, value = said
+            self.ask(name in self.columns and name not in step.terms, "place")
+            step.terms[name] = value
 
     # ---- what a step shows
 
@@ -344,24 +370,24 @@ class Derivation:
                 self.check_step(step)
             except Wrong as wrong:
                 return 1, f"rejected line {step.line} {wrong}"
-            self.known[name] = step.claim
+            self.known[name] = Known(list(step.terms.items()), ">=", step.right)
         return 0, "accepted derivation"
 
     def check_step(self, step):
         coefficients, right = self.base(step)
-        claimed = added(step.claim.entries)
-        right *= step.factor
-        for name in self.in_order({*coefficients, *claimed}):
+        factor = step.factor or 1
+        right *= factor
+        for name in self.in_order({*coefficients, *step.terms}):
             column = self.columns[name]
-            change = claimed.get(name, 0) - step.factor * coefficients.get(name, 0)
+            change = step.terms.get(name, 0) - factor * coefficients.get(name, 0)
             if change != 0:
                 turned = column.lower if change > 0 else column.upper
                 if turned is None:
                     raise Wrong(f"bound {name}")
                 right += change * turned
-        if all(self.is_whole_term(*each) for each in claimed.items()):
+        if all(self.is_whole_term(*each) for each in step.terms.items()):
             right = Fraction(ceil(right))
-        if step.claim.right > right:
+        if step.right > right:
             raise Wrong(f"right {right}")
 
     def is_whole_term(self, name, value):

@@ -3,9 +3,11 @@ from fractions import Fraction
 from typing import Dict, Iterator, List, Tuple
 
 from ._arguments import number, text as text_of
+from ._explain_derivation import DerivationReader, lines_of
 from ._faces import CORNERS, merged
 from ._functions import Function, function as a_function, printed, short
 from ._verdicts import function_of as _function_of
+from .sentences import is_derivation
 
 CLAIMS = {
     "minimal": "the function is minimal",
@@ -13,6 +15,7 @@ CLAIMS = {
     "extreme": "the function is extreme",
     "not-extreme": "the function is minimal and not extreme",
     "cut": "each cut holds at all solutions of its row",
+    "derivation": "each claim follows, and holds at all feasible points",
 }
 # How many points each violation has, and why a row has no cut.
 VIOLATIONS = {"zero": 0, "negative": 1, "asymmetric": 1, "superadditive": 2}
@@ -302,7 +305,9 @@ def sum_skipped_in_words(why: str, *name: str) -> str:
 
 
 def explained(text: str) -> Iterator[Tuple[str, str]]:
-    """Each line of a proof text that `check` reads, and what it says."""
-    reader = _Reader(text_of(text, "text"))
-    lines: List[str] = text.splitlines()
+    """Each line of a proof text or a derivation that `check` reads, and what it says."""
+    if is_derivation(text_of(text, "text")):
+        reader, lines = DerivationReader(text), lines_of(text)
+    else:
+        reader, lines = _Reader(text), text.splitlines()
     return ((line, reader.words(line)) for line in lines)

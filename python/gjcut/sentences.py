@@ -8,27 +8,57 @@ Each has an input that causes it, which the tests try.
 import math
 import re
 from fractions import Fraction
-from typing import List, Optional, Tuple
+from typing import Iterable, List, Optional, Tuple
 
-from ._arguments import text as text_of
+from ._arguments import items, text as text_of
+from ._derivation_sentences import DERIVATION_SENTENCES
 from ._function_sentences import FUNCTION_SENTENCES
 from ._other_sentences import OTHER_SENTENCES
 from ._problem_sentences import PROBLEM_SENTENCES, WORDS
 from ._sentence import Sentence, line_at_fault
 
-__all__ = ["RULES", "SENTENCES", "Sentence", "line_at_fault", "sentence_for", "told"]
+__all__ = [
+    "CAUSES", "RULES", "SENTENCES", "Sentence", "cause_in_words", "is_derivation", "line_at_fault",
+    "sentence_for", "told",
+]  # fmt: skip
 
 COMMAND_SENTENCES = [*FUNCTION_SENTENCES, *OTHER_SENTENCES]
-SENTENCES = [*COMMAND_SENTENCES, *PROBLEM_SENTENCES]
-# What is said of a problem comes first where the command is `problem`, and nowhere else.
+SENTENCES = [*COMMAND_SENTENCES, *PROBLEM_SENTENCES, *DERIVATION_SENTENCES]
+# What is said of a problem comes first where the command is `problem`, and nowhere else; so it is
+# with derivations.
 SENTENCES_OF_PROBLEMS = [*PROBLEM_SENTENCES, *COMMAND_SENTENCES]
+SENTENCES_OF_DERIVATIONS = [*DERIVATION_SENTENCES, *COMMAND_SENTENCES]
+# The first word of a text, behind lines that are skipped.
+FIRST = re.compile(r"(?:[ \t]*(?:#.*)?\r?\n)*[ \t]*(\S*)")
+
+
+def is_derivation(text: str) -> bool:
+    """Whether `check` reads the text as a derivation."""
+    return FIRST.match(text)[1] in ("gj-derivation", "gj-function")
 
 
 def sentence_for(words: str, text: str, answer: str) -> Optional[Sentence]:
     """The sentence about an answer, without the line break at its end, to the words over a text."""
-    given = text_of(words, "words"), text_of(text, "text"), text_of(answer, "answer")
-    among = SENTENCES_OF_PROBLEMS if words == WORDS else COMMAND_SENTENCES
-    return next((each for each in among if each.fits(*given)), None)
+    text_of(words, "words"), text_of(text, "text"), text_of(answer, "answer")
+    among = COMMAND_SENTENCES
+    if words == WORDS:
+        among = SENTENCES_OF_PROBLEMS
+    elif words == "derive" or (words == "check" and is_derivation(text)):
+        if _is_in_function(text, answer):
+            # What is said of a function does not depend on what stands behind it.
+            words = "minimal"
+        else:
+            among = SENTENCES_OF_DERIVATIONS
+    return next((each for each in among if each.fits(words, text, answer)), None)
+
+
+def _is_in_function(text: str, answer: str) -> bool:
+    """Whether the line at fault is one of a function in front."""
+    found = re.match(r"refused line (\d+) ", answer)
+    if not found or FIRST.match(text)[1] != "gj-function":
+        return False
+    lines = text.split("\n")[: int(found[1]) - 1]
+    return not any(line.split()[:1] == ["end"] for line in lines)
 
 
 # What two statuses say for which the program has no line, or one word.
@@ -74,6 +104,30 @@ def _order_reached(text: str, answer: str) -> Optional[int]:
         elif words[:1] == ["family"]:
             places.append(Fraction(words[2]))
     return math.lcm(*(place.denominator for place in places))
+
+
+# What stands against a step of a derivation; `{}` is what the cause is about.
+CAUSES = {
+    "sign": "the multiplier of {} has the wrong sign: a linear step takes a `<=` times a number of "
+    "at most 0, and a `>=` or a step times one of at least 0",
+    "free": "{} has no bound, and its coefficient in the sum is neither 0 nor, in a whole column, "
+    "whole",
+    "integral": "the right side of the sum is whole, with its columns turned to their bounds",
+    "other": "the fractional part of the right side of the sum is not the f of the function",
+    "bound": "the coefficient of {} would have to move, to the one that is claimed or to the grid, "
+    "and {} lacks the bound for that: the lower one moves it up, the upper one down",
+    "right": "with these terms the right side is at most {}",
+    "wide": "a number would have more than 127 bits",
+    "lost": "it names {}, which shows nothing",
+}
+
+
+def cause_in_words(words: Iterable[str]) -> str:
+    """What stands against a step, for the words of an answer that stand behind its line."""
+    cause, *about = items(words, "a list of words", "words")
+    if cause not in CAUSES or len(about) != min(CAUSES[cause].count("{}"), 1):
+        raise ValueError(f"words: there is no cause {' '.join([cause, *about])!r}")
+    return CAUSES[cause].format(*about * 2)
 
 
 # What a rule of the checker asks, for a proof that is rejected.

@@ -9,7 +9,7 @@ from pathlib import Path
 
 import gjcut
 from gjcut import command_line
-from gjcut.sentences import RULES, SENTENCES, sentence_for
+from gjcut.sentences import CAUSES, RULES, SENTENCES, sentence_for
 
 TOP = Path(__file__).resolve().parents[2]
 EXAMPLES = TOP / "examples"
@@ -61,6 +61,13 @@ class Sentences(unittest.TestCase):
         rules = {word for row in rows for word in re.findall(r"`(\w+)`", row)}
         self.assertEqual(set(RULES), rules)
 
+    def test_each_cause_of_a_rejected_step_has_one(self):
+        page = (TOP / "docs/formats.md").read_text()
+        begin, end = "### What a step shows", "## Summary of the demonstration"
+        section = page[page.index(begin) : page.index(end)]
+        causes = re.findall(r"^\| `(\w+)[^|]*\|", section, re.M)
+        self.assertEqual([*CAUSES], [*causes, "lost"])
+
 
 class Commands(unittest.TestCase):
     def test_verdicts(self):
@@ -106,11 +113,33 @@ class Commands(unittest.TestCase):
         self.assertIn("line 5: refused, place", said)
         self.assertIn("No column before it has this name.", said)
 
+    def test_derivations(self):
+        for words, example, lines in (
+            ("check", "check/derivation", ["accepted: each claim follows, and holds at all feasible"]),
+            ("check", "check/derivation_sign", ["rejected: line 26, `step best linear`: the multiplier"]),
+            ("derive", "derive/grid", ["step a: at each feasible point -3/2 x - 3/2 y + z >= -20/3"]),
+            ("derive", "derive/left_out", ["step none: left out, since the right side of the sum is"]),
+            ("derive", "derive/lost", ["rejected: line 17, `step sum linear`: it names none, which"]),
+        ):
+            status, said, errors = front(words, f"{example}/input")
+            wanted = int((EXAMPLES / example / "status").read_text())
+            self.assertEqual((status, errors), (wanted, ""), example)
+            for line, begin in zip(said.splitlines(), lines):
+                self.assertEqual(line[: len(begin)], begin)
+        said = front("check", "check/derivation/input")[1]
+        self.assertEqual(said.splitlines()[1], "  the last step, best: -4 x - 5 y + 2 z >= -19")
+        said = front("explain", "check/derivation/input")[1]
+        self.assertIn("-1/5 times x + 3 y - z <= 9, which is second", said)
+        status, said, _ = front("check", "check/derivation_without_claim/input")
+        self.assertEqual(status, 3)
+        self.assertIn("The step before claims nothing.", said)
+
     def test_the_text_of_the_program(self):
         for example, words in (
             ("extreme/five_pieces", ["extreme", "--proof"]),
             ("minimal/in_json", ["minimal", "--json"]),
             ("transform/times_2_1", ["times", "2", "1"]),
+            ("derive/worked", ["derive", "--proof"]),
             ("demo/50", ["demo", "50"]),
         ):
             files = [] if words[0] == "demo" else [f"{example}/input"]

@@ -200,6 +200,8 @@ except gjcut.LibraryMissing as missing:
             done = subprocess.run(
                 [sys.executable, "-c", self.CODE],
                 env=environment,
+                # Python would take the package of the directory that it stands in.
+                cwd=folder,
                 capture_output=True,
                 text=True,
                 check=False,
