@@ -1,0 +1,74 @@
+"""Models written as free MPS. Each number is the shortest decimal of its double, from which every
+reader has the same double again."""
+from fractions import Fraction
+from typing import Dict, Iterable, Iterator, List, Optional, Sequence, Tuple
+
+from ._lines import Entries, Line
+from ._steps import Names
+
+SENSES = {"<=": "L", ">=": "G", "=": "E"}
+# A column: its name, whether it is whole, and its bounds.
+Column = Tuple[str, bool, Optional[Fraction], Optional[Fraction]]
+
+
+def text(
+    name: str,
+    columns: Sequence[Column],
+    objective: Entries,
+    constant: Fraction,
+    is_maximum: bool,
+    lines: Iterable[Line],
+) -> str:
+    """A model. Its names have no blanks."""
+    lines = list(lines)
+    taken = Names()
+    rows = [taken.new(line.name) for line in lines]
+    first = taken.new("objective")
+    by_column: Dict[int, List[str]] = {j: [] for j in range(len(columns))}
+    for row, entries in [(first, objective), *zip(rows, (line.entries for line in lines))]:
+        for j, value in entries.items():
+            by_column[j].append(f" {columns[j][0]} {row} {_number(value)}\n")
+    parts = [f"NAME {name}\n", "OBJSENSE\n MAX\n" if is_maximum else "", f"ROWS\n N {first}\n"]
+    parts += (f" {SENSES[line.sense]} {row}\n" for row, line in zip(rows, lines))
+    parts += ["COLUMNS\n", *_by_kind(columns, by_column, first), "RHS\n"]
+    rights = [(first, constant), *zip(rows, (line.right for line in lines))]
+    parts += (f" RHS {row} {_number(right)}\n" for row, right in rights if right)
+    parts.append("BOUNDS\n")
+    for column in columns:
+        parts += _bounds(*column)
+    return "".join([*parts, "ENDATA\n"])
+
+
+def _number(value: Fraction) -> str:
+    return repr(float(value)).removesuffix(".0")
+
+
+def _by_kind(
+    columns: Sequence[Column], by_column: Dict[int, List[str]], first: str
+) -> Iterator[str]:
+    """The lines of continuous columns, and then those of whole ones. Each column has one."""
+    for is_whole in (False, True):
+        chosen = [j for j, column in enumerate(columns) if column[1] == is_whole]
+        if is_whole and chosen:
+            yield " MARKER 'MARKER' 'INTORG'\n"
+        for j in chosen:
+            yield from by_column[j] or [f" {columns[j][0]} {first} 0\n"]
+        if is_whole and chosen:
+            yield " MARKER 'MARKER' 'INTEND'\n"
+
+
+def _bounds(
+    name: str, is_whole: bool, lower: Optional[Fraction], upper: Optional[Fraction]
+) -> Iterator[str]:
+    """All that is not so without a line. Programs differ about whole columns without one."""
+    if lower is None:
+        yield f" {'FR' if upper is None else 'MI'} BND {name}\n"
+    elif lower == upper:
+        yield f" FX BND {name} {_number(lower)}\n"
+        return
+    elif lower != 0 or is_whole:
+        yield f" LO BND {name} {_number(lower)}\n"
+    if upper is not None:
+        yield f" UP BND {name} {_number(upper)}\n"
+    elif is_whole and lower is not None:
+        yield f" PL BND {name}\n"
