@@ -9,8 +9,9 @@ Entries = Dict[int, Fraction]
 SPARE = 16
 # A bound with so small a denominator serves as it is.
 FEW = 1000
-# A double that is so near to a fraction with a small denominator is taken for it.
-NEAR = 1e-11
+# A double that is so near to a fraction with a small denominator, or to a decimal with so many
+# places, is taken for it.
+NEAR, PLACES = 1e-11, 7
 
 
 class Missing(ValueError):
@@ -106,13 +107,21 @@ def unit(line: Line, parts: int) -> Fraction:
     return Fraction(scale, parts << exponent(scale * largest(line.entries)))
 
 
-def fractions_near(given: Mapping[str, float]) -> Optional[Dict[str, Fraction]]:
-    """The fractions with small denominators that these are, if they are such."""
-    found = {name: Fraction(value).limit_denominator(FEW) for name, value in given.items()}
-    if any(abs(float(found[name]) - value) > NEAR * max(1, abs(value)) for name, value in given.items()):
+def fractions_near(given: Mapping[str, float], most: int) -> Optional[Dict[str, Fraction]]:
+    """The fractions with few digits that these doubles are, if they are such, over at most so large
+    a common denominator."""
+    found = {name: _near(value) for name, value in given.items()}
+    if None in found.values():
         return None
     scale = math.lcm(*(value.denominator for value in found.values()))
-    return found if scale <= FEW * FEW else None
+    return found if scale <= most else None
+
+
+def _near(given: float) -> Optional[Fraction]:
+    for found in (Fraction(given).limit_denominator(FEW), Fraction(repr(round(given, PLACES)))):
+        if abs(float(found) - given) <= NEAR * max(1.0, abs(given)):
+            return found
+    return None
 
 
 def whole_factor(entries: Entries) -> Fraction:
@@ -155,20 +164,24 @@ def relaxed(line: Line, sign: int, name: str, ranges: Sequence[Range], parts: in
 
 
 def balanced(
-    multipliers: Mapping[str, Fraction], lines: Mapping[str, Line], free: Iterable[int]
+    multipliers: Mapping[str, Fraction],
+    lines: Mapping[str, Line],
+    free: Iterable[int],
+    wanted: Mapping[int, Fraction],
 ) -> Dict[str, Fraction]:
-    """Multipliers near these in whose sum the free columns have the coefficient 0, if there are
-    some: a column without a bound can move nowhere."""
-    found, wanted = dict(multipliers), set(free)
+    """Multipliers near these in whose sum the free columns have the wanted coefficients, if there
+    are some: a column without a bound can move nowhere. A column without one is to have 0."""
+    found, places = dict(multipliers), set(free)
     equations: Dict[int, Dict[str, Fraction]] = {}
     for name in multipliers:
         for column, value in lines[name].entries.items():
-            if column in wanted:
+            if column in places:
                 equations.setdefault(column, {})[name] = value
     # Each equation gives one multiplier by the others, and is put into those behind it.
     solved: List[Tuple[str, Dict[str, Fraction], Fraction]] = []
-    for equation in equations.values():
-        rest = sum((value * multipliers[name] for name, value in equation.items()), Fraction(0))
+    for column, equation in equations.items():
+        products = (value * multipliers[name] for name, value in equation.items())
+        rest = sum(products, -wanted.get(column, Fraction(0)))
         for name, other, amount in solved:
             factor = equation.pop(name, Fraction(0))
             if factor:

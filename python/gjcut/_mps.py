@@ -1,5 +1,6 @@
 """Models written as free MPS. Each number is the shortest decimal of its double, from which every
 reader has the same double again."""
+import itertools
 from fractions import Fraction
 from typing import Dict, Iterable, Iterator, List, Optional, Sequence, Tuple
 
@@ -30,7 +31,7 @@ def text(
             by_column[j].append(f" {columns[j][0]} {row} {_number(value)}\n")
     parts = [f"NAME {name}\n", "OBJSENSE\n MAX\n" if is_maximum else "", f"ROWS\n N {first}\n"]
     parts += (f" {SENSES[line.sense]} {row}\n" for row, line in zip(rows, lines))
-    parts += ["COLUMNS\n", *_by_kind(columns, by_column, first), "RHS\n"]
+    parts += ["COLUMNS\n", *_with_markers(columns, by_column, first), "RHS\n"]
     rights = [(first, constant), *zip(rows, (line.right for line in lines))]
     parts += (f" RHS {row} {_number(right)}\n" for row, right in rights if right)
     parts.append("BOUNDS\n")
@@ -43,17 +44,16 @@ def _number(value: Fraction) -> str:
     return repr(float(value)).removesuffix(".0")
 
 
-def _by_kind(
+def _with_markers(
     columns: Sequence[Column], by_column: Dict[int, List[str]], first: str
 ) -> Iterator[str]:
-    """The lines of continuous columns, and then those of whole ones. Each column has one."""
-    for is_whole in (False, True):
-        chosen = [j for j, column in enumerate(columns) if column[1] == is_whole]
-        if is_whole and chosen:
+    """The lines of the columns, of which each has one, with marks around whole ones."""
+    for is_whole, group in itertools.groupby(range(len(columns)), lambda j: columns[j][1]):
+        if is_whole:
             yield " MARKER 'MARKER' 'INTORG'\n"
-        for j in chosen:
+        for j in group:
             yield from by_column[j] or [f" {columns[j][0]} {first} 0\n"]
-        if is_whole and chosen:
+        if is_whole:
             yield " MARKER 'MARKER' 'INTEND'\n"
 
 

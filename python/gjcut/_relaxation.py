@@ -114,24 +114,31 @@ class Relaxation:
         self.remove(())
         if self._is_new:
             self._start()
-        how = ask.glp_smcp()
+        found = self._solve_by(ask.GLP_DUALP, deadline)
+        if found != ask.GLP_OPT:
+            # It may be a matter of numbers: once more, from another basis and in the other way.
+            ask.glp_std_basis(p)
+            found = self._solve_by(ask.GLP_PRIMAL, deadline)
+        names = {
+            ask.GLP_OPT: "optimal", ask.GLP_NOFEAS: "infeasible", ask.GLP_UNBND: "unbounded"
+        }  # fmt: skip
+        if found not in names:
+            raise SimplexFailed("GLPK gives up the relaxation")
+        return names[found]
+
+    def _solve_by(self, method: int, deadline: Optional[float]) -> Optional[int]:
+        """The status after the simplex method, or None where it fails. It is left now and then, so
+        that Ctrl-C is heard, and goes on from the basis that it has."""
+        ask, how = self.glpk, self.glpk.glp_smcp()
         ask.glp_init_smcp(how)
-        how.msg_lev, how.meth, how.tm_lim = ask.GLP_MSG_OFF, ask.GLP_DUALP, SLICE
-        tries = 0
+        how.msg_lev, how.meth, how.tm_lim = ask.GLP_MSG_OFF, method, SLICE
         while True:
-            failed = ask.glp_simplex(p, how)
-            if failed == ask.GLP_ETMLIM:
-                if deadline is not None and time.monotonic() > deadline:
-                    raise Timeout
-                # As much time as the solver has had is not lost if the basis is the old one.
-                how.tm_lim = min(2 * how.tm_lim, 10 * SLICE)
-            elif failed:
-                tries += 1
-                if tries > 1:
-                    raise SimplexFailed("GLPK gives up the relaxation")
-                self._start()
-            else:
-                return self._status()
+            failed = ask.glp_simplex(self._problem, how)
+            if failed != ask.GLP_ETMLIM:
+                return None if failed else ask.glp_get_status(self._problem)
+            if deadline is not None and time.monotonic() > deadline:
+                raise Timeout
+            how.tm_lim = min(2 * how.tm_lim, 10 * SLICE)
 
     def _start(self) -> None:
         ask, p = self.glpk, self._problem
@@ -140,17 +147,6 @@ class Relaxation:
         ask.glp_adv_basis(p, 0)
         ask.glp_term_out(was_on)
         self._is_new = False
-
-    def _status(self) -> str:
-        ask, p = self.glpk, self._problem
-        found = ask.glp_get_status(p)
-        if found == ask.GLP_OPT:
-            return "optimal"
-        if found == ask.GLP_NOFEAS:
-            return "infeasible"
-        if found == ask.GLP_UNBND:
-            return "unbounded"
-        raise SimplexFailed("GLPK gives up the relaxation")
 
     def value(self) -> float:
         return self.glpk.glp_get_obj_val(self._problem)
@@ -203,8 +199,9 @@ class Relaxation:
             places[k], values[k] = column + 1, value
         ask.glp_set_row_bnds(p, row, ask.GLP_LO, right, 0.0)
         ask.glp_set_mat_row(p, row, len(entries), places, values)
-        # For GLPK its greatest entry is 1.
-        ask.glp_set_rii(p, row, 1.0 / max(abs(value) for _, value in entries))
+        # As GLPK sees it, its greatest entry is 1.
+        greatest = max(abs(value) * ask.glp_get_sjj(p, column + 1) for column, value in entries)
+        ask.glp_set_rii(p, row, 1.0 / greatest)
         ask.glp_set_row_name(p, row, name)
 
     def remove(self, names: Iterable[str]) -> None:

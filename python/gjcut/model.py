@@ -40,6 +40,9 @@ NEARLY_WHOLE = 1e-3
 LEAST_DISTANCE = 1e-6
 # Terms below this part of the greatest are left out, where that costs little.
 SMALL = Fraction(1, 2**15)
+# Multipliers that are fractions with few digits are taken as they are over at most such a common
+# denominator: of a row, and of the bound.
+MOST_IN_ROW, MOST_IN_BOUND = 10**6, 10**12
 # A row with which a number is too wide is tried again with multipliers so much coarser.
 COARSER = (1, 2**6, 2**12)
 # Multipliers of the last step are fractions with small denominators, or have so many parts of a
@@ -49,6 +52,9 @@ LAST_PARTS = (None, 2**40, 2**30, 2**20)
 CHANGES = (0.0, 1e-9, 1e-7, 1e-5)
 # A bound that is no whole number has so many parts of a unit.
 BOUND_PARTS = Fraction(10**9)
+
+
+TIME_OVER = "the time was over"
 
 
 class NoBound(ValueError):
@@ -159,7 +165,7 @@ class Model:
 
     def __init__(self, relaxation: Relaxation, source: str):
         self.source, self.name = source, relaxation.name()
-        self.is_maximum, self.ended = relaxation.is_maximum, ""
+        self.is_maximum, self.ended, self.rounds = relaxation.is_maximum, "", []
         self._relaxation, self._variables = relaxation, relaxation.columns()
         coefficients, constant = relaxation.objective()
         self.constant, sign = _number(constant), -1 if self.is_maximum else 1
@@ -240,6 +246,11 @@ class Model:
     def objective(self) -> Dict[str, Fraction]:
         sign = -1 if self.is_maximum else 1
         return {name: sign * value for name, value in self._by_names(self._costs).items()}
+
+    @property
+    def active(self) -> List[Cut]:
+        """The cuts in the relaxation."""
+        return [Cut(each.name, self._by_names(each.entries), each.right) for each in self._cut_lines()]
 
     def _cut_lines(self) -> List[Line]:
         return [self._lines[name] for name in self._relaxation.cuts()]
@@ -342,22 +353,23 @@ class Model:
         and the numbers of cuts likewise over `grid`; with `grid` None they are as they come. A
         round takes at most `limit` cuts, the deepest. After each `callback` is called, and if it
         returns True that is the last. The rounds end too where one finds no cut, and after so many
-        seconds; `ended` then says why.
+        seconds; then `ended` says why. All rounds are in `rounds`, also those before Ctrl-C.
 
         A relaxation without an optimum raises `NoBound`, and so does a model without whole columns.
         """
         deadline = _deadline(seconds)
         given = _given(rule, round, grid, limit, deadline)
-        count, found, self.ended = whole(rounds, "rounds"), [], "all rounds were made"
+        count, found, self.ended = whole(rounds, "rounds"), [], ""
         if not any(each.is_whole for each in self._variables):
             raise NoBound(f"{self.source}: no column is whole, and so there are no cuts")
         try:
             self._optimum(deadline)
             while len(found) < count:
-                made = self._round(len(found) + 1, given)
+                made = self._round(given)
                 if made is None:
                     break
                 found.append(made)
+                self.rounds.append(made)
                 if callback is not None and callback(made):
                     self.ended = "the caller ended the rounds"
                     break
@@ -365,10 +377,10 @@ class Model:
                     self.ended = "no feasible point is left"
                     break
         except Timeout:
-            self.ended = "the time was over"
+            self.ended = TIME_OVER
         return found
 
-    def _round(self, number: int, given: _Given) -> Optional[Round]:
+    def _round(self, given: _Given) -> Optional[Round]:
         """One round, or None where no row gives a cut."""
         started, refused = time.monotonic(), collections.Counter()
         rows = self._fractional()
@@ -386,7 +398,8 @@ class Model:
         bound = self._vertex.bound if self._status == "optimal" else math.inf
         cuts = tuple(Cut(each.name, self._by_names(each.entries), each.right) for each in lines)
         active = len(self._relaxation.cuts())
-        return Round(number, bound, cuts, active, dict(refused), time.monotonic() - started)
+        seconds = time.monotonic() - started
+        return Round(len(self.rounds) + 1, bound, cuts, active, dict(refused), seconds)
 
     def _new_cuts(self, rows: List[int], given: _Given, refused: Counter[str]) -> List[Line]:
         """The deepest cuts of these rows, with numbers of few digits."""
@@ -453,14 +466,16 @@ class Model:
     def _step(self, multipliers: Mapping[str, float], given: _Given, coarser: int) -> Step:
         """How the cut of a row is made, with multipliers of few digits."""
         usable = [(*self._usable(name, value, given.parts), value) for name, value in multipliers.items()]
-        chosen = fractions_near({line.name: sign * value for line, sign, value in usable})
+        chosen = fractions_near(
+            {line.name: sign * value for line, sign, value in usable}, MOST_IN_ROW
+        )
         if chosen is None or coarser > 1:
             chosen = {}
             for line, sign, value in usable:
                 part = unit(line, given.parts) * coarser
                 chosen[line.name] = round(sign * value / float(part)) * part
         if self._free:
-            chosen = balanced(chosen, self._lines, self._free)
+            chosen = balanced(chosen, self._lines, self._free, {})
         chosen = {name: value for name, value in chosen.items() if value}
         columns = {j for name in chosen for j in self._lines[name].entries}
         return Step(given.rule, chosen, [j for j in self._vertex.at_upper if j in columns])
@@ -539,14 +554,17 @@ class Model:
         bound, or none is found.
         """
         deadline = _deadline(seconds)
-        self._solve(deadline)
+        if self._refutation:
+            return self._accepted([self._refutation])
+        # After Ctrl-C in a round the optimum before it serves.
+        if self._vertex is None or self._status:
+            self._solve(deadline)
         if self._status == "unbounded":
             raise NoBound(f"{self.source}: {WITHOUT['unbounded']}")
-        if self._status == "infeasible" and self._refutation:
-            return self._accepted([self._refutation])
-        costs = self._costs if self._status == "optimal" else {}
+        is_feasible = self._status != "infeasible"
+        costs = self._costs if is_feasible else {}
         for change in CHANGES:
-            duals = self._duals_for(costs, change, deadline)
+            duals = self._duals_for(costs, change, is_feasible, deadline)
             for parts in LAST_PARTS if duals else ():
                 try:
                     lines = self._last_lines(costs, duals, parts)
@@ -558,29 +576,27 @@ class Model:
         raise NoBound(f"{self.source}: no multipliers of exact numbers were found that show a bound")
 
     def _duals_for(
-        self, costs: Entries, change: float, deadline: Optional[float]
+        self, costs: Entries, change: float, is_feasible: bool, deadline: Optional[float]
     ) -> Dict[str, float]:
         """The multipliers that show the bound, for costs with a change by which the coefficients of
         columns without a bound get room; or none."""
-        if self._status == "optimal" and change == 0:
+        if is_feasible and change == 0:
             return self._vertex.duals
-        is_optimal = self._status == "optimal"
-        problem = self._relaxation if is_optimal else self._relaxation.elastic()
         changed = {}
         for j, (_, lower, upper) in enumerate(self._program.ranges):
-            cost = float(costs.get(j, 0))
-            room = change * max(1.0, abs(cost))
             if (lower is None) != (upper is None):
+                cost = float(costs.get(j, 0))
+                room = change * max(1.0, abs(cost))
                 changed[j] = cost + (room if lower is None else -room)
-        with problem.other_costs(changed):
-            # The basis is another one then.
-            self._status, kept = "", self._status
-            if problem.solve(deadline) != "optimal":
-                return {}
-            found = self._duals(problem)
-        if not is_optimal:
-            self._status = kept
-        return found
+        if not is_feasible:
+            problem = self._relaxation.elastic()
+            with problem.other_costs(changed):
+                return self._duals(problem) if problem.solve(deadline) == "optimal" else {}
+        # The basis is another one then.
+        self._status = ""
+        with self._relaxation.other_costs(changed):
+            is_optimal = self._relaxation.solve(deadline) == "optimal"
+            return self._duals(self._relaxation) if is_optimal else {}
 
     def _last_lines(
         self, costs: Entries, duals: Mapping[str, float], parts: Optional[int]
@@ -590,14 +606,14 @@ class Model:
         factor = self._common_factor(costs)
         wanted = {j: cost / factor for j, cost in costs.items()}
         given = {name: value / float(factor) for name, value in duals.items()}
-        multipliers = fractions_near(given) if parts is None else {}
+        multipliers = fractions_near(given, MOST_IN_BOUND) if parts is None else {}
         if multipliers is None:
             return []
         for name, value in given.items() if parts else ():
             part = unit(self._lines[name], parts)
             multipliers[name] = round(value / float(part)) * part
         if self._free:
-            multipliers = balanced(multipliers, self._lines, self._free)
+            multipliers = balanced(multipliers, self._lines, self._free, wanted)
         multipliers = {name: value for name, value in multipliers.items() if value}
         total: Entries = {}
         right = Fraction(0)
