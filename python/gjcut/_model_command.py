@@ -2,12 +2,11 @@
 import argparse
 import math
 import time
-from decimal import Decimal, localcontext
 from fractions import Fraction
 from pathlib import Path
 from typing import Mapping
 
-from . import _files, _progress, model
+from . import _files, _mps, _progress, model
 from ._optional import PackageMissing
 
 # The statuses: GLPK does not read the file; it is not there; a file cannot be written; there is no
@@ -166,7 +165,5 @@ def _proved(given: model.Model, chosen: argparse.Namespace) -> int:
 
 def _exact(value: Fraction) -> str:
     """As a decimal, if it is one."""
-    with localcontext() as context:
-        context.prec = 60
-        found = Decimal(value.numerator) / Decimal(value.denominator)
-        return f"{found.normalize():f}" if Fraction(found) == value else str(value)
+    found = _mps.decimal_of(value)
+    return str(value) if found is None else f"{found:f}"

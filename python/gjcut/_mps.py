@@ -1,12 +1,13 @@
-"""Models written as free MPS. Each number is the shortest decimal of its double, from which every
-reader has the same double again."""
+"""Models written as free MPS, with numbers in all their digits."""
 import itertools
+from decimal import Decimal, localcontext
 from fractions import Fraction
 from typing import Dict, Iterable, Iterator, List, Optional, Sequence, Tuple
 
 from ._lines import Entries, Line
 from ._steps import Names
 
+MOST_DIGITS = 400
 SENSES = {"<=": "L", ">=": "G", "=": "E"}
 # A column: its name, whether it is whole, and its bounds.
 Column = Tuple[str, bool, Optional[Fraction], Optional[Fraction]]
@@ -29,7 +30,7 @@ def text(
     for row, entries in [(first, objective), *zip(rows, (line.entries for line in lines))]:
         for j, value in entries.items():
             by_column[j].append(f" {columns[j][0]} {row} {_number(value)}\n")
-    parts = [f"NAME {name}\n", "OBJSENSE\n MAX\n" if is_maximum else "", f"ROWS\n N {first}\n"]
+    parts = [f"NAME {name or 'model'}\n", "OBJSENSE\n MAX\n" if is_maximum else "", f"ROWS\n N {first}\n"]
     parts += (f" {SENSES[line.sense]} {row}\n" for row, line in zip(rows, lines))
     parts += ["COLUMNS\n", *_with_markers(columns, by_column, first), "RHS\n"]
     rights = [(first, constant), *zip(rows, (line.right for line in lines))]
@@ -40,8 +41,17 @@ def text(
     return "".join([*parts, "ENDATA\n"])
 
 
+def decimal_of(value: Fraction) -> Optional[Decimal]:
+    """The same number as a decimal, if it is one."""
+    with localcontext() as context:
+        context.prec = MOST_DIGITS
+        found = (Decimal(value.numerator) / Decimal(value.denominator)).normalize()
+        return found if Fraction(found) == value else None
+
+
 def _number(value: Fraction) -> str:
-    return repr(float(value)).removesuffix(".0")
+    found = decimal_of(value)
+    return repr(float(value)) if found is None else str(found)
 
 
 def _with_markers(

@@ -67,6 +67,18 @@ end;
 """
 
 
+def rows_of(path):
+    """The entries of the rows of cuts in a file."""
+    words = [line.split() for line in path.read_text().splitlines()]
+    return {(w[0], w[1], Fraction(w[2])) for w in words if len(w) == 3 and w[1].startswith("cut")}
+
+
+def rows_in(cuts):
+    """The same of cuts."""
+    found = {(name, cut.name, value) for cut in cuts for name, value in cut.entries.items()}
+    return found | {("RHS", cut.name, cut.right) for cut in cuts if cut.right}
+
+
 @needs_glpk
 class Models(unittest.TestCase):
     def setUp(self):
@@ -229,8 +241,8 @@ class AgainstAllPoints(Models):
             self.assertAccepted(proof)
             proved += proof.bound == best
             found.write(self.folder / "with_cuts.mps", force=True)
-            again = gjcut.model.read(self.folder / "with_cuts.mps")
-            self.assertTrue(all(holds(p, *c[1:]) for p in points for c in again.constraints))
+            # In the file the numbers of cuts stand in all their digits, and so as they were.
+            self.assertEqual(rows_of(self.folder / "with_cuts.mps"), rows_in(found.active))
         self.assertGreater(cut, 50)
         self.assertGreater(proved, 1)
 
