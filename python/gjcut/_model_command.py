@@ -92,9 +92,11 @@ def _described(given: model.Model) -> str:
     columns, constraints = given.columns, given.constraints
     whole = sum(each.is_whole is True for each in columns)
     sense = "maximum" if given.is_maximum else "minimum"
+    constant = f"; its constant is {_exact(given.constant)}" if given.constant else ""
     return (
-        f"{given.source}: a {sense} over {_counted(len(columns), 'column')}, of which {whole} are "
-        f"whole, and {_counted(len(constraints), 'constraint')}"
+        f"{given.source}: a {sense} over {_counted(len(columns), 'column')}, of which {whole:,} "
+        f"{'is' if whole == 1 else 'are'} whole, and {_counted(len(constraints), 'constraint')}"
+        f"{constant}"
     )
 
 

@@ -16,29 +16,42 @@ Column = Tuple[str, bool, Optional[Fraction], Optional[Fraction]]
 def text(
     name: str,
     columns: Sequence[Column],
-    objective: Entries,
+    costs: Entries,
     constant: Fraction,
-    is_maximum: bool,
     lines: Iterable[Line],
+    comment: str,
 ) -> str:
-    """A model. Its names have no blanks."""
-    lines = list(lines)
+    """A minimum. Its names have no blanks. The fields stand where fixed MPS has them too, and the
+    word FREE is for readers that would count columns. The constant is the cost of a column at 1:
+    programs differ about its sign elsewhere."""
+    lines, columns, costs = list(lines), list(columns), dict(costs)
+    if constant:
+        names = Names()
+        for column in columns:
+            names.new(column[0])
+        costs[len(columns)] = constant
+        columns.append((names.new("constant"), False, Fraction(1), Fraction(1)))
     taken = Names()
     rows = [taken.new(line.name) for line in lines]
     first = taken.new("objective")
     by_column: Dict[int, List[str]] = {j: [] for j in range(len(columns))}
-    for row, entries in [(first, objective), *zip(rows, (line.entries for line in lines))]:
+    for row, entries in [(first, costs), *zip(rows, (line.entries for line in lines))]:
         for j, value in entries.items():
-            by_column[j].append(f" {columns[j][0]} {row} {_number(value)}\n")
-    parts = [f"NAME {name or 'model'}\n", "OBJSENSE\n MAX\n" if is_maximum else "", f"ROWS\n N {first}\n"]
-    parts += (f" {SENSES[line.sense]} {row}\n" for row, line in zip(rows, lines))
+            by_column[j].append(_fields("", columns[j][0], row, _number(value)))
+    parts = [f"* {comment}\n" if comment else "", f"NAME          {name or 'model'}  FREE\n"]
+    parts += ["ROWS\n", f" N  {first}\n"]
+    parts += (f" {SENSES[line.sense]}  {row}\n" for row, line in zip(rows, lines))
     parts += ["COLUMNS\n", *_with_markers(columns, by_column, first), "RHS\n"]
-    rights = [(first, constant), *zip(rows, (line.right for line in lines))]
-    parts += (f" RHS {row} {_number(right)}\n" for row, right in rights if right)
+    rights = zip(rows, (line.right for line in lines))
+    parts += (_fields("", "RHS", row, _number(right)) for row, right in rights if right)
     parts.append("BOUNDS\n")
     for column in columns:
         parts += _bounds(*column)
     return "".join([*parts, "ENDATA\n"])
+
+
+def _fields(first: str, *others: str) -> str:
+    return " " + "  ".join([f"{first:2}" , *(f"{each:8}" for each in others)]).rstrip() + "\n"
 
 
 def decimal_of(value: Fraction) -> Optional[Decimal]:
@@ -60,11 +73,11 @@ def _with_markers(
     """The lines of the columns, of which each has one, with marks around whole ones."""
     for is_whole, group in itertools.groupby(range(len(columns)), lambda j: columns[j][1]):
         if is_whole:
-            yield " MARKER 'MARKER' 'INTORG'\n"
+            yield _fields("", "MARKER", "'MARKER'", "", "", "'INTORG'")
         for j in group:
-            yield from by_column[j] or [f" {columns[j][0]} {first} 0\n"]
+            yield from by_column[j] or [_fields("", columns[j][0], first, "0")]
         if is_whole:
-            yield " MARKER 'MARKER' 'INTEND'\n"
+            yield _fields("", "MARKER", "'MARKER'", "", "", "'INTEND'")
 
 
 def _bounds(
@@ -72,13 +85,13 @@ def _bounds(
 ) -> Iterator[str]:
     """All that is not so without a line. Programs differ about whole columns without one."""
     if lower is None:
-        yield f" {'FR' if upper is None else 'MI'} BND {name}\n"
+        yield _fields("FR" if upper is None else "MI", "BND", name)
     elif lower == upper:
-        yield f" FX BND {name} {_number(lower)}\n"
+        yield _fields("FX", "BND", name, _number(lower))
         return
     elif lower != 0 or is_whole:
-        yield f" LO BND {name} {_number(lower)}\n"
+        yield _fields("LO", "BND", name, _number(lower))
     if upper is not None:
-        yield f" UP BND {name} {_number(upper)}\n"
+        yield _fields("UP", "BND", name, _number(upper))
     elif is_whole and lower is not None:
-        yield f" PL BND {name}\n"
+        yield _fields("PL", "BND", name)

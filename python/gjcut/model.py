@@ -673,17 +673,20 @@ class Model:
     # ---- writing
 
     def write(self, path: Union[str, PathLike], force: bool = False) -> None:
-        """Writes the model with its cuts as free MPS. What is read of it in doubles are the cuts,
-        exactly. A file that is there already raises `FileExistsError`, but for `force`."""
+        """Writes the model with its cuts as free MPS, a maximum as a minimum with its sign turned.
+        The numbers of the cuts are doubles, and stand in all their digits. A file that is there
+        already raises `FileExistsError`, but for `force`."""
         cuts = (self._in_doubles(each) for each in self._cut_lines())
         lines = [*map(self._lines.__getitem__, self._own[: self._bounds_from]), *cuts]
         columns = [
             (name, each.is_whole, _limit(each.lower), _limit(each.upper))
             for name, each in zip(self._program.names, self._variables)
         ]
-        sign = -1 if self.is_maximum else 1
-        objective = {j: sign * cost for j, cost in self._costs.items()}
-        text = _mps.text(self.name, columns, objective, self.constant, self.is_maximum, lines)
+        constant = -self.constant if self.is_maximum else self.constant
+        comment = "The objective has its sign turned: a maximum stands as a minimum."
+        text = _mps.text(
+            self.name, columns, self._costs, constant, lines, comment if self.is_maximum else ""
+        )
         _files.write(path, text.encode(), force)
 
     def _in_doubles(self, line: Line) -> Line:

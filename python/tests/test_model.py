@@ -148,8 +148,11 @@ class Reading(Models):
         found = self.read(MPS, ".mps")
         found.write(self.folder / "written.mps")
         again = gjcut.model.read(self.folder / "written.mps")
-        for name in ("columns", "objective", "constant", "is_maximum"):
-            self.assertEqual(getattr(found, name), getattr(again, name))
+        # A maximum is written as a minimum, and its constant as the cost of a column.
+        self.assertEqual([*found.columns, Column("constant", False, 1, 1)], again.columns)
+        costs = {name: -value for name, value in found.objective.items()}
+        self.assertEqual({**costs, "constant": -found.constant}, again.objective)
+        self.assertEqual((again.constant, again.is_maximum), (0, False))
         self.assertEqual(
             {str(each) for each in found.constraints}, {str(each) for each in again.constraints}
         )
@@ -275,7 +278,7 @@ class AtATerminal(Models):
         self.assertIn("relaxation: 20.6\nround 1: 19, 2 new cuts, 2 in all; \n", said)
         self.assertIn("proved: the objective is at most 19 at each feasible point\n", said)
         self.assertTrue(gjcut.check(proof.read_text()).accepted)
-        self.assertAlmostEqual(gjcut.model.read(out).relaxation().bound, 19)
+        self.assertAlmostEqual(gjcut.model.read(out).relaxation().bound, -19)
         self.assertEqual(self.command(*words)[0], 5)
         self.assertEqual(self.command(*words, "--force")[0], 0)
 
