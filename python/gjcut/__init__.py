@@ -418,6 +418,7 @@ _LATER = {
     "from_piecewise": "_piecewise",
     "literature": "literature",
     "map": "_map",
+    "model": "model",
     "search": "_search",
 }
 __all__ += sorted(_LATER)

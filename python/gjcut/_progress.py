@@ -1,5 +1,6 @@
 """A line that shows how far a long call is."""
 import importlib
+import sys
 from typing import Iterable, Optional, TypeVar
 
 from ._arguments import wrong
@@ -30,3 +31,13 @@ def shown(
             return given
     # With None tqdm looks itself whether standard error is a terminal.
     return tqdm.tqdm(given, desc=what, total=total, disable=None if progress is None else False)
+
+
+def say(line: str) -> None:
+    """Prints a line, above one that shows how far it is."""
+    tqdm = sys.modules.get("tqdm")
+    if tqdm is None:
+        print(line, flush=True)
+    else:
+        tqdm.tqdm.write(line, file=sys.stdout)
+        sys.stdout.flush()

@@ -96,7 +96,8 @@ def parser() -> argparse.ArgumentParser:
             command.add_argument("files", metavar="FILE", nargs="*")
         progress = "show how far it is, also where standard error is no terminal"
         command.add_argument("--progress", action="store_true", help=progress)
-    _picture_commands().add_parsers(commands)
+    for others in (_picture_commands(), _model_command()):
+        others.add_parsers(commands)
     return made
 
 
@@ -105,6 +106,13 @@ def _picture_commands():
     from . import _picture_commands
 
     return _picture_commands
+
+
+def _model_command():
+    """The command for models."""
+    from . import _model_command
+
+    return _model_command
 
 
 def _count(word: str) -> int:
@@ -126,6 +134,8 @@ def main(words: Optional[List[str]] = None) -> int:
             parser().print_help()
             return 2
         find()
+        if chosen.command == "cuts":
+            return _model_command().run(chosen)
         if chosen.command not in COMMANDS:
             return _picture_commands().run(chosen)
         return _answer_all(chosen)
