@@ -63,8 +63,7 @@ head_line : (name : List ℕ) (x : Step) (text rest : List ℕ) → IsName name 
     text ≡ line_of step_form (name, (x.combination.rule, tt)) ++ rest →
     HasLine Lenient text text (codes "step" ∷ name ∷ rule_word x.combination.rule ∷ []) rest
 head_line name x text rest is_name is =
-    has_its_line Lenient (step_form.fields (name, (x.combination.rule, tt))) text rest
-    (
+    has_its_line Lenient (step_form.fields (name, (x.combination.rule, tt))) text rest (
       known (codes "step") refl,
       (name_is_plain name is_name, rule_is_clear.good x.combination.rule tt),
     ) (λ e. omega (arith, e)) is
@@ -78,7 +77,7 @@ module _ (f : Option FunctionData) (has_function : Bool)
       IsReadableDraft f (length columns) (length s.lines) (as_draft x) → IsAhead text next →
       next ≡ step_lines columns lines name x ++ rest → StepsGoOn rest →
       (next_step false has_function s).Reads text
-          (inl (with_step s name (length next) (as_draft x))) rest
+      (inl (with_step s name (length next) (as_draft x))) rest
   step_is_read s name behind x text next rest own is few h ahead whole on =
       inr (
         other_word Lenient text next words (codes "end") after found
@@ -97,37 +96,48 @@ module _ (f : Option FunctionData) (has_function : Bool)
     where
       rule : StepRule
       rule = x.combination.rule
+
       head : Head
       head = (name, (rule, tt))
+
       words : List (List ℕ)
       words = codes "step" ∷ name ∷ rule_word rule ∷ []
+
       after : List ℕ
       after = printed_lines (step_told columns lines x) ++ rest
+
       all : AreNames (s.lines ++ name ∷ behind)
       all = subst AreNames is are
+
       is_name : IsName name
       is_name = name_is s.lines name behind all
+
       found : HasLine Lenient text next words after
       found = ahead next words after (head_line name x next after is_name
           (whole
           ∙ append_assoc (line_of step_form head) (printed_lines (step_told columns lines x)) rest))
+
       spelled : Spell Lenient step_form words head
       spelled = spells_its_thing Lenient step_form head
           (known (codes "step") refl, (name_is_plain name is_name, rule_is_clear.good rule tt))
-              (is_name, (tt, tt))
+          (is_name, (tt, tt))
+
       needs : rule ≡ Function → IsTrue has_function
       needs e = has (h.combination.function e)
+
       new : index_in s.lines name ≡ None
       new = no_place s.lines name (next_differs s.lines name behind all)
+
       readable : IsReadableDraft f (length s.task.names) (length s.lines) (as_draft x)
       readable =
           subst
-          (λ (names : List (List ℕ)). IsReadableDraft f (length names) (length s.lines) (as_draft x))
+          (λ (own : List (List ℕ)). IsReadableDraft f (length own) (length s.lines) (as_draft x))
           (sym own) h
+
       lines_read : (lines_of_step (names_of false s) (begun rule)).Reads after (as_draft x) rest
       lines_read =
           step_lines_are_read f (names_of false s) lines (name ∷ behind) x is
-              (subst AreNames (sym own) are_columns) are
+          (subst AreNames (sym own) are_columns) are
           readable.combination readable.claim after rest on
           (ap (λ (names : List (List ℕ)). printed_lines (step_told names lines x) ++ rest)
           (sym own))
@@ -149,7 +159,7 @@ module _ (f : Option FunctionData) (has_function : Bool)
       let head = line_of step_form (name, (x.combination.rule, tt)) in
       let found = head_line name x text after (All-head IsName name names good)
       (is ∙ append_assoc (head ++ behind) more (line (codes "end"))
-          ∙ append_assoc head behind (more ++ line (codes "end"))) in
+      ∙ append_assoc head behind (more ++ line (codes "end"))) in
       let others = name ∷ rule_word x.combination.rule ∷ [] in
       inl (begins_with Lenient text text (codes "step" ∷ others) others (codes "step") after found
       refl)
@@ -159,7 +169,7 @@ module _ (f : Option FunctionData) (has_function : Bool)
       (left_out_is_ahead columns lines name v text more are_columns are
       (All-head IsName name names good)
       (is ∙ append_assoc (left_out_line columns lines name v) (shown_lines columns lines names xs)
-          (line (codes "end"))))
+      (line (codes "end"))))
       (goes_on names xs more (omega (arith, count)) (All-tail IsName name names good) refl)
 
   abbrev with_steps : Drafts → List (List ℕ) → List Draft → List ℕ → Drafts
@@ -186,8 +196,8 @@ module _ (f : Option FunctionData) (has_function : Bool)
       let in_steps = append_assoc s.steps (d ∷ []) drafts in
       let in_left = append_assoc s.left (start ∷ []) left in
       let same :
-          with_steps t names drafts left
-          ≡ with_steps s (name ∷ names) (d ∷ drafts) (start ∷ left) =
+      with_steps t names drafts left
+      ≡ with_steps s (name ∷ names) (d ∷ drafts) (start ∷ left) =
       λ i. record s { lines = in_lines i; steps = in_steps i; left = in_left i } in (
         start ∷ left,
         onward s text t rest one
@@ -197,7 +207,8 @@ module _ (f : Option FunctionData) (has_function : Bool)
       )
 
   steps_are_read : (s : Drafts) (names : List (List ℕ)) (xs : List Shown) (text next : List ℕ) →
-      s.task.names ≡ columns → lines ≡ s.lines ++ kept_names names xs → length names ≡ length xs → All IsName names →
+      s.task.names ≡ columns → lines ≡ s.lines ++ kept_names names xs →
+      length names ≡ length xs → All IsName names →
       length s.steps + length (steps_of xs) ≤ most_steps →
       AreReadableDrafts f (length columns) (length s.lines) (map as_draft (steps_of xs)) →
       IsAhead text next →
@@ -225,14 +236,14 @@ module _ (f : Option FunctionData) (has_function : Bool)
       absurd (omega (arith, count))
   steps_are_read s (name ∷ names) [] text next own is count good few h ahead whole =
       absurd (omega (arith, count))
-  steps_are_read s (name ∷ names) (shown.Step x ∷ xs) text next own is count good few h ahead whole =
+  steps_are_read s (name ∷ names) (shown.Step x ∷ xs) text next own is count good few h ahead w =
       let kept = kept_names names xs in
       let rest = shown_lines columns lines names xs ++ line (codes "end") in
       let others = All-tail IsName name names good in
       let t = with_step s name (length next) (as_draft x) in
       let one = step_is_read s name kept x text next rest own is (omega (arith, few)) h.0 ahead
-      (whole ∙ append_assoc (step_lines columns lines name x) (shown_lines columns lines names xs)
-          (line (codes "end")))
+      (w ∙ append_assoc (step_lines columns lines name x) (shown_lines columns lines names xs)
+      (line (codes "end")))
       (goes_on names xs rest (omega (arith, count)) others refl) in
       let longer : length s.lines + 1 ≡ length t.lines =
       omega (arith, length-append s.lines (name ∷ [])) in
@@ -331,14 +342,23 @@ module _ (d : DerivationInput) (constraints names : List (List ℕ)) (xs : List 
       let title = titled whole is in
       let columns = h.problem.names in
       let on = goes_on d.function has_function has d.columns lines columns are_lines names xs rest
-          k.count k.are refl in
+      k.count k.are refl in
       let problem = problem_is_read d.columns constraints d.problem behind rest h.problem
-          (names_before constraints kept are_lines) count on refl in
+      (names_before constraints kept are_lines) count on refl in
       let (left, all) = steps_are_read d.function has_function has d.columns lines columns are_lines
-          ready names xs rest rest refl refl k.count k.are
-      few readable (λ start words end found. found) refl in
-      (left, ([], (tt, behind, title,
-          (ready, rest, problem, (drafts left, [], all, (refl, refl, nothing [] refl))))))
+      ready names xs rest rest refl refl k.count k.are few readable
+      (λ start words end found. found) refl in (
+        left,
+        (
+          [],
+          (
+            tt,
+            behind,
+            title,
+            (ready, rest, problem, (drafts left, [], all, (refl, refl, nothing [] refl))),
+          ),
+        ),
+      )
 
   abbrev input : List ℕ → DraftInput
   input left = record { function = d.function; drafts = drafts left }
@@ -349,8 +369,12 @@ module _ (d : DerivationInput) (constraints names : List (List ℕ)) (xs : List 
       let same = sym k.steps in
       λ i. record {
         function = d.function;
-        drafts = record { task = task_of d.columns d.problem; lines = own i; steps = map as_draft
-            (same i); left = left };
+        drafts = record {
+          task = task_of d.columns d.problem;
+          lines = own i;
+          steps = map as_draft (same i);
+          left = left;
+        };
       }
 
   grouped : (function title problem steps : List ℕ) →
@@ -360,24 +384,24 @@ module _ (d : DerivationInput) (constraints names : List (List ℕ)) (xs : List 
   input_is_read : (f : Option FunctionData) (function : List ℕ) → d.function ≡ f →
       HasFunctionText f function → IfSome f IsWithinBounds →
       text ≡ function ++ middle →
-          (left : List ℕ) × Tells (input_part false) text
-          (record { function = f; drafts = drafts left })
+      (left : List ℕ)
+      × Tells (input_part false) text (record { function = f; drafts = drafts left })
   input_is_read None function same is within whole =
       let start : text ≡ middle = whole ∙ ap (λ (t : List ℕ). t ++ middle) is in
       let title = titled text start in
       let other : BeginsAsFunction text → ⊥ =
-      other_word Lenient text title.0 title.1 (codes "gj-function") (problem_lines d.columns
-          constraints d.problem ++ rest) title.2
-      (λ more e. apart (codes "gj-derivation") (codes "gj-function") refl (ap first_of (sym title.3
-          ∙ e))) in
+      other_word Lenient text title.0 title.1 (codes "gj-function")
+      (problem_lines d.columns constraints d.problem ++ rest) title.2
+      (λ more e. apart (codes "gj-derivation") (codes "gj-function") refl
+      (ap first_of (sym title.3 ∙ e))) in
       let (left, told_so) = part_is_read false text
-          (λ some. absurd (false≢true (subst (λ (f : Option FunctionData). IsSome f) same some)))
-          start in
+      (λ some. absurd (false≢true (subst (λ (f : Option FunctionData). IsSome f) same some)))
+      start in
       (left, read.plain_read false text other (drafts left) told_so)
   input_is_read (Some f) function same is within whole =
       let begins = begins_as_function f function middle text is whole in
       let found = subst (λ (t : List ℕ). IsFunctionText t f middle) (sym whole)
-          (canonical_text_is_function_text f function middle within is) in
+      (canonical_text_is_function_text f function middle within is) in
       let (left, told_so) = part_is_read true middle (λ some. refl) refl in
       (left, read.behind_read false text begins f middle found (drafts left) told_so)
 
@@ -386,6 +410,6 @@ module _ (d : DerivationInput) (constraints names : List (List ℕ)) (xs : List 
       let (function, has, front) = k.front_is in
       let whole = k.text_is ∙ ap (λ (t : List ℕ). t ++ rest) front
       ∙ grouped function (line (codes "gj-derivation 1")) (problem_lines d.columns constraints
-          d.problem) rest in
+      d.problem) rest in
       let (left, (end, found)) = input_is_read d.function function refl has h.function whole in
       (left, (end, (input left, found, is_input left)))

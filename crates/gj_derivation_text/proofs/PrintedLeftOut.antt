@@ -1,4 +1,5 @@
 -- A line that says why a step is left out is skipped.
+use Rattle.std.proofs.Common.{true}
 use Rattle.std.proofs.Common.{◌≡◌, ◌≢◌, inl, inr, ℕ, ◌+◌, Option, Some, None, All, List, [], ◌∷◌}
 use Rattle.std.proofs.Common.{◌++◌, length, get_or, take, drop, codes, append_assoc, refl, sym, ap}
 use Rattle.std.proofs.Common.{subst, ◌∙◌, arith}
@@ -20,7 +21,7 @@ use Rattle.gj_forms.specs.TextLines.HasNextLine.{further}
 use Rattle.gj_forms.proofs.CommentLines.{behind_comment}
 use Rattle.gj_forms.proofs.FieldWords.{joined_words}
 use Rattle.gj_forms.proofs.LenientLines.{one_cut, feed_within, cut_at_feed, uncut}
-use Rattle.gj_forms.proofs.PlainWords.{known, name_is_plain}
+use Rattle.gj_forms.proofs.PlainWords.{is_plain, known, name_is_plain}
 use Rattle.gj_derivation.specs.declared.step.Verdict.{Verdict}
 use Rattle.gj_derivation.specs.declared.step.Verdict.TheVariants.{Accepted, Sign, Free, Integral}
 use Rattle.gj_derivation.specs.declared.step.Verdict.TheVariants.{Other, Bound, Right, Wide}
@@ -48,32 +49,32 @@ joined_no_feed (w ∷ v ∷ ws) h =
 plain_no_feed : (w : List ℕ) → IsPlain w → HasNoFeed w
 plain_no_feed w h = All-weaker IsWordByte (λ b. b ≢ 10) (λ b k. k.no_line_feed) w h.1
 
+known_no_feed : (w : List ℕ) → is_plain w ≡ true → HasNoFeed w
+known_no_feed w h = plain_no_feed w (known w h)
+
 -- nor has a name, or what stands for one that is not there
 name_no_feed : (names : List (List ℕ)) (j : ℕ) → AreNames names → HasNoFeed (name_at names j)
 name_no_feed names j are = elim (cases_lt j (length names)) [
-  | inl below ↦ plain_no_feed (name_at names j) (name_is_plain (name_at names j)
-      (All-get_or IsName names j [] below are.are))
+  | inl below ↦
+      plain_no_feed (name_at names j)
+      (name_is_plain (name_at names j) (All-get_or IsName names j [] below are.are))
   | inr past ↦ subst HasNoFeed (sym (get_or_past names j [] past)) (All-nil (λ b. b ≢ 10))
 ]
 
 cause_no_feed : (columns lines : List (List ℕ)) (v : Verdict) → AreNames columns → AreNames lines →
     HaveNoFeed (words_of (cause_fields columns lines v))
 cause_no_feed columns lines Accepted h k = tt
-cause_no_feed columns lines (Sign i) h k = (plain_no_feed (codes "sign")
-    (known (codes "sign") refl), (name_no_feed lines i k, tt))
-cause_no_feed columns lines (Free j) h k = (plain_no_feed (codes "free")
-    (known (codes "free") refl), (name_no_feed columns j h, tt))
-cause_no_feed columns lines Integral h k = (plain_no_feed (codes "integral")
-    (known (codes "integral") refl), tt)
-cause_no_feed columns lines Other h k = (plain_no_feed (codes "other") (known (codes "other") refl),
-    tt)
-cause_no_feed columns lines (Bound j) h k = (plain_no_feed (codes "bound")
-    (known (codes "bound") refl), (name_no_feed columns j h, tt))
+cause_no_feed columns lines (Sign i) h k =
+    (known_no_feed (codes "sign") refl, (name_no_feed lines i k, tt))
+cause_no_feed columns lines (Free j) h k =
+    (known_no_feed (codes "free") refl, (name_no_feed columns j h, tt))
+cause_no_feed columns lines Integral h k = (known_no_feed (codes "integral") refl, tt)
+cause_no_feed columns lines Other h k = (known_no_feed (codes "other") refl, tt)
+cause_no_feed columns lines (Bound j) h k =
+    (known_no_feed (codes "bound") refl, (name_no_feed columns j h, tt))
 cause_no_feed columns lines (Right b) h k =
-    (plain_no_feed (codes "right") (known (codes "right") refl),
-        (plain_no_feed _ (fraction_is_plain b), tt))
-cause_no_feed columns lines Wide h k = (plain_no_feed (codes "wide") (known (codes "wide") refl),
-    tt)
+    (known_no_feed (codes "right") refl, (plain_no_feed _ (fraction_is_plain b), tt))
+cause_no_feed columns lines Wide h k = (known_no_feed (codes "wide") refl, tt)
 
 -- ---- a line that begins with `#`
 
@@ -87,17 +88,16 @@ comment_line text line rest whole comment free = by_place (position is_line_feed
     by_place None none = absurd (feed_within line rest (subst HasNoFeed whole (uncut text none)))
     by_place (Some end) is =
         let cut = cut_at_feed text end is in
-        let both = one_cut line (take end text) rest (drop (end + 1) text) free cut.0 (sym whole
-            ∙ cut.1) in
-        let found = behind_comment text end comment is in
-        (found.0, subst (λ (r : List ℕ). HasFirstWords text found.0 r) (sym both.1) found.1,
-            found.2)
+        let both = one_cut line (take end text) rest (drop (end + 1) text) free cut.0
+        (sym whole ∙ cut.1) in
+        let (words, has, skipped) = behind_comment text end comment is in
+        (words, subst (λ (r : List ℕ). HasFirstWords text words r) (sym both.1) has, skipped)
 
 -- the next line of what follows is the next line of the text
 abbrev pub IsAhead : List ℕ → List ℕ → Type 0
 IsAhead text next =
     (start : List ℕ) (words : List (List ℕ)) (rest : List ℕ) →
-        HasLine Lenient next start words rest → HasLine Lenient text start words rest
+    HasLine Lenient next start words rest → HasLine Lenient text start words rest
 
 pub left_out_is_ahead : (columns lines : List (List ℕ)) (name : List ℕ) (v : Verdict)
     (text rest : List ℕ) → AreNames columns → AreNames lines →
@@ -107,23 +107,30 @@ left_out_is_ahead columns lines name v text rest h k is_name is start words end 
   where
     fields : List Field
     fields = word (codes "#") ∷ word name ∷ cause_fields columns lines v
+
     bytes : List ℕ
     bytes = join_with_byte 32 (words_of fields)
+
     whole : text ≡ bytes ++ 10 ∷ rest
-    whole = is ∙ ap (λ (t : List ℕ). t ++ rest) (joined_words fields)
+    whole =
+        is ∙ ap (λ (t : List ℕ). t ++ rest) (joined_words fields)
         ∙ append_assoc bytes (10 ∷ []) rest
+
     comment : get_or text (position_or_len is_word_byte text) 0 ≡ 35
-    comment = subst (λ (t : List ℕ). get_or t (position_or_len is_word_byte t) 0 ≡ 35) (sym whole)
-        refl
+    comment =
+        subst (λ (t : List ℕ). get_or t (position_or_len is_word_byte t) 0 ≡ 35) (sym whole) refl
+
     free : HasNoFeed bytes
-    free = joined_no_feed (words_of fields)
-        (plain_no_feed (codes "#") (known (codes "#") refl),
-            (plain_no_feed name (name_is_plain name is_name), cause_no_feed columns lines v h k))
+    free = joined_no_feed (words_of fields) (
+      known_no_feed (codes "#") refl,
+      (plain_no_feed name (name_is_plain name is_name), cause_no_feed columns lines v h k),
+    )
+
     found : (skipped : List (List ℕ)) × HasFirstWords text skipped rest × IsSkipped skipped
     found = comment_line text bytes rest whole comment free
 
 pub steps_ahead : (text next : List ℕ) → IsAhead text next → StepsGoOn next → StepsGoOn text
-steps_ahead text next ahead (inl (words, (start, rest, line))) = inl
-    (words, (start, rest, ahead start (codes "step" ∷ words) rest line))
-steps_ahead text next ahead (inr (words, (start, rest, line))) = inr
-    (words, (start, rest, ahead start (codes "end" ∷ words) rest line))
+steps_ahead text next ahead (inl (words, (start, rest, line))) =
+    inl (words, (start, rest, ahead start (codes "step" ∷ words) rest line))
+steps_ahead text next ahead (inr (words, (start, rest, line))) =
+    inr (words, (start, rest, ahead start (codes "end" ∷ words) rest line))

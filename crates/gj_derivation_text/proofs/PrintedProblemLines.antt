@@ -48,8 +48,8 @@ IsOwn (grid n) = ⊥
 
 -- and begins with the word for it
 other_first : (l : ProblemLine) (w : List ℕ) → IsOwn l → are_same (codes "column") w ≡ false →
-    are_same (codes "constraint") w ≡ false →
-    are_same (codes "entry") w ≡ false → first_of (words_of (problem_fields l)) ≡ w → ⊥
+    are_same (codes "constraint") w ≡ false → are_same (codes "entry") w ≡ false →
+    first_of (words_of (problem_fields l)) ≡ w → ⊥
 other_first (column name is_whole low high) w own a b c is = apart (codes "column") w a is
 other_first (constraint name sense right) w own a b c is = apart (codes "constraint") w b is
 other_first (entry name value) w own a b c is = apart (codes "entry") w c is
@@ -86,8 +86,16 @@ line_is_read drafts s u lines new l text rest own (good, has) adds name is =
     let spelled = spells_its_thing Lenient problem_form l good has in
     inr (
       no_step l text rest own found,
-      (told u new, (text, words, found,
-          (no_bar drafts l own, (l, spelled, (u, adds, new, name, refl)))), refl),
+      (
+        told u new,
+        (
+          text,
+          words,
+          found,
+          (no_bar drafts l own, (l, spelled, (u, adds, new, name, refl))),
+        ),
+        refl,
+      ),
     )
 
 -- ---- names
@@ -103,12 +111,12 @@ names_told (l ∷ ls) = with_new (new_name l) (names_told ls)
 
 name_added : (lines : List (List ℕ)) (name : Option (List ℕ)) (behind : List (List ℕ)) →
     AreNames (lines ++ with_new name behind) →
-    (new : List (List ℕ)) × AddsName lines name new × (new ++ behind ≡ lines ++ with_new name
-        behind)
+    (new : List (List ℕ)) × AddsName lines name new
+    × (new ++ behind ≡ lines ++ with_new name behind)
 name_added lines None behind are = (lines, refl, refl)
 name_added lines (Some name) behind are =
-    (lines ++ name ∷ [], (no_place lines name (next_differs lines name behind are), refl),
-        append_assoc lines (name ∷ []) behind)
+    let new = no_place lines name (next_differs lines name behind are) in
+    (lines ++ name ∷ [], (new, refl), append_assoc lines (name ∷ []) behind)
 
 -- ---- all lines
 
@@ -120,22 +128,24 @@ lines_are_read : (drafts : Bool) (s t : Task) (lines : List (List ℕ)) (ls : Li
     (text rest : List ℕ) → AreOwn ls → AddsAll s ls t →
     AreNames (lines ++ names_told ls) → StepsGoOn rest → text ≡ printed ls ++ rest →
     ReadsInTurn (λ u. (next_of_problem drafts u).Reads) (told t (lines ++ names_told ls)) rest
-        (told s lines) text
+    (told s lines) text
 lines_are_read drafts s t lines [] text rest own same are on is =
     let back = sym same in
     let none = append-nil lines in
     last (told s lines) text
-        (inl (subst StepsGoOn (sym is) on, (λ i. inr (told (back i) (none i)), is)))
+    (inl (subst StepsGoOn (sym is) on, (λ i. inr (told (back i) (none i)), is)))
 lines_are_read drafts s t lines (l ∷ ls) text rest own (u, good, adds, more) are on is =
     let behind = printed ls ++ rest in
     let (new, name, whole) = name_added lines (new_name l) (names_told ls) are in
     let one = line_is_read drafts s u lines new l text behind own.0 good adds name
     (is ∙ append_assoc (line_of problem_form l) (printed ls) rest) in
-    let others = lines_are_read drafts u t new ls behind rest own.1 more (subst AreNames (sym whole)
-        are) on refl in
+    let others = lines_are_read drafts u t new ls behind rest own.1 more
+    (subst AreNames (sym whole) are) on refl in
     onward (told s lines) text (told u new) behind one
-    (subst (λ (all : List (List ℕ)). ReadsInTurn (λ v. (next_of_problem drafts v).Reads)
-        (told t all) rest (told u new) behind) whole others)
+    (subst
+    (λ (all : List (List ℕ)).
+    ReadsInTurn (λ v. (next_of_problem drafts v).Reads) (told t all) rest (told u new) behind)
+    whole others)
 
 -- ---- the lines of a problem
 
@@ -152,7 +162,7 @@ names_behind : (ls ms : List ProblemLine) → names_told (ls ++ ms) ≡ names_to
 names_behind [] ms = refl
 names_behind (l ∷ ls) ms =
     ap (λ (names : List (List ℕ)). with_new (new_name l) names) (names_behind ls ms)
-        ∙ with_behind (new_name l) (names_told ls) (names_told ms)
+    ∙ with_behind (new_name l) (names_told ls) (names_told ms)
 
 abbrev columns_told : List (List ℕ) → List Column → List ProblemLine
 columns_told names columns = each_told (λ name c. column_told name c ∷ []) names columns
@@ -162,7 +172,8 @@ columns_own : (names : List (List ℕ)) (columns : List Column) →
 columns_own [] [] = (tt, refl)
 columns_own [] (c ∷ columns) = (tt, refl)
 columns_own (name ∷ names) [] = (tt, refl)
-columns_own (name ∷ names) (c ∷ columns) = let more = columns_own names columns in
+columns_own (name ∷ names) (c ∷ columns) =
+    let more = columns_own names columns in
     ((tt, more.0), more.1)
 
 entries_own : (columns : List (List ℕ)) (entries : List Entry) →
@@ -176,8 +187,8 @@ constraints_own columns [] [] = tt
 constraints_own columns [] (c ∷ constraints) = tt
 constraints_own columns (name ∷ names) [] = tt
 constraints_own columns (name ∷ names) (c ∷ constraints) =
-    own_behind (constraint_told columns name c) (each_told (constraint_told columns) names
-        constraints)
+    own_behind (constraint_told columns name c)
+    (each_told (constraint_told columns) names constraints)
     (tt, (entries_own columns c.entries).0) (constraints_own columns names constraints)
 
 constraints_named : (columns names : List (List ℕ)) (constraints : List Constraint) →
@@ -187,24 +198,28 @@ constraints_named columns [] [] count = refl
 constraints_named columns [] (c ∷ constraints) count = absurd (omega (arith, count))
 constraints_named columns (name ∷ names) [] count = absurd (omega (arith, count))
 constraints_named columns (name ∷ names) (c ∷ constraints) count =
-    names_behind (constraint_told columns name c) (each_told (constraint_told columns) names
-        constraints)
+    names_behind (constraint_told columns name c)
+    (each_told (constraint_told columns) names constraints)
     ∙ ap₂ (λ (own others : List (List ℕ)). name ∷ (own ++ others)) (entries_own columns c.entries).1
     (constraints_named columns names constraints (omega (arith, count)))
 
 -- the problem with the names of its columns
 abbrev pub task_of : List (List ℕ) → Problem → Task
-task_of columns p = record { names = columns; problem = p; entries = length (all_entries p);
-    requests = []; grid = None }
+task_of columns p = record {
+  names = columns;
+  problem = p;
+  entries = length (all_entries p);
+  requests = [];
+  grid = None;
+}
 
 all_told : (columns constraints : List (List ℕ)) (p : Problem) → IsReadableProblem columns p →
-    AreNames constraints →
-    length constraints ≡ length p.constraints →
-        AddsAll no_task (problem_told columns constraints p) (task_of columns p)
+    AreNames constraints → length constraints ≡ length p.constraints →
+    AddsAll no_task (problem_told columns constraints p) (task_of columns p)
 all_told columns constraints p h are count =
     subst (λ (ls : List ProblemLine). AddsAll no_task ls (task_of columns p))
-        (append-nil (problem_told columns constraints p ++ [])
-        ∙ append-nil (problem_told columns constraints p))
+    (append-nil (problem_told columns constraints p ++ [])
+    ∙ append-nil (problem_told columns constraints p))
     (task_is_told constraints (task_of columns p) (record {
       column_names = h.names;
       columns = h.column_count;
@@ -220,9 +235,9 @@ all_told columns constraints p h are count =
     }))
 
 pub problem_is_read : (columns constraints : List (List ℕ)) (p : Problem) (text rest : List ℕ) →
-    IsReadableProblem columns p →
-    AreNames constraints → length constraints ≡ length p.constraints → StepsGoOn rest →
-        text ≡ problem_lines columns constraints p ++ rest →
+    IsReadableProblem columns p → AreNames constraints →
+    length constraints ≡ length p.constraints → StepsGoOn rest →
+    text ≡ problem_lines columns constraints p ++ rest →
     (problem_part false).Reads text (told (task_of columns p) constraints) rest
 problem_is_read columns constraints p text rest h are count on is =
     let front = columns_told columns p.columns in
@@ -230,12 +245,12 @@ problem_is_read columns constraints p text rest h are count on is =
     let ls = problem_told columns constraints p in
     let named : names_told ls ≡ constraints =
     names_behind front back
-        ∙ ap₂ (λ (xs ys : List (List ℕ)). xs ++ ys) (columns_own columns p.columns).1
+    ∙ ap₂ (λ (xs ys : List (List ℕ)). xs ++ ys) (columns_own columns p.columns).1
     (constraints_named columns constraints p.constraints count) in
-    let own = own_behind front back (columns_own columns p.columns).0 (constraints_own columns
-        constraints p.constraints) in
-    let read = lines_are_read false no_task (task_of columns p) [] ls text rest own
-        (all_told columns constraints p h are count)
-    (subst AreNames (sym named) are) on is in
-    subst (λ (all : List (List ℕ)). (problem_part false).Reads text (told (task_of columns p) all)
-        rest) named read
+    let own = own_behind front back (columns_own columns p.columns).0
+    (constraints_own columns constraints p.constraints) in
+    let task = task_of columns p in
+    let read = lines_are_read false no_task task [] ls text rest own
+    (all_told columns constraints p h are count) (subst AreNames (sym named) are) on is in
+    subst (λ (all : List (List ℕ)). (problem_part false).Reads text (told task all) rest) named
+    read

@@ -47,7 +47,7 @@ use Rattle.gj_derivation_text.specs.declared.open.OpenStep.{OpenStep}
 other_first : (l : StepLine) (w : List ℕ) → are_same (codes "by") w ≡ false →
     are_same (codes "upper") w ≡ false →
     are_same (codes "times") w ≡ false → are_same (codes "claim") w ≡ false →
-        are_same (codes "term") w ≡ false →
+    are_same (codes "term") w ≡ false →
     first_of (words_of (line_fields l)) ≡ w → ⊥
 other_first (by name value) w a b c d e is = apart (codes "by") w a is
 other_first (upper name) w a b c d e is = apart (codes "upper") w b is
@@ -312,4 +312,4 @@ module _ (f : Option FunctionData) (c : Names) (lines behind : List (List ℕ)) 
   step_lines_are_read text rest on same =
       let (t, adds, made, claim_is) = step_is_told in
       lines_are_read c (begun x.combination.rule) t (step_told c.columns lines x) (as_draft x) text
-          rest adds made claim_is on same
+      rest adds made claim_is on same
