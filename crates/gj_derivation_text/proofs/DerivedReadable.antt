@@ -82,20 +82,25 @@ own_step r s h = record { below = below; one = one }
   where
     n : ℕ
     n = length r.problem.constraints
+
     new : Reached
     new = reach r (shown.Step s)
+
     longer : length new.problem.constraints ≡ n + 1
     longer = length-append r.problem.constraints _
+
     cases : (i a : ℕ) → line_at new i ≡ Some a → (line_at r i ≡ Some a) ⊎ ((i ≡ length r.lines) × (a ≡ n))
     cases i a e = elim (pushed r.lines (Some n) i a e) [
       | inl s ↦ inl s
       | inr (same, is) ↦ inr (same, sym (same_some n a is))
     ]
+
     below : (i a : ℕ) → line_at new i ≡ Some a → a < length new.problem.constraints
     below i a e = elim (cases i a e) [
       | inl s ↦ omega (arith, longer, h.below i a s)
       | inr (same, is) ↦ omega (arith, longer, is)
     ]
+
     one : (i j a : ℕ) → line_at new i ≡ Some a → line_at new j ≡ Some a → i ≡ j
     one i j a e d = elim (cases i a e) [
       | inl s ↦ elim (cases j a d) [
@@ -220,17 +225,21 @@ without front name back h = record {
   where
     all : List (List ℕ)
     all = front ++ name ∷ back
+
     few : List (List ℕ)
     few = front ++ back
+
     -- the place of a name that is left
     Place : ℕ → ℕ → Type 0
     Place i j = ((i < length front) × (j ≡ i)) ⊎ ((length front ≤ i) × (j ≡ i + 1))
+
     place : (i : ℕ) → (j : ℕ) × Place i j
     place i = by (ltb i (length front)) refl
       where
         by : (b : Bool) → ltb i (length front) ≡ b → (j : ℕ) × Place i j
         by true is = (i, inl (ltb-true i (length front) is, refl))
         by false is = (i + 1, inr (omega (arith, ltb-false i (length front) is), refl))
+
     moved : (i j : ℕ) → Place i j → name_at few i ≡ name_at all j
     moved i j (inl (below, is)) =
         get_or_append_left front back [] i below ∙ sym (get_or_append_left front (name ∷ back) [] i below) ∙ ap (name_at all) (sym is)
@@ -240,14 +249,17 @@ without front name back h = record {
         ∙ ap (λ (k : ℕ). name_at (name ∷ back) k) next
         ∙ sym (get_or-append_right front (name ∷ back) (length front) (i + 1) [] refl (omega (arith, past)))
         ∙ ap (name_at all) (sym is)
+
     within : (i j : ℕ) → Place i j → i < length few → j < length all
     within i j (inl (below, is)) less = omega (arith, is, below, length-append front (name ∷ back))
     within i j (inr (past, is)) less = omega (arith, is, less, length-append front back, length-append front (name ∷ back))
+
     apart : (i j k l : ℕ) → Place i k → Place j l → k ≡ l → i ≡ j
     apart i j k l (inl (below, is)) (inl (less, too)) e = omega (arith, is, too, e)
     apart i j k l (inl (below, is)) (inr (past, too)) e = absurd (omega (arith, is, too, e, below, past))
     apart i j k l (inr (past, is)) (inl (less, too)) e = absurd (omega (arith, is, too, e, past, less))
     apart i j k l (inr (past, is)) (inr (more, too)) e = omega (arith, is, too, e)
+
     different : (i j : ℕ) → i < length few → j < length few → name_at few i ≡ name_at few j → i ≡ j
     different i j less below e =
         let (k, p) = place i in

@@ -38,6 +38,7 @@ not_among names name none i below same = by (ltb (position_or_len test names) (l
   where
     test : List ℕ → Bool
     test = pointwise nat_eq name
+
     by : (b : Bool) → ltb (position_or_len test names) (length names) ≡ b → ⊥
     by true is = let s = ap (λ b. cond b (Some (position_or_len test names)) None) is in absurd cc
     by false is =
@@ -62,15 +63,19 @@ one_more_name names name h is none = record { are = All-push IsName names name h
   where
     all : List (List ℕ)
     all = names ++ name ∷ []
+
     before : (i : ℕ) → i < length names → name_at all i ≡ name_at names i
     before i below = get_or_append_left names (name ∷ []) [] i below
+
     last : (i : ℕ) → i ≡ length names → name_at all i ≡ name
     last i e = ap (name_at all) e ∙ get_or-append_seam names name [] []
+
     by : (i j : ℕ) → (i < length names) ⊎ (i ≡ length names) → (j < length names) ⊎ (j ≡ length names) → name_at all i ≡ name_at all j → i ≡ j
     by i j (inl p) (inl q) e = h.different i j p q (sym (before i p) ∙ e ∙ before j q)
     by i j (inl p) (inr q) e = absurd (not_among names name none i p (sym (before i p) ∙ e ∙ last j q))
     by i j (inr p) (inl q) e = absurd (not_among names name none j q (sym (before j q) ∙ sym e ∙ last i p))
     by i j (inr p) (inr q) e = p ∙ sym q
+
     different : (i j : ℕ) → i < length all → j < length all → name_at all i ≡ name_at all j → i ≡ j
     different i j p q e =
         by i j (place_of i (length names) (omega (arith, length-append names (name ∷ []))))

@@ -48,8 +48,13 @@ longer_entries old e new h =
 
 longer_count : (old : List Constraint) (e : Entry) (new : List Constraint) → AreLonger old e new → length new ≡ length old
 longer_count old e new h =
-    omega (arith, ap length h.new_is, ap length h.old_is, length-append h.others (h.last ∷ []),
-    length-append h.others (record { entries = h.last.entries ++ e ∷ []; sense = h.last.sense; right = h.last.right } ∷ []))
+    omega (
+      arith,
+      ap length h.new_is,
+      ap length h.old_is,
+      length-append h.others (h.last ∷ []),
+      length-append h.others (record { entries = h.last.entries ++ e ∷ []; sense = h.last.sense; right = h.last.right } ∷ []),
+    )
 
 bare_entries : (constraints : List Constraint) (c : Constraint) → c.entries ≡ [] → entries_of (constraints ++ c ∷ []) ≡ entries_of constraints
 bare_entries constraints c none =
@@ -61,8 +66,12 @@ adds_task s (column name is_whole low high) t has a h =
     let more = length-append s.names (name ∷ []) in
     subst IsTask (sym a.added) (record {
       names = one_more_name s.names name h.names a.is_name a.new;
-      column_count = omega (arith, more, h.column_count,
-          length-append s.problem.columns (record { is_whole = is_whole; lower = a.lower; upper = a.upper } ∷ []));
+      column_count = omega (
+        arith,
+        more,
+        h.column_count,
+        length-append s.problem.columns (record { is_whole = is_whole; lower = a.lower; upper = a.upper } ∷ []),
+      );
       columns_few = omega (arith, more, a.few);
       constraints_few = h.constraints_few;
       known = All-weaker (λ (e : Entry). e.column < length s.names) (λ (e : Entry). e.column < length (s.names ++ name ∷ []))
@@ -148,14 +157,25 @@ is_more : (s : Task) (line : ProblemLine) (t : Task) (lines new : List (List ℕ
 is_more s (constraint name sense right) t lines new a (none, is) names count =
     let c : Constraint = record { entries = []; sense = sense; right = right } in (
       subst AreNames (sym is) (one_more_name lines name names a.is_name none),
-      omega (arith, ap length is, length-append lines (name ∷ []), length-append s.problem.constraints (c ∷ []), count,
-      ap (λ (u : Task). length u.problem.constraints) a.added),
+      omega (
+        arith,
+        ap length is,
+        length-append lines (name ∷ []),
+        length-append s.problem.constraints (c ∷ []),
+        count,
+        ap (λ (u : Task). length u.problem.constraints) a.added,
+      ),
     )
 is_more s (entry name value) t lines new a is names count =
     let e : Entry = record { column = a.index; value = value } in (
       subst AreNames (sym is) names,
-      omega (arith, ap length is, count, ap (λ (u : Task). length u.problem.constraints) a.added,
-      longer_count s.problem.constraints e a.constraints a.longer),
+      omega (
+        arith,
+        ap length is,
+        count,
+        ap (λ (u : Task). length u.problem.constraints) a.added,
+        longer_count s.problem.constraints e a.constraints a.longer,
+      ),
     )
 is_more s (column name is_whole low high) t lines new a is names count =
     (subst AreNames (sym is) names, omega (arith, ap length is, count, ap (λ (u : Task). length u.problem.constraints) a.added))

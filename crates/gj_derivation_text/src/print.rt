@@ -177,11 +177,7 @@ fn push_constraint(
 }
 
 /// Appends the line of a constraint.
-fn push_head(
-    out: &mut Vec<u8>,
-    name: &[u8],
-    constraint: &Constraint,
-) -> Result<(), AllocError>
+fn push_head(out: &mut Vec<u8>, name: &[u8], constraint: &Constraint) -> Result<(), AllocError>
     ensures { OnOk result (out.new.items ≡ out.old.items ++ line_of problem_form
         (constraint_line name.now constraint.now.sense constraint.now.right)) }
 {
