@@ -44,9 +44,13 @@ module _ (a : DraftInput) (xs : List Shown) (readable : AreReadable a.function a
 
   lines_counted : length (shown_names a.drafts xs) ≡ length a.drafts.task.problem.constraints + length (map as_draft (steps_of xs))
   lines_counted =
-      omega (arith, length-append (constraint_names a.drafts) (kept_names (step_names a.drafts) xs),
-      length-take-le (length a.drafts.task.problem.constraints) a.drafts.lines enough, kept_count (step_names a.drafts) xs names_counted,
-      length-map (steps_of xs) as_draft)
+      omega (
+        arith,
+        length-append (constraint_names a.drafts) (kept_names (step_names a.drafts) xs),
+        length-take-le (length a.drafts.task.problem.constraints) a.drafts.lines enough,
+        kept_count (step_names a.drafts) xs names_counted,
+        length-map (steps_of xs) as_draft,
+      )
 
   few : length (map as_draft (steps_of xs)) ≤ most_steps
   few = omega (arith, length-map (steps_of xs) as_draft, steps_few xs, counted, readable.steps.few)

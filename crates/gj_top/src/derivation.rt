@@ -78,7 +78,13 @@ fn derivation_reply(
         Checked::Failed(failure) => {
             let at_line = line_of_step(input, left.as_slice(), failure.step);
             let columns = columns.as_slice();
-            push_rejected(&mut text, columns, lines.as_slice(), at_line, failure.verdict)?;
+            push_rejected(
+                &mut text,
+                columns,
+                lines.as_slice(),
+                at_line,
+                failure.verdict,
+            )?;
             Ok(Reply {
                 end: End::Rejected,
                 text,

@@ -121,7 +121,14 @@ fn derived_text(
     let constraints = &lines[..count];
     let mut text = Vec::new(alloc);
     push_front(alloc, &mut text, function, columns, constraints, problem)?;
-    push_steps(alloc, &mut text, columns, constraints, &lines[count..], shown)?;
+    push_steps(
+        alloc,
+        &mut text,
+        columns,
+        constraints,
+        &lines[count..],
+        shown,
+    )?;
     Ok(text)
 }
 
@@ -143,7 +150,13 @@ fn failed_text(
     let lines = names_shown(alloc, drafts, shown)?;
     let columns = drafts.task.names.as_slice();
     let mut text = Vec::new(alloc);
-    push_rejected(&mut text, columns, lines.as_slice(), at_line, failure.verdict)?;
+    push_rejected(
+        &mut text,
+        columns,
+        lines.as_slice(),
+        at_line,
+        failure.verdict,
+    )?;
     Ok(text)
 }
 
@@ -201,11 +214,7 @@ fn lost_text(
 }
 
 /// The first of the lines that is left out; so many lines are constraints.
-fn first_left_out(
-    constraints: usize,
-    shown: &[Shown],
-    multipliers: &[Multiplier],
-) -> Option<usize>
+fn first_left_out(constraints: usize, shown: &[Shown], multipliers: &[Multiplier]) -> Option<usize>
     ensures { IsFirstLeftOut constraints shown.now multipliers.now result }
 {
     for multiplier in multipliers {

@@ -32,13 +32,7 @@ const LOST: &[u8] = b"gj-derivation 1\ncolumn x whole 0 -\nconstraint first <= 7
     step a gmic\nby first 1\nstep b linear\nby a 1\nend\n";
 
 /// Whether a run of the command over the input ends so, and writes so much.
-fn ends(
-    alloc: Global,
-    command: &str,
-    input: &[u8],
-    ended: Status,
-    written: &[u8],
-) -> Option<bool> {
+fn ends(alloc: Global, command: &str, input: &[u8], ended: Status, written: &[u8]) -> Option<bool> {
     let words = vec![in alloc; String::from_str(alloc, command).ok()?].ok()?;
     let mut source = MemSource::with_step(alloc, input, 512, &[0]).ok()?;
     let mut sink = MemSink::with_step(alloc, 2000, 512, &[0]).ok()?;

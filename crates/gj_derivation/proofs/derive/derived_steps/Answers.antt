@@ -13,8 +13,7 @@ returns-in_default-clause-is c =
     let r = c.loop-i.reached in
     let d = c.index-drafts-i.result in
     let lost = subst (λ (made : Option Combination). MatchOption made (IsLost r d.combination) (IsPlaced r d.combination)) c.in_default.is
-    c.in_ok-combination.ensures in
-    (
+    c.in_ok-combination.ensures in (
       r,
       d,
       subst (λ (xs : List Shown). IsReached f c.args.grid c.args.problem c.args.drafts.now c.loop-i.i xs r d) (sym c.of.ensures)
