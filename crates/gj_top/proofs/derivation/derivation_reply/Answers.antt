@@ -18,8 +18,8 @@ returns-in-Some c =
     checked_objection (record { text = c.args.input.now; told = c.args.derivation }) objection.end objection.text.items
     (rw c.rule_in_front-rule.ensures at (rw c.in-Some.is at c.in_ok-objection.ensures.some))
 
-pub check_steps-requires-clause-ready : goal.check_steps-requires-clause-ready
-check_steps-requires-clause-ready c =
+pub check_steps-requires : goal.check_steps-requires
+check_steps-requires c =
     let f = c.args.derivation.function in
     let makes : MakesContinuousCuts c.rule_in_front-rule.result = rw c.in_default.is at c.in_ok-objection.ensures.none in
     let bounded : IsBoundedRule c.rule_in_front-rule.result = rw c.in_default.is at c.in_ok-objection.ensures.bounded in
@@ -46,8 +46,8 @@ returns-in-Accepted c =
       },
     )
 
-pub line_of_step-at_line-requires-clause-within : goal.line_of_step-at_line-requires-clause-within
-line_of_step-at_line-requires-clause-within c =
+pub line_of_step-at_line-requires : goal.line_of_step-at_line-requires
+line_of_step-at_line-requires c =
     let checked : IsChecked (option_copied c.function_in.result) c.args.derivation.problem c.as_slice.result.now c.in_ok-check_steps.field-0 =
     c.in_ok-check_steps.ensures.is in
     let failure = c.in-Failed.failure in

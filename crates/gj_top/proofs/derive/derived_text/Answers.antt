@@ -7,8 +7,8 @@ use Rattle.gj_top.specs.Derive.{constraint_names}
 use Rattle.gj_top.proofs.DerivedTexts.{rest_is, names_counted, filled_in}
 use Rattle.gj_top.proofs.derive.derived_text.Goals as goal
 
-pub push_steps-requires-clause-names : goal.push_steps-requires-clause-names
-push_steps-requires-clause-names c =
+pub push_steps-requires : goal.push_steps-requires
+push_steps-requires c =
     let a : DraftInput = record { function = option_copied c.args.function; drafts = c.args.drafts.now } in
     subst₂ (λ (cs : List Constraint) (lines : List (List ℕ)). length (take (length lines - length cs) (drop (length cs) lines)) ≡ length c.args.shown.now)
     (sym c.as_slice-count.ensures) (sym c.as_slice-lines.ensures)
