@@ -188,7 +188,9 @@ pub(crate) fn reduce_row(
         return reduce_exactly(log, rows, places, row, kept_row, 0, reduce);
     }
     load(given, small, touched);
-    match reduce_lazily(log, rows, bounds, places, small, touched, bound, row, reduce)? {
+    match reduce_lazily(
+        log, rows, bounds, places, small, touched, bound, row, reduce,
+    )? {
         Reached::End(None) => Ok(None),
         Reached::End(Some(column)) => {
             store(small, row);
