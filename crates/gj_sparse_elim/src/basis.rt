@@ -105,8 +105,8 @@ impl SparseBasis {
         })
     }
 
-    /// Inserts the row with these entries: it is reduced by the kept rows, and what is left of it is
-    /// kept. `Wide` exactly if one of the numbers that the elimination marks passes 2^127 - 1 in
+    /// Inserts the row with these entries: it is reduced by the kept rows, and what is left of it
+    /// is kept. `Wide` exactly if one of the numbers that the elimination marks passes 2^127 - 1 in
     /// absolute value. After an error the basis is as it was.
     pub fn insert(&mut self, row: &[Entry]) -> Result<Inserted, ElimFault>
         requires sparse { AreSparse self.old.columns row.now }
