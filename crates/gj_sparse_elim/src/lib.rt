@@ -1,8 +1,9 @@
 //! Elimination of sparse rows over whole numbers of 128 bits.
 //!
 //! A [`SparseBasis`] is what `gj_elim::Basis` is, for rows of thousands of columns of which few
-//! have an entry. A row is given and kept by its entries that are not 0. What is kept, which numbers
-//! are too wide and which numbers solve the rows is said of whole rows, by the same definitions.
+//! have an entry. A row is given and kept by its entries that are not 0. What is kept, which
+//! numbers are too wide and which numbers solve the rows is said of whole rows, by the same
+//! definitions.
 //!
 //! The row that is reduced is a whole row of numbers, and beside it stands a set of columns outside
 //! of which it is 0. So a step costs what the entries of the kept row cost, and not the columns. As
