@@ -11,7 +11,6 @@ use Rattle.gj_theory.specs.TriangularRows.{AreTriangular}
 use Rattle.gj_elim.specs.Lazy.{IsExtent}
 use Rattle.gj_elim.specs.Data.{BasisData}
 use Rattle.gj_elim.specs.Tables.{ArePlaces}
-use Rattle.gj_elim.specs.KeptRows.{kept_rows}
 use Rattle.gj_elim.specs.Progress.{IsBehind, IsDone, rest}
 use Rattle.gj_elim.proofs.Progressing.{behind_start}
 use Rattle.gj_sparse_elim.specs.Progress.{IsReached}
@@ -31,31 +30,40 @@ use Rattle.gj_sparse_elim.proofs.SparseSteps.{further}
 -- ---- the row with a pivot
 
 -- the kept row with its pivot at the column, which stands at this place with these entries
-pub record IsSparsePivot (n c i : ℕ) (log : List LogRow) (rows : List (List Entry)) (e : List Entry) : Type 0 where
+pub record IsSparsePivot (n c i : ℕ) (log : List LogRow) (rows : List (List Entry))
+    (e : List Entry) : Type 0 where
   pub inside : i < length rows
   pub is : e ≡ get_or rows i []
   pub here : IsRowAt (kept_sparse n log rows) c (dense n e)
   pub pivot : IsPivotRow n c (dense n e)
   pub sparse : AreSparse n e
 
-pub lines_too : (n : ℕ) (log : List LogRow) (rows : List (List Entry)) → length log ≡ length rows → length log ≡ length (map (dense n) rows)
+pub lines_too : (n : ℕ) (log : List LogRow) (rows : List (List Entry)) → length log ≡ length rows →
+    length log ≡ length (map (dense n) rows)
 lines_too n log rows lines = lines ∙ sym (length-map rows (dense n))
 
-pub place_inside : (n : ℕ) (log : List LogRow) (rows : List (List Entry)) (places : List (Option ℕ)) (c i : ℕ) → length log ≡ length rows →
+pub place_inside : (n : ℕ) (log : List LogRow) (rows : List (List Entry)) (places : List (Option ℕ))
+    (c i : ℕ) → length log ≡ length rows →
     ArePlaces n log places → c < n → get_or places c None ≡ Some i → i < length rows
 place_inside n log rows places c i lines are below is =
-    let (inside, at) = place_found log (map (dense n) rows) c i (lines_too n log rows lines) (place_at n log places c (Some i) are below is) in
+    let (inside, at) = place_found log (map (dense n) rows) c i (lines_too n log rows lines)
+    (place_at n log places c (Some i) are below is) in
     omega arith
 
-pub sparse_pivot : (n : ℕ) (log : List LogRow) (rows : List (List Entry)) (places : List (Option ℕ)) (c i : ℕ) (x y : List Entry) →
-    length log ≡ length rows → All (AreSparse n) rows → AreTriangular n (kept_sparse n log rows) → ArePlaces n log places → c < n →
+pub sparse_pivot : (n : ℕ) (log : List LogRow) (rows : List (List Entry)) (places : List (Option ℕ))
+    (c i : ℕ) (x y : List Entry) →
+    length log ≡ length rows → All (AreSparse n) rows → AreTriangular n (kept_sparse n log rows) →
+    ArePlaces n log places → c < n →
     get_or places c None ≡ Some i → x ≡ get_or rows i x → y ≡ x → IsSparsePivot n c i log rows y
 sparse_pivot n log rows places c i x y lines sparse triangular are below is x_is y_is =
-    let (in_log, at) = place_found log (map (dense n) rows) c i (lines_too n log rows lines) (place_at n log places c (Some i) are below is) in
+    let (in_log, at) = place_found log (map (dense n) rows) c i (lines_too n log rows lines)
+    (place_at n log places c (Some i) are below is) in
     let inside : i < length rows = omega arith in
     let read : y ≡ get_or rows i [] = row_read rows i x y inside x_is y_is in
-    let whole : dense n y ≡ get_or (map (dense n) rows) i [] = ap (dense n) read ∙ sym (get_or-map (dense n) rows i [] [] inside) in
-    let here = entries_at (kept_sparse n log rows) c (get_or (map (dense n) rows) i []) (dense n y) whole at in record {
+    let whole : dense n y ≡ get_or (map (dense n) rows) i [] = ap (dense n) read
+    ∙ sym (get_or-map (dense n) rows i [] [] inside) in
+    let here = entries_at (kept_sparse n log rows) c (get_or (map (dense n) rows) i []) (dense n y)
+    whole at in record {
       inside = inside;
       is = read;
       here = here;
@@ -64,35 +72,48 @@ sparse_pivot n log rows places c i x y lines sparse triangular are below is x_is
     }
 
 -- the bound of the row at a place
-pub bound_read : (n i b : ℕ) (rows : List (List Entry)) (bounds : List ℕ) (e : List Entry) → AreBounds n rows bounds → i < length rows →
+pub bound_read : (n i b : ℕ) (rows : List (List Entry)) (bounds : List ℕ) (e : List Entry) →
+    AreBounds n rows bounds → i < length rows →
     b ≡ get_or bounds i 0 → e ≡ get_or rows i [] → IsExtent b n (dense n e)
 bound_read n i b rows bounds e h inside b_is e_is =
-    subst₂ (λ (m : ℕ) (xs : List Entry). IsExtent m n (dense n xs)) (sym b_is) (sym e_is) (h.bound i inside)
+    subst₂ (λ (m : ℕ) (xs : List Entry). IsExtent m n (dense n xs)) (sym b_is) (sym e_is)
+    (h.bound i inside)
 
 -- one more row with its bound
-pub bounds_more : (n : ℕ) (rows rows' : List (List Entry)) (bounds bounds' : List ℕ) (row : List Entry) (b : ℕ) → AreBounds n rows bounds →
-    rows' ≡ rows ++ row ∷ [] → bounds' ≡ bounds ++ b ∷ [] → IsExtent b n (dense n row) → AreBounds n rows' bounds'
-bounds_more n rows rows' bounds bounds' row b h rows_is bounds_is new = subst₂ (AreBounds n) (sym rows_is) (sym bounds_is) record {
-  rows_are = length_push bounds b ∙ ap (λ m. m + 1) h.rows_are ∙ sym (length_push rows row);
-  bound = λ i below.
-      below_more (λ k. IsExtent (get_or (bounds ++ b ∷ []) k 0) n (dense n (get_or (rows ++ row ∷ []) k []))) (length rows)
-      earlier last i (subst (λ m. i < m) (length_push rows row) below);
-}
+pub bounds_more : (n : ℕ) (rows rows' : List (List Entry)) (bounds bounds' : List ℕ)
+    (row : List Entry) (b : ℕ) → AreBounds n rows bounds →
+    rows' ≡ rows ++ row ∷ [] → bounds' ≡ bounds ++ b ∷ [] → IsExtent b n (dense n row) →
+    AreBounds n rows' bounds'
+bounds_more n rows rows' bounds bounds' row b h rows_is bounds_is new = subst₂ (AreBounds n)
+    (sym rows_is) (sym bounds_is) record {
+      rows_are = length_push bounds b ∙ ap (λ m. m + 1) h.rows_are ∙ sym (length_push rows row);
+      bound = λ i below.
+          below_more (λ k. IsExtent (get_or (bounds ++ b ∷ []) k 0) n
+          (dense n (get_or (rows ++ row ∷ []) k []))) (length rows)
+          earlier last i (subst (λ m. i < m) (length_push rows row) below);
+    }
   where
-    at : (k m : ℕ) (xs : List Entry) → get_or (bounds ++ b ∷ []) k 0 ≡ m → get_or (rows ++ row ∷ []) k [] ≡ xs →
-        IsExtent m n (dense n xs) → IsExtent (get_or (bounds ++ b ∷ []) k 0) n (dense n (get_or (rows ++ row ∷ []) k []))
-    at k m xs m_is xs_is is = subst₂ (λ (l : ℕ) (ys : List Entry). IsExtent l n (dense n ys)) (sym m_is) (sym xs_is) is
+    at : (k m : ℕ) (xs : List Entry) → get_or (bounds ++ b ∷ []) k 0 ≡ m →
+        get_or (rows ++ row ∷ []) k [] ≡ xs →
+        IsExtent m n (dense n xs) → IsExtent (get_or (bounds ++ b ∷ []) k 0) n
+        (dense n (get_or (rows ++ row ∷ []) k []))
+    at k m xs m_is xs_is is = subst₂ (λ (l : ℕ) (ys : List Entry). IsExtent l n (dense n ys))
+        (sym m_is) (sym xs_is) is
 
-    earlier : (k : ℕ) → k < length rows → IsExtent (get_or (bounds ++ b ∷ []) k 0) n (dense n (get_or (rows ++ row ∷ []) k []))
+    earlier : (k : ℕ) → k < length rows →
+        IsExtent (get_or (bounds ++ b ∷ []) k 0) n (dense n (get_or (rows ++ row ∷ []) k []))
     earlier k below =
         at k (get_or bounds k 0) (get_or rows k [])
         (get_or_append_left bounds (b ∷ []) 0 k (subst (λ m. k < m) (sym h.rows_are) below))
         (get_or_append_left rows (row ∷ []) [] k below) (h.bound k below)
 
-    last : IsExtent (get_or (bounds ++ b ∷ []) (length rows) 0) n (dense n (get_or (rows ++ row ∷ []) (length rows) []))
-    last = at (length rows) b row (get_or_push bounds b 0 (length rows) h.rows_are) (get_or_push rows row [] (length rows) refl) new
+    last : IsExtent (get_or (bounds ++ b ∷ []) (length rows) 0) n
+        (dense n (get_or (rows ++ row ∷ []) (length rows) []))
+    last = at (length rows) b row (get_or_push bounds b 0 (length rows) h.rows_are)
+        (get_or_push rows row [] (length rows) refl) new
 
-pub no_bounds : (n : ℕ) (rows : List (List Entry)) (bounds : List ℕ) → rows ≡ [] → bounds ≡ [] → AreBounds n rows bounds
+pub no_bounds : (n : ℕ) (rows : List (List Entry)) (bounds : List ℕ) → rows ≡ [] → bounds ≡ [] →
+    AreBounds n rows bounds
 no_bounds n rows bounds none none' = record {
   rows_are = ap length none' ∙ sym (ap length none);
   bound = λ i below. let empty : length rows ≡ 0 = ap length none in absurd (omega arith);
@@ -100,98 +121,131 @@ no_bounds n rows bounds none none' = record {
 
 -- ---- an insertion in 64 bits goes on to the next column
 
-pub lazy_to : (i : Insertion) (kept : List KeptRow) (n a c : ℕ) (row : List ℤ) (reduce : List ℕ) (is_stepped : Bool) (bound end : ℕ) →
-    IsLazy i kept n a row reduce is_stepped bound end → IsNextColumn row a c → IsLazy i kept n c row reduce is_stepped bound end
+pub lazy_to : (i : Insertion) (kept : List KeptRow) (n a c : ℕ) (row : List ℤ) (reduce : List ℕ)
+    (is_stepped : Bool) (bound end : ℕ) →
+    IsLazy i kept n a row reduce is_stepped bound end → IsNextColumn row a c →
+    IsLazy i kept n c row reduce is_stepped bound end
 lazy_to i kept n a c row reduce is_stepped bound end h next =
     let inside = next.inside in
     let columns = h.columns in
     further (λ k. IsLazy i kept n k row reduce is_stepped bound end) a c next.behind h
-    (λ k from to so_far. lazy_zero i kept n k row reduce is_stepped bound end so_far (omega arith) (next.zero k from to))
+    (λ k from to so_far. lazy_zero i kept n k row reduce is_stepped bound end so_far (omega arith)
+    (next.zero k from to))
 
 -- nothing is left of the row
-pub lazy_done : (i : Insertion) (kept : List KeptRow) (n a : ℕ) (row : List ℤ) (reduce : List ℕ) (is_stepped : Bool) (bound end : ℕ) →
-    IsLazy i kept n a row reduce is_stepped bound end → ((k : ℕ) → a ≤ k → at_column row k ≡ pos 0) → IsDone whole_numbers i None row reduce
+pub lazy_done : (i : Insertion) (kept : List KeptRow) (n a : ℕ) (row : List ℤ) (reduce : List ℕ)
+    (is_stepped : Bool) (bound end : ℕ) →
+    IsLazy i kept n a row reduce is_stepped bound end →
+    ((k : ℕ) → a ≤ k → at_column row k ≡ pos 0) → IsDone whole_numbers i None row reduce
 lazy_done i kept n a row reduce is_stepped bound end h none = by_place (cases_lt a n)
   where
     by_place : (a < n) ⊎ (n ≤ a) → IsDone whole_numbers i None row reduce
     by_place (inl below) =
         lazy_end i kept n n row reduce is_stepped bound end
         (further (λ k. IsLazy i kept n k row reduce is_stepped bound end) a n (omega arith) h
-        (λ k from to so_far. lazy_zero i kept n k row reduce is_stepped bound end so_far to (none k from))) (omega arith)
+        (λ k from to so_far. lazy_zero i kept n k row reduce is_stepped bound end so_far to
+        (none k from))) (omega arith)
     by_place (inr past) = lazy_end i kept n a row reduce is_stepped bound end h past
 
 -- ---- from the given row
 
 -- the insertion of the given row, as the code has it
-pub same_insertion : (n m : ℕ) (log : List LogRow) (rows : List (List Entry)) (given : List Entry) (row : List ℤ) → m ≡ n →
-    row ≡ dense m given → inserted m (kept_sparse m log rows) row ≡ inserted n (kept_sparse n log rows) (dense n given)
+pub same_insertion : (n m : ℕ) (log : List LogRow) (rows : List (List Entry)) (given : List Entry)
+    (row : List ℤ) → m ≡ n →
+    row ≡ dense m given → inserted m (kept_sparse m log rows) row ≡ inserted n
+    (kept_sparse n log rows) (dense n given)
 same_insertion n m log rows given row same is =
-    ap (inserted m (kept_sparse m log rows)) is ∙ ap (λ l. inserted l (kept_sparse l log rows) (dense l given)) same
+    ap (inserted m (kept_sparse m log rows)) is
+    ∙ ap (λ l. inserted l (kept_sparse l log rows) (dense l given)) same
 
-pub sparse_start : (n m : ℕ) (log : List LogRow) (rows : List (List Entry)) (given : List Entry) (row : List ℤ) (reduce : List ℕ) → m ≡ n →
+pub sparse_start : (n m : ℕ) (log : List LogRow) (rows : List (List Entry)) (given : List Entry)
+    (row : List ℤ) (reduce : List ℕ) → m ≡ n →
     row ≡ dense n given → reduce ≡ [] →
-    IsBehind (inserted n (kept_sparse n log rows) (dense n given)) reduce (rest whole_numbers (kept_sparse m log rows) m 0 row)
+    IsBehind (inserted n (kept_sparse n log rows) (dense n given)) reduce
+    (rest whole_numbers (kept_sparse m log rows) m 0 row)
 sparse_start n m log rows given row reduce same is empty =
-    subst₂ (λ (l : ℕ) (xs : List ℤ). IsBehind (inserted n (kept_sparse n log rows) (dense n given)) reduce
+    subst₂ (λ (l : ℕ) (xs : List ℤ). IsBehind (inserted n (kept_sparse n log rows) (dense n given))
+    reduce
     (rest whole_numbers (kept_sparse l log rows) l 0 xs)) (sym same) (sym is)
     (behind_start whole_numbers (kept_sparse n log rows) n (dense n given) reduce empty)
 
-pub sparse_reached : (n m l : ℕ) (log : List LogRow) (rows : List (List Entry)) (given : List Entry) (row left exact : List ℤ) (r : Reached)
-    (c : ℕ) (reduce : List ℕ) → m ≡ n → l ≡ n → length exact ≡ l → row ≡ dense m given → r ≡ Column c →
-    IsReached (kept_sparse m log rows) (inserted m (kept_sparse m log rows) row) r left exact reduce →
-    IsBehind (inserted n (kept_sparse n log rows) (dense n given)) reduce (rest whole_numbers (kept_sparse l log rows) l c exact)
+pub sparse_reached : (n m l : ℕ) (log : List LogRow) (rows : List (List Entry)) (given : List Entry)
+    (row left exact : List ℤ) (r : Reached)
+    (c : ℕ) (reduce : List ℕ) → m ≡ n → l ≡ n → length exact ≡ l → row ≡ dense m given →
+    r ≡ Column c →
+    IsReached (kept_sparse m log rows) (inserted m (kept_sparse m log rows) row) r left exact reduce
+    →
+    IsBehind (inserted n (kept_sparse n log rows) (dense n given)) reduce
+    (rest whole_numbers (kept_sparse l log rows) l c exact)
 sparse_reached n m l log rows given row left exact r c reduce same same' len is r_is h =
-    let at : IsBehind (inserted m (kept_sparse m log rows) row) reduce (rest whole_numbers (kept_sparse m log rows) (length exact) c exact) =
-    subst (λ (o : Reached). IsReached (kept_sparse m log rows) (inserted m (kept_sparse m log rows) row) o left exact reduce) r_is h in
-    subst₂ (λ (k j : ℕ). IsBehind (inserted n (kept_sparse n log rows) (dense n given)) reduce (rest whole_numbers (kept_sparse k log rows) j c exact))
+    let at : IsBehind (inserted m (kept_sparse m log rows) row) reduce
+    (rest whole_numbers (kept_sparse m log rows) (length exact) c exact) =
+    subst (λ (o : Reached). IsReached (kept_sparse m log rows)
+    (inserted m (kept_sparse m log rows) row) o left exact reduce) r_is h in
+    subst₂ (λ (k j : ℕ). IsBehind (inserted n (kept_sparse n log rows) (dense n given)) reduce
+    (rest whole_numbers (kept_sparse k log rows) j c exact))
     (same ∙ sym same') len
-    (subst (λ (i : Insertion). IsBehind i reduce (rest whole_numbers (kept_sparse m log rows) (length exact) c exact))
+    (subst (λ (i : Insertion). IsBehind i reduce
+    (rest whole_numbers (kept_sparse m log rows) (length exact) c exact))
     (same_insertion n m log rows given row same is) at)
 
 -- the end is reached
-pub sparse_ended : (n m : ℕ) (log : List LogRow) (rows : List (List Entry)) (given : List Entry) (row left exact : List ℤ) (r : Reached)
+pub sparse_ended : (n m : ℕ) (log : List LogRow) (rows : List (List Entry)) (given : List Entry)
+    (row left exact : List ℤ) (r : Reached)
     (o : Option ℕ) (reduce : List ℕ) → m ≡ n → row ≡ dense m given → r ≡ End o →
-    IsReached (kept_sparse m log rows) (inserted m (kept_sparse m log rows) row) r left exact reduce →
+    IsReached (kept_sparse m log rows) (inserted m (kept_sparse m log rows) row) r left exact reduce
+    →
     IsDone whole_numbers (inserted n (kept_sparse n log rows) (dense n given)) o left reduce
 sparse_ended n m log rows given row left exact r o reduce same is r_is h =
     let at : IsDone whole_numbers (inserted m (kept_sparse m log rows) row) o left reduce =
-    subst (λ (x : Reached). IsReached (kept_sparse m log rows) (inserted m (kept_sparse m log rows) row) x left exact reduce) r_is h in
-    subst (λ (i : Insertion). IsDone whole_numbers i o left reduce) (same_insertion n m log rows given row same is) at
+    subst (λ (x : Reached). IsReached (kept_sparse m log rows)
+    (inserted m (kept_sparse m log rows) row) x left exact reduce) r_is h in
+    subst (λ (i : Insertion). IsDone whole_numbers i o left reduce)
+    (same_insertion n m log rows given row same is) at
 
 -- ---- one more row
 
-pub entries_pushed : (n m : ℕ) (rows rows' : List (List Entry)) (e : List Entry) (k : List ℤ) → rows' ≡ rows ++ e ∷ [] → m ≡ n →
+pub entries_pushed : (n m : ℕ) (rows rows' : List (List Entry)) (e : List Entry) (k : List ℤ) →
+    rows' ≡ rows ++ e ∷ [] → m ≡ n →
     dense m e ≡ k → map (dense n) rows' ≡ map (dense n) rows ++ k ∷ []
 entries_pushed n m rows rows' e k is same e_is =
     ap (map (dense n)) is ∙ map-append (dense n) rows (e ∷ [])
     ∙ ap (λ xs. map (dense n) rows ++ xs ∷ []) (ap (λ l. dense l e) (sym same) ∙ e_is)
 
-pub sparse_pushed : (n m : ℕ) (rows rows' : List (List Entry)) (e : List Entry) → All (AreSparse n) rows → rows' ≡ rows ++ e ∷ [] → m ≡ n →
+pub sparse_pushed : (n m : ℕ) (rows rows' : List (List Entry)) (e : List Entry) →
+    All (AreSparse n) rows → rows' ≡ rows ++ e ∷ [] → m ≡ n →
     AreSparse m e → All (AreSparse n) rows'
 sparse_pushed n m rows rows' e all is same e_is =
-    subst (All (AreSparse n)) (sym is) (All-push (AreSparse n) rows e all (subst (λ (l : ℕ). AreSparse l e) same e_is))
+    subst (All (AreSparse n)) (sym is)
+    (All-push (AreSparse n) rows e all (subst (λ (l : ℕ). AreSparse l e) same e_is))
 
-pub same_sparse : (n : ℕ) (rows rows' : List (List Entry)) → rows' ≡ rows → All (AreSparse n) rows → All (AreSparse n) rows'
+pub same_sparse : (n : ℕ) (rows rows' : List (List Entry)) → rows' ≡ rows → All (AreSparse n) rows →
+    All (AreSparse n) rows'
 same_sparse n rows rows' is all = subst (All (AreSparse n)) (sym is) all
 
-pub same_bounds : (n : ℕ) (rows rows' : List (List Entry)) (bounds bounds' : List ℕ) → rows' ≡ rows → bounds' ≡ bounds →
+pub same_bounds : (n : ℕ) (rows rows' : List (List Entry)) (bounds bounds' : List ℕ) →
+    rows' ≡ rows → bounds' ≡ bounds →
     AreBounds n rows bounds → AreBounds n rows' bounds'
 same_bounds n rows rows' bounds bounds' is is' h = subst₂ (AreBounds n) (sym is) (sym is') h
 
 -- ---- the basis behind an insertion
 
 -- the insertion as the code has it
-pub insertion_sparse : (n : ℕ) (b d : BasisData) (log log' : List LogRow) (rows rows' : List (List Entry)) (given : List Entry) →
+pub insertion_sparse : (n : ℕ) (b d : BasisData) (log log' : List LogRow)
+    (rows rows' : List (List Entry)) (given : List Entry) →
     n ≡ b.columns → b ≡ d → log' ≡ log → rows' ≡ rows → b.kept ≡ kept_sparse b.columns log rows →
-    inserted n (kept_sparse n log' rows') (dense n given) ≡ inserted b.columns b.kept (dense d.columns given)
+    inserted n (kept_sparse n log' rows') (dense n given) ≡ inserted b.columns b.kept
+    (dense d.columns given)
 insertion_sparse n b d log log' rows rows' given n_is same log_is rows_is kept_is =
     ap (λ m. inserted m (kept_sparse m log' rows') (dense m given)) n_is
-    ∙ ap₂ (λ ls rs. inserted b.columns (kept_sparse b.columns ls rs) (dense b.columns given)) log_is rows_is
+    ∙ ap₂ (λ ls rs. inserted b.columns (kept_sparse b.columns ls rs) (dense b.columns given)) log_is
+    rows_is
     ∙ ap (λ ks. inserted b.columns ks (dense b.columns given)) (sym kept_is)
     ∙ ap (λ x. inserted b.columns b.kept (dense x.columns given)) same
 
 -- the columns of the given row
-pub given_columns : (b d : BasisData) (given : List Entry) → b ≡ d → length (dense d.columns given) ≡ b.columns
+pub given_columns : (b d : BasisData) (given : List Entry) → b ≡ d →
+    length (dense d.columns given) ≡ b.columns
 given_columns b d given same = length-dense d.columns given ∙ sym (ap (λ x. x.columns) same)
 
 -- what is held behind writes to the slice of a vector
@@ -199,7 +253,8 @@ pub record IsHeld {X : Type 0} (n : ℕ) (v : Vec X Global) (ws : List X) : Type
   pub is : (with_items v ws).items ≡ ws
   pub columns : length (with_items v ws).items ≡ n
 
-pub held : {X : Type 0} (n : ℕ) (v : Vec X Global) (r ws : List X) → v.len ≡ length v.items → length v.items ≡ n → r ≡ v.items →
+pub held : {X : Type 0} (n : ℕ) (v : Vec X Global) (r ws : List X) → v.len ≡ length v.items →
+    length v.items ≡ n → r ≡ v.items →
     length ws ≡ length r → IsHeld n v ws
 held n v r ws ok columns r_is len =
     let is = with_items_is v ws (len ∙ ap length r_is ∙ sym ok) in record {
@@ -207,8 +262,10 @@ held n v r ws ok columns r_is len =
       columns = ap length is ∙ len ∙ ap length r_is ∙ columns;
     }
 
-pub held_twice : {X : Type 0} (n : ℕ) (v : Vec X Global) (r ws r' ws' : List X) → v.len ≡ length v.items → length v.items ≡ n → r ≡ v.items →
-    length ws ≡ length r → r' ≡ (with_items v ws).items → length ws' ≡ length r' → IsHeld n (with_items v ws) ws'
+pub held_twice : {X : Type 0} (n : ℕ) (v : Vec X Global) (r ws r' ws' : List X) →
+    v.len ≡ length v.items → length v.items ≡ n → r ≡ v.items →
+    length ws ≡ length r → r' ≡ (with_items v ws).items → length ws' ≡ length r' →
+    IsHeld n (with_items v ws) ws'
 held_twice n v r ws r' ws' ok columns r_is len r_is' len' =
     let first = held n v r ws ok columns r_is len in
     held n (with_items v ws) r' ws' (ok ∙ columns ∙ sym first.columns) first.columns r_is' len'

@@ -1,5 +1,5 @@
 -- Rows as their entries, one after another.
-use Rattle.std.proofs.Common.{◌≡◌, ◌≢◌, ℕ, zero, suc, ◌+◌, ◌<◌, ◌≤◌, ◌^◌, ◌⊎◌, inl, inr, Bool, true, false, cond, ℤ, pos, List, [], ◌∷◌, ◌++◌, length, get_or, set, drop, map, eqb, unsigned_abs, below_more, refl, sym, ap, ap₂, subst, ◌∙◌, arith}
+use Rattle.std.proofs.Common.{◌≡◌, ◌≢◌, ℕ, suc, ◌+◌, ◌<◌, ◌≤◌, ◌^◌, ◌⊎◌, inl, inr, Bool, true, false, cond, ℤ, pos, List, [], ◌∷◌, ◌++◌, length, get_or, set, drop, eqb, unsigned_abs, below_more, refl, sym, ap, subst, ◌∙◌, arith}
 use Rattle.std.specs.Prelude.{All}
 use Rattle.std.proofs.lemmas.Bool.{cases_lt, eq-eqb, ne_eqb}
 use Rattle.std.proofs.lemmas.List.{same_lists, get_or_default, get_or_past, get_or-set_same, get_or-set_other, drop_more, drop_all}
@@ -20,9 +20,11 @@ pub length-dense : (n : ℕ) (row : List Entry) → length (dense n row) ≡ n
 unfolding dense
 length-dense n row = length-map-range_with_len (factor_at row) 0 n
 
-pub at_dense : (n : ℕ) (row : List Entry) (k : ℕ) → k < n → at_column (dense n row) k ≡ factor_at row k
+pub at_dense : (n : ℕ) (row : List Entry) (k : ℕ) → k < n →
+    at_column (dense n row) k ≡ factor_at row k
 unfolding dense
-at_dense n row k below = get_or-map-range_with_len (factor_at row) 0 n k k (pos 0) below (omega arith)
+at_dense n row k below = get_or-map-range_with_len (factor_at row) 0 n k k (pos 0) below
+    (omega arith)
 
 pub at_dense_past : (n : ℕ) (row : List Entry) (k : ℕ) → n ≤ k → at_column (dense n row) k ≡ pos 0
 at_dense_past n row k past = get_or_past (dense n row) k (pos 0) (omega (arith, length-dense n row))
@@ -32,32 +34,40 @@ pub same_dense : (n : ℕ) (row : List Entry) (xs : List ℤ) → length xs ≡ 
 same_dense n row xs len same =
     same_lists xs (dense n row) (len ∙ sym (length-dense n row))
     (λ k d below.
-    get_or_default xs k d (pos 0) below ∙ same k (omega arith) ∙ sym (at_dense n row k (omega arith))
+    get_or_default xs k d (pos 0) below ∙ same k (omega arith)
+    ∙ sym (at_dense n row k (omega arith))
     ∙ get_or_default (dense n row) k (pos 0) d (omega (arith, length-dense n row)))
 
 -- ---- the factor at a column
 
-pub factor_here : (e : Entry) (row : List Entry) (k : ℕ) → e.column ≡ k → factor_at (e ∷ row) k ≡ e.factor
+pub factor_here : (e : Entry) (row : List Entry) (k : ℕ) → e.column ≡ k →
+    factor_at (e ∷ row) k ≡ e.factor
 factor_here e row k is = ap (λ b. cond b e.factor (factor_at row k)) (eq-eqb e.column k is)
 
-pub factor_later : (e : Entry) (row : List Entry) (k : ℕ) → e.column ≢ k → factor_at (e ∷ row) k ≡ factor_at row k
+pub factor_later : (e : Entry) (row : List Entry) (k : ℕ) → e.column ≢ k →
+    factor_at (e ∷ row) k ≡ factor_at row k
 factor_later e row k apart = ap (λ b. cond b e.factor (factor_at row k)) (ne_eqb e.column k apart)
 
-pub factor_before : (a n : ℕ) (row : List Entry) (k : ℕ) → AreSparseFrom a n row → k < a → factor_at row k ≡ pos 0
+pub factor_before : (a n : ℕ) (row : List Entry) (k : ℕ) → AreSparseFrom a n row → k < a →
+    factor_at row k ≡ pos 0
 factor_before a n [] k h below = refl
 factor_before a n (e ∷ row) k (first, later) below =
     let behind = first.behind in
-    factor_later e row k (λ same. omega arith) ∙ factor_before (e.column + 1) n row k later (omega arith)
+    factor_later e row k (λ same. omega arith)
+    ∙ factor_before (e.column + 1) n row k later (omega arith)
 
-pub factor_past : (a n : ℕ) (row : List Entry) (k : ℕ) → AreSparseFrom a n row → n ≤ k → factor_at row k ≡ pos 0
+pub factor_past : (a n : ℕ) (row : List Entry) (k : ℕ) → AreSparseFrom a n row → n ≤ k →
+    factor_at row k ≡ pos 0
 factor_past a n [] k h past = refl
 factor_past a n (e ∷ row) k (first, later) past =
     let below = first.below in
     factor_later e row k (λ same. omega arith) ∙ factor_past (e.column + 1) n row k later past
 
-pub factor_fits : (a n : ℕ) (row : List Entry) (k : ℕ) → AreSparseFrom a n row → Fits (factor_at row k)
+pub factor_fits : (a n : ℕ) (row : List Entry) (k : ℕ) → AreSparseFrom a n row →
+    Fits (factor_at row k)
 factor_fits a n [] k h = omega arith
-factor_fits a n (e ∷ row) k (first, later) = by_test (eqb e.column k) (factor_fits (e.column + 1) n row k later)
+factor_fits a n (e ∷ row) k (first, later) = by_test (eqb e.column k)
+    (factor_fits (e.column + 1) n row k later)
   where
     by_test : (b : Bool) → Fits (factor_at row k) → Fits (cond b e.factor (factor_at row k))
     by_test true h = first.fits
@@ -66,7 +76,8 @@ factor_fits a n (e ∷ row) k (first, later) = by_test (eqb e.column k) (factor_
 pub dense_fits : (n : ℕ) (row : List Entry) → AreSparse n row → All Fits (dense n row)
 dense_fits n row h =
     All-from_get_or Fits (dense n row) (pos 0)
-    (λ k below. subst Fits (sym (at_dense n row k (omega (arith, length-dense n row)))) (factor_fits 0 n row k h))
+    (λ k below. subst Fits (sym (at_dense n row k (omega (arith, length-dense n row))))
+    (factor_fits 0 n row k h))
 
 -- ---- the entry at an index
 
@@ -118,7 +129,8 @@ entry_at n row i a h inside = record {
     here = same e.column rest.0.behind ∙ factor_here e (drop (i + 1) row) e.column refl
 
 -- no entry is left
-pub at_end : (n : ℕ) (row : List Entry) (i a : ℕ) → IsAtEntry n row i a → length row ≤ i → (k : ℕ) → a ≤ k → factor_at row k ≡ pos 0
+pub at_end : (n : ℕ) (row : List Entry) (i a : ℕ) → IsAtEntry n row i a → length row ≤ i → (k : ℕ) →
+    a ≤ k → factor_at row k ≡ pos 0
 at_end n row i a h past k from = h.same k from ∙ ap (λ xs. factor_at xs k) (drop_all i row past)
 
 -- ---- the first entry, at the column of the pivot
@@ -130,7 +142,8 @@ pub record IsFirstEntry (n c : ℕ) (row : List Entry) : Type 0 where
   pub next : IsAtEntry n row 1 (c + 1)
 
 pub first_entry : (n c : ℕ) (row : List Entry) → AreSparse n row → c < n →
-    ((k : ℕ) → k < c → at_column (dense n row) k ≡ pos 0) → at_column (dense n row) c ≢ pos 0 → IsFirstEntry n c row
+    ((k : ℕ) → k < c → at_column (dense n row) k ≡ pos 0) → at_column (dense n row) c ≢ pos 0 →
+    IsFirstEntry n c row
 first_entry n c [] h below zeros some = absurd (some (at_dense n [] c below))
 first_entry n c (e ∷ row) (first, later) below zeros some =
     by_place (cases_lt e.column c) (cases_lt c e.column)
@@ -138,9 +151,11 @@ first_entry n c (e ∷ row) (first, later) below zeros some =
     whole : (k : ℕ) → k < n → at_column (dense n (e ∷ row)) k ≡ factor_at (e ∷ row) k
     whole k inside = at_dense n (e ∷ row) k inside
 
-    by_place : (e.column < c) ⊎ (c ≤ e.column) → (c < e.column) ⊎ (e.column ≤ c) → IsFirstEntry n c (e ∷ row)
+    by_place : (e.column < c) ⊎ (c ≤ e.column) → (c < e.column) ⊎ (e.column ≤ c) →
+        IsFirstEntry n c (e ∷ row)
     by_place (inl before) other =
-        absurd (first.some (sym (factor_here e row e.column refl) ∙ sym (whole e.column first.below) ∙ zeros e.column before))
+        absurd (first.some (sym (factor_here e row e.column refl) ∙ sym (whole e.column first.below)
+        ∙ zeros e.column before))
     by_place (inr from) (inl behind) =
         absurd (some (whole c below ∙ factor_later e row c (λ same. omega arith)
         ∙ factor_before (e.column + 1) n row c later (omega arith)))
@@ -175,7 +190,8 @@ widened a n m (e ∷ row) (first, later) more =
       widened (e.column + 1) n m row later more,
     )
 
-pushed_sparse : (a n : ℕ) (row : List Entry) (e : Entry) → AreSparseFrom a n row → a ≤ n → IsEntryWithin n (n + 1) e →
+pushed_sparse : (a n : ℕ) (row : List Entry) (e : Entry) → AreSparseFrom a n row → a ≤ n →
+    IsEntryWithin n (n + 1) e →
     AreSparseFrom a (n + 1) (row ++ e ∷ [])
 pushed_sparse a n [] e h least last =
     let behind = last.behind in
@@ -186,18 +202,23 @@ pushed_sparse a n (x ∷ row) e (first, later) least last =
       pushed_sparse (x.column + 1) n row e later (omega arith) last,
     )
 
-pushed_other : (row : List Entry) (e : Entry) (k : ℕ) → e.column ≢ k → factor_at (row ++ e ∷ []) k ≡ factor_at row k
+pushed_other : (row : List Entry) (e : Entry) (k : ℕ) → e.column ≢ k →
+    factor_at (row ++ e ∷ []) k ≡ factor_at row k
 pushed_other [] e k apart = factor_later e [] k apart
-pushed_other (x ∷ row) e k apart = ap (λ z. cond (eqb x.column k) x.factor z) (pushed_other row e k apart)
+pushed_other (x ∷ row) e k apart = ap (λ z. cond (eqb x.column k) x.factor z)
+    (pushed_other row e k apart)
 
-pushed_here : (a n : ℕ) (row : List Entry) (e : Entry) (k : ℕ) → AreSparseFrom a n row → n ≤ k → e.column ≡ k →
+pushed_here : (a n : ℕ) (row : List Entry) (e : Entry) (k : ℕ) → AreSparseFrom a n row → n ≤ k →
+    e.column ≡ k →
     factor_at (row ++ e ∷ []) k ≡ e.factor
 pushed_here a n [] e k h past is = factor_here e [] k is
 pushed_here a n (x ∷ row) e k (first, later) past is =
     let below = first.below in
-    factor_later x (row ++ e ∷ []) k (λ same. omega arith) ∙ pushed_here (x.column + 1) n row e k later past is
+    factor_later x (row ++ e ∷ []) k (λ same. omega arith)
+    ∙ pushed_here (x.column + 1) n row e k later past is
 
-pub gathered_zero : (row : List ℤ) (entries : List Entry) (c : ℕ) → IsGathered row entries c → at_column row c ≡ pos 0 →
+pub gathered_zero : (row : List ℤ) (entries : List Entry) (c : ℕ) → IsGathered row entries c →
+    at_column row c ≡ pos 0 →
     IsGathered row entries (c + 1)
 gathered_zero row entries c h none = record {
   sparse = widened 0 c (c + 1) entries h.sparse (omega arith);
@@ -205,22 +226,25 @@ gathered_zero row entries c h none = record {
       (factor_past 0 c entries c h.sparse (omega arith) ∙ sym none);
 }
 
-pub gathered_more : (row : List ℤ) (entries entries' : List Entry) (c : ℕ) (e : Entry) → IsGathered row entries c →
+pub gathered_more : (row : List ℤ) (entries entries' : List Entry) (c : ℕ) (e : Entry) →
+    IsGathered row entries c →
     e.column ≡ c → e.factor ≡ at_column row c → at_column row c ≢ pos 0 → Fits (at_column row c) →
     entries' ≡ entries ++ e ∷ [] → IsGathered row entries' (c + 1)
-gathered_more row entries entries' c e h column factor some fits is = subst (λ (xs : List Entry). IsGathered row xs (c + 1)) (sym is) record {
-  sparse = pushed_sparse 0 c entries e h.sparse (omega arith) record {
-    behind = omega arith;
-    below = omega arith;
-    some = λ zero. some (sym factor ∙ zero);
-    fits = subst Fits (sym factor) fits;
-  };
-  same = below_more (λ k. factor_at (entries ++ e ∷ []) k ≡ at_column row k) c
-      (λ k below. pushed_other entries e k (λ same. omega arith) ∙ h.same k below)
-      (pushed_here 0 c entries e c h.sparse (omega arith) column ∙ factor);
-}
+gathered_more row entries entries' c e h column factor some fits is = subst
+    (λ (xs : List Entry). IsGathered row xs (c + 1)) (sym is) record {
+      sparse = pushed_sparse 0 c entries e h.sparse (omega arith) record {
+        behind = omega arith;
+        below = omega arith;
+        some = λ zero. some (sym factor ∙ zero);
+        fits = subst Fits (sym factor) fits;
+      };
+      same = below_more (λ k. factor_at (entries ++ e ∷ []) k ≡ at_column row k) c
+          (λ k below. pushed_other entries e k (λ same. omega arith) ∙ h.same k below)
+          (pushed_here 0 c entries e c h.sparse (omega arith) column ∙ factor);
+    }
 
-pub gathered_end : (row : List ℤ) (entries : List Entry) (c : ℕ) → IsGathered row entries c → c ≡ length row →
+pub gathered_end : (row : List ℤ) (entries : List Entry) (c : ℕ) → IsGathered row entries c →
+    c ≡ length row →
     AreSparse (length row) entries × (dense (length row) entries ≡ row)
 gathered_end row entries c h end = (
   subst (λ (n : ℕ). AreSparse n entries) end h.sparse,
@@ -236,7 +260,8 @@ pub record IsSpread (n : ℕ) (entries : List Entry) (row : List ℤ) (i : ℕ) 
   pub done : (k : ℕ) → k < from → at_column row k ≡ factor_at entries k
   pub later : (k : ℕ) → from ≤ k → at_column row k ≡ pos 0
 
-pub spread_start : (n : ℕ) (entries : List Entry) (row : List ℤ) → AreSparse n entries → ((k : ℕ) → at_column row k ≡ pos 0) →
+pub spread_start : (n : ℕ) (entries : List Entry) (row : List ℤ) → AreSparse n entries →
+    ((k : ℕ) → at_column row k ≡ pos 0) →
     IsSpread n entries row 0
 spread_start n entries row h zeros = record {
   from = 0;
@@ -245,7 +270,8 @@ spread_start n entries row h zeros = record {
   later = λ k from. zeros k;
 }
 
-pub spread_more : (n : ℕ) (entries : List Entry) (row : List ℤ) (i : ℕ) (z : ℤ) → IsSpread n entries row i → i < length entries →
+pub spread_more : (n : ℕ) (entries : List Entry) (row : List ℤ) (i : ℕ) (z : ℤ) →
+    IsSpread n entries row i → i < length entries →
     length row ≡ n → z ≡ (get_or entries i no_entry).factor →
     IsSpread n entries (set row (get_or entries i no_entry).column z) (i + 1)
 spread_more n entries row i z h inside len z_is =
@@ -256,19 +282,24 @@ spread_more n entries row i z h inside len z_is =
       from = e.column + 1;
       at = here.next;
       done = below_more (λ k. at_column (set row e.column z) k ≡ factor_at entries k) e.column
-          (λ k before. get_or-set_other row e.column k z (pos 0) (λ same. omega arith) ∙ earlier e.column here.zero k before (cases_lt k h.from))
+          (λ k before. get_or-set_other row e.column k z (pos 0) (λ same. omega arith)
+          ∙ earlier e.column here.zero k before (cases_lt k h.from))
           (get_or-set_same row e.column z (pos 0) (omega arith) ∙ z_is ∙ sym here.is);
-      later = λ k past. get_or-set_other row e.column k z (pos 0) (λ same. omega arith) ∙ h.later k (omega arith);
+      later = λ k past. get_or-set_other row e.column k z (pos 0) (λ same. omega arith)
+          ∙ h.later k (omega arith);
     }
   where
-    earlier : (c : ℕ) → ((k : ℕ) → h.from ≤ k → k < c → factor_at entries k ≡ pos 0) → (k : ℕ) → k < c →
+    earlier : (c : ℕ) → ((k : ℕ) → h.from ≤ k → k < c → factor_at entries k ≡ pos 0) → (k : ℕ) →
+        k < c →
         (k < h.from) ⊎ (h.from ≤ k) → at_column row k ≡ factor_at entries k
     earlier c none k before (inl low) = h.done k low
     earlier c none k before (inr high) = h.later k high ∙ sym (none k high before)
 
-pub spread_end : (n : ℕ) (entries : List Entry) (row : List ℤ) (i : ℕ) → IsSpread n entries row i → length entries ≤ i →
+pub spread_end : (n : ℕ) (entries : List Entry) (row : List ℤ) (i : ℕ) → IsSpread n entries row i →
+    length entries ≤ i →
     length row ≡ n → row ≡ dense n entries
-spread_end n entries row i h past len = same_dense n entries row len (λ k below. by_place k (cases_lt k h.from))
+spread_end n entries row i h past len = same_dense n entries row len
+    (λ k below. by_place k (cases_lt k h.from))
   where
     by_place : (k : ℕ) → (k < h.from) ⊎ (h.from ≤ k) → at_column row k ≡ factor_at entries k
     by_place k (inl low) = h.done k low
@@ -276,11 +307,13 @@ spread_end n entries row i h past len = same_dense n entries row len (λ k below
 
 -- ---- bounds
 
-pub factor_below : (row : List Entry) (b : ℕ) → ((i : ℕ) → i < length row → unsigned_abs (get_or row i no_entry).factor ≤ b) →
+pub factor_below : (row : List Entry) (b : ℕ) →
+    ((i : ℕ) → i < length row → unsigned_abs (get_or row i no_entry).factor ≤ b) →
     (k : ℕ) → unsigned_abs (factor_at row k) ≤ b
 factor_below [] b h k = omega arith
 factor_below (e ∷ row) b h k =
-    by_test (eqb e.column k) (factor_below row b (λ i inside. h (suc i) (omega arith)) k) (h 0 (omega arith))
+    by_test (eqb e.column k) (factor_below row b (λ i inside. h (suc i) (omega arith)) k)
+    (h 0 (omega arith))
   where
     by_test : (t : Bool) → unsigned_abs (factor_at row k) ≤ b → unsigned_abs e.factor ≤ b →
         unsigned_abs (cond t e.factor (factor_at row k)) ≤ b
@@ -296,6 +329,9 @@ bounded_entries row b h n = record {
   within = omega (arith, length-dense n row);
 }
   where
-    at : (k : ℕ) → unsigned_abs (factor_at row k) ≤ b → (k < n) ⊎ (n ≤ k) → unsigned_abs (at_column (dense n row) k) ≤ b
-    at k most (inl below) = subst (λ (x : ℤ). unsigned_abs x ≤ b) (sym (at_dense n row k below)) most
-    at k most (inr past) = subst (λ (x : ℤ). unsigned_abs x ≤ b) (sym (at_dense_past n row k past)) (omega arith)
+    at : (k : ℕ) → unsigned_abs (factor_at row k) ≤ b → (k < n) ⊎ (n ≤ k) →
+        unsigned_abs (at_column (dense n row) k) ≤ b
+    at k most (inl below) = subst (λ (x : ℤ). unsigned_abs x ≤ b) (sym (at_dense n row k below))
+        most
+    at k most (inr past) = subst (λ (x : ℤ). unsigned_abs x ≤ b) (sym (at_dense_past n row k past))
+        (omega arith)

@@ -10,7 +10,8 @@ use Rattle.gj_sparse_elim.specs.declared.progress.Reached.TheVariants.{End, Colu
 -- they come to the end with this row, or to a column from which on the exact row is to be reduced
 abbrev pub IsReached : List KeptRow → Insertion → Reached → List ℤ → List ℤ → List ℕ → Type 0
 IsReached kept i (End left) row exact reduce = IsDone whole_numbers i left row reduce
-IsReached kept i (Column c) row exact reduce = IsBehind i reduce (rest whole_numbers kept (length exact) c exact)
+IsReached kept i (Column c) row exact reduce = IsBehind i reduce
+    (rest whole_numbers kept (length exact) c exact)
 
 -- the row that is reached fits, and a column with something left of it is free
 abbrev pub IsReachedWithin : ℕ → List LogRow → Reached → List ℤ → List ℤ → Type 0

@@ -14,4 +14,5 @@ kept_sparse n log rows = kept_rows log (map (dense n) rows)
 -- for each of the rows of n columns a bound of its absolute values, if it is below 2^63
 pub record AreBounds (n : ℕ) (rows : List (List Entry)) (bounds : List ℕ) : Type 0 where
   pub rows_are : length bounds ≡ length rows
-  pub bound : (i : ℕ) → i < length rows → IsExtent (get_or bounds i 0) n (dense n (get_or rows i []))
+  pub bound : (i : ℕ) → i < length rows →
+      IsExtent (get_or bounds i 0) n (dense n (get_or rows i []))

@@ -1,5 +1,5 @@
 -- Rows as their entries (own).
-use Rattle.std.specs.Prelude.{ℕ, ℤ, pos, ◌≡◌, ◌≢◌, ◌+◌, ◌*ℤ◌, ◌<◌, ◌≤◌, ◌==◌, if◌then◌else◌, List, [], ◌∷◌, map}
+use Rattle.std.specs.Prelude.{ℕ, ℤ, pos, ◌≢◌, ◌+◌, ◌*ℤ◌, ◌<◌, ◌≤◌, ◌==◌, if◌then◌else◌, List, [], ◌∷◌, map}
 use Rattle.std.specs.List.{range_with_len}
 use Rattle.gj_frac.specs.Fraction.{Fits}
 use Rattle.gj_shape.specs.SlopeRows.{total}

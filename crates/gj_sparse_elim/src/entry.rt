@@ -13,7 +13,9 @@ use std::alloc::{AllocError, Global};
 /// An entry of a row, at one of its columns.
 #[derive(Clone, Copy, Debug, PartialEq, Eq)]
 pub struct Entry {
+    /// The column, from 0.
     pub column: u32,
+    /// The number there. Rows are given without entries that are 0.
     pub factor: i128,
 }
 

@@ -28,7 +28,8 @@ pub(crate) fn unit_row(
 fn sum_behind(row: &[Entry], numbers: &[i128], column: usize) -> Result<i128, Wide>
     requires sparse { AreSparse (length numbers.now) row.now }
     requires within { column < length numbers.now }
-    requires zero { (k : ℕ) → k < column → at_column (dense (length numbers.now) row.now) k ≡ pos 0 }
+    requires zero { (k : ℕ) → k < column →
+        at_column (dense (length numbers.now) row.now) k ≡ pos 0 }
     requires positive { pos 0 <ℤ at_column (dense (length numbers.now) row.now) column }
     ensures value { IfOk result (λ t. t
         ≡ total (products_behind column (dense (length numbers.now) row.now) numbers.now)) }
@@ -65,7 +66,8 @@ fn multiply(factor: i128, numbers: &mut [i128]) -> Result<(), Wide>
 pub(crate) fn solve_at(row: &[Entry], column: usize, numbers: &mut [i128]) -> Result<(), Wide>
     requires sparse { AreSparse (length numbers.old) row.now }
     requires within { column < length numbers.old }
-    requires zero { (k : ℕ) → k < column → at_column (dense (length numbers.old) row.now) k ≡ pos 0 }
+    requires zero { (k : ℕ) → k < column →
+        at_column (dense (length numbers.old) row.now) k ≡ pos 0 }
     requires positive { pos 0 <ℤ at_column (dense (length numbers.old) row.now) column }
     ensures value { OnOk result (numbers.new
         ≡ solved_at (dense (length numbers.old) row.now) column numbers.old) }

@@ -6,7 +6,8 @@ pub returns-then-is_none : goal.returns-then-is_none
 returns-then-is_none c log rows lines are =
     free_found log (length c.args.places.now) c.loop-column.column (omega arith)
     (λ k low none. c.loop-column.invariant k low (are.place k (omega arith) ∙ sym none))
-    (none_from_test (get_or c.args.places.now c.loop-column.column None) _ c.if-is_none.ensures (are.place c.loop-column.column (omega arith)))
+    (none_from_test (get_or c.args.places.now c.loop-column.column None) _ c.if-is_none.ensures
+    (are.place c.loop-column.column (omega arith)))
     rows lines
 
 pub returns : goal.returns

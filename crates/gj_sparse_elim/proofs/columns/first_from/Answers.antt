@@ -7,16 +7,19 @@ loop-place-init c = record { passed = passed_start c.args.parts.now c.args.from;
 
 pub returns-in-Some : goal.returns-in-Some
 returns-in-Some c =
-    passed_found c.args.parts.now c.args.from c.loop-place.place c.loop-place.start c.in-Some.index _ c.loop-place.invariant.passed refl
+    passed_found c.args.parts.now c.args.from c.loop-place.place c.loop-place.start c.in-Some.index
+    _ c.loop-place.invariant.passed refl
     c.in-Some.ensures
 
 pub loop-place-preserved : goal.loop-place-preserved
 loop-place-preserved c = record {
-  passed = passed_more c.args.parts.now c.args.from c.loop-place.place c.loop-place.start _ c.loop-place.invariant.passed refl
+  passed = passed_more c.args.parts.now c.args.from c.loop-place.place c.loop-place.start _
+      c.loop-place.invariant.passed refl
       c.loop-place.invariant.low c.in_default.ensures;
   low = omega arith;
 }
 
 pub returns : goal.returns
 returns c =
-    passed_end c.args.parts.now c.args.from c.loop-place.place c.loop-place.start c.loop-place.invariant.passed (omega arith)
+    passed_end c.args.parts.now c.args.from c.loop-place.place c.loop-place.start
+    c.loop-place.invariant.passed (omega arith)

@@ -7,7 +7,9 @@ loop-part-init c = empty_start c.args.parts.now
 
 pub loop-part-preserved : goal.loop-part-preserved
 loop-part-preserved c =
-    empty_set c.loop-part.parts c.loop-part.part-index c.empty.result c.loop-part.invariant (omega arith) c.empty.ensures
+    empty_set c.loop-part.parts c.loop-part.part-index c.empty.result c.loop-part.invariant
+    (omega arith) c.empty.ensures
 
 pub returns : goal.returns
-returns c = none_in_parts c.loop-part.parts c.loop-part.part-index (omega arith) c.loop-part.invariant
+returns c = none_in_parts c.loop-part.parts c.loop-part.part-index (omega arith)
+    c.loop-part.invariant

@@ -4,4 +4,5 @@ use Rattle.gj_sparse_elim.proofs.entry.bound_of.Given as goal
 
 abbrev pub invariant-loop-entry : goal.invariant-loop-entry
 invariant-loop-entry l =
-    l.bound < 2 ^ 63 → (i : ℕ) → i < l.entry-index → unsigned_abs (get_or l.entries i no_entry).factor ≤ l.bound
+    l.bound < 2 ^ 63 → (i : ℕ) → i < l.entry-index →
+    unsigned_abs (get_or l.entries i no_entry).factor ≤ l.bound

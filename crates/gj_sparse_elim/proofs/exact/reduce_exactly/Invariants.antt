@@ -10,8 +10,10 @@ abbrev pub invariant-loop-column : goal.invariant-loop-column
 invariant-loop-column l = record {
   behind : (i : Insertion) →
       IsBehind i l.initial.reduce.items
-      (rest whole_numbers (kept_sparse (length l.initial.row) l.log l.rows) (length l.initial.row) l.first l.initial.row) →
+      (rest whole_numbers (kept_sparse (length l.initial.row) l.log l.rows) (length l.initial.row)
+      l.first l.initial.row) →
       IsBehind i l.reduce.items
-      (rest whole_numbers (kept_sparse (length l.initial.row) l.log l.rows) (length l.initial.row) l.column l.row);
+      (rest whole_numbers (kept_sparse (length l.initial.row) l.log l.rows) (length l.initial.row)
+      l.column l.row);
   fits : All Fits l.row;
 }

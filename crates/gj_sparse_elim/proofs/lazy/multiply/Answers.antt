@@ -15,5 +15,6 @@ returns-else-factor-ne1-clause-value c =
 
 pub returns-then-factor-ne1-clause-support : goal.returns-then-factor-ne1-clause-support
 returns-then-factor-ne1-clause-support c =
-    support_still c.args.touched.now c.args.row.now c.scale.new.row c.requires.support c.scale.auto.row
+    support_still c.args.touched.now c.args.row.now c.scale.new.row c.requires.support
+    c.scale.auto.row
     (λ k none. scaled_zero _ c.args.row.now c.scale.new.row k c.scale.ensures none)

@@ -7,7 +7,8 @@ use Rattle.gj_sparse_elim.proofs.reduce.reduce_lazily.Given as goal
 
 abbrev pub invariant-loop-column : goal.invariant-loop-column
 invariant-loop-column l = record {
-  reached : IsLazy (inserted (length l.initial.row) (kept_sparse (length l.initial.row) l._log l.rows) l.initial.row)
+  reached : IsLazy (inserted (length l.initial.row)
+      (kept_sparse (length l.initial.row) l._log l.rows) l.initial.row)
       (kept_sparse (length l.initial.row) l._log l.rows) (length l.initial.row)
       l.next l.row l.reduce.items l.is_stepped l.bound (length l.initial.row);
   support : IsSupport l.touched l.row;

@@ -19,19 +19,24 @@ returns-then-not-is_stepped-clause-fits c none =
 pub returns-in-None-clause-exact : goal.returns-in-None-clause-exact
 returns-in-None-clause-exact c none other multiple exactly =
     let same : c.step_once.new.row ≡ c.args.row.now = c.in_default.ensures.same refl in
-    exact_divided other c.args.row.now c.store-in-None.new.wide multiple (divided_if c.args.is_stepped other c.args.row.now (search rules) exactly)
-    (c.store-in-None.ensures ∙ c.in-None.ensures.same refl ∙ c.tighten-tight.ensures.value ∙ ap divided same)
+    exact_divided other c.args.row.now c.store-in-None.new.wide multiple
+    (divided_if c.args.is_stepped other c.args.row.now (search rules) exactly)
+    (c.store-in-None.ensures ∙ c.in-None.ensures.same refl ∙ c.tighten-tight.ensures.value
+    ∙ ap divided same)
 
 pub returns-in-None-clause-fits : goal.returns-in-None-clause-fits
 returns-in-None-clause-fits c none =
     subst (All Fits) (sym (c.store-in-None.ensures ∙ c.in-None.ensures.same refl))
-    (lazy_fits c.tighten-tight.result _ c.tighten-tight.new.row c.tighten-tight.ensures.extent c.tighten-tight.ensures.bound)
+    (lazy_fits c.tighten-tight.result _ c.tighten-tight.new.row c.tighten-tight.ensures.extent
+    c.tighten-tight.ensures.bound)
 
 pub returns-in-Some-step_once-clause-step : goal.returns-in-Some-step_once-clause-step
 returns-in-Some-step_once-clause-step c other multiple exactly =
     let same : c.step_once.new.row ≡ c.args.row.now = c.in_default.ensures.same refl in
-    subst (λ (n : ℕ). IsLazyStep (dense n c.args.kept.now) other c.step_once-2.new.row c.args.column)
+    subst (λ (n : ℕ). IsLazyStep (dense n c.args.kept.now) other c.step_once-2.new.row
+    c.args.column)
     (c.tighten-tight.auto.row ∙ ap length same)
     (c.in-Some-step_once.ensures.step other
-    (multiple_divided other c.args.row.now c.tighten-tight.new.row multiple (divided_if c.args.is_stepped other c.args.row.now (search rules) exactly)
+    (multiple_divided other c.args.row.now c.tighten-tight.new.row multiple
+    (divided_if c.args.is_stepped other c.args.row.now (search rules) exactly)
     (c.tighten-tight.ensures.value ∙ ap divided same)))

@@ -7,26 +7,32 @@ use Rattle.gj_sparse_elim.proofs.tighten.bound_from.Goals as goal
 
 pub loop-found-init : goal.loop-found-init
 loop-found-init c = record {
-  is = λ k below. subst (λ (x : ℤ). unsigned_abs x ≤ 0) (sym (c.requires.zero.before k below)) (omega arith);
+  is = λ k below. subst (λ (x : ℤ). unsigned_abs x ≤ 0) (sym (c.requires.zero.before k below))
+      (omega arith);
   low = omega arith;
 }
 
 pub loop-found-smaller : goal.loop-found-smaller
 loop-found-smaller c =
-    let next = next_column c.args.touched.now c.args.row.now c.loop-found.next c.in-Some.found c.requires.support c.in-Some.ensures in
+    let next = next_column c.args.touched.now c.args.row.now c.loop-found.next c.in-Some.found
+    c.requires.support c.in-Some.ensures in
     let behind = next.behind in
     let inside = next.inside in
     omega arith
 
 pub loop-found-preserved : goal.loop-found-preserved
 loop-found-preserved c =
-    let next = next_column c.args.touched.now c.args.row.now c.loop-found.next c.in-Some.found c.requires.support c.in-Some.ensures in
+    let next = next_column c.args.touched.now c.args.row.now c.loop-found.next c.in-Some.found
+    c.requires.support c.in-Some.ensures in
     let small = c.requires.small c.in-Some.found in
-    let size : c.unsigned_abs.result ≡ unsigned_abs (get_or c.args.row.now c.in-Some.found (pos 0)) =
-    c.unsigned_abs.ensures.value ∙ ap unsigned_abs (to_z-of_z w64 (get_or c.args.row.now c.in-Some.found (pos 0)) (search rules)) in
+    let size : c.unsigned_abs.result ≡ unsigned_abs
+    (get_or c.args.row.now c.in-Some.found (pos 0)) =
+    c.unsigned_abs.ensures.value ∙ ap unsigned_abs
+    (to_z-of_z w64 (get_or c.args.row.now c.in-Some.found (pos 0)) (search rules)) in
     let greatest = c.max-bound.ensures in
     let low = c.loop-found.invariant.low in
-    bound_to c.args.row.now c.loop-found.next c.in-Some.found c.loop-found.bound _ c.loop-found.invariant next (omega arith) (omega arith)
+    bound_to c.args.row.now c.loop-found.next c.in-Some.found c.loop-found.bound _
+    c.loop-found.invariant next (omega arith) (omega arith)
     (omega arith)
 
 pub returns-clause-bound : goal.returns-clause-bound

@@ -1,20 +1,21 @@
-use Rattle.std.proofs.Common.{List, ℤ, ◌<◌, ◌^◌, pos, length, unsigned_abs, sym, ap, subst, ◌∙◌, arith}
+use Rattle.std.proofs.Common.{List, ℤ, ◌<◌, ◌^◌, pos, unsigned_abs, sym, ap, subst, ◌∙◌, arith}
 use Rattle.std.proofs.lemmas.List.{get_or_past}
 use Rattle.gj_shape.specs.Elimination.{at_column}
 use Rattle.gj_theory.proofs.Entries.{divided_at_zero}
 use Rattle.gj_elim.proofs.SmallDivisors.{divided_below}
-use Rattle.gj_sparse_elim.specs.Columns.{IsSupport}
 use Rattle.gj_sparse_elim.proofs.ColumnSets.{support_still}
 use Rattle.gj_sparse_elim.proofs.tighten.tighten.Goals as goal
 
 pub bound_from-requires-clause-support : goal.bound_from-requires-clause-support
 bound_from-requires-clause-support c =
-    support_still c.args.touched.now c.args.row.now c.divide.new.row c.requires.support c.divide.auto.row
+    support_still c.args.touched.now c.args.row.now c.divide.new.row c.requires.support
+    c.divide.auto.row
     (λ k none. ap (λ xs. at_column xs k) c.divide.ensures ∙ divided_at_zero c.args.row.now k none)
 
 pub bound_from-requires-clause-zero : goal.bound_from-requires-clause-zero
 bound_from-requires-clause-zero c = record {
-  before = λ k below. ap (λ xs. at_column xs k) c.divide.ensures ∙ divided_at_zero c.args.row.now k (c.requires.row_zero k below);
+  before = λ k below. ap (λ xs. at_column xs k) c.divide.ensures
+      ∙ divided_at_zero c.args.row.now k (c.requires.row_zero k below);
   behind = λ k past. get_or_past c.divide.new.row k (pos 0) past;
 }
 
@@ -32,5 +33,6 @@ returns-clause-extent c = record {
 
 pub returns-clause-support : goal.returns-clause-support
 returns-clause-support c =
-    support_still c.args.touched.now c.args.row.now c.divide.new.row c.requires.support c.divide.auto.row
+    support_still c.args.touched.now c.args.row.now c.divide.new.row c.requires.support
+    c.divide.auto.row
     (λ k none. ap (λ xs. at_column xs k) c.divide.ensures ∙ divided_at_zero c.args.row.now k none)

@@ -1,4 +1,4 @@
-use Rattle.std.proofs.Common.{[], None, Some, Option, ◌≡◌, ℕ, ◌+◌, ◌-◌, ◌<◌, List, ℤ, pos, ◌<ℤ◌, length, map, get_or, refl, ap, sym, subst, ◌∙◌, arith}
+use Rattle.std.proofs.Common.{None, Some, Option, ◌≡◌, ℕ, ◌+◌, ◌-◌, ◌<◌, List, ℤ, pos, ◌<ℤ◌, length, map, get_or, refl, ap, sym, subst, ◌∙◌, arith}
 use Rattle.std.proofs.lemmas.List.{with_items_is, get_or_default}
 use Rattle.gj_shape.specs.Elimination.{at_column, free_column, solved_at, marked_in_solving, Passes}
 use Rattle.gj_elim.specs.declared.log.LogRow.{LogRow}
@@ -13,9 +13,12 @@ use Rattle.gj_sparse_elim.proofs.KeptEntries.{lines_too, sparse_pivot, place_ins
 use Rattle.gj_sparse_elim.proofs.basis.SparseBasis.kernel.Goals as goal
 
 -- the free column, if there is one, by the places as the code reads them
-free_read : (n : ℕ) (log : List LogRow) (rows : List (List ℤ)) (read places : List (Option ℕ)) (o : Option ℕ) →
-    ((ls : List LogRow) (rs : List (List ℤ)) → length ls ≡ length rs → ArePlaces (length read) ls read →
-    o ≡ free_column (length read) (kept_rows ls rs)) → read ≡ places → ArePlaces n log places → length log ≡ length rows →
+free_read : (n : ℕ) (log : List LogRow) (rows : List (List ℤ)) (read places : List (Option ℕ))
+    (o : Option ℕ) →
+    ((ls : List LogRow) (rs : List (List ℤ)) → length ls ≡ length rs →
+    ArePlaces (length read) ls read →
+    o ≡ free_column (length read) (kept_rows ls rs)) → read ≡ places → ArePlaces n log places →
+    length log ≡ length rows →
     o ≡ free_column n (kept_rows log rows)
 free_read n log rows read places o is same are lines =
     let n_is : length read ≡ n = ap length same ∙ are.columns_are in
@@ -24,7 +27,8 @@ free_read n log rows read places o is same are lines =
     ∙ ap (λ m. free_column m (kept_rows log rows)) n_is
 
 -- what the code's `places[c]` is
-place_at_index : (n : ℕ) (places : List (Option ℕ)) (c i : ℕ) (x : Option ℕ) (log : List LogRow) → ArePlaces n log places → c < n →
+place_at_index : (n : ℕ) (places : List (Option ℕ)) (c i : ℕ) (x : Option ℕ) (log : List LogRow) →
+    ArePlaces n log places → c < n →
     x ≡ get_or places c x → x ≡ Some i → get_or places c None ≡ Some i
 place_at_index n places c i x log are below x_is is =
     let columns = are.columns_are in
@@ -33,9 +37,11 @@ place_at_index n places c i x log are below x_is is =
 pub returns-in_default-clause-none : goal.returns-in_default-clause-none
 returns-in_default-clause-none c =
     let s = c.self.inside in
-    let no = no_kernel c.args.self.now (kept_sparse s.columns s.log.items s.rows.items) s.columns (ap (λ d. d.kept) c.self.view_is)
+    let no = no_kernel c.args.self.now (kept_sparse s.columns s.log.items s.rows.items) s.columns
+    (ap (λ d. d.kept) c.self.view_is)
     (ap (λ d. d.columns) c.self.view_is) c.self.invariant.triangular
-    (free_read s.columns s.log.items (map (dense s.columns) s.rows.items) c.as_slice.result.now s.places.items None
+    (free_read s.columns s.log.items (map (dense s.columns) s.rows.items) c.as_slice.result.now
+    s.places.items None
     c.in_default.ensures c.as_slice.ensures.value c.self.invariant.places
     (lines_too s.columns s.log.items s.rows.items c.self.invariant.lines)) in
     (λ e. no.full, λ full. refl)
@@ -43,23 +49,27 @@ returns-in_default-clause-none c =
 pub returns-in_default-clause-narrow : goal.returns-in_default-clause-narrow
 returns-in_default-clause-narrow c =
     let s = c.self.inside in
-    let no = no_kernel c.args.self.now (kept_sparse s.columns s.log.items s.rows.items) s.columns (ap (λ d. d.kept) c.self.view_is)
+    let no = no_kernel c.args.self.now (kept_sparse s.columns s.log.items s.rows.items) s.columns
+    (ap (λ d. d.kept) c.self.view_is)
     (ap (λ d. d.columns) c.self.view_is) c.self.invariant.triangular
-    (free_read s.columns s.log.items (map (dense s.columns) s.rows.items) c.as_slice.result.now s.places.items None
+    (free_read s.columns s.log.items (map (dense s.columns) s.rows.items) c.as_slice.result.now
+    s.places.items None
     c.in_default.ensures c.as_slice.ensures.value c.self.invariant.places
     (lines_too s.columns s.log.items s.rows.items c.self.invariant.lines)) in
     no.narrow
 
 pub loop-column-init : goal.loop-column-init
 loop-column-init c =
-    solved_start (kept_sparse c.self.inside.columns c.self.inside.log.items c.self.inside.rows.items) c.self.inside.columns c.in-Some.free
+    solved_start (kept_sparse c.self.inside.columns c.self.inside.log.items
+    c.self.inside.rows.items) c.self.inside.columns c.in-Some.free
     c.in_ok-numbers.numbers.items c.in_ok-numbers.ensures
 
 pub index-requires : goal.index-requires
 index-requires c =
     let s = c.self.inside in
     let kept = kept_sparse s.columns s.log.items s.rows.items in
-    let free_is = free_read s.columns s.log.items (map (dense s.columns) s.rows.items) c.as_slice.result.now s.places.items (Some c.in-Some.free)
+    let free_is = free_read s.columns s.log.items (map (dense s.columns) s.rows.items)
+    c.as_slice.result.now s.places.items (Some c.in-Some.free)
     c.in-Some.ensures c.as_slice.ensures.value c.self.invariant.places
     (lines_too s.columns s.log.items s.rows.items c.self.invariant.lines) in
     let columns = c.self.invariant.places.columns_are in
@@ -71,13 +81,16 @@ pub index-requires-in-Some-index : goal.index-requires-in-Some-index
 index-requires-in-Some-index c =
     let s = c.self.inside in
     let kept = kept_sparse s.columns s.log.items s.rows.items in
-    let free_is = free_read s.columns s.log.items (map (dense s.columns) s.rows.items) c.as_slice.result.now s.places.items (Some c.in-Some.free)
+    let free_is = free_read s.columns s.log.items (map (dense s.columns) s.rows.items)
+    c.as_slice.result.now s.places.items (Some c.in-Some.free)
     c.in-Some.ensures c.as_slice.ensures.value c.self.invariant.places
     (lines_too s.columns s.log.items s.rows.items c.self.invariant.lines) in
     let below = free_below kept s.columns c.in-Some.free free_is in
-    let inside = place_inside s.columns s.log.items s.rows.items s.places.items (c.loop-column.column - 1) c.in-Some-index.place
+    let inside = place_inside s.columns s.log.items s.rows.items s.places.items
+    (c.loop-column.column - 1) c.in-Some-index.place
     c.self.invariant.lines c.self.invariant.places (omega arith)
-    (place_at_index s.columns s.places.items (c.loop-column.column - 1) c.in-Some-index.place c.index.result.now s.log.items c.self.invariant.places
+    (place_at_index s.columns s.places.items (c.loop-column.column - 1) c.in-Some-index.place
+    c.index.result.now s.log.items c.self.invariant.places
     (omega arith) c.index.ensures c.in-Some-index.is) in
     let len = s.rows.ok.0 in
     omega arith
@@ -86,149 +99,199 @@ pub solve_at-requires-clause-sparse : goal.solve_at-requires-clause-sparse
 solve_at-requires-clause-sparse c =
     let s = c.self.inside in
     let kept = kept_sparse s.columns s.log.items s.rows.items in
-    let free_is = free_read s.columns s.log.items (map (dense s.columns) s.rows.items) c.as_slice.result.now s.places.items (Some c.in-Some.free)
+    let free_is = free_read s.columns s.log.items (map (dense s.columns) s.rows.items)
+    c.as_slice.result.now s.places.items (Some c.in-Some.free)
     c.in-Some.ensures c.as_slice.ensures.value c.self.invariant.places
     (lines_too s.columns s.log.items s.rows.items c.self.invariant.lines) in
     let below = free_below kept s.columns c.in-Some.free free_is in
-    let row = sparse_pivot s.columns s.log.items s.rows.items s.places.items (c.loop-column.column - 1) c.in-Some-index.place
-    c.index-in-Some-index.result.now c.as_slice-in-Some-index.result.now c.self.invariant.lines c.self.invariant.sparse
+    let row = sparse_pivot s.columns s.log.items s.rows.items s.places.items
+    (c.loop-column.column - 1) c.in-Some-index.place
+    c.index-in-Some-index.result.now c.as_slice-in-Some-index.result.now c.self.invariant.lines
+    c.self.invariant.sparse
     c.self.invariant.triangular c.self.invariant.places (omega arith)
-    (place_at_index s.columns s.places.items (c.loop-column.column - 1) c.in-Some-index.place c.index.result.now s.log.items c.self.invariant.places
+    (place_at_index s.columns s.places.items (c.loop-column.column - 1) c.in-Some-index.place
+    c.index.result.now s.log.items c.self.invariant.places
     (omega arith) c.index.ensures c.in-Some-index.is)
     c.index-in-Some-index.ensures c.as_slice-in-Some-index.ensures in
-    let w_is : length c.as_mut_slice.result.now ≡ s.columns = ap length c.as_mut_slice.ensures.value ∙ c.loop-column.invariant.columns in
+    let w_is : length c.as_mut_slice.result.now ≡ s.columns = ap length c.as_mut_slice.ensures.value
+    ∙ c.loop-column.invariant.columns in
     subst (λ (n : ℕ). AreSparse n c.as_slice-in-Some-index.result.now) (sym w_is) row.sparse
 
 pub solve_at-requires-clause-within : goal.solve_at-requires-clause-within
 solve_at-requires-clause-within c =
     let s = c.self.inside in
     let kept = kept_sparse s.columns s.log.items s.rows.items in
-    let free_is = free_read s.columns s.log.items (map (dense s.columns) s.rows.items) c.as_slice.result.now s.places.items (Some c.in-Some.free)
+    let free_is = free_read s.columns s.log.items (map (dense s.columns) s.rows.items)
+    c.as_slice.result.now s.places.items (Some c.in-Some.free)
     c.in-Some.ensures c.as_slice.ensures.value c.self.invariant.places
     (lines_too s.columns s.log.items s.rows.items c.self.invariant.lines) in
     let below = free_below kept s.columns c.in-Some.free free_is in
-    let row = sparse_pivot s.columns s.log.items s.rows.items s.places.items (c.loop-column.column - 1) c.in-Some-index.place
-    c.index-in-Some-index.result.now c.as_slice-in-Some-index.result.now c.self.invariant.lines c.self.invariant.sparse
+    let row = sparse_pivot s.columns s.log.items s.rows.items s.places.items
+    (c.loop-column.column - 1) c.in-Some-index.place
+    c.index-in-Some-index.result.now c.as_slice-in-Some-index.result.now c.self.invariant.lines
+    c.self.invariant.sparse
     c.self.invariant.triangular c.self.invariant.places (omega arith)
-    (place_at_index s.columns s.places.items (c.loop-column.column - 1) c.in-Some-index.place c.index.result.now s.log.items c.self.invariant.places
+    (place_at_index s.columns s.places.items (c.loop-column.column - 1) c.in-Some-index.place
+    c.index.result.now s.log.items c.self.invariant.places
     (omega arith) c.index.ensures c.in-Some-index.is)
     c.index-in-Some-index.ensures c.as_slice-in-Some-index.ensures in
-    let w_is : length c.as_mut_slice.result.now ≡ s.columns = ap length c.as_mut_slice.ensures.value ∙ c.loop-column.invariant.columns in
+    let w_is : length c.as_mut_slice.result.now ≡ s.columns = ap length c.as_mut_slice.ensures.value
+    ∙ c.loop-column.invariant.columns in
     omega arith
 
 pub solve_at-requires-clause-zero : goal.solve_at-requires-clause-zero
 solve_at-requires-clause-zero c =
     let s = c.self.inside in
     let kept = kept_sparse s.columns s.log.items s.rows.items in
-    let free_is = free_read s.columns s.log.items (map (dense s.columns) s.rows.items) c.as_slice.result.now s.places.items (Some c.in-Some.free)
+    let free_is = free_read s.columns s.log.items (map (dense s.columns) s.rows.items)
+    c.as_slice.result.now s.places.items (Some c.in-Some.free)
     c.in-Some.ensures c.as_slice.ensures.value c.self.invariant.places
     (lines_too s.columns s.log.items s.rows.items c.self.invariant.lines) in
     let below = free_below kept s.columns c.in-Some.free free_is in
-    let row = sparse_pivot s.columns s.log.items s.rows.items s.places.items (c.loop-column.column - 1) c.in-Some-index.place
-    c.index-in-Some-index.result.now c.as_slice-in-Some-index.result.now c.self.invariant.lines c.self.invariant.sparse
+    let row = sparse_pivot s.columns s.log.items s.rows.items s.places.items
+    (c.loop-column.column - 1) c.in-Some-index.place
+    c.index-in-Some-index.result.now c.as_slice-in-Some-index.result.now c.self.invariant.lines
+    c.self.invariant.sparse
     c.self.invariant.triangular c.self.invariant.places (omega arith)
-    (place_at_index s.columns s.places.items (c.loop-column.column - 1) c.in-Some-index.place c.index.result.now s.log.items c.self.invariant.places
+    (place_at_index s.columns s.places.items (c.loop-column.column - 1) c.in-Some-index.place
+    c.index.result.now s.log.items c.self.invariant.places
     (omega arith) c.index.ensures c.in-Some-index.is)
     c.index-in-Some-index.ensures c.as_slice-in-Some-index.ensures in
-    let w_is : length c.as_mut_slice.result.now ≡ s.columns = ap length c.as_mut_slice.ensures.value ∙ c.loop-column.invariant.columns in
-    subst (λ (n : ℕ). (k : ℕ) → k < c.loop-column.column - 1 → at_column (dense n c.as_slice-in-Some-index.result.now) k ≡ pos 0) (sym w_is)
+    let w_is : length c.as_mut_slice.result.now ≡ s.columns = ap length c.as_mut_slice.ensures.value
+    ∙ c.loop-column.invariant.columns in
+    subst (λ (n : ℕ). (k : ℕ) → k < c.loop-column.column - 1 →
+    at_column (dense n c.as_slice-in-Some-index.result.now) k ≡ pos 0) (sym w_is)
     row.pivot.zero_before
 
 pub solve_at-requires-clause-positive : goal.solve_at-requires-clause-positive
 solve_at-requires-clause-positive c =
     let s = c.self.inside in
     let kept = kept_sparse s.columns s.log.items s.rows.items in
-    let free_is = free_read s.columns s.log.items (map (dense s.columns) s.rows.items) c.as_slice.result.now s.places.items (Some c.in-Some.free)
+    let free_is = free_read s.columns s.log.items (map (dense s.columns) s.rows.items)
+    c.as_slice.result.now s.places.items (Some c.in-Some.free)
     c.in-Some.ensures c.as_slice.ensures.value c.self.invariant.places
     (lines_too s.columns s.log.items s.rows.items c.self.invariant.lines) in
     let below = free_below kept s.columns c.in-Some.free free_is in
-    let row = sparse_pivot s.columns s.log.items s.rows.items s.places.items (c.loop-column.column - 1) c.in-Some-index.place
-    c.index-in-Some-index.result.now c.as_slice-in-Some-index.result.now c.self.invariant.lines c.self.invariant.sparse
+    let row = sparse_pivot s.columns s.log.items s.rows.items s.places.items
+    (c.loop-column.column - 1) c.in-Some-index.place
+    c.index-in-Some-index.result.now c.as_slice-in-Some-index.result.now c.self.invariant.lines
+    c.self.invariant.sparse
     c.self.invariant.triangular c.self.invariant.places (omega arith)
-    (place_at_index s.columns s.places.items (c.loop-column.column - 1) c.in-Some-index.place c.index.result.now s.log.items c.self.invariant.places
+    (place_at_index s.columns s.places.items (c.loop-column.column - 1) c.in-Some-index.place
+    c.index.result.now s.log.items c.self.invariant.places
     (omega arith) c.index.ensures c.in-Some-index.is)
     c.index-in-Some-index.ensures c.as_slice-in-Some-index.ensures in
-    let w_is : length c.as_mut_slice.result.now ≡ s.columns = ap length c.as_mut_slice.ensures.value ∙ c.loop-column.invariant.columns in
-    subst (λ (n : ℕ). pos 0 <ℤ at_column (dense n c.as_slice-in-Some-index.result.now) (c.loop-column.column - 1)) (sym w_is) row.pivot.positive
+    let w_is : length c.as_mut_slice.result.now ≡ s.columns = ap length c.as_mut_slice.ensures.value
+    ∙ c.loop-column.invariant.columns in
+    subst (λ (n : ℕ). pos 0 <ℤ at_column (dense n c.as_slice-in-Some-index.result.now)
+    (c.loop-column.column - 1)) (sym w_is) row.pivot.positive
 
 pub loop-column-preserved-in-Continue-branch-2 : goal.loop-column-preserved-in-Continue-branch-2
 loop-column-preserved-in-Continue-branch-2 c =
     let s = c.self.inside in
     let kept = kept_sparse s.columns s.log.items s.rows.items in
-    let free_is = free_read s.columns s.log.items (map (dense s.columns) s.rows.items) c.as_slice.result.now s.places.items (Some c.in-Some.free)
+    let free_is = free_read s.columns s.log.items (map (dense s.columns) s.rows.items)
+    c.as_slice.result.now s.places.items (Some c.in-Some.free)
     c.in-Some.ensures c.as_slice.ensures.value c.self.invariant.places
     (lines_too s.columns s.log.items s.rows.items c.self.invariant.lines) in
     let below = free_below kept s.columns c.in-Some.free free_is in
-    let row = sparse_pivot s.columns s.log.items s.rows.items s.places.items (c.loop-column.column - 1) c.in-Some-index.place
-    c.index-in-Some-index.result.now c.as_slice-in-Some-index.result.now c.self.invariant.lines c.self.invariant.sparse
+    let row = sparse_pivot s.columns s.log.items s.rows.items s.places.items
+    (c.loop-column.column - 1) c.in-Some-index.place
+    c.index-in-Some-index.result.now c.as_slice-in-Some-index.result.now c.self.invariant.lines
+    c.self.invariant.sparse
     c.self.invariant.triangular c.self.invariant.places (omega arith)
-    (place_at_index s.columns s.places.items (c.loop-column.column - 1) c.in-Some-index.place c.index.result.now s.log.items c.self.invariant.places
+    (place_at_index s.columns s.places.items (c.loop-column.column - 1) c.in-Some-index.place
+    c.index.result.now s.log.items c.self.invariant.places
     (omega arith) c.index.ensures c.in-Some-index.is)
     c.index-in-Some-index.ensures c.as_slice-in-Some-index.ensures in
-    let w_is : length c.as_mut_slice.result.now ≡ s.columns = ap length c.as_mut_slice.ensures.value ∙ c.loop-column.invariant.columns in
+    let w_is : length c.as_mut_slice.result.now ≡ s.columns = ap length c.as_mut_slice.ensures.value
+    ∙ c.loop-column.invariant.columns in
     let e = c.as_slice-in-Some-index.result.now in
     let next : c.loop-column.column ≡ c.loop-column.column - 1 + 1 = omega arith in
-    let before = subst (λ (m : ℕ). IsSolvedTo kept s.columns c.in-Some.free m c.loop-column.numbers.items)
+    let before = subst (λ (m : ℕ). IsSolvedTo kept s.columns c.in-Some.free m
+    c.loop-column.numbers.items)
     next c.loop-column.invariant in
     let held = with_items_is c.loop-column.numbers c.solve_at.new.numbers
-    (c.solve_at.auto.numbers ∙ ap length c.as_mut_slice.ensures.value ∙ sym c.loop-column.numbers.ok.0) in
-    solved_more kept s.columns c.in-Some.free (c.loop-column.column - 1) c.loop-column.numbers.items _
+    (c.solve_at.auto.numbers ∙ ap length c.as_mut_slice.ensures.value
+    ∙ sym c.loop-column.numbers.ok.0) in
+    solved_more kept s.columns c.in-Some.free (c.loop-column.column - 1) c.loop-column.numbers.items
+    _
     (dense s.columns e) before row.here
-    (subst (λ (w : List ℤ). Passes (marked_in_solving (dense s.columns e) (c.loop-column.column - 1) w) → ⊥) c.as_mut_slice.ensures.value
-    (subst (λ (n : ℕ). Passes (marked_in_solving (dense n e) (c.loop-column.column - 1) c.as_mut_slice.result.now) → ⊥) w_is
+    (subst (λ (w : List ℤ). Passes
+    (marked_in_solving (dense s.columns e) (c.loop-column.column - 1) w) → ⊥)
+    c.as_mut_slice.ensures.value
+    (subst (λ (n : ℕ). Passes (marked_in_solving (dense n e) (c.loop-column.column - 1)
+    c.as_mut_slice.result.now) → ⊥) w_is
     c.in_ok-solve_at.ensures.narrow))
-    (held ∙ c.in_ok-solve_at.ensures.value ∙ ap (λ n. solved_at (dense n e) (c.loop-column.column - 1) c.as_mut_slice.result.now) w_is
+    (held ∙ c.in_ok-solve_at.ensures.value
+    ∙ ap (λ n. solved_at (dense n e) (c.loop-column.column - 1) c.as_mut_slice.result.now) w_is
     ∙ ap (solved_at (dense s.columns e) (c.loop-column.column - 1)) c.as_mut_slice.ensures.value)
 
 pub returns-in_err-solve_at-clause-wide : goal.returns-in_err-solve_at-clause-wide
 returns-in_err-solve_at-clause-wide c =
     let s = c.self.inside in
     let kept = kept_sparse s.columns s.log.items s.rows.items in
-    let free_is = free_read s.columns s.log.items (map (dense s.columns) s.rows.items) c.as_slice.result.now s.places.items (Some c.in-Some.free)
+    let free_is = free_read s.columns s.log.items (map (dense s.columns) s.rows.items)
+    c.as_slice.result.now s.places.items (Some c.in-Some.free)
     c.in-Some.ensures c.as_slice.ensures.value c.self.invariant.places
     (lines_too s.columns s.log.items s.rows.items c.self.invariant.lines) in
     let below = free_below kept s.columns c.in-Some.free free_is in
-    let row = sparse_pivot s.columns s.log.items s.rows.items s.places.items (c.loop-column.column - 1) c.in-Some-index.place
-    c.index-in-Some-index.result.now c.as_slice-in-Some-index.result.now c.self.invariant.lines c.self.invariant.sparse
+    let row = sparse_pivot s.columns s.log.items s.rows.items s.places.items
+    (c.loop-column.column - 1) c.in-Some-index.place
+    c.index-in-Some-index.result.now c.as_slice-in-Some-index.result.now c.self.invariant.lines
+    c.self.invariant.sparse
     c.self.invariant.triangular c.self.invariant.places (omega arith)
-    (place_at_index s.columns s.places.items (c.loop-column.column - 1) c.in-Some-index.place c.index.result.now s.log.items c.self.invariant.places
+    (place_at_index s.columns s.places.items (c.loop-column.column - 1) c.in-Some-index.place
+    c.index.result.now s.log.items c.self.invariant.places
     (omega arith) c.index.ensures c.in-Some-index.is)
     c.index-in-Some-index.ensures c.as_slice-in-Some-index.ensures in
-    let w_is : length c.as_mut_slice.result.now ≡ s.columns = ap length c.as_mut_slice.ensures.value ∙ c.loop-column.invariant.columns in
+    let w_is : length c.as_mut_slice.result.now ≡ s.columns = ap length c.as_mut_slice.ensures.value
+    ∙ c.loop-column.invariant.columns in
     let e = c.as_slice-in-Some-index.result.now in
     let next : c.loop-column.column ≡ c.loop-column.column - 1 + 1 = omega arith in
-    let before = subst (λ (m : ℕ). IsSolvedTo kept s.columns c.in-Some.free m c.loop-column.numbers.items)
+    let before = subst (λ (m : ℕ). IsSolvedTo kept s.columns c.in-Some.free m
+    c.loop-column.numbers.items)
     next c.loop-column.invariant in
     λ error. solved_wide c.args.self.now kept s.columns c.in-Some.free (c.loop-column.column - 1)
-    c.loop-column.numbers.items (dense s.columns e) (ap (λ d. d.kept) c.self.view_is) (ap (λ d. d.columns) c.self.view_is)
+    c.loop-column.numbers.items (dense s.columns e) (ap (λ d. d.kept) c.self.view_is)
+    (ap (λ d. d.columns) c.self.view_is)
     free_is before row.here
-    (subst (λ (w : List ℤ). Passes (marked_in_solving (dense s.columns e) (c.loop-column.column - 1) w)) c.as_mut_slice.ensures.value
-    (subst (λ (n : ℕ). Passes (marked_in_solving (dense n e) (c.loop-column.column - 1) c.as_mut_slice.result.now)) w_is
+    (subst (λ (w : List ℤ). Passes
+    (marked_in_solving (dense s.columns e) (c.loop-column.column - 1) w))
+    c.as_mut_slice.ensures.value
+    (subst (λ (n : ℕ). Passes (marked_in_solving (dense n e) (c.loop-column.column - 1)
+    c.as_mut_slice.result.now)) w_is
     c.in_err-solve_at.ensures.wide))
 
 pub loop-column-preserved : goal.loop-column-preserved
 loop-column-preserved c =
     let s = c.self.inside in
     let kept = kept_sparse s.columns s.log.items s.rows.items in
-    let free_is = free_read s.columns s.log.items (map (dense s.columns) s.rows.items) c.as_slice.result.now s.places.items (Some c.in-Some.free)
+    let free_is = free_read s.columns s.log.items (map (dense s.columns) s.rows.items)
+    c.as_slice.result.now s.places.items (Some c.in-Some.free)
     c.in-Some.ensures c.as_slice.ensures.value c.self.invariant.places
     (lines_too s.columns s.log.items s.rows.items c.self.invariant.lines) in
     let below = free_below kept s.columns c.in-Some.free free_is in
-    let none = place_none s.log.items (map (dense s.columns) s.rows.items) (c.loop-column.column - 1)
+    let none = place_none s.log.items (map (dense s.columns) s.rows.items)
+    (c.loop-column.column - 1)
     (lines_too s.columns s.log.items s.rows.items c.self.invariant.lines)
-    (place_read s.columns s.log.items s.places.items (c.loop-column.column - 1) c.index.result.now None c.self.invariant.places (omega arith)
+    (place_read s.columns s.log.items s.places.items (c.loop-column.column - 1) c.index.result.now
+    None c.self.invariant.places (omega arith)
     c.index.ensures c.in_default-index.is) in
-    absurd (row_there kept s.columns c.in-Some.free (c.loop-column.column - 1) free_is (omega arith) none)
+    absurd (row_there kept s.columns c.in-Some.free (c.loop-column.column - 1) free_is (omega arith)
+    none)
 
 pub returns-clause-none : goal.returns-clause-none
 returns-clause-none c =
     let s = c.self.inside in
     let kept = kept_sparse s.columns s.log.items s.rows.items in
-    let free_is = free_read s.columns s.log.items (map (dense s.columns) s.rows.items) c.as_slice.result.now s.places.items (Some c.in-Some.free)
+    let free_is = free_read s.columns s.log.items (map (dense s.columns) s.rows.items)
+    c.as_slice.result.now s.places.items (Some c.in-Some.free)
     c.in-Some.ensures c.as_slice.ensures.value c.self.invariant.places
     (lines_too s.columns s.log.items s.rows.items c.self.invariant.lines) in
     let end = solved_end c.args.self.now kept s.columns c.in-Some.free c.loop-column.column
-    c.loop-column.numbers.items (ap (λ d. d.kept) c.self.view_is) (ap (λ d. d.columns) c.self.view_is) c.self.invariant.triangular free_is
+    c.loop-column.numbers.items (ap (λ d. d.kept) c.self.view_is)
+    (ap (λ d. d.columns) c.self.view_is) c.self.invariant.triangular free_is
     c.loop-column.invariant (omega arith) in
     (λ e. absurd cc, λ full. absurd (end.some full))
 
@@ -236,11 +299,13 @@ pub returns-clause-value : goal.returns-clause-value
 returns-clause-value c =
     let s = c.self.inside in
     let kept = kept_sparse s.columns s.log.items s.rows.items in
-    let free_is = free_read s.columns s.log.items (map (dense s.columns) s.rows.items) c.as_slice.result.now s.places.items (Some c.in-Some.free)
+    let free_is = free_read s.columns s.log.items (map (dense s.columns) s.rows.items)
+    c.as_slice.result.now s.places.items (Some c.in-Some.free)
     c.in-Some.ensures c.as_slice.ensures.value c.self.invariant.places
     (lines_too s.columns s.log.items s.rows.items c.self.invariant.lines) in
     let end = solved_end c.args.self.now kept s.columns c.in-Some.free c.loop-column.column
-    c.loop-column.numbers.items (ap (λ d. d.kept) c.self.view_is) (ap (λ d. d.columns) c.self.view_is) c.self.invariant.triangular free_is
+    c.loop-column.numbers.items (ap (λ d. d.kept) c.self.view_is)
+    (ap (λ d. d.columns) c.self.view_is) c.self.invariant.triangular free_is
     c.loop-column.invariant (omega arith) in
     end.value
 
@@ -248,11 +313,13 @@ pub returns-clause-narrow : goal.returns-clause-narrow
 returns-clause-narrow c =
     let s = c.self.inside in
     let kept = kept_sparse s.columns s.log.items s.rows.items in
-    let free_is = free_read s.columns s.log.items (map (dense s.columns) s.rows.items) c.as_slice.result.now s.places.items (Some c.in-Some.free)
+    let free_is = free_read s.columns s.log.items (map (dense s.columns) s.rows.items)
+    c.as_slice.result.now s.places.items (Some c.in-Some.free)
     c.in-Some.ensures c.as_slice.ensures.value c.self.invariant.places
     (lines_too s.columns s.log.items s.rows.items c.self.invariant.lines) in
     let end = solved_end c.args.self.now kept s.columns c.in-Some.free c.loop-column.column
-    c.loop-column.numbers.items (ap (λ d. d.kept) c.self.view_is) (ap (λ d. d.columns) c.self.view_is) c.self.invariant.triangular free_is
+    c.loop-column.numbers.items (ap (λ d. d.kept) c.self.view_is)
+    (ap (λ d. d.columns) c.self.view_is) c.self.invariant.triangular free_is
     c.loop-column.invariant (omega arith) in
     end.narrow
 
@@ -260,11 +327,13 @@ pub returns-clause-solves : goal.returns-clause-solves
 returns-clause-solves c =
     let s = c.self.inside in
     let kept = kept_sparse s.columns s.log.items s.rows.items in
-    let free_is = free_read s.columns s.log.items (map (dense s.columns) s.rows.items) c.as_slice.result.now s.places.items (Some c.in-Some.free)
+    let free_is = free_read s.columns s.log.items (map (dense s.columns) s.rows.items)
+    c.as_slice.result.now s.places.items (Some c.in-Some.free)
     c.in-Some.ensures c.as_slice.ensures.value c.self.invariant.places
     (lines_too s.columns s.log.items s.rows.items c.self.invariant.lines) in
     let end = solved_end c.args.self.now kept s.columns c.in-Some.free c.loop-column.column
-    c.loop-column.numbers.items (ap (λ d. d.kept) c.self.view_is) (ap (λ d. d.columns) c.self.view_is) c.self.invariant.triangular free_is
+    c.loop-column.numbers.items (ap (λ d. d.kept) c.self.view_is)
+    (ap (λ d. d.columns) c.self.view_is) c.self.invariant.triangular free_is
     c.loop-column.invariant (omega arith) in
     end.solves
 
@@ -272,10 +341,12 @@ pub returns-clause-some : goal.returns-clause-some
 returns-clause-some c =
     let s = c.self.inside in
     let kept = kept_sparse s.columns s.log.items s.rows.items in
-    let free_is = free_read s.columns s.log.items (map (dense s.columns) s.rows.items) c.as_slice.result.now s.places.items (Some c.in-Some.free)
+    let free_is = free_read s.columns s.log.items (map (dense s.columns) s.rows.items)
+    c.as_slice.result.now s.places.items (Some c.in-Some.free)
     c.in-Some.ensures c.as_slice.ensures.value c.self.invariant.places
     (lines_too s.columns s.log.items s.rows.items c.self.invariant.lines) in
     let end = solved_end c.args.self.now kept s.columns c.in-Some.free c.loop-column.column
-    c.loop-column.numbers.items (ap (λ d. d.kept) c.self.view_is) (ap (λ d. d.columns) c.self.view_is) c.self.invariant.triangular free_is
+    c.loop-column.numbers.items (ap (λ d. d.kept) c.self.view_is)
+    (ap (λ d. d.columns) c.self.view_is) c.self.invariant.triangular free_is
     c.loop-column.invariant (omega arith) in
     end.positive

@@ -10,10 +10,12 @@ use Rattle.gj_sparse_elim.proofs.basis.SparseBasis.rank.Goals as goal
 
 pub overflow_cast-result : goal.overflow_cast-result
 overflow_cast-result c =
-    let most = rank_at_most c.self.inside.columns (kept_sparse c.self.inside.columns c.self.inside.log.items c.self.inside.rows.items)
+    let most = rank_at_most c.self.inside.columns
+    (kept_sparse c.self.inside.columns c.self.inside.log.items c.self.inside.rows.items)
     c.self.invariant.triangular in
     let same = length-kept_rows c.self.inside.log.items _
-    (lines_too c.self.inside.columns c.self.inside.log.items c.self.inside.rows.items c.self.invariant.lines) in
+    (lines_too c.self.inside.columns c.self.inside.log.items c.self.inside.rows.items
+    c.self.invariant.lines) in
     let len = c.self.inside.log.ok.0 in
     let narrow = c.self.invariant.narrow in
     omega arith
@@ -22,18 +24,22 @@ pub returns-clause-count : goal.returns-clause-count
 returns-clause-count c =
     c.len.ensures ∙ c.self.inside.log.ok.0
     ∙ sym (length-kept_rows c.self.inside.log.items _
-    (lines_too c.self.inside.columns c.self.inside.log.items c.self.inside.rows.items c.self.invariant.lines))
+    (lines_too c.self.inside.columns c.self.inside.log.items c.self.inside.rows.items
+    c.self.invariant.lines))
     ∙ ap (λ b. length b.kept) c.self.view_is
 
-full : (b d : BasisData) (r : ℕ) (w : List ℤ) → b ≡ d → AreTriangular b.columns b.kept → r ≡ length d.kept → r ≡ d.columns →
+full : (b d : BasisData) (r : ℕ) (w : List ℤ) → b ≡ d → AreTriangular b.columns b.kept →
+    r ≡ length d.kept → r ≡ d.columns →
     length w ≡ d.columns → SolvesKept w d.kept → All (λ x. x ≡ pos 0) w
 full b d r w same triangular count all len solves =
-    zeros_of d.columns d.kept w (subst (λ (x : BasisData). AreTriangular x.columns x.kept) same triangular) (sym count ∙ all) len solves
+    zeros_of d.columns d.kept w (subst (λ (x : BasisData). AreTriangular x.columns x.kept) same
+    triangular) (sym count ∙ all) len solves
 
 pub returns-clause-full : goal.returns-clause-full
 returns-clause-full c all w len solves =
     full _ c.args.self.now _ w c.self.view_is c.self.invariant.triangular
     (c.len.ensures ∙ c.self.inside.log.ok.0
     ∙ sym (length-kept_rows c.self.inside.log.items _
-    (lines_too c.self.inside.columns c.self.inside.log.items c.self.inside.rows.items c.self.invariant.lines))
+    (lines_too c.self.inside.columns c.self.inside.log.items c.self.inside.rows.items
+    c.self.invariant.lines))
     ∙ ap (λ b. length b.kept) c.self.view_is) all len solves
