@@ -245,7 +245,8 @@ def check(text: Union[str, bytes]) -> Judgement:
     >>> if judgement: print("it is accepted")
     it is accepted
     """
-    read = text.decode("latin-1") if isinstance(text, bytes) else _text(text, "text")
+    wanted = "a str, or bytes"
+    read = text.decode("latin-1") if isinstance(text, bytes) else _text(text, "text", wanted=wanted)
     if _is_derivation(read):
         return _judged(read)
     answer = call("check", text)

@@ -43,8 +43,8 @@ def is_derivation(text: str) -> bool:
 
 def sentence_for(words: str, text: str, answer: str) -> Optional[Sentence]:
     """The sentence about an answer, without the line break at its end, to the words over a text."""
-    text_of(words, "words"), text_of(text, "text"), text_of(answer, "answer")
-    among = COMMAND_SENTENCES
+    words, text = text_of(words, "words"), text_of(text, "text")
+    answer, among = text_of(answer, "answer"), COMMAND_SENTENCES
     if words == WORDS:
         among = SENTENCES_OF_PROBLEMS
     elif words == "derive" or (words == "check" and is_derivation(text)):
