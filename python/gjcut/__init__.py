@@ -245,13 +245,14 @@ def check(text: Union[str, bytes]) -> Judgement:
     >>> if judgement: print("it is accepted")
     it is accepted
     """
-    answer, read = call("check", text), text if isinstance(text, str) else text.decode("latin-1")
+    wanted = "a str, or bytes"
+    read = text.decode("latin-1") if isinstance(text, bytes) else _text(text, "text", wanted=wanted)
     if _is_derivation(read):
-        return _judged(read, answer)
+        return _judged(read)
+    answer = call("check", text)
     if answer.status > 1:
         raise _refused("check", text, answer)
-    words = answer.text.split()
-    function = _function_of(read)
+    words, function = answer.text.split(), _function_of(read)
     if answer.status:
         return Judgement(False, None, int(words[2]), words[3], answer.text, function)
     return Judgement(True, words[1], None, None, answer.text, function)

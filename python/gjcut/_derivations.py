@@ -1,12 +1,13 @@
 """Derivations: chains of inequalities over a mixed-integer program, each with what shows it."""
 import itertools
+import re
 from collections import abc
 from fractions import Fraction
 from typing import Container, Dict, Iterable, Iterator, List, Mapping, NamedTuple, Optional
 from typing import Sequence, Tuple, Union
 
 from ._arguments import Number, fields, items, number, text as text_of, whole, word, written, wrong
-from ._asked import refused
+from ._asked import done, refused
 from ._explain_derivation import sum_in_words
 from ._functions import Function, function as a_function, line, printed
 from ._library import Answer, call
@@ -15,7 +16,7 @@ from ._problems import columns_of, constraint_lines, constraint_places, constrai
 from ._problems import names_of, rounded
 from ._refusals import REFUSED, Place
 from ._verdicts import Judgement
-from .sentences import cause_in_words
+from .sentences import cause_in_words, first_word
 
 TITLE = "gj-derivation 1\n"
 RULES, CUTS = ("linear", "gmic", "function"), ("gmic", "function")
@@ -205,7 +206,7 @@ class Derivation:
         >>> chain.check().text
         'accepted derivation\\n'
         """
-        return judged(self.text, call("check", self.text), self._function)
+        return judged(self.text, self._function)
 
     def linear(
         self,
@@ -512,11 +513,13 @@ def _claims(said: str) -> Iterator[Tuple[str, Union[Claim, Rejected]]]:
             terms[words[0]] = printed(words[1])
 
 
-def judged(text: str, answer: Answer, function: Optional[Function] = None) -> Judgement:
-    """What the checker says of a derivation."""
-    if answer.status > 1:
-        raise refused("check", text, answer)
+def judged(text: str, function: Optional[Function] = None) -> Judgement:
+    """What the checker says of a text that it reads as a derivation."""
+    answer = _answer("check", text, ())
     words = answer.text.split()
+    if function is None and first_word(text) == "gj-function":
+        front = re.match(r"(?s:.*?)^[ \t]*end[ \t\r]*$", text, re.M)
+        function = Function(done("show", front[0]))
     if answer.status:
         return Judgement(False, None, int(words[2]), " ".join(words[3:]), answer.text, function)
     return Judgement(True, words[1], None, None, answer.text, function)

@@ -18,8 +18,8 @@ from ._problem_sentences import PROBLEM_SENTENCES, WORDS
 from ._sentence import Sentence, line_at_fault
 
 __all__ = [
-    "CAUSES", "RULES", "SENTENCES", "Sentence", "cause_in_words", "is_derivation", "line_at_fault",
-    "sentence_for", "told",
+    "CAUSES", "RULES", "SENTENCES", "Sentence", "cause_in_words", "first_word", "is_derivation",
+    "line_at_fault", "sentence_for", "told",
 ]  # fmt: skip
 
 COMMAND_SENTENCES = [*FUNCTION_SENTENCES, *OTHER_SENTENCES]
@@ -32,15 +32,19 @@ SENTENCES_OF_DERIVATIONS = [*DERIVATION_SENTENCES, *COMMAND_SENTENCES]
 FIRST = re.compile(r"(?:[ \t]*(?:#.*)?\r?\n)*[ \t]*(\S*)")
 
 
+def first_word(text: str) -> str:
+    return FIRST.match(text_of(text, "text"))[1]
+
+
 def is_derivation(text: str) -> bool:
     """Whether `check` reads the text as a derivation."""
-    return FIRST.match(text)[1] in ("gj-derivation", "gj-function")
+    return first_word(text) in ("gj-derivation", "gj-function")
 
 
 def sentence_for(words: str, text: str, answer: str) -> Optional[Sentence]:
     """The sentence about an answer, without the line break at its end, to the words over a text."""
-    text_of(words, "words"), text_of(text, "text"), text_of(answer, "answer")
-    among = COMMAND_SENTENCES
+    words, text = text_of(words, "words"), text_of(text, "text")
+    answer, among = text_of(answer, "answer"), COMMAND_SENTENCES
     if words == WORDS:
         among = SENTENCES_OF_PROBLEMS
     elif words == "derive" or (words == "check" and is_derivation(text)):
@@ -55,7 +59,7 @@ def sentence_for(words: str, text: str, answer: str) -> Optional[Sentence]:
 def _is_in_function(text: str, answer: str) -> bool:
     """Whether the line at fault is one of a function in front."""
     found = re.match(r"refused line (\d+) ", answer)
-    if not found or FIRST.match(text)[1] != "gj-function":
+    if not found or first_word(text) != "gj-function":
         return False
     lines = text.split("\n")[: int(found[1]) - 1]
     return not any(line.split()[:1] == ["end"] for line in lines)

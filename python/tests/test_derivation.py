@@ -86,6 +86,8 @@ class ByHand(unittest.TestCase):
         self.assertEqual(numbers_of(chain.cut({"c": 1}, "function"), *"xyz"), [1, 0, 6, 1])
         self.assertTrue(chain.check())
         self.assertIs(chain.check().function, TURNS)
+        self.assertEqual(gjcut.check(chain.text).function, TURNS)
+        self.assertIsNone(gjcut.check(two_cuts().text).function)
         # 3x + 4y <= 16 and x <= 7/2, turned by the upper bound of x.
         bounded = [X._replace(upper="7/2"), Column("y", True, 0, None)]
         chain = Derivation(bounded, [Constraint("c", {"x": 3, "y": 4}, "<=", 16)])
