@@ -63,7 +63,7 @@ def _outer(bound: Optional[Fraction], sign: int) -> Optional[Fraction]:
     """The bound, if it has few digits, or one of few digits that is less strict."""
     if bound is None or bound.denominator <= FEW:
         return bound
-    return -floored(-bound, parts_for(bound, 2**20)) if sign > 0 else floored(bound, parts_for(bound, 2**20))
+    return -sign * floored(-sign * bound, parts_for(bound, 2**20))
 
 
 def exponent(value: Fraction) -> int:
@@ -128,6 +128,11 @@ def whole_factor(entries: Entries) -> Fraction:
     """The least factor that makes all of them whole numbers."""
     scale = math.lcm(*(value.denominator for value in entries.values()))
     return Fraction(scale, math.gcd(*(int(value * scale) for value in entries.values())))
+
+
+def to_units(value: float, part: Fraction) -> Fraction:
+    """The nearest multiple of the unit."""
+    return round(value / float(part)) * part
 
 
 def moved(given: Entries, right: Fraction, wanted: Entries, ranges: Sequence[Range]) -> Fraction:

@@ -1,5 +1,5 @@
-"""Linear relaxations of models, by GLPK: it reads the file, solves, and gives rows of the inverse of
-the basis. Everything here is in doubles; what is proved is made of it elsewhere."""
+"""Linear relaxations of models, by GLPK: it reads the file, solves, and gives rows of the inverse
+of the basis. Everything here is in doubles; what is proved is made of it elsewhere."""
 import contextlib
 import gzip
 import math
@@ -32,7 +32,7 @@ class SimplexFailed(RuntimeError):
     """GLPK gives up a relaxation, for reasons of numbers."""
 
 
-class Timeout(Exception):
+class TimeOver(Exception):
     """The time is over."""
 
 
@@ -109,7 +109,7 @@ class Relaxation:
     # ---- the simplex method
 
     def solve(self, deadline: Optional[float] = None) -> str:
-        """"optimal", "infeasible" or "unbounded". After the deadline it raises `Timeout`."""
+        """"optimal", "infeasible" or "unbounded". After the deadline it raises `TimeOver`."""
         ask, p = self.glpk, self._problem
         self.remove(())
         if self._is_new:
@@ -137,7 +137,7 @@ class Relaxation:
             if failed != ask.GLP_ETMLIM:
                 return None if failed else ask.glp_get_status(self._problem)
             if deadline is not None and time.monotonic() > deadline:
-                raise Timeout
+                raise TimeOver
             how.tm_lim = min(2 * how.tm_lim, 10 * SLICE)
 
     def _start(self) -> None:
