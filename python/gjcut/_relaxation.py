@@ -134,6 +134,9 @@ class Relaxation:
         how.msg_lev, how.meth, how.tm_lim = ask.GLP_MSG_OFF, method, SLICE
         while True:
             failed = ask.glp_simplex(self._problem, how)
+            if failed == ask.GLP_EBOUND:
+                # A lower bound is above its upper one.
+                return ask.GLP_NOFEAS
             if failed != ask.GLP_ETMLIM:
                 return None if failed else ask.glp_get_status(self._problem)
             if deadline is not None and time.monotonic() > deadline:
@@ -203,6 +206,16 @@ class Relaxation:
         greatest = max(abs(value) * ask.glp_get_sjj(p, column + 1) for column, value in entries)
         ask.glp_set_rii(p, row, 1.0 / greatest)
         ask.glp_set_row_name(p, row, name)
+
+    def tighten(self, column: int, lower: float, upper: float) -> None:
+        """Gives a column other bounds."""
+        ask = self.glpk
+        kinds = {
+            (True, True): ask.GLP_FR, (True, False): ask.GLP_UP, (False, True): ask.GLP_LO,
+            (False, False): ask.GLP_FX if lower == upper else ask.GLP_DB,
+        }  # fmt: skip
+        kind = kinds[math.isinf(lower), math.isinf(upper)]
+        ask.glp_set_col_bnds(self._problem, column + 1, kind, lower, upper)
 
     def remove(self, names: Iterable[str]) -> None:
         """Removes rows that were added, also one that Ctrl-C has left without a name."""

@@ -98,14 +98,18 @@ class RowCuts:
     # ---- to the row
 
     def _drafts(self, rows: Iterable[int], coarser: int) -> Iterable[Tuple[int, Draft]]:
-        """A draft of each row."""
+        """A draft of each row; by a function also one of its negative, which has another f."""
+        signs = (1,) if self._way.rule == "gmic" else (1, -1)
         for row in rows:
             try:
                 step = self._step(self._multipliers(row), coarser)
             except Missing:
                 self.refused["free"] += 1
-            else:
-                yield row, Draft(self._known.names.next("cut"), step)
+                continue
+            for sign in signs:
+                multipliers = {name: sign * value for name, value in step.multipliers.items()}
+                name = self._known.names.next("cut")
+                yield row, Draft(name, step._replace(multipliers=multipliers))
 
     def _step(self, multipliers: Mapping[str, float], coarser: int) -> Step:
         """How the cut of a row is made, with multipliers of few digits."""

@@ -42,8 +42,8 @@ WITHOUT = {
     "unbounded": "the relaxation is unbounded, and there is no bound",
 }
 TIME_OVER = "the time was over"
-# The status of a text that is refused, here since it passes a limit.
-TOO_LARGE = 3
+# Reasons why a text is refused.
+TOO_LARGE = ("large", "long")
 
 
 class NoBound(ValueError):
@@ -153,6 +153,10 @@ class Model:
         names = [each.name for each in self._variables]
         limits = ((x.is_whole, _limit(x.lower), _limit(x.upper)) for x in self._variables)
         self._known = Known(names, [range_of(*each) for each in limits])
+        for j, (is_whole, lower, upper) in enumerate(self._known.program.ranges):
+            if is_whole and (lower is None or upper is None or lower <= upper):
+                low = -math.inf if lower is None else float(lower)
+                relaxation.tighten(j, low, math.inf if upper is None else float(upper))
         # The lines of the rows of the file.
         self._sides: List[_Sides] = []
         self._read_rows()
@@ -414,7 +418,7 @@ class Model:
         try:
             found = self._shown(deadline)
         except Refused as error:
-            if error.status != TOO_LARGE:
+            if error.reason not in TOO_LARGE:
                 raise
             raise NoBound(f"{self.source}: the proof is too large: {error}") from None
         if found is None:
