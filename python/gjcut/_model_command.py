@@ -34,6 +34,8 @@ def add_parsers(commands) -> None:
     made.add_argument("--round", metavar="N", type=_count, default=2**20, help=parts)
     grid = "the numbers of the cuts are taken over this: 2^20, if not given"
     made.add_argument("--grid", metavar="N", type=_count, default=2**20, help=grid)
+    only = "take rows of the inverse of the basis alone, and none for mixed-integer rounding"
+    made.add_argument("--no-mir", action="store_true", help=only)
     made.add_argument("--write", metavar="FILE", help="write the model with its cuts, as MPS")
     made.add_argument("--proof", metavar="FILE", help="write the derivation that shows the bound")
     made.add_argument("--force", action="store_true", help="replace files that are there already")
@@ -124,9 +126,8 @@ def _rounds(given: model.Model, chosen: argparse.Namespace) -> int:
         left = None
         if chosen.seconds is not None:
             left = max(0.0, chosen.seconds - (time.monotonic() - started))
-        made = given.cuts(
-            1, round=chosen.round, grid=chosen.grid, limit=chosen.limit, seconds=left
-        )
+        words = {"round": chosen.round, "grid": chosen.grid, "limit": chosen.limit}
+        made = given.cuts(1, **words, mir=not chosen.no_mir, seconds=left)
         for each in made:
             _progress.say(_round_in_words(each))
         if given.ended:

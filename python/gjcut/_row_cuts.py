@@ -1,8 +1,8 @@
 """Cuts of rows of the inverse of a basis: multipliers in doubles become steps of derivations."""
 import math
 from fractions import Fraction
-from typing import Callable, Counter, Dict, Iterable, List, Mapping, NamedTuple, Optional, Sequence
-from typing import Tuple
+from typing import Counter, Dict, FrozenSet, Iterable, Iterator, List, Mapping, NamedTuple
+from typing import Optional, Sequence, Set, Tuple
 
 from ._known import Known
 from ._lines import Entries, Line, Missing, Step, floored, fractions_near, largest, moved, on_grid
@@ -22,12 +22,13 @@ COARSER = (1, 2**6, 2**12)
 
 class Way(NamedTuple):
     """How cuts are made: the rule of a step, the parts of a unit for data and multipliers, and for
-    cuts, and how many are taken."""
+    cuts, how many are taken, and whether there are rows for mixed-integer rounding."""
 
     rule: str
     parts: int
     grid: Optional[int]
     limit: int
+    has_mir: bool
 
 
 class Vertex(NamedTuple):
@@ -37,28 +38,39 @@ class Vertex(NamedTuple):
     at_upper: Sequence[int]
 
 
-# Gives the multipliers of a row by its column; and stops the work when the time is over.
-Multipliers = Callable[[int], Mapping[str, float]]
+# Multipliers of lines.
+Row = Mapping[str, float]
 
 
 class RowCuts:
-    """Cuts of the rows of one basis. `refused` counts why rows have none."""
+    """Cuts of rows at a vertex. `refused` counts why rows have none."""
 
-    def __init__(self, known: Known, vertex: Vertex, multipliers: Multipliers, way: Way):
+    def __init__(self, known: Known, vertex: Vertex, way: Way):
         self._known, self._vertex, self._way = known, vertex, way
-        self._multipliers = multipliers
         self.refused: Counter[str] = Counter()
 
-    def deepest(self, rows: List[int]) -> List[Line]:
+    def deepest(self, rows: Iterable[Row]) -> List[Line]:
         """The deepest cuts of these rows, with numbers of few digits."""
         proposed = sorted(self._proposed(rows), key=lambda each: -each[0])
-        drafts = {draft.name: draft for _, draft in proposed[: self._way.limit]}
+        drafts = {draft.name: draft for draft in self._different(proposed)}
         found = []
         for name, shown in self._shown(drafts.values()).items():
             line = self._cut(drafts[name], shown)
             if line is not None:
                 found.append(line)
         return found
+
+    def _different(self, proposed: Iterable[Tuple[float, Draft]]) -> Iterator[Draft]:
+        """The first of these, without those that nearly are another one."""
+        seen: Set[FrozenSet[Tuple[int, float]]] = set()
+        for _, draft in proposed:
+            greatest = float(largest(draft.entries)) or 1.0
+            key = frozenset((j, round(float(x) / greatest, 6)) for j, x in draft.entries.items())
+            if key not in seen:
+                seen.add(key)
+                yield draft
+            if len(seen) == self._way.limit:
+                return
 
     def _shown(self, drafts: Iterable[Draft]) -> Dict[str, Found]:
         return derived(self._known.program, self._known.lines, drafts, self._known.front)
@@ -76,7 +88,7 @@ class RowCuts:
         self.refused["shallow"] += 1
         return None
 
-    def _proposed(self, rows: List[int]) -> List[Tuple[float, Draft]]:
+    def _proposed(self, rows: Iterable[Row]) -> List[Tuple[float, Draft]]:
         """Cuts of these rows without right sides, and how deep they are."""
         found: List[Tuple[float, Draft]] = []
         for coarser in COARSER:
@@ -97,12 +109,12 @@ class RowCuts:
 
     # ---- to the row
 
-    def _drafts(self, rows: Iterable[int], coarser: int) -> Iterable[Tuple[int, Draft]]:
+    def _drafts(self, rows: Iterable[Row], coarser: int) -> Iterable[Tuple[Row, Draft]]:
         """A draft of each row; by a function also one of its negative, which has another f."""
         signs = (1,) if self._way.rule == "gmic" else (1, -1)
         for row in rows:
             try:
-                step = self._step(self._multipliers(row), coarser)
+                step = self._step(row, coarser)
             except Missing:
                 self.refused["free"] += 1
                 continue
@@ -111,7 +123,7 @@ class RowCuts:
                 name = self._known.names.next("cut")
                 yield row, Draft(name, step._replace(multipliers=multipliers))
 
-    def _step(self, multipliers: Mapping[str, float], coarser: int) -> Step:
+    def _step(self, multipliers: Row, coarser: int) -> Step:
         """How the cut of a row is made, with multipliers of few digits."""
         known, parts = self._known, self._way.parts
         given: Dict[str, float] = {}

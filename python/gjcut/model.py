@@ -9,17 +9,19 @@
 GLPK reads the file, and says which multipliers to try. What is made of them is exact, and `gjcut
 check` reads it, so that of GLPK only the reading is trusted. docs/models.md has examples.
 """
+import itertools
 import math
 import time
 from fractions import Fraction
 from os import PathLike
 from pathlib import Path
-from typing import Callable, Dict, List, Mapping, NamedTuple, Optional, Tuple, Union
+from typing import Callable, Dict, Iterator, List, Mapping, NamedTuple, Optional, Tuple, Union
 
 from . import _files, _last_step, _mps, _relaxation
-from ._arguments import whole
+from ._arguments import whole, wrong
 from ._functions import Rule, text_of_rule
 from ._known import Known
+from ._mixed_rounding import MixedRounding
 from ._lines import Entries, Line, range_of
 from ._problems import Column, Constraint
 from ._refusals import Refused
@@ -172,6 +174,7 @@ class Model:
             entries = {j: _number(value) for j, value in self._relaxation.entries(i)}
             self._sides.append(self._read_sides(row, entries))
         self._rows_end = len(self._known.own)
+        self._own = set(self._known.own)
         # A bound of many digits is a constraint besides.
         for j, (given, kept) in enumerate(zip(self._variables, self._known.program.ranges)):
             entries, lower, upper = {j: Fraction(1)}, _limit(given.lower), _limit(given.upper)
@@ -310,6 +313,7 @@ class Model:
         round: int = 2**20,
         grid: Optional[int] = 2**20,
         limit: int = 100,
+        mir: bool = True,
         callback: Optional[Callable[[Round], object]] = None,
         seconds: Optional[float] = None,
     ) -> List[Round]:
@@ -317,13 +321,14 @@ class Model:
 
         Data of many digits, and multipliers, are taken over `round`, or that times a power of two,
         and the numbers of cuts likewise over `grid`; with `grid` None they are as they come. A
-        round takes at most `limit` cuts, the deepest. After each `callback` is called, and if it
+        round takes at most `limit` cuts, the deepest. With `mir` other sums of constraints are
+        tried besides the rows of the basis, for mixed-integer rounding. After each `callback` is called, and if it
         returns True that is the last. The rounds end too where one finds no cut, and after so many
         seconds; then `ended` says why. All rounds are in `rounds`, also those before Ctrl-C.
 
         A relaxation without an optimum raises `NoBound`, and so does a model without whole columns.
         """
-        way, deadline = self._way(rule, round, grid, limit), _deadline(seconds)
+        way, deadline = self._way(rule, round, grid, limit, mir), _deadline(seconds)
         count, found, self.ended = whole(rounds, "rounds"), [], ""
         if not any(each.is_whole for each in self._variables):
             raise NoBound(f"{self.source}: no column is whole, and so there are no cuts")
@@ -345,7 +350,9 @@ class Model:
             self.ended = TIME_OVER
         return found
 
-    def _way(self, rule: Rule, parts: int, grid: Optional[int], limit: int) -> Way:
+    def _way(
+        self, rule: Rule, parts: int, grid: Optional[int], limit: int, has_mir: bool
+    ) -> Way:
         """The arguments of `cuts`."""
         numbers = {"round": whole(parts, "round"), "limit": whole(limit, "limit")}
         if grid is not None:
@@ -353,28 +360,23 @@ class Model:
         for name, value in numbers.items():
             if value < 1:
                 raise ValueError(f"{name}: {value} is below 1")
+        if not isinstance(has_mir, bool):
+            raise wrong(has_mir, "True or False", "mir")
         text = text_of_rule(rule)
         if text is not None:
             if self._known.front not in ("", text):
                 raise ValueError("rule: there were cuts by another function, and a proof has one")
             self._known.front = text
-        return Way("gmic" if text is None else "function", parts, grid, limit)
+        return Way("gmic" if text is None else "function", parts, grid, limit, has_mir)
 
     def _round(self, way: Way, deadline: Optional[float]) -> Optional[Round]:
         """One round, or None where no row gives a cut."""
         started = time.monotonic()
-        rows = self._fractional()[: ROWS_FOR_ONE * way.limit]
-        if not rows:
+        if not self._fractional():
             self.ended = "each whole column is whole at the vertex"
             return None
-
-        def multipliers(column: int) -> Dict[str, float]:
-            if deadline is not None and time.monotonic() > deadline:
-                raise TimeOver
-            return self._multipliers(column)
-
-        maker = RowCuts(self._known, self._optimum.vertex, multipliers, way)
-        lines = maker.deepest(rows)
+        maker = RowCuts(self._known, self._optimum.vertex, way)
+        lines = maker.deepest(self._given_rows(way, deadline))
         if not lines:
             why = ", ".join(f"{count} {cause}" for cause, count in sorted(maker.refused.items()))
             self.ended = f"no row gave a cut: {why}"
@@ -386,6 +388,17 @@ class Model:
         cuts, active = tuple(map(self._cut, lines)), len(self._relaxation.cuts())
         seconds = time.monotonic() - started
         return Round(len(self.rounds) + 1, bound, cuts, active, dict(maker.refused), seconds)
+
+    def _given_rows(self, way: Way, deadline: Optional[float]) -> Iterator[Dict[str, float]]:
+        """Rows of the inverse of the basis, and others for mixed-integer rounding."""
+        vertex, most = self._optimum.vertex, ROWS_FOR_ONE * way.limit
+        tight = [name for name in self._optimum.active if name in self._own]
+        others = MixedRounding(self._known, tight, vertex.point).rows() if way.has_mir else ()
+        of_basis = map(self._multipliers, self._fractional()[:most])
+        for row in itertools.islice(itertools.chain(of_basis, others), most):
+            if deadline is not None and time.monotonic() > deadline:
+                raise TimeOver
+            yield row
 
     def _take(self, lines: List[Line]) -> None:
         """Puts the cuts into the relaxation, from which those go that are not needed now."""

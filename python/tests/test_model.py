@@ -172,7 +172,7 @@ class ByHand(Models):
             self.assertAlmostEqual(abs(ratio), 1)
             self.assertAlmostEqual(by_column[name]["second"] / pair[1], ratio)
         seen = []
-        made = found.cuts(callback=seen.append)
+        made = found.cuts(mir=False, callback=seen.append)
         self.assertEqual(made, seen)
         # 2x + 2y - z <= 8 is one of the two; the other is 2x + 5y - 2z <= 15.
         cuts = [(*(cut.entries.get(name, 0) for name in "xyz"), cut.right) for cut in made[0].cuts]
@@ -275,7 +275,7 @@ class AtATerminal(Models):
         words = [self.folder / "model.lp", "--write", out, "--proof", proof]
         status, said = self.command(*words)
         self.assertEqual(status, 0)
-        self.assertIn("relaxation: 20.6\nround 1: 19, 2 new cuts, 2 in all; \n", said)
+        self.assertIn("relaxation: 20.6\nround 1: 19, 2 new cuts, 2 in all", said)
         self.assertIn("proved: the objective is at most 19 at each feasible point\n", said)
         self.assertTrue(gjcut.check(proof.read_text()).accepted)
         self.assertAlmostEqual(gjcut.model.read(out).relaxation().bound, -19)
