@@ -2,7 +2,7 @@
 from fractions import Fraction
 from typing import Dict, List, Mapping, Optional, Sequence, Tuple
 
-from ._lines import Entries, Line, Range, balanced, is_small, relaxed
+from ._lines import Entries, Line, Range, balanced, is_small, is_writable, relaxed
 from ._steps import Names, Program
 
 
@@ -24,8 +24,9 @@ class Known:
     def add_constraint(
         self, wanted: str, entries: Entries, sense: str, right: Optional[Fraction]
     ) -> Optional[str]:
-        """Its name; a side that is not there has none."""
-        if right is None:
+        """Its name. A side that is not there has none, and neither has a constraint that no text
+        can have, as one with 1e-40: without it there are more feasible points."""
+        if right is None or not is_writable([right, *entries.values()]):
             return None
         name = self.names.new(wanted)
         self.lines[name] = Line(name, entries, sense, right)

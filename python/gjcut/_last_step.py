@@ -6,8 +6,8 @@ from typing import Dict, Iterator, List, Mapping, NamedTuple, Optional, Sequence
 from ._asked import refused
 from ._known import Known
 from ._library import call
-from ._lines import Entries, Line, Missing, Range, Step, floored, fractions_near, moved
-from ._lines import to_units, unit
+from ._lines import Entries, Line, Missing, Range, Step, floored, fractions_near, is_writable
+from ._lines import moved, to_units, unit
 from ._steps import derivation, needed_for
 
 # Multipliers are fractions with few digits, over at most such a common denominator, or have so many
@@ -102,6 +102,10 @@ def common_factor(costs: Entries, ranges: Sequence[Range]) -> Fraction:
 
 def accepted(known: Known, last: Sequence[Line], heading: Sequence[str]) -> Optional[Shown]:
     """The derivation that ends with these lines, or None if a number is too wide."""
+    for each in last:
+        numbers = [each.right, *each.entries.values(), *each.step.multipliers.values()]
+        if not is_writable(numbers):
+            return None
     lines = {**known.lines, **{each.name: each for each in last}}
     steps = [each for each in needed_for(last[-1], lines) if each.step]
     text = known.front + derivation(known.program, known.constraints(), steps, heading)

@@ -5,8 +5,8 @@ from typing import Counter, Dict, FrozenSet, Iterable, Iterator, List, Mapping, 
 from typing import Optional, Sequence, Set, Tuple
 
 from ._known import Known
-from ._lines import Entries, Line, Missing, Step, floored, fractions_near, largest, moved, on_grid
-from ._lines import parts_for, to_units, unit, whole_factor
+from ._lines import Entries, Line, Missing, Step, floored, fractions_near, is_writable, largest
+from ._lines import moved, on_grid, parts_for, to_units, unit, whole_factor
 from ._steps import Draft, Found, derived
 
 # A cut is taken if the vertex lies so far beyond it.
@@ -117,6 +117,9 @@ class RowCuts:
                 step = self._step(row, coarser)
             except Missing:
                 self.refused["free"] += 1
+                continue
+            if not is_writable(step.multipliers.values()):
+                self.refused["wide"] += 1
                 continue
             for sign in signs:
                 multipliers = {name: sign * value for name, value in step.multipliers.items()}

@@ -322,9 +322,10 @@ class Model:
         Data of many digits, and multipliers, are taken over `round`, or that times a power of two,
         and the numbers of cuts likewise over `grid`; with `grid` None they are as they come. A
         round takes at most `limit` cuts, the deepest. With `mir` other sums of constraints are
-        tried besides the rows of the basis, for mixed-integer rounding. After each `callback` is called, and if it
-        returns True that is the last. The rounds end too where one finds no cut, and after so many
-        seconds; then `ended` says why. All rounds are in `rounds`, also those before Ctrl-C.
+        tried besides the rows of the basis, for mixed-integer rounding. After each round `callback`
+        is called, and if it returns True that is the last. The rounds end too where one finds no
+        cut, and after so many seconds; then `ended` says why. All rounds are in `rounds`, also
+        those before Ctrl-C.
 
         A relaxation without an optimum raises `NoBound`, and so does a model without whole columns.
         """
