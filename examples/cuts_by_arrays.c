@@ -5,7 +5,7 @@
 
 enum { ROWS = 3, COLUMNS = 6, WHOLE = 5, ROUNDS = 3, MOST = 100, GRID = 1 << 20 };
 
-/* Maximise the sum of these, with each row at most its right side. The last column is continuous. */
+/* Maximise the sum of these, with each row at most its right side. The last is continuous. */
 static const double gain[COLUMNS] = {37, 22, 34, 38, 23, -2};
 static const double left[ROWS][COLUMNS] = {
     {7, 11, 10, 9, 15, -1}, {7, 10, 8, 12, 6, 0}, {11, 5, 7, 5, 15, 0}};
@@ -69,7 +69,8 @@ static int cuts_of_vertex(glp_prob *p, struct gjcut_inequality *cuts) {
         if (fabs(value - round(value)) < 1e-5) continue;
         multipliers[row] = 1;
         glp_btran(p, multipliers);
-        int status = gjcut_cut(&program, multipliers + 1, row_at_upper, at_upper, GRID, cuts + found);
+        int status =
+            gjcut_cut(&program, multipliers + 1, row_at_upper, at_upper, GRID, cuts + found);
         if (status != GJCUT_DONE) exit(status);
         if (!cuts[found].why[0]) found++;
     }

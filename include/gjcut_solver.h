@@ -165,8 +165,8 @@ static inline void gjcut_read_cut(const char *line, struct gjcut_inequality *cut
 /* The cut that the mixed-integer rule gives of the sum of the rows, each times its multiplier, with
  * numbers over the grid, a power of two. A row with two sides stands for its upper one if
  * `row_at_upper` has 1 for it, and a column with 1 in `at_upper` is turned by its upper bound. Any
- * multipliers give a cut that holds; those of a row of the inverse of the basis, one that the vertex
- * does not meet. The status is that of the call. */
+ * multipliers give a cut that holds; those of a row of the inverse of the basis, one that the
+ * vertex does not meet. The status is that of the call. */
 static inline int gjcut_cut(const struct gjcut_program *p, const double *multipliers,
                             const char *row_at_upper, const char *at_upper, long grid,
                             struct gjcut_inequality *cut) {

@@ -20,6 +20,7 @@ Functions of the package, each with an example in its help:
                                     functions made of functions
     literature.gmic(f), ..          functions of the literature by their parameters
     from_piecewise(h)               a function of cutgeneratingfunctionology
+    model.read(path)                a model in MPS, CPLEX LP or GMPL: its cuts, its bound, proved
     map(command, functions)         the answers to many functions, by processes or any executor
     search(order, f)                all extreme functions of an order
     plot(function), plot_faces(function)          a Picture of a function, also of a verdict

@@ -4,11 +4,15 @@ import math
 from fractions import Fraction
 from typing import Dict, Iterable, List, Mapping, NamedTuple, Optional, Sequence, Tuple
 
+from ._refusals import WIDEST
+
 Entries = Dict[int, Fraction]
 # Numbers of a line of so many times the parts of a unit serve as they are.
 SPARE = 16
 # A bound with so small a denominator serves as it is.
 FEW = 1000
+# The finest grid of numbers of few digits.
+FINEST = 2**100
 # A double that is so near to a fraction with a small denominator, or to a decimal with so many
 # places, is taken for it.
 NEAR, PLACES = 1e-11, 7
@@ -63,7 +67,13 @@ def _outer(bound: Optional[Fraction], sign: int) -> Optional[Fraction]:
     """The bound, if it has few digits, or one of few digits that is less strict."""
     if bound is None or bound.denominator <= FEW:
         return bound
-    return -floored(-bound, parts_for(bound, 2**20)) if sign > 0 else floored(bound, parts_for(bound, 2**20))
+    parts = min(parts_for(bound, 2**20), Fraction(FINEST))
+    return -sign * floored(-sign * bound, parts)
+
+
+def is_writable(numbers: Iterable[Fraction]) -> bool:
+    """Whether a text can have these numbers."""
+    return all(max(abs(x.numerator), x.denominator) <= WIDEST for x in numbers)
 
 
 def exponent(value: Fraction) -> int:
@@ -130,6 +140,11 @@ def whole_factor(entries: Entries) -> Fraction:
     return Fraction(scale, math.gcd(*(int(value * scale) for value in entries.values())))
 
 
+def to_units(value: float, part: Fraction) -> Fraction:
+    """The nearest multiple of the unit."""
+    return round(value / float(part)) * part
+
+
 def moved(given: Entries, right: Fraction, wanted: Entries, ranges: Sequence[Range]) -> Fraction:
     """The greatest right side for the wanted coefficients that follows from the given line."""
     for column in sorted({*given, *wanted}):
@@ -156,7 +171,7 @@ def on_grid(value: Fraction, parts: Fraction, place: Range) -> Fraction:
 def relaxed(line: Line, sign: int, name: str, ranges: Sequence[Range], parts: int) -> Line:
     """The line times the sign, with at least, in numbers of few digits."""
     given = {column: sign * value for column, value in line.entries.items()}
-    grid = parts_for(largest(given), parts)
+    grid = min(parts_for(largest(given), parts), Fraction(FINEST))
     found = {column: on_grid(value, grid, ranges[column]) for column, value in given.items()}
     found = {column: value for column, value in found.items() if value}
     right = floored(moved(given, sign * line.right, found, ranges), grid)
@@ -204,6 +219,8 @@ def balanced(
     return found
 
 
-def _rank(line: Line, value: Fraction, multiplier: Fraction) -> Tuple[bool, bool, Fraction]:
-    """The least is changed: an equation takes any multiplier, and 1 and -1 make no new digits."""
-    return line.sense != "=", abs(value) != 1, -abs(multiplier)
+def _rank(line: Line, value: Fraction, multiplier: Fraction) -> Tuple[int, bool, Fraction]:
+    """The least is changed: a division by such a value makes the fewest digits, an equation takes
+    any multiplier, and a large one keeps its sign."""
+    digits = value.numerator.bit_length() + value.denominator.bit_length()
+    return digits, line.sense != "=", -abs(multiplier)

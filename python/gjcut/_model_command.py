@@ -1,6 +1,7 @@
 """The command `cuts` of `python3 -m gjcut`: from a model to a bound that is proved."""
 import argparse
 import math
+import re
 import time
 from fractions import Fraction
 from pathlib import Path
@@ -20,18 +21,21 @@ def add_parsers(commands) -> None:
         "cuts",
         help=help_,
         description="Rounds of cuts of a mixed-integer program, which GLPK reads and relaxes, and "
-        "the bound of the relaxation with them. A derivation shows the bound, and `check` reads it.",
+        "the bound of the relaxation with them, which a derivation shows: `check` reads it.",
     )
     made.add_argument("model", metavar="MODEL", help="a file .mps, .lp or .mod")
     made.add_argument("--data", metavar="FILE", help="the data of a model in GMPL")
     made.add_argument("--rounds", metavar="COUNT", type=_count, default=10, help="10, if not given")
     limit = "so many cuts a round at most: 100, if not given"
     made.add_argument("--limit", metavar="COUNT", type=_count, default=100, help=limit)
-    made.add_argument("--seconds", metavar="S", type=float, help="end the rounds after this time")
+    seconds = "end the rounds after this time"
+    made.add_argument("--seconds", metavar="S", type=_seconds, help=seconds)
     parts = "multipliers, and data of many digits, are taken over this: 2^20, if not given"
     made.add_argument("--round", metavar="N", type=_count, default=2**20, help=parts)
     grid = "the numbers of the cuts are taken over this: 2^20, if not given"
     made.add_argument("--grid", metavar="N", type=_count, default=2**20, help=grid)
+    only = "take rows of the inverse of the basis alone, and none for mixed-integer rounding"
+    made.add_argument("--no-mir", action="store_true", help=only)
     made.add_argument("--write", metavar="FILE", help="write the model with its cuts, as MPS")
     made.add_argument("--proof", metavar="FILE", help="write the derivation that shows the bound")
     made.add_argument("--force", action="store_true", help="replace files that are there already")
@@ -43,6 +47,12 @@ def _count(word: str) -> int:
     if not (word.isascii() and word.isdigit() and len(word) < 20 and int(word)):
         raise argparse.ArgumentTypeError(f"{word} is no whole number from 1 on")
     return int(word)
+
+
+def _seconds(word: str) -> float:
+    if not re.fullmatch(r"[0-9]+(\.[0-9]*)?", word):
+        raise argparse.ArgumentTypeError(f"{word} is no number of seconds")
+    return float(word)
 
 
 def run(chosen: argparse.Namespace) -> int:
@@ -71,6 +81,9 @@ def _bounded(given: model.Model, chosen: argparse.Namespace) -> int:
     status = 0
     try:
         status = _rounds(given, chosen)
+    except model.TimeOver:
+        print("the time was over before the relaxation was solved")
+        return TIME_OVER
     except (model.NoBound, model.SimplexFailed) as error:
         print(error)
         status = NOTHING
@@ -113,8 +126,10 @@ def _rounds(given: model.Model, chosen: argparse.Namespace) -> int:
         left = None
         if chosen.seconds is not None:
             left = max(0.0, chosen.seconds - (time.monotonic() - started))
-        for made in given.cuts(1, "gmic", chosen.round, chosen.grid, chosen.limit, None, left):
-            _progress.say(_round_in_words(made))
+        words = {"round": chosen.round, "grid": chosen.grid, "limit": chosen.limit}
+        made = given.cuts(1, **words, mir=not chosen.no_mir, seconds=left)
+        for each in made:
+            _progress.say(_round_in_words(each))
         if given.ended:
             _progress.say(f"no further round: {given.ended}")
             break

@@ -1,5 +1,5 @@
-"""Linear relaxations of models, by GLPK: it reads the file, solves, and gives rows of the inverse of
-the basis. Everything here is in doubles; what is proved is made of it elsewhere."""
+"""Linear relaxations of models, by GLPK: it reads the file, solves, and gives rows of the inverse
+of the basis. Everything here is in doubles; what is proved is made of it elsewhere."""
 import contextlib
 import gzip
 import math
@@ -32,7 +32,7 @@ class SimplexFailed(RuntimeError):
     """GLPK gives up a relaxation, for reasons of numbers."""
 
 
-class Timeout(Exception):
+class TimeOver(Exception):
     """The time is over."""
 
 
@@ -109,7 +109,7 @@ class Relaxation:
     # ---- the simplex method
 
     def solve(self, deadline: Optional[float] = None) -> str:
-        """"optimal", "infeasible" or "unbounded". After the deadline it raises `Timeout`."""
+        """"optimal", "infeasible" or "unbounded". After the deadline it raises `TimeOver`."""
         ask, p = self.glpk, self._problem
         self.remove(())
         if self._is_new:
@@ -134,10 +134,13 @@ class Relaxation:
         how.msg_lev, how.meth, how.tm_lim = ask.GLP_MSG_OFF, method, SLICE
         while True:
             failed = ask.glp_simplex(self._problem, how)
+            if failed == ask.GLP_EBOUND:
+                # A lower bound is above its upper one.
+                return ask.GLP_NOFEAS
             if failed != ask.GLP_ETMLIM:
                 return None if failed else ask.glp_get_status(self._problem)
             if deadline is not None and time.monotonic() > deadline:
-                raise Timeout
+                raise TimeOver
             how.tm_lim = min(2 * how.tm_lim, 10 * SLICE)
 
     def _start(self) -> None:
@@ -203,6 +206,16 @@ class Relaxation:
         greatest = max(abs(value) * ask.glp_get_sjj(p, column + 1) for column, value in entries)
         ask.glp_set_rii(p, row, 1.0 / greatest)
         ask.glp_set_row_name(p, row, name)
+
+    def tighten(self, column: int, lower: float, upper: float) -> None:
+        """Gives a column other bounds."""
+        ask = self.glpk
+        kinds = {
+            (True, True): ask.GLP_FR, (True, False): ask.GLP_UP, (False, True): ask.GLP_LO,
+            (False, False): ask.GLP_FX if lower == upper else ask.GLP_DB,
+        }  # fmt: skip
+        kind = kinds[math.isinf(lower), math.isinf(upper)]
+        ask.glp_set_col_bnds(self._problem, column + 1, kind, lower, upper)
 
     def remove(self, names: Iterable[str]) -> None:
         """Removes rows that were added, also one that Ctrl-C has left without a name."""

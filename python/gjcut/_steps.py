@@ -1,8 +1,9 @@
 """Texts of derivations, made of lines with steps; and what the program makes of drafts."""
+import collections
 import re
 from fractions import Fraction
-from typing import Dict, Iterable, Iterator, List, Mapping, NamedTuple, Optional, Sequence, Set
-from typing import Union
+from typing import Counter, Dict, Iterable, Iterator, List, Mapping, NamedTuple, Optional
+from typing import Sequence, Set, Union
 
 from ._asked import refused
 from ._functions import line, printed
@@ -11,9 +12,9 @@ from ._lines import Entries, Line, Range, Step
 from ._refusals import NAME
 
 # The limits of a text.
-MOST_LINES, MOST_ENTRIES, LONGEST = 10_000, 100_000, 16_777_216
-# So many drafts at most are in one text.
-MOST_DRAFTS = 1000
+MOST_LINES, MOST_ENTRIES = 10_000, 100_000
+# So many lines at most the steps of one text have, so that it is not too long.
+MOST_SIZE = 100_000
 TITLE = "gj-derivation 1\n"
 
 
@@ -22,17 +23,25 @@ class Names:
 
     def __init__(self) -> None:
         self._taken: Set[str] = set()
+        self._counts: Counter[str] = collections.Counter()
 
     def new(self, wanted: str) -> str:
         """The wanted name, or one like it."""
         base = re.sub(r"[^!#-~]", "_", wanted)[:200] or "_"
         name = wanted if NAME.fullmatch(wanted) else base
-        count = 1
-        while name in self._taken:
-            count += 1
-            name = f"{base}~{count}"
+        if name in self._taken:
+            return self.next(f"{base}~")
         self._taken.add(name)
         return name
+
+    def next(self, stem: str) -> str:
+        """The stem, with the next number."""
+        while True:
+            self._counts[stem] += 1
+            name = f"{stem}{self._counts[stem]}"
+            if name not in self._taken:
+                self._taken.add(name)
+                return name
 
 
 class Program(NamedTuple):
@@ -52,7 +61,7 @@ class Draft(NamedTuple):
 
 
 class Found(NamedTuple):
-    """What a draft shows, or why it shows nothing, as `integral` or `free x`."""
+    """What a draft shows, or why it shows nothing, as `integral` or `free`."""
 
     entries: Entries
     right: Optional[Fraction]
@@ -146,21 +155,27 @@ def _parts(
     """The drafts in parts that fit the limits; one that fits none is refused."""
     part: List[Draft] = []
     used: Set[str] = set()
-    entries = 0
+    columns: Set[int] = set()
+    entries = size = 0
     for draft in drafts:
-        names = draft.step.multipliers.keys()
-        count = sum(len(lines[each].entries) for each in names - used)
-        if entries + count > MOST_ENTRIES or len(part) == MOST_DRAFTS:
+        step, new = draft.step, draft.step.multipliers.keys() - used
+        count = sum(len(lines[each].entries) for each in new)
+        size += len(step.multipliers) + len(step.at_upper) + len(draft.entries or ())
+        columns.update(j for each in new for j in lines[each].entries)
+        is_full = entries + count > MOST_ENTRIES or len(columns) > MOST_LINES or size > MOST_SIZE
+        if is_full and part:
             yield part
-            part, used, entries = [], set(), 0
-            count = sum(len(lines[each].entries) for each in names)
-        if count > MOST_ENTRIES:
+            part, used, entries, size = [], set(), 0, 0
+            columns = {j for each in step.multipliers for j in lines[each].entries}
+            count = sum(len(lines[each].entries) for each in step.multipliers)
+        if count > MOST_ENTRIES or len(columns) > MOST_LINES:
             found[draft.name] = Found({}, None, "large")
             continue
         part.append(draft)
-        used.update(names)
+        used.update(step.multipliers)
         entries += count
-    yield part
+    if part:
+        yield part
 
 
 def _asked(
@@ -192,5 +207,5 @@ def _read(program: Program, drafts: Set[str], said: str) -> Dict[str, Found]:
         elif kind == "term":
             entries[places[words[0]]] = printed(words[1])
         elif kind == "#" and words[0] in drafts:
-            found[words[0]] = Found({}, None, " ".join(words[1:]))
+            found[words[0]] = Found({}, None, words[1])
     return found

@@ -1,0 +1,193 @@
+"""Cuts of rows of the inverse of a basis: multipliers in doubles become steps of derivations."""
+import math
+from fractions import Fraction
+from typing import Counter, Dict, FrozenSet, Iterable, Iterator, List, Mapping, NamedTuple
+from typing import Optional, Sequence, Set, Tuple
+
+from ._known import Known
+from ._lines import Entries, Line, Missing, Step, floored, fractions_near, is_writable, largest
+from ._lines import moved, on_grid, parts_for, to_units, unit, whole_factor
+from ._steps import Draft, Found, derived
+
+# A cut is taken if the vertex lies so far beyond it.
+LEAST_DISTANCE = 1e-6
+# Terms below this part of the greatest are left out, where that costs little.
+SMALL = Fraction(1, 2**15)
+# Multipliers that are fractions with few digits are taken as they are, over at most such a common
+# denominator.
+MOST = 10**6
+# A row with which a number is too wide is tried again with multipliers so much coarser.
+COARSER = (1, 2**6, 2**12)
+
+
+class Way(NamedTuple):
+    """How cuts are made: the rule of a step, the parts of a unit for data and multipliers, and for
+    cuts, how many are taken, and whether there are rows for mixed-integer rounding."""
+
+    rule: str
+    parts: int
+    grid: Optional[int]
+    limit: int
+    has_mir: bool
+
+
+class Vertex(NamedTuple):
+    """The point, and the columns at or near their upper bounds."""
+
+    point: Sequence[float]
+    at_upper: Sequence[int]
+
+
+# Multipliers of lines.
+Row = Mapping[str, float]
+
+
+class RowCuts:
+    """Cuts of rows at a vertex. `refused` counts why rows have none."""
+
+    def __init__(self, known: Known, vertex: Vertex, way: Way):
+        self._known, self._vertex, self._way = known, vertex, way
+        self.refused: Counter[str] = Counter()
+
+    def deepest(self, rows: Iterable[Row]) -> List[Line]:
+        """The deepest cuts of these rows, with numbers of few digits."""
+        proposed = sorted(self._proposed(rows), key=lambda each: -each[0])
+        drafts = {draft.name: draft for draft in self._different(proposed)}
+        found = []
+        for name, shown in self._shown(drafts.values()).items():
+            line = self._cut(drafts[name], shown)
+            if line is not None:
+                found.append(line)
+        return found
+
+    def _different(self, proposed: Iterable[Tuple[float, Draft]]) -> Iterator[Draft]:
+        """The first of these, without those that nearly are another one."""
+        seen: Set[FrozenSet[Tuple[int, float]]] = set()
+        for _, draft in proposed:
+            greatest = float(largest(draft.entries)) or 1.0
+            key = frozenset((j, round(float(x) / greatest, 6)) for j, x in draft.entries.items())
+            if key not in seen:
+                seen.add(key)
+                yield draft
+            if len(seen) == self._way.limit:
+                return
+
+    def _shown(self, drafts: Iterable[Draft]) -> Dict[str, Found]:
+        return derived(self._known.program, self._known.lines, drafts, self._known.front)
+
+    def _cut(self, draft: Draft, shown: Found) -> Optional[Line]:
+        """The cut of coefficients with few digits, with such a right side."""
+        if shown.refused:
+            self.refused[shown.refused] += 1
+            return None
+        entries, right = shown.entries, shown.right
+        if entries and self._way.grid is not None:
+            right = floored(right, parts_for(largest(entries), self._way.grid))
+        if self._depth(entries, right) > LEAST_DISTANCE:
+            return Line(draft.name, entries, ">=", right, draft.step)
+        self.refused["shallow"] += 1
+        return None
+
+    def _proposed(self, rows: Iterable[Row]) -> List[Tuple[float, Draft]]:
+        """Cuts of these rows without right sides, and how deep they are."""
+        found: List[Tuple[float, Draft]] = []
+        for coarser in COARSER:
+            drafts = {draft.name: (row, draft) for row, draft in self._drafts(rows, coarser)}
+            shown = self._shown(draft for _, draft in drafts.values())
+            rows = []
+            for name, each in shown.items():
+                row, draft = drafts[name]
+                if each.refused == "wide" and coarser != COARSER[-1]:
+                    rows.append(row)
+                elif each.refused:
+                    self.refused[each.refused] += 1
+                else:
+                    found += self._deep(draft, each)
+            if not rows:
+                break
+        return found
+
+    # ---- to the row
+
+    def _drafts(self, rows: Iterable[Row], coarser: int) -> Iterable[Tuple[Row, Draft]]:
+        """A draft of each row; by a function also one of its negative, which has another f."""
+        signs = (1,) if self._way.rule == "gmic" else (1, -1)
+        for row in rows:
+            try:
+                step = self._step(row, coarser)
+            except Missing:
+                self.refused["free"] += 1
+                continue
+            if not is_writable(step.multipliers.values()):
+                self.refused["wide"] += 1
+                continue
+            for sign in signs:
+                multipliers = {name: sign * value for name, value in step.multipliers.items()}
+                name = self._known.names.next("cut")
+                yield row, Draft(name, step._replace(multipliers=multipliers))
+
+    def _step(self, multipliers: Row, coarser: int) -> Step:
+        """How the cut of a row is made, with multipliers of few digits."""
+        known, parts = self._known, self._way.parts
+        given: Dict[str, float] = {}
+        for name, value in multipliers.items():
+            line, sign = known.with_few_digits(name, value, parts)
+            given[line.name] = sign * value
+        chosen = fractions_near(given, MOST) if coarser == 1 else None
+        if chosen is None:
+            units = {name: coarser * unit(known.lines[name], parts) for name in given}
+            chosen = {name: to_units(value, units[name]) for name, value in given.items()}
+        chosen = known.without_free(chosen, {})
+        columns = {j for name in chosen for j in known.lines[name].entries}
+        at_upper = [j for j in self._vertex.at_upper if j in columns]
+        return Step(self._way.rule, chosen, at_upper)
+
+    # ---- from the row
+
+    def _deep(self, draft: Draft, shown: Found) -> List[Tuple[float, Draft]]:
+        """The draft with coefficients of few digits, and how deep it is, if it is."""
+        entries, grid, factor = shown.entries, self._way.grid, Fraction(1)
+        wanted = entries
+        if entries and grid is not None:
+            whole = whole_factor(entries)
+            if whole * largest(entries) <= grid:
+                factor, wanted = whole, {j: whole * value for j, value in entries.items()}
+            else:
+                wanted = rounded(self._known, entries, grid)
+        scaled = {j: factor * value for j, value in entries.items()}
+        right = moved(scaled, factor * shown.right, wanted, self._known.program.ranges)
+        depth = self._depth(wanted, right)
+        if depth <= LEAST_DISTANCE:
+            self.refused["shallow"] += 1
+            return []
+        return [(depth, Draft(draft.name, draft.step._replace(factor=factor), wanted))]
+
+    def _depth(self, entries: Entries, right: Fraction) -> float:
+        """How far beyond the cut the vertex lies; one that no point meets is the deepest."""
+        if not entries:
+            return math.inf if right > 0 else -math.inf
+        values = [(float(value), self._vertex.point[j]) for j, value in entries.items()]
+        length = math.sqrt(sum(value * value for value, _ in values))
+        return (float(right) - sum(value * x for value, x in values)) / length
+
+
+def rounded(known: Known, entries: Entries, grid: int) -> Entries:
+    """The coefficients with few digits, without small ones that matter little."""
+    greatest, found = largest(entries), {}
+    parts = parts_for(greatest, grid)
+    for j, value in entries.items():
+        place = known.program.ranges[j]
+        has_both = place.lower is not None and place.upper is not None
+        length = max(1, place.upper - place.lower) if has_both else None
+        if length is None or abs(value) * length >= SMALL * greatest:
+            found[j] = on_grid(value, parts, place)
+    return found
+
+
+def in_doubles(known: Known, line: Line) -> Line:
+    """The cut, or one that it implies, with numbers that are doubles."""
+    if all(Fraction(float(each)) == each for each in (line.right, *line.entries.values())):
+        return line
+    entries = rounded(known, line.entries, 2**20)
+    right = moved(line.entries, line.right, entries, known.program.ranges)
+    return line._replace(entries=entries, right=floored(right, parts_for(largest(entries), 2**20)))
