@@ -1,129 +1,68 @@
--- What a check of a step answers (own).
-use Rattle.std.specs.Prelude.{◌≡◌, ◌⊎◌, ℕ, pos, ◌<◌, ◌≤◌, ◌<ℤ◌, ◌^◌, Option, None, List, ◌∷◌, ◌++◌, length, take, All, slice_index_or}
+-- What a check of a linear step answers (own).
+use Rattle.std.specs.Prelude.{◌≡◌, ◌⊎◌, ℕ, pos, ◌<◌, ◌≤◌, ◌<ℤ◌, ◌^◌, None, List, ◌∷◌, ◌++◌, length, take, All, slice_index_or}
 use Rattle.gj_frac.specs.declared.Frac.{Frac}
 use Rattle.gj_frac.specs.Fits.{FitsProduct, FitsSum}
 use Rattle.gj_frac.specs.Fraction.{numerator}
-use Rattle.gj_shape.specs.FunctionData.{FunctionData}
 use Rattle.gj_problem.specs.Rational.{Rational, whole, rational, ◌+ℚ◌, ◌*ℚ◌, neg_ℚ, ◌-ℚ◌, ◌≤ℚ◌}
 use Rattle.gj_problem.specs.declared.problem.Column.{Column}
 use Rattle.gj_problem.specs.declared.problem.Constraint.{Constraint}
 use Rattle.gj_problem.specs.declared.problem.Entry.{Entry}
+use Rattle.gj_problem.specs.declared.problem.Inequality.{Inequality}
 use Rattle.gj_problem.specs.declared.problem.Problem.{Problem}
 use Rattle.gj_problem.specs.declared.sums.Sum.{Sum}
 use Rattle.gj_problem.specs.Problems.{IsConstraint}
-use Rattle.gj_problem.specs.Rows.{dot}
+use Rattle.gj_problem.specs.Rows.{dot, IsSignFor}
 use Rattle.gj_problem.specs.Steps.{IsWideAt, IsWideWithin}
-use Rattle.gj_safe_cut.specs.declared.cut.SafeCut.{SafeCut}
-use Rattle.gj_safe_cut.specs.declared.cut.SafeCut.TheVariants as cut
-use Rattle.gj_derivation.specs.declared.step.Combination.{Combination}
 use Rattle.gj_derivation.specs.declared.step.Multiplier.{Multiplier}
 use Rattle.gj_derivation.specs.declared.step.Step.{Step}
-use Rattle.gj_derivation.specs.declared.step.StepRule.{StepRule}
-use Rattle.gj_derivation.specs.declared.step.StepRule.TheVariants.{Linear, Gmic, Function}
-use Rattle.gj_derivation.specs.declared.step.Verdict.{Verdict}
-use Rattle.gj_derivation.specs.declared.step.Verdict.TheVariants.{Accepted, Sign, Free, Integral, Other, Bound, Right, Wide}
-use Rattle.gj_derivation.specs.declared.base.Base.{Base}
-use Rattle.gj_derivation.specs.declared.base.Base.TheVariants as base
+use Rattle.gj_derivation.specs.declared.check.Base.{Base}
+use Rattle.gj_derivation.specs.declared.check.Base.TheVariants as base
+use Rattle.gj_derivation.specs.declared.check.Verdict.{Verdict}
+use Rattle.gj_derivation.specs.declared.check.Verdict.TheVariants.{Accepted, Sign, Bound, Right, Wide}
 use Rattle.gj_derivation.specs.declared.moves.Moved.{Moved}
 use Rattle.gj_derivation.specs.declared.moves.Moved.TheVariants as moved
 use Rattle.gj_derivation.specs.Moves.{HasLower, HasUpper, IsMovedBy, AreMovedBy}
-use Rattle.gj_derivation.specs.Derivations.{Line, unit, coefficient_in, line_of, coefficient_at, right_at, added_coefficient, added_right, multiplier_of, times, IsSigned, AreSigned, IsCutOf, IsBase, IsRightOf, IsShown, Follows}
+use Rattle.gj_derivation.specs.Derivations.{Line, unit, coefficient_in, coefficient_at, right_at, added, added_coefficient, added_right, AreSigned, AreWholeTerms, IsRightFor, IsShown, Follows}
 
--- ---- the base
+-- ---- the sum
 
--- the line of the first multiplier that has not its sign, or no constraint
-pub record IsFirstUnsigned (rule : StepRule) (p : Problem) (ms : List Multiplier) (i : ℕ) : Type 0 where
+-- a multiplier of a constraint, with the sign that its sense asks for
+abbrev pub IsSigned : Problem → Multiplier → Type 0
+IsSigned p m = (c : Constraint) × IsConstraint p m.line c × IsSignFor c.sense (numerator m.value)
+
+-- the line of the first multiplier that is none
+pub record IsFirstUnsigned (p : Problem) (ms : List Multiplier) (i : ℕ) : Type 0 where
   pub before : List Multiplier
   pub multiplier : Multiplier
   pub after : List Multiplier
   pub place : ms ≡ before ++ multiplier ∷ after
-  pub signed_before : AreSigned rule p before
-  pub unsigned : IsSigned rule p multiplier → ⊥
+  pub signed_before : All (IsSigned p) before
+  pub unsigned : IsSigned p multiplier → ⊥
   pub line : i ≡ multiplier.line
 
 -- the constraint of one more multiplier is added
 pub record IsAdded (p : Problem) (m : Multiplier) (old new : Sum) : Type 0 where
+  pub signed : IsSigned p m
   pub right : rational new.right ≡ rational old.right +ℚ rational m.value *ℚ right_at p m.line
   pub coefficients : (j : ℕ) → dot new.coefficients.items (unit j)
       ≡ dot old.coefficients.items (unit j) +ℚ rational m.value *ℚ coefficient_at p m.line j
 
 -- the sum is that of the multipliers
 pub record IsSumOf (p : Problem) (ms : List Multiplier) (sum : Sum) : Type 0 where
+  pub signed : AreSigned p ms
   pub count : length sum.coefficients.items ≡ length p.columns
   pub right : rational sum.right ≡ added_right p ms
   pub coefficients : (j : ℕ) → dot sum.coefficients.items (unit j) ≡ added_coefficient p ms j
-
--- a number of the sum does not fit when this multiple of an inequality is added, or an entry has no
--- column
-abbrev pub IsWideMore : Sum → Frac → List Entry → Frac → Type 0
-IsWideMore sum factor entries right = IsWideWithin sum.coefficients.items factor entries ⊎ IsWideAt sum.right factor right
-
--- so it is with the constraint of the multiplier
-abbrev pub IsWideAddition : Problem → Multiplier → Sum → Type 0
-IsWideAddition p m sum = (c : Constraint) × IsConstraint p m.line c × IsWideMore sum m.value c.entries c.right
-
--- so it is at some multiplier, when those before it have been added
-pub record IsWideAdded (p : Problem) (ms : List Multiplier) : Type 0 where
-  pub before : List Multiplier
-  pub next : Multiplier
-  pub after : List Multiplier
-  pub place : ms ≡ before ++ next ∷ after
-  pub sum : Sum
-  pub sum_is : IsSumOf p before sum
-  pub wide : IsWideAddition p next sum
-
--- some line is named more than once, and the sum of its multipliers does not fit
-pub record IsWideNamed (ms : List Multiplier) : Type 0 where
-  pub before : List Multiplier
-  pub next : Multiplier
-  pub after : List Multiplier
-  pub place : ms ≡ before ++ next ∷ after
-  pub sum : Frac
-  pub sum_is : rational sum ≡ multiplier_of before next.line
-  pub wide : FitsSum sum next.value → ⊥
-
-abbrev pub IsWideBy : StepRule → Option FunctionData → Problem → Combination → Type 0
-IsWideBy Linear f p c = IsWideAdded p c.multipliers
-IsWideBy Gmic f p c = IsWideNamed c.multipliers ⊎ IsCutOf f p c cut.Wide
-IsWideBy Function f p c = IsWideNamed c.multipliers ⊎ IsCutOf f p c cut.Wide
-
--- what stands against a base: a sign, what the cut's row lacks, or a number that does not fit
-abbrev pub IsBaseless : Option FunctionData → Problem → Combination → Verdict → Type 0
-IsBaseless f p c (Sign i) = IsFirstUnsigned c.rule p c.multipliers i
-IsBaseless f p c (Free j) = AreSigned c.rule p c.multipliers × IsCutOf f p c (cut.Free j)
-IsBaseless f p c Integral = AreSigned c.rule p c.multipliers × IsCutOf f p c cut.Integral
-IsBaseless f p c Other = AreSigned c.rule p c.multipliers × IsCutOf f p c cut.OtherFraction
-IsBaseless f p c Wide = AreSigned c.rule p c.multipliers × IsWideBy c.rule f p c
-IsBaseless f p c Accepted = ⊥
-IsBaseless f p c (Bound j) = ⊥
-IsBaseless f p c (Right b) = ⊥
 
 -- the sum as an inequality
 abbrev pub line_of_sum : Sum → Line
 line_of_sum sum = record { coefficient = λ j. dot sum.coefficients.items (unit j); right = rational sum.right }
 
--- the sum is a line over all n columns
-pub record IsSumFor (n : ℕ) (line : Line) (sum : Sum) : Type 0 where
-  pub count : length sum.coefficients.items ≡ n
-  pub same : line_of_sum sum ≡ line
+abbrev pub IsBaseOf : Problem → List Multiplier → Base → Type 0
+IsBaseOf p ms (base.Line sum) = IsSumOf p ms sum
+IsBaseOf p ms (base.Sign i) = IsFirstUnsigned p ms i
 
-abbrev pub IsBaseOf : Option FunctionData → Problem → Combination → Base → Type 0
-IsBaseOf f p c (base.Line sum) = (line : Line) × IsBase f p c line × IsSumFor (length p.columns) line sum
-IsBaseOf f p c (base.Against v) = IsBaseless f p c v
-
--- what the cut is as a base
-abbrev pub IsBaseFrom : ℕ → SafeCut → Base → Type 0
-IsBaseFrom n (cut.Cut q) (base.Line sum) = IsSumFor n (line_of q) sum
-IsBaseFrom n (cut.Free j) (base.Against v) = v ≡ Free j
-IsBaseFrom n cut.Integral (base.Against v) = v ≡ Integral
-IsBaseFrom n cut.OtherFraction (base.Against v) = v ≡ Other
-IsBaseFrom n cut.Wide made = ⊥
-IsBaseFrom n (cut.Cut q) (base.Against v) = ⊥
-IsBaseFrom n (cut.Free j) (base.Line sum) = ⊥
-IsBaseFrom n cut.Integral (base.Line sum) = ⊥
-IsBaseFrom n cut.OtherFraction (base.Line sum) = ⊥
-
--- ---- the terms
+-- ---- the moves
 
 -- the coefficient has to go to a side where the column has no bound
 abbrev pub IsUnmovable : Column → Rational → Rational → Type 0
@@ -138,21 +77,50 @@ pub record IsFirstUnmovable (columns : List Column) (xs ys : ℕ → Rational) (
   pub moved_before : AreMovedBy (take j columns) xs ys total
   pub unmovable : IsUnmovable column (xs j) (ys j)
 
+-- the coefficients by which a step compares: those of the sum times the factor, and the claimed
+abbrev pub scaled : Frac → Sum → ℕ → Rational
+scaled factor sum j = rational factor *ℚ dot sum.coefficients.items (unit j)
+
 abbrev pub claimed_at : List Frac → ℕ → Rational
 claimed_at claimed j = dot claimed (unit j)
 
-abbrev pub IsMovedRight : List Column → Frac → Line → (ℕ → Rational) → Moved → Type 0
-IsMovedRight columns factor base ys (moved.Right b) = IsRightOf columns factor base ys (rational b)
-IsMovedRight columns factor base ys (moved.Bound j) = IsFirstUnmovable columns (times factor base) ys j
+abbrev pub IsMovedRight : List Column → Frac → Sum → List Frac → Moved → Type 0
+IsMovedRight columns factor sum claimed (moved.Right b) =
+    (total : Rational) × AreMovedBy columns (scaled factor sum) (claimed_at claimed) total
+    × IsRightFor (AreWholeTerms columns (claimed_at claimed)) (rational factor *ℚ rational sum.right +ℚ total) (rational b)
+IsMovedRight columns factor sum claimed (moved.Bound j) = IsFirstUnmovable columns (scaled factor sum) (claimed_at claimed) j
 
--- a number does not fit when the terms are added to none in n columns, or a term has no column
-pub record IsWideTerms (n : ℕ) (entries : List Entry) : Type 0 where
-  pub none : List Frac
-  pub count : length none ≡ n
-  pub are_none : (point : List Rational) → dot none point ≡ whole (pos 0)
+-- ---- when a number does not fit
+
+-- a number of the sum does not fit when this multiple of an inequality is added, or an entry has no
+-- column
+abbrev pub IsWideMore : Sum → Frac → List Entry → Frac → Type 0
+IsWideMore sum factor entries right = IsWideWithin sum.coefficients.items factor entries ⊎ IsWideAt sum.right factor right
+
+-- so it is with the constraint of the multiplier, which has its sign
+abbrev pub IsWideAdded : Problem → Multiplier → Sum → Type 0
+IsWideAdded p m sum = (c : Constraint) × IsConstraint p m.line c × IsSignFor c.sense (numerator m.value)
+    × IsWideMore sum m.value c.entries c.right
+
+-- so it is at some multiplier, when those before it have been added
+pub record IsWideBase (p : Problem) (ms : List Multiplier) : Type 0 where
+  pub before : List Multiplier
+  pub next : Multiplier
+  pub after : List Multiplier
+  pub place : ms ≡ before ++ next ∷ after
+  pub sum : Sum
+  pub sum_is : IsSumOf p before sum
+  pub wide : IsWideAdded p next sum
+
+-- so it is with the claim, added once to the sum of n columns that is 0
+pub record IsWideClaim (n : ℕ) (q : Inequality) : Type 0 where
+  pub none : Sum
+  pub count : length none.coefficients.items ≡ n
+  pub coefficients : (point : List Rational) → dot none.coefficients.items point ≡ whole (pos 0)
+  pub right : rational none.right ≡ whole (pos 0)
   pub one : Frac
   pub one_is : rational one ≡ whole (pos 1)
-  pub wide : IsWideWithin none one entries
+  pub wide : IsWideMore none one q.entries q.right
 
 -- the product of the change with the bound does not fit
 abbrev pub IsWideTimesBound : (Frac → Type 0) → Frac → Type 0
@@ -184,7 +152,7 @@ pub record IsWideColumn (columns : List Column) (factor : Frac) (base : Line) (y
   pub claimed : Frac
   pub claimed_is : rational claimed ≡ ys index
   pub total : Rational
-  pub moved_before : AreMovedBy (take index columns) (times factor base) ys total
+  pub moved_before : AreMovedBy (take index columns) (λ j. rational factor *ℚ base.coefficient j) ys total
   pub right : Frac
   pub right_is : rational right ≡ rational factor *ℚ base.right +ℚ total
   pub wide : IsWideMoved column factor coefficient claimed right
@@ -195,42 +163,19 @@ abbrev pub IsWideMoving : List Column → Frac → Line → (ℕ → Rational) �
 IsWideMoving columns factor base ys =
     ((right : Frac) × (rational right ≡ base.right) × (FitsProduct factor right → ⊥))
     ⊎ (IsWideColumn columns factor base ys
-    ⊎ ((j : ℕ) × IsFirstUnmovable columns (times factor base) ys j × (2 ^ 32 ≤ j)))
+    ⊎ ((j : ℕ) × IsFirstUnmovable columns (λ i. rational factor *ℚ base.coefficient i) ys j × (2 ^ 32 ≤ j)))
 
--- a number of the terms does not fit, or of the moves
-abbrev pub IsWideFor : List Column → Frac → Line → List Entry → Type 0
-IsWideFor columns factor base entries =
-    IsWideTerms (length columns) entries ⊎ IsWideMoving columns factor base (coefficient_in entries)
-
--- what stands against these terms: the base, the first column that lacks a bound, or a number
-abbrev pub IsAgainstTerms : Option FunctionData → Problem → Combination → List Entry → Verdict → Type 0
-IsAgainstTerms f p c entries (Bound j) =
-    (base : Line) × IsBase f p c base × IsFirstUnmovable p.columns (times c.factor base) (coefficient_in entries) j
-IsAgainstTerms f p c entries Wide = IsBaseless f p c Wide
-    ⊎ ((base : Line) × IsBase f p c base × IsWideFor p.columns c.factor base entries)
-IsAgainstTerms f p c entries (Sign i) = IsBaseless f p c (Sign i)
-IsAgainstTerms f p c entries (Free j) = IsBaseless f p c (Free j)
-IsAgainstTerms f p c entries Integral = IsBaseless f p c Integral
-IsAgainstTerms f p c entries Other = IsBaseless f p c Other
-IsAgainstTerms f p c entries Accepted = ⊥
-IsAgainstTerms f p c entries (Right b) = ⊥
+-- a number of the sum does not fit, or the signs are right and one of the claim or of the moves
+abbrev pub IsWideStep : Problem → Step → Type 0
+IsWideStep p s = IsWideBase p s.multipliers ⊎ (AreSigned p s.multipliers × (IsWideClaim (length p.columns) s.claim
+    ⊎ IsWideMoving p.columns s.factor (added p s.multipliers) (coefficient_in s.claim.entries)))
 
 -- ---- the answer
 
--- the step follows, or its right side is above the one that is shown, or its terms have something
--- against them
-abbrev pub IsVerdict : Option FunctionData → Problem → Step → Verdict → Type 0
-IsVerdict f p s Accepted = Follows f p s
-IsVerdict f p s (Right b) = IsShown f p s (rational b) × (rational s.claim.right ≤ℚ rational b → ⊥)
-IsVerdict f p s (Sign i) = IsAgainstTerms f p s.combination s.claim.entries (Sign i)
-IsVerdict f p s (Free j) = IsAgainstTerms f p s.combination s.claim.entries (Free j)
-IsVerdict f p s Integral = IsAgainstTerms f p s.combination s.claim.entries Integral
-IsVerdict f p s Other = IsAgainstTerms f p s.combination s.claim.entries Other
-IsVerdict f p s (Bound j) = IsAgainstTerms f p s.combination s.claim.entries (Bound j)
-IsVerdict f p s Wide = IsAgainstTerms f p s.combination s.claim.entries Wide
-
--- the verdict by the right side that is shown
-abbrev pub IsCompared : Moved → Frac → Verdict → Type 0
-IsCompared (moved.Bound j) right v = v ≡ Bound j
-IsCompared (moved.Right b) right v = ((v ≡ Accepted) × (rational right ≤ℚ rational b))
-    ⊎ ((v ≡ Right b) × (rational right ≤ℚ rational b → ⊥))
+-- the step follows, or what stands against it, or a number does not fit
+abbrev pub IsVerdict : Problem → Step → Verdict → Type 0
+IsVerdict p s Accepted = Follows None p s
+IsVerdict p s (Sign i) = IsFirstUnsigned p s.multipliers i
+IsVerdict p s (Bound j) = IsFirstUnmovable p.columns (λ i. rational s.factor *ℚ added_coefficient p s.multipliers i) (coefficient_in s.claim.entries) j
+IsVerdict p s (Right b) = IsShown None p s (rational b) × (rational s.claim.right ≤ℚ rational b → ⊥)
+IsVerdict p s Wide = IsWideStep p s

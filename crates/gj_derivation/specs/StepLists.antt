@@ -1,9 +1,12 @@
--- What a check of a derivation answers (own).
-use Rattle.std.specs.Prelude.{◌≡◌, Option, List, [], ◌∷◌, ◌++◌, length}
-use Rattle.gj_shape.specs.FunctionData.{FunctionData}
+-- What a check of linear steps answers (own).
+use Rattle.std.specs.Prelude.{◌≡◌, pos, ◌<ℤ◌, None, List, [], ◌∷◌, ◌++◌, length}
+use Rattle.gj_frac.specs.Fraction.{numerator}
 use Rattle.gj_problem.specs.declared.problem.Problem.{Problem}
+use Rattle.gj_derivation.specs.declared.check.Verdict.TheVariants.{Accepted, Wide}
 use Rattle.gj_derivation.specs.declared.step.Step.{Step}
-use Rattle.gj_derivation.specs.declared.step.Verdict.TheVariants.{Accepted, Wide}
+use Rattle.gj_derivation.specs.declared.step.StepRule.TheVariants.{Linear}
+use Rattle.gj_derivation.specs.declared.steps.Objection.{Objection}
+use Rattle.gj_derivation.specs.declared.steps.Objection.TheVariants.{Rule, Factor, Verdict}
 use Rattle.gj_derivation.specs.declared.steps.Failure.{Failure}
 use Rattle.gj_derivation.specs.declared.steps.Checked.{Checked}
 use Rattle.gj_derivation.specs.declared.steps.Checked.TheVariants as checked
@@ -15,21 +18,26 @@ abbrev pub with_claims : Problem → List Step → Problem
 with_claims p [] = p
 with_claims p (s ∷ steps) = with_claims (with_claim p s.claim) steps
 
+-- the rule is another one, or the factor is not above 0, or the step is not accepted
+abbrev pub IsAgainst : Problem → Step → Objection → Type 0
+IsAgainst p s Rule = s.rule ≡ Linear → ⊥
+IsAgainst p s Factor = (s.rule ≡ Linear) × ((pos 0 <ℤ numerator s.factor) → ⊥)
+IsAgainst p s (Verdict v) = (s.rule ≡ Linear) × (pos 0 <ℤ numerator s.factor) × IsVerdict p s v × (v ≡ Accepted → ⊥)
+
 -- the steps before it are a derivation, and over the problem with their claims it is not accepted
-pub record IsFailure (f : Option FunctionData) (p : Problem) (steps : List Step) (failure : Failure) : Type 0 where
+pub record IsFailure (p : Problem) (steps : List Step) (f : Failure) : Type 0 where
   pub before : List Step
   pub step : Step
   pub after : List Step
   pub place : steps ≡ before ++ step ∷ after
-  pub index : failure.step ≡ length before
-  pub derivation_before : IsDerivation f p before
-  pub verdict : IsVerdict f (with_claims p before) step failure.verdict
-  pub refused : failure.verdict ≡ Accepted → ⊥
+  pub index : f.step ≡ length before
+  pub derivation_before : IsDerivation None p before
+  pub against : IsAgainst (with_claims p before) step f.objection
 
-abbrev pub IsChecked : Option FunctionData → Problem → List Step → Checked → Type 0
-IsChecked f p steps checked.Accepted = IsDerivation f p steps
-IsChecked f p steps (checked.Failed failure) = IsFailure f p steps failure
+abbrev pub IsChecked : Problem → List Step → Checked → Type 0
+IsChecked p steps checked.Accepted = IsDerivation None p steps
+IsChecked p steps (checked.Failed f) = IsFailure p steps f
 
 -- at some step a number did not fit
 abbrev pub IsWideFailure : Checked → Type 0
-IsWideFailure c = (failure : Failure) × (c ≡ checked.Failed failure) × (failure.verdict ≡ Wide)
+IsWideFailure c = (f : Failure) × (c ≡ checked.Failed f) × (f.objection ≡ Verdict Wide)

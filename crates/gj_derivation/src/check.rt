@@ -1,100 +1,151 @@
-//! Checks of steps.
-ghost use Rattle.std.specs.Prelude.{◌≡◌, ◌⊎◌, IfOk, Err, length};
-ghost use Rattle.std.specs.Option.{option_copied};
-ghost use Rattle.gj_derivation.specs.declared.step.Verdict.TheVariants.{Wide as wide};
-ghost use Rattle.gj_derivation.specs.Derivations.{coefficient_in, Follows, IsReady, IsReadyStep};
-ghost use Rattle.gj_derivation.specs.Checks.{line_of_sum, IsMovedRight, IsWideFor, IsCompared};
-ghost use Rattle.gj_derivation.specs.Checks.{IsVerdict};
+//! Checks of linear steps.
+ghost use Rattle.std.specs.Prelude.{◌≡◌, ◌↔◌, ◌⊎◌, ℕ, pos, ◌<ℤ◌, false, None, length, IfOk, IsTrue, List, OnErr};
+ghost use Rattle.gj_frac.specs.Fraction.{numerator};
+ghost use Rattle.gj_problem.specs.Rows.{dot, IsSignFor};
+ghost use Rattle.gj_derivation.specs.Derivations.{unit, coefficient_in, Follows};
+ghost use Rattle.gj_derivation.specs.Checks.{IsSigned, IsAdded, IsSumOf, IsBaseOf, IsVerdict};
+ghost use Rattle.gj_derivation.specs.Checks.{IsWideAdded, IsWideBase, IsWideClaim, IsWideStep};
 
-use crate::base::{Base, base_of};
 use crate::moves::{Moved, is_at_most, moved_right};
-use crate::step::{Combination, Step, Verdict};
-use crate::terms::sum_of_terms;
-use gj_frac::Frac;
-use gj_problem::{Entry, Fault, Inequality, Problem, Sum};
-use gj_shape::Shape;
+use crate::step::{Multiplier, Step, StepRule};
+use gj_frac::{Frac, Wide};
+use gj_problem::{Fault, Inequality, Problem, Sense, Sum};
 use std::alloc::{AllocError, Global};
 
-/// Checks a step over the problem with the earlier claims as constraints.
+/// Whether a step follows, or the first that stands against it.
+#[derive(Clone, Copy)]
+pub enum Verdict {
+    /// The claim follows.
+    Accepted,
+    /// A multiplier of this line has not the sign that its constraint asks for, or there is no such
+    /// line.
+    Sign(u32),
+    /// The coefficient of this column has to go to a side where the column has no bound.
+    Bound(u32),
+    /// The right side of the claim is above this one, which is shown.
+    Right(Frac),
+    /// A number does not fit 128 bits, or an entry has no column.
+    Wide,
+}
+
+/// A sum of constraints, or the line of the first multiplier with the wrong sign.
+#[derive(Drop)]
+pub(crate) enum Base {
+    /// The sum.
+    Line(Sum),
+    /// The line.
+    Sign(u32),
+}
+
+/// Checks a linear step over the problem with the earlier claims as constraints.
 ///
-/// `Wide` comes only where a number of the base, of the claim or of the moves does not fit, or an
-/// entry has no column. Else the answer is `Accepted` exactly if the step follows. It takes time for
-/// the entries of the constraints that are named and of the claim, and clears a few vectors with a
-/// place for each column, or for each constraint. The only error is want of memory.
-pub fn check_step(
-    alloc: Global,
-    function: Option<&Shape>,
-    problem: &Problem,
-    step: &Step,
-) -> Result<Verdict, AllocError>
-    requires ready { IsReadyStep (option_copied function) step.now }
-    ensures is { IfOk result (IsVerdict (option_copied function) problem.now step.now) }
-    ensures exact { IfOk result (λ v. Follows (option_copied function) problem.now step.now →
+/// `Wide` comes only where a number of the sum, of the claim or of the moves does not fit, or an
+/// entry has no column. Else the answer is `Accepted` exactly if the step follows. The only error is
+/// want of memory.
+pub fn check_linear(alloc: Global, problem: &Problem, step: &Step) -> Result<Verdict, AllocError>
+    requires linear { step.now.rule ≡ StepRule.Linear }
+    requires factor { pos 0 <ℤ numerator step.now.factor }
+    ensures is { IfOk result (IsVerdict problem.now step.now) }
+    ensures exact { IfOk result (λ v. Follows None problem.now step.now →
         (v ≡ Verdict.Accepted) ⊎ (v ≡ Verdict.Wide)) }
 {
-    match verdict_of(alloc, function, problem, &step.combination, &step.claim) {
+    match linear_verdict(alloc, problem, step) {
         Ok(verdict) => Ok(verdict),
         Err(Fault::Wide) => Ok(Verdict::Wide),
         Err(Fault::Memory(error)) => Err(error),
     }
 }
 
-/// Checks a claim of a combination.
-pub(crate) fn verdict_of(
-    alloc: Global,
-    function: Option<&Shape>,
-    problem: &Problem,
-    combination: &Combination,
-    claim: &Inequality,
-) -> Result<Verdict, Fault>
-    requires { IsReady (option_copied function) combination.now }
-    ensures is { IfOk result (IsVerdict (option_copied function) problem.now
-        (record { combination = combination.now; claim = claim.now })) }
-    ensures wide { result ≡ Err Fault.Wide → IsVerdict (option_copied function) problem.now
-        (record { combination = combination.now; claim = claim.now }) wide }
+/// Checks a linear step.
+fn linear_verdict(alloc: Global, problem: &Problem, step: &Step) -> Result<Verdict, Fault>
+    requires linear { step.now.rule ≡ StepRule.Linear }
+    requires factor { pos 0 <ℤ numerator step.now.factor }
+    ensures is { IfOk result (IsVerdict problem.now step.now) }
+    ensures wide { result ≡ Err Fault.Wide → IsWideStep problem.now step.now }
 {
-    match base_of(alloc, function, problem, combination)? {
-        Base::Line(sum) => {
-            let entries = claim.entries.as_slice();
-            let moved = shown_right(alloc, problem, combination.factor, &sum, entries)?;
-            Ok(compared(moved, claim.right))
-        }
-        Base::Against(verdict) => Ok(verdict),
+    match base_of(alloc, problem, step.multipliers.as_slice())? {
+        Base::Line(sum) => compared(alloc, problem, step, &sum),
+        Base::Sign(line) => Ok(Verdict::Sign(line)),
     }
 }
 
-/// The right side that the sum, times the factor, shows for the terms.
-pub(crate) fn shown_right(
-    alloc: Global,
-    problem: &Problem,
-    factor: Frac,
-    sum: &Sum,
-    entries: &[Entry],
-) -> Result<Moved, Fault>
-    requires { length sum.now.coefficients.items ≡ length problem.now.columns }
-    ensures is { IfOk result (IsMovedRight problem.now.columns factor (line_of_sum sum.now)
-        (coefficient_in entries.now)) }
-    ensures wide { result ≡ Err Fault.Wide →
-        IsWideFor problem.now.columns factor (line_of_sum sum.now) entries.now }
+/// Compares the claim with what the sum shows.
+fn compared(alloc: Global, problem: &Problem, step: &Step, sum: &Sum) -> Result<Verdict, Fault>
+    requires linear { step.now.rule ≡ StepRule.Linear }
+    requires factor { pos 0 <ℤ numerator step.now.factor }
+    requires sum { IsSumOf problem.now step.now.multipliers sum.now }
+    ensures is { IfOk result (IsVerdict problem.now step.now) }
+    ensures wide { result ≡ Err Fault.Wide → IsWideStep problem.now step.now }
 {
     let columns = problem.columns.as_slice();
-    let terms = sum_of_terms(alloc, columns.len(), entries, Frac::ratio(0, 1))?;
-    let moved = moved_right(columns, factor, sum, terms.coefficients.as_slice())?;
-    Ok(moved)
-}
-
-/// Compares the right side of a claim with the one that is shown.
-fn compared(moved: Moved, right: Frac) -> Verdict
-    ensures { IsCompared moved right result }
-{
-    match moved {
-        Moved::Bound(column) => Verdict::Bound(column),
+    let claimed = claimed_terms(alloc, columns.len(), &step.claim)?;
+    match moved_right(columns, step.factor, sum, claimed.coefficients.as_slice())? {
+        Moved::Bound(column) => Ok(Verdict::Bound(column)),
         Moved::Right(shown) => {
-            if is_at_most(right, shown) {
-                Verdict::Accepted
+            if is_at_most(step.claim.right, shown) {
+                Ok(Verdict::Accepted)
             } else {
-                Verdict::Right(shown)
+                Ok(Verdict::Right(shown))
             }
         }
+    }
+}
+
+/// The claimed coefficients, one for each column.
+fn claimed_terms(alloc: Global, columns: usize, claim: &Inequality) -> Result<Sum, Fault>
+    ensures count { IfOk result (λ sum. length sum.coefficients.items ≡ columns) }
+    ensures terms { IfOk result (λ sum. (j : ℕ) →
+        dot sum.coefficients.items (unit j) ≡ coefficient_in claim.now.entries j) }
+    ensures wide { result ≡ Err Fault.Wide → IsWideClaim columns claim.now }
+{
+    let mut sum = Sum::of_none(alloc, columns, Frac::ratio(0, 1))?;
+    sum.add(Frac::ratio(1, 1), claim.entries.as_slice(), claim.right)?;
+    Ok(sum)
+}
+
+/// The sum of the constraints, each times its multiplier.
+fn base_of(alloc: Global, problem: &Problem, multipliers: &[Multiplier]) -> Result<Base, Fault>
+    ensures is { IfOk result (IsBaseOf problem.now multipliers.now) }
+    ensures wide { result ≡ Err Fault.Wide → IsWideBase problem.now multipliers.now }
+{
+    let mut sum = Sum::of_none(alloc, problem.columns.as_slice().len(), Frac::ratio(0, 1))?;
+    for multiplier in multipliers {
+        if !add_constraint(problem, *multiplier, &mut sum)? {
+            return Ok(Base::Sign(multiplier.line));
+        }
+    }
+    Ok(Base::Line(sum))
+}
+
+/// Adds the constraint times its multiplier; false if there is none or the sign is wrong.
+fn add_constraint(problem: &Problem, multiplier: Multiplier, sum: &mut Sum) -> Result<bool, Wide>
+    ensures count { length sum.new.coefficients.items ≡ length sum.old.coefficients.items }
+    ensures added { IfOk result (λ done. IsTrue done →
+        IsAdded problem.now multiplier sum.old sum.new) }
+    ensures unsigned { IfOk result (λ done. done ≡ false → IsSigned problem.now multiplier → ⊥) }
+    ensures wide { OnErr result (IsWideAdded problem.now multiplier sum.old) }
+{
+    let Some(constraint) = problem.constraints.as_slice().get(multiplier.line as usize) else {
+        return Ok(false);
+    };
+    if !has_sign(constraint.sense, multiplier.value) {
+        return Ok(false);
+    }
+    sum.add(
+        multiplier.value,
+        constraint.entries.as_slice(),
+        constraint.right,
+    )?;
+    Ok(true)
+}
+
+/// Whether the multiplier has the sign that the sense asks for.
+fn has_sign(sense: Sense, multiplier: Frac) -> bool
+    ensures { IsTrue result ↔ IsSignFor sense (numerator multiplier) }
+{
+    match sense {
+        Sense::AtMost => multiplier.num() <= 0,
+        Sense::AtLeast => multiplier.num() >= 0,
+        Sense::Equal => true,
     }
 }

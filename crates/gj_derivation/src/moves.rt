@@ -1,6 +1,5 @@
 //! Coefficients moved by the bounds of their columns.
-ghost use Rattle.std.specs.Prelude.{◌≡◌, ◌⊎◌, ◌↔◌, pos, ◌<ℤ◌, true, false, None, length};
-ghost use Rattle.std.specs.Prelude.{IfOk, IsTrue, MatchOption, OnErr};
+ghost use Rattle.std.specs.Prelude.{◌≡◌, ◌⊎◌, ◌↔◌, pos, ◌<ℤ◌, true, false, None, length, IfOk, IsTrue, MatchOption, OnErr};
 ghost use Rattle.gj_problem.specs.Rational.{rational, ◌*ℚ◌, ◌≤ℚ◌};
 ghost use Rattle.gj_frac.specs.Fraction.{IsWhole, numerator};
 ghost use Rattle.gj_derivation.specs.Derivations.{IsWholeTerm, IsRoundedUp};
@@ -22,8 +21,6 @@ pub(crate) enum Moved {
 }
 
 /// The right side that the sum, times the factor, shows for the claimed coefficients.
-///
-/// A column that has neither costs a look at it.
 pub(crate) fn moved_right(
     columns: &[Column],
     factor: Frac,
@@ -32,8 +29,7 @@ pub(crate) fn moved_right(
 ) -> Result<Moved, Wide>
     requires sum { length sum.now.coefficients.items ≡ length columns.now }
     requires claimed { length claimed.now ≡ length columns.now }
-    ensures is { IfOk result (IsMovedRight columns.now factor (line_of_sum sum.now)
-        (claimed_at claimed.now)) }
+    ensures is { IfOk result (IsMovedRight columns.now factor sum.now claimed.now) }
     ensures wide { OnErr result (IsWideMoving columns.now factor (line_of_sum sum.now)
         (claimed_at claimed.now)) }
 {
@@ -41,11 +37,7 @@ pub(crate) fn moved_right(
     let mut is_whole = true;
     for (j, column) in columns.iter().enumerate() {
         let y = claimed[j];
-        let coefficient = sum.coefficients[j];
-        if is_zero(coefficient) && is_zero(y) {
-            continue;
-        }
-        let x = factor.checked_mul(coefficient)?;
+        let x = factor.checked_mul(sum.coefficients[j])?;
         let Some(shift) = shift(*column, x, y)? else {
             let Ok(index) = u32::try_from(j) else {
                 return Err(Wide);
@@ -136,7 +128,7 @@ fn rounded_if(is_whole: bool, x: Frac) -> Frac
 }
 
 /// Whether x is 0.
-pub(crate) fn is_zero(x: Frac) -> bool
+fn is_zero(x: Frac) -> bool
     ensures { IsTrue result ↔ (numerator x ≡ pos 0) }
 {
     x.num() == 0
