@@ -22,6 +22,7 @@ mod words;
 pub use drafts::Drafts;
 pub use input::{DerivationInput, DraftInput};
 pub use laws::derived_text_is_read;
+pub use names::copied_name;
 pub use print::{push_front, push_steps};
 pub use read::{line_of_step, read_derivation, read_drafts};
 pub use verdict::{push_accepted, push_rejected};

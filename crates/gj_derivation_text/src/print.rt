@@ -17,6 +17,7 @@ ghost use Rattle.gj_derivation_text.specs.PrintedDerivation.{kept_name, kept_nam
 ghost use Rattle.gj_derivation_text.specs.StepLines.{line_form};
 
 use crate::lines::{BY, CLAIM, STEP, TERM, TIMES, UPPER};
+use crate::names::copied_name;
 use crate::verdict::push_left_out;
 use gj_derivation::{Combination, Multiplier, Shown, Step};
 use gj_frac::Frac;
@@ -247,7 +248,8 @@ fn push_names(alloc: Global, lines: &mut Vec<Name>, names: &[Name]) -> Result<()
     ensures { OnOk result (lines.new.items ≡ lines.old.items ++ names.now) }
 {
     for name in names {
-        lines.push(name.copy(alloc)?)?;
+        let copy = copied_name(alloc, name)?;
+        lines.push(copy)?;
     }
     Ok(())
 }
@@ -279,7 +281,8 @@ fn push_kept_name(
 {
     match shown {
         Shown::Step(_) => {
-            lines.push(name.copy(alloc)?)?;
+            let copy = copied_name(alloc, name)?;
+            lines.push(copy)?;
             Ok(())
         }
         Shown::Against(_) => Ok(()),

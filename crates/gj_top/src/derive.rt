@@ -21,7 +21,8 @@ use crate::objection::objection_to;
 use crate::reply::{End, Reply, Unanswered};
 use gj_derivation::{Derived, Failure, Multiplier, Shown, derived_steps};
 use gj_derivation_text::{
-    DraftInput, Drafts, line_of_step, push_front, push_rejected, push_steps, read_drafts,
+    DraftInput, Drafts, copied_name, line_of_step, push_front, push_rejected, push_steps,
+    read_drafts,
 };
 use gj_lex::Name;
 use gj_problem::{Constraint, Problem};
@@ -169,7 +170,8 @@ fn names_shown(alloc: Global, drafts: &Drafts, shown: &[Shown]) -> Result<Vec<Na
     let lines = drafts.lines.as_slice();
     let mut names = Vec::new(alloc);
     for name in &lines[..constraints] {
-        names.push(name.copy(alloc)?)?;
+        let copy = copied_name(alloc, name)?;
+        names.push(copy)?;
     }
     push_kept(alloc, &mut names, &lines[constraints..], shown)?;
     Ok(names)
@@ -186,7 +188,10 @@ fn push_kept(
 {
     for (name, x) in steps.iter().zip(shown) {
         match x {
-            Shown::Step(_) => names.push(name.copy(alloc)?)?,
+            Shown::Step(_) => {
+                let copy = copied_name(alloc, name)?;
+                names.push(copy)?;
+            }
             Shown::Against(_) => {}
         }
     }
