@@ -293,6 +293,27 @@ static struct text problem(int constraints, int columns, int width, int sums, in
     return problem_of("x", constraints, columns, width, sums, parts);
 }
 
+/* A derivation: a constraint >= with an entry for each column, and steps that each add up that and the step before, and
+ * claim it, or leave the claim open. */
+static struct text derivation(int columns, int steps, int claims) {
+    size_t lines = (size_t)columns * (size_t)(2 + (claims ? steps : 0));
+    struct text text = {memory(lines * 40 + (size_t)steps * 80 + 128), 0};
+    char *at = (char *)text.bytes;
+    at += sprintf(at, "gj-derivation 1\n");
+    for (int j = 0; j < columns; j++) at += sprintf(at, "column x%d %s 0 -\n", j, j % 2 ? "continuous" : "whole");
+    at += sprintf(at, "constraint c >= 0\n");
+    for (int j = 0; j < columns; j++) at += sprintf(at, "entry x%d %d/7\n", j, j % 9 + 1);
+    for (int i = 0; i < steps; i++) {
+        at += sprintf(at, "step s%d linear\nby c 1\n", i);
+        if (i) at += sprintf(at, "by s%d 1/1000000\n", i - 1);
+        if (claims) at += sprintf(at, "claim 0\n");
+        for (int j = 0; claims && j < columns; j++) at += sprintf(at, "term x%d 5\n", j);
+    }
+    at += sprintf(at, "end\n");
+    text.length = (size_t)(at - (char *)text.bytes);
+    return text;
+}
+
 /* Many cuts of columns whose names begin as the line sum: the room that the header says is no multiple of them, and a
  * second call has as much as the first asked for. */
 static int many_cuts(void) {
@@ -325,6 +346,9 @@ static int stack_is_enough(const struct example *examples, int count) {
         {"mixed", repeated("gj-rule 1\ngmic\nend\nbasic,rhs,c:z\nx,1/2,", "1", 9, "\n")},
         {"problem", problem(100, 1000, 6, 5, 7)},
         {"problem", problem(10, 10000, 6, 1, 7)},
+        {"check", derivation(1000, 100, 1)},
+        {"check", derivation(0, 10000, 1)},
+        {"derive", derivation(10000, 2, 0)},
     };
     size_t base = stack_of(NULL), most = 0;
     for (int i = 0; i < count; i++) {
@@ -393,16 +417,19 @@ static struct text tableau(int rows, int columns, int width) {
     return text;
 }
 
-/* How many bytes a call holds at most for each byte of its input. In JSON and in a line `sum` two bytes can be a number. */
-static size_t held_a_byte(struct text words) {
-    if (is_for_problems(words)) return 40;
+/* How many bytes a call holds at most for each byte of its input. In JSON and in a line `sum` two bytes can be a number,
+ * and a step of a derivation can have some twenty bytes. */
+static size_t held_a_byte(struct text words, struct text input) {
+    static const char title[] = "gj-derivation";
+    int has_steps = input.length >= sizeof title && memcmp(input.bytes, title, sizeof title - 1) == 0;
+    if (has_steps || is_for_problems(words)) return 40;
     return gjcut_has_word(words.bytes, words.length, "--json") ? 30 : 6;
 }
 
 static int holds_at_most(const char *name, struct text words, struct text input, struct text output) {
     size_t written, allowed;
     watched(words, input, output, -1, &written);
-    allowed = held_a_byte(words) * input.length + 6 * written;
+    allowed = held_a_byte(words, input) * input.length + 6 * written;
     int good = !heap.held && heap.most <= allowed + 1000000;
     if (!good || input.length > 1000000 || written > 1000000)
         printf("library: %s, %zu bytes of input, %zu of answer: %.1f MB held at most\n", name, input.length, written, (double)heap.most / 1e6);
@@ -433,6 +460,10 @@ static int heap_is_enough(const struct example *examples, int count) {
         {"problem", problem(10, 10000, 130, 10, 7)},
         {"problem", problem(8200, 0, 6, 100, 1)},
         {"problem", repeated("gj-problem 1\nrule gmic\n", "\n", 16777000, "end\n")},
+        {"check", derivation(10000, 100, 1)},
+        {"check", derivation(0, 10000, 1)},
+        {"derive", derivation(10000, 2, 0)},
+        {"derive", derivation(1000, 100, 0)},
     };
     int good = 1;
     for (int i = 0; i < count; i++) good = holds_at_most(examples[i].name, examples[i].words, examples[i].input, output) && good;
