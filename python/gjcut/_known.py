@@ -3,6 +3,7 @@ from fractions import Fraction
 from typing import Dict, List, Mapping, Optional, Sequence, Tuple
 
 from ._lines import Entries, Line, Range, balanced, is_small, is_writable, relaxed
+from ._lines import unit
 from ._steps import Names, Program
 
 
@@ -20,6 +21,9 @@ class Known:
         self._free = [j for j, (_, *bounds) in enumerate(ranges) if bounds == [None, None]]
         # Lines with few digits in place of others, by name and sign.
         self._relaxed: Dict[Tuple[str, int], str] = {}
+        # What is asked of lines again and again, by name and parts.
+        self._units: Dict[Tuple[str, int], Fraction] = {}
+        self._small: Dict[Tuple[str, int], bool] = {}
 
     def add_constraint(
         self, wanted: str, entries: Entries, sense: str, right: Optional[Fraction]
@@ -36,11 +40,19 @@ class Known:
     def constraints(self) -> List[Line]:
         return [self.lines[name] for name in self.own]
 
+    def unit(self, name: str, parts: int) -> Fraction:
+        """That of the multipliers of the line."""
+        if (name, parts) not in self._units:
+            self._units[name, parts] = unit(self.lines[name], parts)
+        return self._units[name, parts]
+
     def with_few_digits(self, name: str, multiplier: float, parts: int) -> Tuple[Line, int]:
         """The line, or in its place one with fewer digits, which is at least something, and the
         sign by which it was multiplied for that."""
         line = self.lines[name]
-        if is_small(line, parts):
+        if (name, parts) not in self._small:
+            self._small[name, parts] = is_small(line, parts)
+        if self._small[name, parts]:
             return line, 1
         sign = -1 if line.sense == "<=" or (line.sense == "=" and multiplier < 0) else 1
         key = name, sign

@@ -7,7 +7,7 @@ from ._asked import refused
 from ._known import Known
 from ._library import call
 from ._lines import Entries, Line, Missing, Range, Step, floored, fractions_near, is_writable
-from ._lines import moved, to_units, unit
+from ._lines import largest, moved, parts_for, to_units
 from ._steps import derivation, needed_for
 
 # Multipliers are fractions with few digits, over at most such a common denominator, or have so many
@@ -59,14 +59,19 @@ def _tries(known: Known, given: Mapping[str, float]) -> Iterator[Dict[str, Fract
     near = fractions_near(given, MOST)
     if near is not None:
         yield near
+    lines = known.lines
     for parts in PARTS:
-        yield {name: to_units(x, unit(known.lines[name], parts)) for name, x in given.items()}
+        yield {name: to_units(x, known.unit(name, parts)) for name, x in given.items()}
+        # For data of many digits these are fewer, since the costs often have as many.
+        greatest = {name: largest(lines[name].entries) or Fraction(1) for name in given}
+        units = {name: 1 / parts_for(1 / x, parts) for name, x in greatest.items()}
+        yield {name: to_units(x, units[name]) for name, x in given.items()}
     few: Dict[str, float] = {}
     for name, value in given.items():
         line, sign = known.with_few_digits(name, value, FEW_PARTS)
         few[line.name] = sign * value
     for parts in PARTS:
-        yield {name: to_units(x, unit(known.lines[name], parts)) for name, x in few.items()}
+        yield {name: to_units(x, known.unit(name, parts)) for name, x in few.items()}
 
 
 def _has_sign(line: Line, multiplier: Fraction) -> bool:

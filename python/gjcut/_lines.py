@@ -98,7 +98,10 @@ def parts_for(largest: Fraction, parts: int) -> Fraction:
 
 
 def largest(entries: Entries) -> Fraction:
-    return max(map(abs, entries.values()), default=Fraction(0))
+    # Without the comparisons of fractions, which take long.
+    scale = math.lcm(*(value.denominator for value in entries.values()))
+    whole = (abs(x.numerator) * (scale // x.denominator) for x in entries.values())
+    return Fraction(max(whole, default=0), scale)
 
 
 def floored(value: Fraction, parts: Fraction) -> Fraction:
@@ -120,18 +123,33 @@ def unit(line: Line, parts: int) -> Fraction:
 def fractions_near(given: Mapping[str, float], most: int) -> Optional[Dict[str, Fraction]]:
     """The fractions with few digits that these doubles are, if they are such, over at most so large
     a common denominator."""
-    found = {name: _near(value) for name, value in given.items()}
-    if None in found.values():
-        return None
-    scale = math.lcm(*(value.denominator for value in found.values()))
-    return found if scale <= most else None
+    found, scale = {}, 1
+    for name, value in given.items():
+        near = _near(value)
+        scale = 0 if near is None else math.lcm(scale, near.denominator)
+        if not 0 < scale <= most:
+            return None
+        found[name] = near
+    return found
 
 
 def _near(given: float) -> Optional[Fraction]:
-    for found in (Fraction(given).limit_denominator(FEW), Fraction(repr(round(given, PLACES)))):
-        if abs(float(found) - given) <= NEAR * max(1.0, abs(given)):
-            return found
-    return None
+    room = NEAR * max(1.0, abs(given))
+    decimal = round(given, PLACES)
+    if abs(decimal - given) <= room:
+        simple = Fraction(decimal).limit_denominator(FEW)
+        return simple if abs(float(simple) - given) <= room else Fraction(repr(decimal))
+    # The convergents of its continued fraction.
+    before, top, bottom_before, bottom, rest = 1, math.floor(given), 0, 1, given % 1.0
+    while abs(top / bottom - given) > room:
+        if rest * FEW < 1.0:
+            return None
+        whole, rest = divmod(1.0 / rest, 1.0)
+        before, top = top, int(whole) * top + before
+        bottom_before, bottom = bottom, int(whole) * bottom + bottom_before
+        if bottom > FEW:
+            return None
+    return Fraction(top, bottom)
 
 
 def whole_factor(entries: Entries) -> Fraction:
@@ -140,9 +158,9 @@ def whole_factor(entries: Entries) -> Fraction:
     return Fraction(scale, math.gcd(*(int(value * scale) for value in entries.values())))
 
 
-def to_units(value: float, part: Fraction) -> Fraction:
-    """The nearest multiple of the unit."""
-    return round(value / float(part)) * part
+def to_units(value: float, part: Fraction, count: int = 1) -> Fraction:
+    """The nearest multiple of so many units."""
+    return count * round(value / (count * float(part))) * part
 
 
 def moved(given: Entries, right: Fraction, wanted: Entries, ranges: Sequence[Range]) -> Fraction:

@@ -6,7 +6,7 @@ from typing import Optional, Sequence, Set, Tuple
 
 from ._known import Known
 from ._lines import Entries, Line, Missing, Step, floored, fractions_near, is_writable, largest
-from ._lines import moved, on_grid, parts_for, to_units, unit, whole_factor
+from ._lines import moved, on_grid, parts_for, to_units, whole_factor
 from ._steps import Draft, Found, derived
 
 # A cut is taken if the vertex lies so far beyond it.
@@ -111,7 +111,6 @@ class RowCuts:
 
     def _drafts(self, rows: Iterable[Row], coarser: int) -> Iterable[Tuple[Row, Draft]]:
         """A draft of each row; by a function also one of its negative, which has another f."""
-        signs = (1,) if self._way.rule == "gmic" else (1, -1)
         for row in rows:
             try:
                 step = self._step(row, coarser)
@@ -121,10 +120,11 @@ class RowCuts:
             if not is_writable(step.multipliers.values()):
                 self.refused["wide"] += 1
                 continue
-            for sign in signs:
-                multipliers = {name: sign * value for name, value in step.multipliers.items()}
+            yield row, Draft(self._known.names.next("cut"), step)
+            if self._way.rule != "gmic":
+                turned = {name: -value for name, value in step.multipliers.items()}
                 name = self._known.names.next("cut")
-                yield row, Draft(name, step._replace(multipliers=multipliers))
+                yield row, Draft(name, step._replace(multipliers=turned))
 
     def _step(self, multipliers: Row, coarser: int) -> Step:
         """How the cut of a row is made, with multipliers of few digits."""
@@ -135,8 +135,10 @@ class RowCuts:
             given[line.name] = sign * value
         chosen = fractions_near(given, MOST) if coarser == 1 else None
         if chosen is None:
-            units = {name: coarser * unit(known.lines[name], parts) for name in given}
-            chosen = {name: to_units(value, units[name]) for name, value in given.items()}
+            chosen = {
+                name: to_units(value, known.unit(name, parts), coarser)
+                for name, value in given.items()
+            }
         chosen = known.without_free(chosen, {})
         columns = {j for name in chosen for j in known.lines[name].entries}
         at_upper = [j for j in self._vertex.at_upper if j in columns]
@@ -147,6 +149,9 @@ class RowCuts:
     def _deep(self, draft: Draft, shown: Found) -> List[Tuple[float, Draft]]:
         """The draft with coefficients of few digits, and how deep it is, if it is."""
         entries, grid, factor = shown.entries, self._way.grid, Fraction(1)
+        if self._depth(entries, shown.right) <= LEAST_DISTANCE:
+            self.refused["shallow"] += 1
+            return []
         wanted = entries
         if entries and grid is not None:
             whole = whole_factor(entries)
