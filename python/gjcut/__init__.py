@@ -33,10 +33,11 @@ sums and multiples. A Verdict has .is_extreme, .is_minimal, .violation, .halves,
 The library is called with the standard library of Python alone, and everything comes back as
 `Fraction`s, with what the program writes as `text`. A number is an int, a `Fraction`, a `Decimal`,
 or a text such as "3/5" or "0.25"; a float is refused, since it is seldom the number that was meant,
-and so is a bool. Only the multipliers of `safe_cut` and of a `Derivation` may be floats. Where a list is wanted, each iterable serves but a text, a mapping and a set. What has
-another type than it should raises `TypeError`, which says where it stands. An input that is
-refused, and a function with which a command does nothing, raise `Refused`, which says what it means
-and what to do.
+and so is a bool. Only the multipliers of `safe_cut` and of a `Derivation` may be floats. Where a
+list is wanted, each iterable serves but a text, a mapping and a set. What has another type than it
+should raises `TypeError`, which says where it stands. An input that is refused, and a function with
+which a command does nothing, raise `Refused`, which says what it means and what to do. A step of a
+`Derivation` that does not follow raises `Rejected`.
 
 Several threads may call at once, and so may several processes. But the child of a fork in a process
 with several threads must not call: where a process has threads, give `multiprocessing` the way

@@ -83,7 +83,7 @@ DERIVATION_SENTENCES = [
     ),
     Sentence(
         see="`form` in a derivation, at `grid`",
-        means="a grid rounds the claims that `derive` finds; `check` reads whole claims, and no grid",
+        means="a grid rounds what `derive` finds; `check` reads no grid, since all claims are there",
         do="leave it out; for `derive` write it once, before the first step",
         words="check", input=derivation(STEP, "grid 4\n" + STEP), answer="refused line 5 form",
         when=LINE + "form", line=r"^\s*grid\b",

@@ -171,8 +171,8 @@ def constraint_lines(i: int, constraint: Constraint, known: Container[str]) -> I
 
 def column_place(i: int, column: Column) -> Place:
     """The value at fault in the line of a column, where its number is."""
-    sides = zip(SIDES, column[2:])
-    return Place("columns", i, next((side for side, x in sides if x is not None and is_wide(x)), None))
+    wide = (side for side, x in zip(SIDES, column[2:]) if x is not None and is_wide(x))
+    return Place("columns", i, next(wide, None))
 
 
 def constraint_places(i: int, constraint: Constraint) -> Iterator[Place]:

@@ -114,18 +114,17 @@ class Commands(unittest.TestCase):
         self.assertIn("No column before it has this name.", said)
 
     def test_derivations(self):
-        for words, example, lines in (
-            ("check", "check/derivation", ["accepted: each claim follows, and holds at all feasible"]),
-            ("check", "check/derivation_sign", ["rejected: line 26, `step best linear`: the multiplier"]),
-            ("derive", "derive/grid", ["step a: at each feasible point -3/2 x - 3/2 y + z >= -20/3"]),
-            ("derive", "derive/left_out", ["step none: left out, since the right side of the sum is"]),
-            ("derive", "derive/lost", ["rejected: line 17, `step sum linear`: it names none, which"]),
+        for words, example, begin in (
+            ("check", "check/derivation", "accepted: each claim follows, and holds at all feasib"),
+            ("check", "check/derivation_sign", "rejected: line 26, `step best linear`: the mult"),
+            ("derive", "derive/grid", "step a: at each feasible point -3/2 x - 3/2 y + z >= -20/3\n"),
+            ("derive", "derive/left_out", "step none: left out, since the right side of the sum"),
+            ("derive", "derive/lost", "rejected: line 17, `step sum linear`: it names none, whi"),
         ):
             status, said, errors = front(words, f"{example}/input")
             wanted = int((EXAMPLES / example / "status").read_text())
             self.assertEqual((status, errors), (wanted, ""), example)
-            for line, begin in zip(said.splitlines(), lines):
-                self.assertEqual(line[: len(begin)], begin)
+            self.assertEqual(said[: len(begin)], begin)
         said = front("check", "check/derivation/input")[1]
         self.assertEqual(said.splitlines()[1], "  the last step, best: -4 x - 5 y + 2 z >= -19")
         said = front("explain", "check/derivation/input")[1]
