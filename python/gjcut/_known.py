@@ -19,8 +19,8 @@ class Known:
         self.front = ""
         self.names = Names()
         self._free = [j for j, (_, *bounds) in enumerate(ranges) if bounds == [None, None]]
-        # Lines with few digits in place of others, by name and sign.
-        self._relaxed: Dict[Tuple[str, int], str] = {}
+        # Lines with few digits in place of others, by name, sign and parts.
+        self._relaxed: Dict[Tuple[str, int, int], str] = {}
         # What is asked of lines again and again, by name and parts.
         self._units: Dict[Tuple[str, int], Fraction] = {}
         self._small: Dict[Tuple[str, int], bool] = {}
@@ -55,7 +55,7 @@ class Known:
         if self._small[name, parts]:
             return line, 1
         sign = -1 if line.sense == "<=" or (line.sense == "=" and multiplier < 0) else 1
-        key = name, sign
+        key = name, sign, parts
         if key not in self._relaxed:
             new = self.names.new(f"{name}.{'relaxed' if sign == 1 else 'turned'}")
             self.lines[new] = relaxed(line, sign, new, self.program.ranges, parts)

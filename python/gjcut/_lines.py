@@ -158,9 +158,9 @@ def whole_factor(entries: Entries) -> Fraction:
     return Fraction(scale, math.gcd(*(int(value * scale) for value in entries.values())))
 
 
-def to_units(value: float, part: Fraction, count: int = 1) -> Fraction:
-    """The nearest multiple of so many units."""
-    return count * round(value / (count * float(part))) * part
+def to_units(value: float, part: Fraction) -> Fraction:
+    """The nearest multiple of the unit."""
+    return round(value / float(part)) * part
 
 
 def moved(given: Entries, right: Fraction, wanted: Entries, ranges: Sequence[Range]) -> Fraction:

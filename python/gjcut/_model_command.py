@@ -139,7 +139,7 @@ def _rounds(given: model.Model, chosen: argparse.Namespace) -> int:
 def _round_in_words(made: model.Round) -> str:
     bound = "no feasible point" if made.bound == math.inf else _rounded(made.bound)
     refused = sum(made.refused.values())
-    why = f"; {_counted(refused, 'row')} without one: {_causes(made.refused)}" if refused else ""
+    why = f"; {_counted(refused, 'row')} gave none: {_causes(made.refused)}" if refused else ""
     cuts = f"{_counted(len(made.cuts), 'new cut')}, {made.active:,} in all"
     return f"round {made.number}: {bound}, {cuts}{why}; {made.seconds:.2f} s"
 

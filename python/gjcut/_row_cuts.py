@@ -16,8 +16,8 @@ SMALL = Fraction(1, 2**15)
 # Multipliers that are fractions with few digits are taken as they are, over at most such a common
 # denominator.
 MOST = 10**6
-# A row with which a number is too wide is tried again with multipliers so much coarser.
-COARSER = (1, 2**6, 2**12)
+# A row with which a number is too wide is tried again with so many times fewer parts.
+FEWER = (1, 2**6, 2**12)
 
 
 class Way(NamedTuple):
@@ -42,6 +42,14 @@ class Vertex(NamedTuple):
 Row = Mapping[str, float]
 
 
+class Proposed(NamedTuple):
+    """How deep a cut is that has no right side yet, and the row that it is of."""
+
+    depth: float
+    draft: Draft
+    row: Row
+
+
 class RowCuts:
     """Cuts of rows at a vertex. `refused` counts why rows have none."""
 
@@ -51,69 +59,75 @@ class RowCuts:
 
     def deepest(self, rows: Iterable[Row]) -> List[Line]:
         """The deepest cuts of these rows, with numbers of few digits."""
-        proposed = sorted(self._proposed(rows), key=lambda each: -each[0])
-        drafts = {draft.name: draft for draft in self._different(proposed)}
-        found = []
-        for name, shown in self._shown(drafts.values()).items():
-            line = self._cut(drafts[name], shown)
-            if line is not None:
-                found.append(line)
+        found: List[Line] = []
+        for fewer in FEWER:
+            drafts = list(self._drafts(rows, max(1, self._way.parts // fewer)))
+            proposed, wide = self._proposed(drafts)
+            proposed.sort(key=lambda each: -each.depth)
+            chosen = list(self._different(proposed, self._way.limit - len(found)))
+            shown = self._shown(each.draft for each in chosen)
+            for each in chosen:
+                answer = shown[each.draft.name]
+                if answer.refused == "wide":
+                    wide.append(each.row)
+                else:
+                    found += self._cut(each.draft, answer)
+            rows = wide
+            if not rows or len(found) == self._way.limit:
+                break
+        if rows:
+            self.refused["wide"] += len(rows)
         return found
-
-    def _different(self, proposed: Iterable[Tuple[float, Draft]]) -> Iterator[Draft]:
-        """The first of these, without those that nearly are another one."""
-        seen: Set[FrozenSet[Tuple[int, float]]] = set()
-        for _, draft in proposed:
-            greatest = float(largest(draft.entries)) or 1.0
-            key = frozenset((j, round(float(x) / greatest, 6)) for j, x in draft.entries.items())
-            if key not in seen:
-                seen.add(key)
-                yield draft
-            if len(seen) == self._way.limit:
-                return
 
     def _shown(self, drafts: Iterable[Draft]) -> Dict[str, Found]:
         return derived(self._known.program, self._known.lines, drafts, self._known.front)
 
-    def _cut(self, draft: Draft, shown: Found) -> Optional[Line]:
-        """The cut of coefficients with few digits, with such a right side."""
+    def _proposed(self, drafts: Iterable[Tuple[Row, Draft]]) -> Tuple[List[Proposed], List[Row]]:
+        """Cuts without right sides, and the rows with which a number is too wide."""
+        given = {draft.name: (row, draft) for row, draft in drafts}
+        found: List[Proposed] = []
+        wide: List[Row] = []
+        for name, shown in self._shown(draft for _, draft in given.values()).items():
+            row, draft = given[name]
+            if shown.refused == "wide":
+                wide.append(row)
+            elif shown.refused:
+                self.refused[shown.refused] += 1
+            else:
+                found += self._deep(row, draft, shown)
+        return found, wide
+
+    def _different(self, proposed: Iterable[Proposed], count: int) -> Iterator[Proposed]:
+        """The first of these, so many, without those that nearly are another one."""
+        seen: Set[FrozenSet[Tuple[int, float]]] = set()
+        for each in proposed:
+            entries = each.draft.entries
+            greatest = float(largest(entries)) or 1.0
+            key = frozenset((j, round(float(x) / greatest, 6)) for j, x in entries.items())
+            if key not in seen and len(seen) < count:
+                seen.add(key)
+                yield each
+
+    def _cut(self, draft: Draft, shown: Found) -> List[Line]:
+        """The cut with a right side of few digits, if it is one."""
         if shown.refused:
             self.refused[shown.refused] += 1
-            return None
+            return []
         entries, right = shown.entries, shown.right
         if entries and self._way.grid is not None:
             right = floored(right, parts_for(largest(entries), self._way.grid))
         if self._depth(entries, right) > LEAST_DISTANCE:
-            return Line(draft.name, entries, ">=", right, draft.step)
+            return [Line(draft.name, entries, ">=", right, draft.step)]
         self.refused["shallow"] += 1
-        return None
-
-    def _proposed(self, rows: Iterable[Row]) -> List[Tuple[float, Draft]]:
-        """Cuts of these rows without right sides, and how deep they are."""
-        found: List[Tuple[float, Draft]] = []
-        for coarser in COARSER:
-            drafts = {draft.name: (row, draft) for row, draft in self._drafts(rows, coarser)}
-            shown = self._shown(draft for _, draft in drafts.values())
-            rows = []
-            for name, each in shown.items():
-                row, draft = drafts[name]
-                if each.refused == "wide" and coarser != COARSER[-1]:
-                    rows.append(row)
-                elif each.refused:
-                    self.refused[each.refused] += 1
-                else:
-                    found += self._deep(draft, each)
-            if not rows:
-                break
-        return found
+        return []
 
     # ---- to the row
 
-    def _drafts(self, rows: Iterable[Row], coarser: int) -> Iterable[Tuple[Row, Draft]]:
+    def _drafts(self, rows: Iterable[Row], parts: int) -> Iterable[Tuple[Row, Draft]]:
         """A draft of each row; by a function also one of its negative, which has another f."""
         for row in rows:
             try:
-                step = self._step(row, coarser)
+                step = self._step(row, parts)
             except Missing:
                 self.refused["free"] += 1
                 continue
@@ -126,19 +140,16 @@ class RowCuts:
                 name = self._known.names.next("cut")
                 yield row, Draft(name, step._replace(multipliers=turned))
 
-    def _step(self, multipliers: Row, coarser: int) -> Step:
+    def _step(self, multipliers: Row, parts: int) -> Step:
         """How the cut of a row is made, with multipliers of few digits."""
-        known, parts = self._known, self._way.parts
+        known = self._known
         given: Dict[str, float] = {}
         for name, value in multipliers.items():
             line, sign = known.with_few_digits(name, value, parts)
             given[line.name] = sign * value
-        chosen = fractions_near(given, MOST) if coarser == 1 else None
+        chosen = fractions_near(given, MOST) if parts == self._way.parts else None
         if chosen is None:
-            chosen = {
-                name: to_units(value, known.unit(name, parts), coarser)
-                for name, value in given.items()
-            }
+            chosen = {name: to_units(x, known.unit(name, parts)) for name, x in given.items()}
         chosen = known.without_free(chosen, {})
         columns = {j for name in chosen for j in known.lines[name].entries}
         at_upper = [j for j in self._vertex.at_upper if j in columns]
@@ -146,7 +157,7 @@ class RowCuts:
 
     # ---- from the row
 
-    def _deep(self, draft: Draft, shown: Found) -> List[Tuple[float, Draft]]:
+    def _deep(self, row: Row, draft: Draft, shown: Found) -> List[Proposed]:
         """The draft with coefficients of few digits, and how deep it is, if it is."""
         entries, grid, factor = shown.entries, self._way.grid, Fraction(1)
         if self._depth(entries, shown.right) <= LEAST_DISTANCE:
@@ -165,7 +176,8 @@ class RowCuts:
         if depth <= LEAST_DISTANCE:
             self.refused["shallow"] += 1
             return []
-        return [(depth, Draft(draft.name, draft.step._replace(factor=factor), wanted))]
+        step = draft.step._replace(factor=factor)
+        return [Proposed(depth, Draft(draft.name, step, wanted), row)]
 
     def _depth(self, entries: Entries, right: Fraction) -> float:
         """How far beyond the cut the vertex lies; one that no point meets is the deepest."""
