@@ -190,7 +190,7 @@ class ByHand(Models):
         if right.splitlines()[line + 3] != "claim -8":
             line = right.splitlines().index("step cut2 gmic") + 1
         judgement = gjcut.check(wrong)
-        self.assertEqual((judgement.line, judgement.rule), (line, "right"))
+        self.assertEqual((judgement.line, judgement.rule.split()[0]), (line, "right"))
         self.assertEqual(derivationcheck.check(wrong.encode())[0], 1)
 
 
