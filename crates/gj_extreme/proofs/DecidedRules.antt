@@ -156,7 +156,7 @@ extreme_rules : (f : FunctionData) (lines : List CoverLine) (rows : List PivotRo
     AreExtremeRows Whole f lines rows → MeetsRules (claim.Extreme f lines rows)
 extreme_rules f lines rows l minimal continuous h =
     all_demands Whole (DemandHolds (claim.Extreme f lines rows)) lines rows record {
-      minimal = tests_from_minimal f l minimal;
+      minimal = tests_from_minimal f minimal;
       continuous = continuous;
       cover = λ i before line after place index.
           lines_meet_rules f.order (IsTight f) lines h.covered.are_lines before line after place;
@@ -167,7 +167,7 @@ residue_rules : (f : FunctionData) (lines : List CoverLine) (rows : List PivotRo
     AreExtremeRows Residues f lines rows → MeetsRules (claim.ExtremeByResidues f lines rows)
 residue_rules f lines rows l minimal continuous h =
     all_demands Residues (DemandHolds (claim.ExtremeByResidues f lines rows)) lines rows record {
-      minimal = tests_from_minimal f l minimal;
+      minimal = tests_from_minimal f minimal;
       continuous = continuous;
       cover = λ i before line after place index.
           lines_meet_rules f.order (IsTight f) lines h.covered.are_lines before line after place;
@@ -187,7 +187,7 @@ halves_rules : (f : FunctionData) (h : Halves) (m c : ℕ) → IsWithinBounds f 
     MeetsRules (claim.NotExtreme f h)
 halves_rules f h m c l minimal continuous on =
     All-append P early (Demand.first ∷ Demand.second ∷ Demand.same ∷ [])
-    (All-cons P Demand.minimal (Demand.continuous ∷ Demand.scale ∷ pairs) (tests_from_minimal f l minimal)
+    (All-cons P Demand.minimal (Demand.continuous ∷ Demand.scale ∷ pairs) (tests_from_minimal f minimal)
     (All-cons P Demand.continuous (Demand.scale ∷ pairs) continuous
     (All-cons P Demand.scale pairs (m, c, on.order, on.scale) (each_pair P 0 h.order (λ i below. (range i, average i))))))
     (All-three P Demand.first Demand.second Demand.same (half h.first on.different.first) (half h.second on.different.second)

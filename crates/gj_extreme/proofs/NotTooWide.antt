@@ -100,7 +100,7 @@ slope_not_wide f h l low slope component numbers s same (scale_passes other halv
 -- are too wide
 pub decided_not_wide : (f : FunctionData) (c : Claim) → IsWithinBounds f → IsMinimal f → HasText c → IsDecided f c → IsTooWide f → ⊥
 decided_not_wide f (Minimal g) l minimal text h wide = h
-decided_not_wide f (NotMinimal g v) l minimal text h wide = first_denies f v h.1 (tests_from_minimal f l minimal)
+decided_not_wide f (NotMinimal g v) l minimal text h wide = first_denies f v h.1 (tests_from_minimal f minimal)
 decided_not_wide f (Cut rule rows) l minimal text h wide = h
 decided_not_wide f (Extreme g lines rows) l minimal text h wide = extreme_not_wide f lines rows l h.3 wide
 decided_not_wide f (ExtremeByResidues g lines rows) l minimal text h wide = residues_not_wide f lines rows l h.3 wide

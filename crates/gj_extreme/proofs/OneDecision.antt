@@ -237,12 +237,12 @@ one_decision f (NotMinimal g v) (Minimal g') l h k = absurd k
 one_decision f (NotMinimal g v) (Cut rule rows) l h k = absurd k
 one_decision f (NotMinimal g v) (NotMinimal g' w) l h k =
     ap₂ (λ x y. NotMinimal x y) (h.0 ∙ sym k.0) (one_violation f v w l h.1 k.1)
-one_decision f (NotMinimal g v) (Extreme g' lines rows) l h k = absurd (first_denies f v h.1 (tests_from_minimal f l k.1))
-one_decision f (NotMinimal g v) (ExtremeByResidues g' lines rows) l h k = absurd (first_denies f v h.1 (tests_from_minimal f l k.1))
-one_decision f (NotMinimal g v) (NotExtreme g' halves) l h k = absurd (first_denies f v h.1 (tests_from_minimal f l k.1))
+one_decision f (NotMinimal g v) (Extreme g' lines rows) l h k = absurd (first_denies f v h.1 (tests_from_minimal f k.1))
+one_decision f (NotMinimal g v) (ExtremeByResidues g' lines rows) l h k = absurd (first_denies f v h.1 (tests_from_minimal f k.1))
+one_decision f (NotMinimal g v) (NotExtreme g' halves) l h k = absurd (first_denies f v h.1 (tests_from_minimal f k.1))
 one_decision f (Extreme g lines rows) (Minimal g') l h k = absurd k
 one_decision f (Extreme g lines rows) (Cut rule cuts) l h k = absurd k
-one_decision f (Extreme g lines rows) (NotMinimal g' v) l h k = absurd (first_denies f v k.1 (tests_from_minimal f l h.1))
+one_decision f (Extreme g lines rows) (NotMinimal g' v) l h k = absurd (first_denies f v k.1 (tests_from_minimal f h.1))
 one_decision f (Extreme g lines rows) (Extreme g' others more) l h k =
     let one = one_rows Whole f lines others rows more l h.3 k.3 in
     ap (λ x. Extreme x lines rows) (h.0 ∙ sym k.0) ∙ ap₂ (λ x y. Extreme g' x y) one.0 one.1
@@ -252,7 +252,7 @@ one_decision f (Extreme g lines rows) (NotExtreme g' halves) l h k =
 one_decision f (ExtremeByResidues g lines rows) (Minimal g') l h k = absurd k
 one_decision f (ExtremeByResidues g lines rows) (Cut rule cuts) l h k = absurd k
 one_decision f (ExtremeByResidues g lines rows) (NotMinimal g' v) l h k =
-    absurd (first_denies f v k.1 (tests_from_minimal f l h.1))
+    absurd (first_denies f v k.1 (tests_from_minimal f h.1))
 one_decision f (ExtremeByResidues g lines rows) (Extreme g' others more) l h k = absurd (not_both f others lines more rows l k.3 h.3)
 one_decision f (ExtremeByResidues g lines rows) (ExtremeByResidues g' others more) l h k =
     let one = one_rows Residues f lines others rows more l h.3 k.3 in
@@ -261,7 +261,7 @@ one_decision f (ExtremeByResidues g lines rows) (NotExtreme g' halves) l h k =
     absurd (extreme_no_halves Residues f lines rows halves l h.1 h.2 h.3 k.3)
 one_decision f (NotExtreme g halves) (Minimal g') l h k = absurd k
 one_decision f (NotExtreme g halves) (Cut rule rows) l h k = absurd k
-one_decision f (NotExtreme g halves) (NotMinimal g' v) l h k = absurd (first_denies f v k.1 (tests_from_minimal f l h.1))
+one_decision f (NotExtreme g halves) (NotMinimal g' v) l h k = absurd (first_denies f v k.1 (tests_from_minimal f h.1))
 one_decision f (NotExtreme g halves) (Extreme g' lines rows) l h k =
     absurd (extreme_no_halves Whole f lines rows halves l k.1 k.2 k.3 h.3)
 one_decision f (NotExtreme g halves) (ExtremeByResidues g' lines rows) l h k =

@@ -42,7 +42,7 @@ two_slopes_plain f lines rows l minimal two h =
 pub two_slopes_decided : (f : FunctionData) (c : Claim) → IsWithinBounds f → IsMinimal f → HasTwoSlopes f → IsDecided f c →
     IsExtremeClaim f c
 two_slopes_decided f (Minimal g) l minimal two h = absurd h
-two_slopes_decided f (NotMinimal g v) l minimal two h = absurd (first_denies f v h.1 (tests_from_minimal f l minimal))
+two_slopes_decided f (NotMinimal g v) l minimal two h = absurd (first_denies f v h.1 (tests_from_minimal f minimal))
 two_slopes_decided f (Cut rule rows) l minimal two h = absurd h
 two_slopes_decided f (Extreme g lines rows) l minimal two h = (lines, rows, ap (λ x. Extreme x lines rows) h.0)
 two_slopes_decided f (ExtremeByResidues g lines rows) l minimal two h = absurd (two_slopes_plain f lines rows l minimal two h.3)

@@ -131,7 +131,7 @@ superadditive_near f kind a b c k limits within fits negative =
     let i = near k c (first_coordinates kind a b) in
     let j = near k c (second_coordinates kind a b) in
     below_by_slack (table f k i) (table f k j) (table f k (i + j)) (near_value k c (limits_of f kind a b))
-    (near_corner f kind a b c k limits within fits) negative
+    (near_corner f kind a b c k within fits) negative
 
 -- and only there
 negative_near : (f : FunctionData) (kind : FaceKind) (a b c k : ℕ) → IsWithinBounds f →
@@ -142,7 +142,7 @@ negative_near f kind a b c k limits within fits below =
     let i = near k c (first_coordinates kind a b) in
     let j = near k c (second_coordinates kind a b) in
     slack_by_below (table f k i) (table f k j) (table f k (i + j)) (near_value k c (limits_of f kind a b))
-    (near_corner f kind a b c k limits within fits) below
+    (near_corner f kind a b c k within fits) below
 
 pub shows_pair : (f : FunctionData) (kind : FaceKind) (a b c h : ℕ) (limit total_limits : ℤ) (x y : Frac) →
     IsWithinBounds f → c < length (corners_of kind a b) → limit ≡ get_or (limits_of f kind a b) c (pos 0) →

@@ -4,6 +4,7 @@ use Rattle.gj_shape.specs.FunctionData.{FunctionData, IsContinuous, IsWithinBoun
 use Rattle.gj_shape.specs.Extreme.{IsExtreme}
 use Rattle.gj_shape.specs.Table.{table, IsMinimal}
 use Rattle.gj_shape.specs.declared.extremality.Halves.{Halves}
+use Rattle.gj_shape.proofs.TableLemmas.{pieces_of}
 use Rattle.gj_theory.proofs.Fillings.{halves_deny}
 use Rattle.gj_theory.proofs.Violations.{violation_denies}
 use Rattle.gj_proof.specs.Meaning.{ClaimHolds, ShowHalves}
@@ -25,11 +26,11 @@ module _ {R : Type 0} (K : OrderedField R) (floors : HasFloor K) where
     pub minimal_at_reals : IsMinimal f → IsRealMinimal K floors f
     minimal_at_reals h =
         rules_minimal K (real_function K floors f) (real_place K f)
-        (rules_at_reals K floors f bounds h)
+        (rules_at_reals K floors f (pieces_of bounds) h)
 
     pub minimal_from_reals : IsRealMinimal K floors f → IsMinimal f
     minimal_from_reals h =
-        rules_give_minimal K floors f bounds
+        rules_give_minimal K floors f (pieces_of bounds)
         (rules_of_minimal K floors (real_function K floors f) (real_place K f) h)
 
     pub extreme_at_reals : IsContinuous f → IsExtreme f → IsRealExtreme K floors f

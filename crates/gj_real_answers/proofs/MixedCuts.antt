@@ -12,6 +12,7 @@ use Rattle.gj_frac.proofs.OneDenominator.{denominator_divides_each}
 use Rattle.gj_lemmas.proofs.Integers.{add_mul_z, mul_positive_z, mul_le_mul_right_z, mul_lt_mul_right_z}
 use Rattle.gj_shape.specs.FunctionData.{FunctionData, IsWithinBounds, IsContinuous}
 use Rattle.gj_shape.specs.Table.{IsMinimal}
+use Rattle.gj_shape.proofs.TableLemmas.{pieces_of}
 use Rattle.gj_rule.specs.declared.kind.RuleKind.{RuleKind}
 use Rattle.gj_rule.specs.declared.kind.RuleKind.TheVariants as kind
 use Rattle.gj_rule.specs.Kind.{IsKindValue}
@@ -116,7 +117,7 @@ module _ {R : Type 0} (K : OrderedField R) (floors : HasFloor K) where
   cut_by_function f up down columns row (mixed_cut.Cut terms weights) bounds continuous minimal
       at_zero (not_whole, part, are_terms, are_weights) =
       cut_by (real_function K floors f) (real_place K f) up down (kind.Table f)
-      (rules_at_reals K floors f bounds minimal)
+      (rules_at_reals K floors f (pieces_of bounds) minimal)
       (subst₂ (HasSlopesAtZero K (real_function K floors f))
       (sym (rise_number K floors f bounds up 1 at_zero.up_is))
       (sym (rise_number K floors f bounds down (f.order - 1) at_zero.down_is))
@@ -125,7 +126,7 @@ module _ {R : Type 0} (K : OrderedField R) (floors : HasFloor K) where
       row (whole_entries columns row.entries) (continuous_entries columns row.entries) terms weights
       (int_div_euclid row.rhs.num row.rhs.den)
       (right_side K floors row.rhs (pos f.place) (pos f.order)
-      (nat_some f.order (order_some K floors f bounds)) part)
+      (nat_some f.order (order_some K floors f (pieces_of bounds))) part)
       are_terms are_weights
   cut_by_function f up down columns row mixed_cut.Integral bounds continuous minimal at_zero is = tt
   cut_by_function f up down columns row mixed_cut.OtherFraction bounds continuous minimal at_zero

@@ -13,6 +13,7 @@ use Rattle.gj_shape.specs.Table.{table, IsMinimal}
 use Rattle.gj_shape.proofs.LeastDenominator.{denominator_some}
 use Rattle.gj_shape.proofs.OverScale.{denominator_is}
 use Rattle.gj_shape.proofs.ValueLemmas.{natural_index}
+use Rattle.gj_shape.proofs.TableLemmas.{pieces_of}
 use Rattle.gj_theory.specs.Cuts.{IsValueOf, IsGmicValue, one_minus}
 use Rattle.gj_theory.proofs.CutsByTables.{whole_and_part}
 use Rattle.gj_fields.specs.Fields.{OrderedField, HasFloor, AtMost, number, whole}
@@ -73,7 +74,7 @@ module _ {R : Type 0} (K : OrderedField R) (floors : HasFloor K) where
         let d = unsigned_abs (denominator x) in
         let d_some : 0 < d = denominator_some x in
         let n = f.order * d in
-        let n_some : 0 < n = mul-pos (order_some K floors f bounds) d_some in
+        let n_some : 0 < n = mul-pos (order_some K floors f (pieces_of bounds)) d_some in
         let s_some : 0 < f.scale * d = mul-pos (omega (arith, bounds.scale_low)) d_some in
         let a = x.num *ℤ pos f.order in
         let (i, congruent) = natural_index a n n_some in
@@ -88,8 +89,8 @@ module _ {R : Type 0} (K : OrderedField R) (floors : HasFloor K) where
         ∙ ap (λ z. plus z (whole K k)) (sym grid) in
         ratio_number y (table f d i) (pos (f.scale * d)) (nat_some (f.scale * d) s_some)
         (value i congruent)
-        ∙ sym (value_at_fraction K floors f bounds d d_some i)
-        ∙ at_same_point K (real_function K floors f) (rules_at_reals K floors f bounds h).function
+        ∙ sym (value_at_fraction K floors f (pieces_of bounds) d d_some i)
+        ∙ at_same_point K (real_function K floors f) (rules_at_reals K floors f (pieces_of bounds) h).function
         (over K (pos i) (pos n)) (number_of K x) (point_of_whole K (number_of K x) k _ place)
 
     pub rise_number : (up : Frac) (i : ℕ) →

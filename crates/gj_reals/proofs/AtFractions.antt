@@ -3,9 +3,9 @@
 use Rattle.std.proofs.Common.{◌≡◌, ◌≢◌, ℕ, zero, suc, ◌+◌, ◌-◌, ◌*◌, ◌/◌, ◌%◌, ◌<◌, ℤ, pos, ◌+ℤ◌, ◌*ℤ◌, false, [], ◌∷◌, refl, sym, subst, subst₂, ap, ap₂, ◌∙◌, mul-pos, arith}
 use Rattle.std.proofs.Math.Nat.{mod-lt, div-add-mod'}
 use Rattle.gj_lemmas.proofs.Quotients.{from_same_remainder}
-use Rattle.gj_shape.specs.FunctionData.{FunctionData, IsWithinBounds, at}
+use Rattle.gj_shape.specs.FunctionData.{FunctionData, IsPiecewise, at}
 use Rattle.gj_shape.specs.Table.{table, IsMinimalTable, IsMinimal}
-use Rattle.gj_shape.proofs.TableLemmas.{table_period}
+use Rattle.gj_shape.proofs.TableLemmas.{period_of_table}
 use Rattle.gj_theory.proofs.Affine.{table_at_place, table_inside}
 use Rattle.gj_fields.specs.Fields.{OrderedField, HasFloor, AtMost, number, whole}
 use Rattle.gj_fields.specs.Functions.{IsSamePoint, HasRules}
@@ -21,7 +21,7 @@ use Rattle.gj_reals.proofs.AtReals.{HasParts, value_is, number_some, inverse_low
 use Rattle.gj_reals.proofs.Lift.{whole_times, whole_injective}
 
 module _ {R : Type 0} (K : OrderedField R) (floors : HasFloor K) (f : FunctionData)
-    (bounds : IsWithinBounds f) where
+    (bounds : IsPiecewise f) where
   open K use {plus, times, zero as o, one as e, negative}
 
   abbrev q : R
@@ -270,7 +270,7 @@ module _ {R : Type 0} (K : OrderedField R) (floors : HasFloor K) (f : FunctionDa
 
     pub minimal_there : IsMinimalTable t (f.order * m) (f.place * m) s
     minimal_there = record {
-      has_period = λ i. table_period f m i some bounds;
+      has_period = λ i. period_of_table f m i some bounds;
       zero_at_zero =
           whole_injective K (t 0) (pos 0)
           (same_scaled (whole K (t 0)) o

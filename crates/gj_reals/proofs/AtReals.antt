@@ -1,7 +1,7 @@
 -- A minimal function meets the rules at all numbers of a field with floors.
 use Rattle.std.proofs.Common.{◌≡◌, ◌≢◌, ℕ, ◌+◌, ◌*◌, ◌%◌, ◌<◌, ℤ, pos, ◌+ℤ◌, ◌-ℤ◌, true, false, ⊎_elim, [], ◌∷◌, refl, sym, subst, subst₂, ap, ap₂, ◌∙◌, arith}
 use Rattle.std.proofs.lemmas.Int.{ints}
-use Rattle.gj_shape.specs.FunctionData.{FunctionData, IsWithinBounds, at}
+use Rattle.gj_shape.specs.FunctionData.{FunctionData, IsPiecewise, at}
 use Rattle.gj_shape.specs.Table.{IsMinimal}
 use Rattle.gj_shape.proofs.TableLemmas.{table_of_order}
 use Rattle.gj_theory.proofs.TestsFromMinimal.{passes_each}
@@ -39,7 +39,7 @@ module _ {R : Type 0} (K : OrderedField R) where
       ∙ ap (times y) (K.times_inverse x some) ∙ K.times_one y
 
 module _ {R : Type 0} (K : OrderedField R) (floors : HasFloor K) (f : FunctionData)
-    (bounds : IsWithinBounds f) where
+    (bounds : IsPiecewise f) where
   open K use {plus, times, zero as o, one as e, negative}
 
   abbrev q : R
@@ -145,7 +145,7 @@ module _ {R : Type 0} (K : OrderedField R) (floors : HasFloor K) (f : FunctionDa
     nonnegative : (x : R) → AtMost K o (v x)
     nonnegative x =
         let p = some_parts x in
-        K.times_keeps _ (K.inverse D) (low_between K f bounds h
+        K.times_keeps _ (K.inverse D) (low_between K f h
         (index_of (floors.floor (times q x)) f.order) _ p.low p.high) D_low
 
     zero_at_zero : v o ≡ o
@@ -172,7 +172,7 @@ module _ {R : Type 0} (K : OrderedField R) (floors : HasFloor K) (f : FunctionDa
     from_below : (x y : R) (z w s : ℤ) (l m r : R) (a b c : ℕ) → HasParts x z l → HasParts y w m →
         HasParts (plus x y) s r →
         IsIndex f.order z a → IsIndex f.order w b → IsIndex f.order s c →
-        Below K f bounds h c r a l b m → AtMost K (v (plus x y)) (plus (v x) (v y))
+        Below K f h c r a l b m → AtMost K (v (plus x y)) (plus (v x) (v y))
     unfolding Below
     from_below x y z w s l m r a b c p p' p'' i i' i'' below =
         subst₂ (AtMost K) (sym (value_is (plus x y) s r c p'' i''))
@@ -227,12 +227,12 @@ module _ {R : Type 0} (K : OrderedField R) (floors : HasFloor K) (f : FunctionDa
         carry)))
         (λ m_some. ⊎_elim
         (λ r_none. done
-        (on_diagonal K f bounds h a b l m r
+        (on_diagonal K f h a b l m r
         (let r_zero = is_zero r p''.low r_none in
         ring K (l ∷ m ∷ []) (var 1) (unit ⊕ neg (var 0) ⊕ (var 0 ⊕ var 1 ⊕ neg unit)) refl
         ∙ ap (plus (plus e (negative l))) r_zero ∙ K.plus_zero (plus e (negative l)))
         p.low p'.low l_some m_some r_none))
-        (λ r_some. done (on_upper K f bounds h a b l m p.high p'.high carry l_some m_some r_some))
+        (λ r_some. done (on_upper K f h a b l m p.high p'.high carry l_some m_some r_some))
         (either (K.at_most r o)))
         (either (K.at_most m o)))
         (either (K.at_most l o)))
@@ -246,16 +246,16 @@ module _ {R : Type 0} (K : OrderedField R) (floors : HasFloor K) (f : FunctionDa
         let same : m ≡ plus l m =
         sym (ap (λ s. plus s m) l_zero ∙ ring K (m ∷ []) (nil ⊕ var 0) (var 0) refl) in
         ⊎_elim
-        (λ m_none. done (on_vertex K f bounds h a b l m l_none m_none
+        (λ m_none. done (on_vertex K f h a b l m l_none m_none
         (subst (λ s. K.at_most s o ≡ true) same m_none)))
-        (λ m_some. done (on_vertical K f bounds h a b l m same p'.low p'.high l_none m_some))
+        (λ m_some. done (on_vertical K f h a b l m same p'.low p'.high l_none m_some))
         (either (K.at_most m o)))
         (λ l_some. ⊎_elim
         (λ m_none. let same : l ≡ plus l m =
         sym (ap (plus l) (is_zero m p'.low m_none) ∙ K.plus_zero l) in
-        done (on_horizontal K f bounds h a b l m same p.low p.high l_some m_none))
+        done (on_horizontal K f h a b l m same p.low p.high l_some m_none))
         (λ m_some. done
-        (on_lower K f bounds h a b l m p.low p'.low high l_some m_some
+        (on_lower K f h a b l m p.low p'.low high l_some m_some
         (is_false K (plus l m) o (λ none. is_not K l o l_some
         (by_two K (l ∷ m ∷ []) (var 0) nil (var 0 ⊕ var 1) nil nil (var 1) none p'.low refl)))))
         (either (K.at_most m o)))
@@ -307,7 +307,7 @@ module _ {R : Type 0} (K : OrderedField R) (floors : HasFloor K) (f : FunctionDa
         let a = index_of z f.order in
         let i = index_is z f.order order_some in
         let y = plus (real_place K f) (negative x) in
-        let passes = passes_each f bounds h in
+        let passes = passes_each f h in
         ⊎_elim
         (λ none.
         let w : ℤ = pos f.place -ℤ z in

@@ -4,6 +4,7 @@ use Rattle.gj_lemmas.proofs.Quotients.{same_at_remainder}
 use Rattle.gj_shape.specs.Additive.{IsTight, IsAdditive}
 use Rattle.gj_shape.specs.FunctionData.{FunctionData, IsWithinBounds, IsContinuous, at}
 use Rattle.gj_shape.specs.declared.faces.FaceKind.TheVariants.{Horizontal, Vertical, Diagonal, Lower, Upper}
+use Rattle.gj_shape.proofs.TableLemmas.{pieces_of}
 use Rattle.gj_fields.specs.Fields.{OrderedField, HasFloor, AtMost, number, whole}
 use Rattle.gj_fields.proofs.Ring.{ring}
 use Rattle.gj_fields.proofs.Ring.Term.{var, nil, unit, neg, ◌⊕◌, ◌⊗◌}
@@ -40,12 +41,12 @@ module _ {R : Type 0} (K : OrderedField R) (floors : HasFloor K) (f : FunctionDa
 
   order_point : (a : ℕ) (l : R) → times q (point a l) ≡ plus (number K a) l
   order_point a l =
-      inverse_at K q (plus (number K a) l) (number_some K f.order (order_some K floors f bounds))
+      inverse_at K q (plus (number K a) l) (number_some K f.order (order_some K floors f (pieces_of bounds)))
 
   below_one : (a : ℕ) (l : R) → AtMost K o l → (AtMost K e l → ⊥) →
       v (point a l) ≡ times (line a l) (K.inverse D)
   below_one a l low high =
-      value_is K floors f bounds (point a l) (pos a) l a
+      value_is K floors f (pieces_of bounds) (point a l) (pos a) l a
       (record { is = order_point a l; low = low; high = high }) (index_whole f.order a)
       ∙ ap (λ w. times w (K.inverse D))
       (⊎_elim
@@ -110,7 +111,7 @@ module _ {R : Type 0} (K : OrderedField R) (floors : HasFloor K) (f : FunctionDa
         ∙ ap d (ring K (number K i ∷ l ∷ q ∷ K.inverse q ∷ []) (((var 0 ⊕ var 2) ⊕ var 1) ⊗ var 3)
         ((var 0 ⊕ var 1) ⊗ var 3 ⊕ var 2 ⊗ var 3) refl
         ∙ ap (plus (point i l)) (K.times_inverse q
-        (number_some K f.order (order_some K floors f bounds))))
+        (number_some K f.order (order_some K floors f (pieces_of bounds)))))
         ∙ follows.has_period (point i l)
 
     pub at_remainder : (i j : ℕ) (l : R) → i % f.order ≡ j % f.order → d (point i l) ≡ d (point j l)

@@ -1,7 +1,7 @@
 -- What minimality says of the values and limits, as numbers of a field.
 use Rattle.std.proofs.Common.{◌≡◌, ℕ, ◌+◌, ℤ, pos, ◌+ℤ◌, ◌-ℤ◌, ◌≤ℤ◌, true, false, ⊎_elim, [], ◌∷◌, refl, sym, subst, subst₂, ap, ap₂, ◌∙◌, arith}
 use Rattle.std.proofs.lemmas.Int.{ints}
-use Rattle.gj_shape.specs.FunctionData.{FunctionData, IsWithinBounds, at}
+use Rattle.gj_shape.specs.FunctionData.{FunctionData, at}
 use Rattle.gj_shape.specs.Table.{IsMinimal}
 use Rattle.gj_shape.specs.declared.faces.FaceKind.TheVariants.{Vertex, Horizontal, Vertical, Diagonal, Lower, Upper}
 use Rattle.gj_shape.proofs.TableLemmas.{table_of_order}
@@ -58,8 +58,7 @@ module _ {R : Type 0} (K : OrderedField R) where
       subst (AtMost K (whole K s)) (whole_plus K x y)
       (whole_mono K s (x +ℤ y) (omega (arith, ints)))
 
-module _ {R : Type 0} (K : OrderedField R) (f : FunctionData) (bounds : IsWithinBounds f)
-    (h : IsMinimal f) where
+module _ {R : Type 0} (K : OrderedField R) (f : FunctionData) (h : IsMinimal f) where
   open K use {plus, times, zero as o, one as e, negative}
 
   abbrev pub V : ℕ → R
@@ -73,45 +72,45 @@ module _ {R : Type 0} (K : OrderedField R) (f : FunctionData) (bounds : IsWithin
   N a = whole K (at f.left (a + 1))
 
   vertex : (a b : ℕ) → AtMost K (V (a + b)) (plus (V a) (V b))
-  vertex a b = slack_real K _ _ _ (slack_limit f bounds h Vertex a b 0 (omega arith))
+  vertex a b = slack_real K _ _ _ (slack_limit f h Vertex a b 0 (omega arith))
 
   horizontal : (a b : ℕ) → AtMost K (S (a + b)) (plus (S a) (V b))
       × AtMost K (N (a + b)) (plus (N a) (V b))
   horizontal a b = (
-    slack_real K _ _ _ (slack_limit f bounds h Horizontal a b 0 (omega arith)),
-    slack_real K _ _ _ (slack_limit f bounds h Horizontal a b 1 (omega arith)),
+    slack_real K _ _ _ (slack_limit f h Horizontal a b 0 (omega arith)),
+    slack_real K _ _ _ (slack_limit f h Horizontal a b 1 (omega arith)),
   )
 
   vertical : (a b : ℕ) → AtMost K (S (a + b)) (plus (V a) (S b))
       × AtMost K (N (a + b)) (plus (V a) (N b))
   vertical a b = (
-    slack_real K _ _ _ (slack_limit f bounds h Vertical a b 0 (omega arith)),
-    slack_real K _ _ _ (slack_limit f bounds h Vertical a b 1 (omega arith)),
+    slack_real K _ _ _ (slack_limit f h Vertical a b 0 (omega arith)),
+    slack_real K _ _ _ (slack_limit f h Vertical a b 1 (omega arith)),
   )
 
   diagonal : (a b : ℕ) → AtMost K (V (a + b + 1)) (plus (N a) (S b))
       × AtMost K (V (a + b + 1)) (plus (S a) (N b))
   diagonal a b = (
-    slack_real K _ _ _ (slack_limit f bounds h Diagonal a b 0 (omega arith)),
-    slack_real K _ _ _ (slack_limit f bounds h Diagonal a b 1 (omega arith)),
+    slack_real K _ _ _ (slack_limit f h Diagonal a b 0 (omega arith)),
+    slack_real K _ _ _ (slack_limit f h Diagonal a b 1 (omega arith)),
   )
 
   lower : (a b : ℕ) → AtMost K (S (a + b)) (plus (S a) (S b))
       × AtMost K (N (a + b)) (plus (N a) (S b))
       × AtMost K (N (a + b)) (plus (S a) (N b))
   lower a b = (
-    slack_real K _ _ _ (slack_limit f bounds h Lower a b 0 (omega arith)),
-    slack_real K _ _ _ (slack_limit f bounds h Lower a b 1 (omega arith)),
-    slack_real K _ _ _ (slack_limit f bounds h Lower a b 2 (omega arith)),
+    slack_real K _ _ _ (slack_limit f h Lower a b 0 (omega arith)),
+    slack_real K _ _ _ (slack_limit f h Lower a b 1 (omega arith)),
+    slack_real K _ _ _ (slack_limit f h Lower a b 2 (omega arith)),
   )
 
   upper : (a b : ℕ) → AtMost K (S (a + b + 1)) (plus (N a) (S b))
       × AtMost K (S (a + b + 1)) (plus (S a) (N b))
       × AtMost K (N (a + b + 1)) (plus (N a) (N b))
   upper a b = (
-    slack_real K _ _ _ (slack_limit f bounds h Upper a b 0 (omega arith)),
-    slack_real K _ _ _ (slack_limit f bounds h Upper a b 1 (omega arith)),
-    slack_real K _ _ _ (slack_limit f bounds h Upper a b 2 (omega arith)),
+    slack_real K _ _ _ (slack_limit f h Upper a b 0 (omega arith)),
+    slack_real K _ _ _ (slack_limit f h Upper a b 1 (omega arith)),
+    slack_real K _ _ _ (slack_limit f h Upper a b 2 (omega arith)),
   )
 
   -- ---- signs

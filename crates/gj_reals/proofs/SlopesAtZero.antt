@@ -2,7 +2,7 @@
 use Rattle.std.proofs.Common.{◌≡◌, ◌≢◌, ℕ, ◌+◌, ◌-◌, [], ◌∷◌, refl, sym, subst₂, ap, ◌∙◌, arith}
 use Rattle.gj_shape.specs.FunctionData.{FunctionData, IsWithinBounds, IsContinuous, at}
 use Rattle.gj_shape.specs.Table.{IsMinimal}
-use Rattle.gj_shape.proofs.TableLemmas.{table_of_order, at_plus_order}
+use Rattle.gj_shape.proofs.TableLemmas.{table_of_order, at_plus_order, pieces_of}
 use Rattle.gj_fields.specs.Fields.{OrderedField, HasFloor, AtMost, number, whole}
 use Rattle.gj_fields.specs.Functions.{HasRules}
 use Rattle.gj_fields.specs.MixedCuts.{HasSlopesAtZero}
@@ -29,7 +29,7 @@ module _ {R : Type 0} (K : OrderedField R) (floors : HasFloor K) (f : FunctionDa
   V a = whole K (at f.value a)
 
   q_some : q ≢ o
-  q_some = number_some K f.order (order_some K floors f bounds)
+  q_some = number_some K f.order (order_some K floors f (pieces_of bounds))
 
   q_is : times q (K.inverse q) ≡ e
   q_is = K.times_inverse q q_some
@@ -38,7 +38,7 @@ module _ {R : Type 0} (K : OrderedField R) (floors : HasFloor K) (f : FunctionDa
   zero_value = ap (whole K) (sym (table_of_order f 0) ∙ (h 1 (omega arith)).zero_at_zero)
 
   rules : HasRules K (real_function K floors f) (real_place K f)
-  rules = rules_at_reals K floors f bounds h
+  rules = rules_at_reals K floors f (pieces_of bounds) h
 
   -- order times what is from 0 to 1/order is from 0 to 1
   scaled_inside : (x : R) → AtMost K o x → AtMost K x (K.inverse q) → IsInside K floors (times q x)
@@ -72,7 +72,7 @@ module _ {R : Type 0} (K : OrderedField R) (floors : HasFloor K) (f : FunctionDa
         let inside = scaled_inside x low fits in
         let l = plus e (negative r) in
         let last = f.order - 1 in
-        let next : last + 1 ≡ f.order = let some = order_some K floors f bounds in omega arith in
+        let next : last + 1 ≡ f.order = let some = order_some K floors f (pieces_of bounds) in omega arith in
         let turn : 0 + f.order ≡ f.order = omega arith in
         let end : V (last + 1) ≡ o = ap V (next ∙ sym turn)
         ∙ ap (whole K) (at_plus_order f.value 0 f.order bounds.value_length) ∙ zero_value in

@@ -14,7 +14,7 @@ use Rattle.gj_shape.proofs.AtLemmas.{at_left_small, at_value_small, at_right_sma
 use Rattle.gj_shape.proofs.GivenFractions.{all_small, list_is_at}
 use Rattle.gj_shape.proofs.InOrder.{all_from_in_order}
 use Rattle.gj_shape.proofs.LeastDenominator.{Divides}
-use Rattle.gj_shape.proofs.TableLemmas.{at_plus_order, entry_period, entry_between, period_of_parts, table_parts, table_at, table_between, table_finer}
+use Rattle.gj_shape.proofs.TableLemmas.{at_plus_order, entry_period, pieces_of, entry_between, period_of_parts, table_parts, table_at, table_between, table_finer}
 use Rattle.gj_shape.proofs.ValueLemmas.{entry_of_values}
 
 -- ---- a refined list
@@ -22,7 +22,7 @@ use Rattle.gj_shape.proofs.ValueLemmas.{entry_of_values}
 entry_or_value_period : (f : FunctionData) (xs : List ℤ) (m a r : ℕ) → IsWithinBounds f → length xs ≡ f.order →
     entry_or_value f xs m (a + f.order) r ≡ entry_or_value f xs m a r
 entry_or_value_period f xs m a zero h e = ap (λ z. pos m *ℤ z) (at_plus_order xs a f.order e)
-entry_or_value_period f xs m a (suc r) h e = entry_period f m a (suc r) h
+entry_or_value_period f xs m a (suc r) h e = entry_period f m a (suc r) (pieces_of h)
 
 -- it goes by the remainder of the index
 refined_remainder : (f : FunctionData) (xs : List ℤ) (m i : ℕ) → 0 < m → IsWithinBounds f → length xs ≡ f.order →

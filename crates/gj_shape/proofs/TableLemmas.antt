@@ -6,7 +6,7 @@ use Rattle.gj_lemmas.proofs.Integers.{one_mul_z}
 use Rattle.gj_lemmas.proofs.Quotients.{parts_of_place}
 use Rattle.gj_lemmas.proofs.Ring.{by_ring, ring}
 use Rattle.gj_shape.proofs.AtLemmas.{at_plus_length}
-use Rattle.gj_shape.specs.FunctionData.{FunctionData, IsWithinBounds, IsContinuous, at}
+use Rattle.gj_shape.specs.FunctionData.{FunctionData, IsWithinBounds, IsPiecewise, IsContinuous, at}
 use Rattle.gj_shape.specs.Table.{table, entry}
 use Rattle.gj_shape.specs.Faces.{corners_of, slack_from, limits_of}
 use Rattle.gj_shape.specs.declared.faces.FaceKind.{FaceKind}
@@ -43,7 +43,7 @@ table_parts f m i a r e below = let parts = parts_of_place i a m r e below in ap
 pub at_plus_order : (xs : List ℤ) (i n : ℕ) → length xs ≡ n → at xs (i + n) ≡ at xs i
 at_plus_order xs i n e = subst (λ (k : ℕ). at xs (i + k) ≡ at xs i) e (at_plus_length xs i)
 
-pub entry_period : (f : FunctionData) (m a r : ℕ) → IsWithinBounds f → entry f m (a + f.order) r ≡ entry f m a r
+pub entry_period : (f : FunctionData) (m a r : ℕ) → IsPiecewise f → entry f m (a + f.order) r ≡ entry f m a r
 entry_period f m a zero h = ap (λ z. pos m *ℤ z) (at_plus_order f.value a f.order h.value_length)
 entry_period f m a (suc r) h =
     let next : a + f.order + 1 ≡ a + 1 + f.order = omega arith in
@@ -59,9 +59,24 @@ period_of_parts e q m i some step =
     ap₂ e parts.0 parts.1 ∙ step (i / m) (i % m)
 
 -- the table has the order of its grid as a period
-pub table_period : (f : FunctionData) (m i : ℕ) → 0 < m → IsWithinBounds f → table f m (i + f.order * m) ≡ table f m i
+pub period_of_table : (f : FunctionData) (m i : ℕ) → 0 < m → IsPiecewise f → table f m (i + f.order * m) ≡ table f m i
 unfolding table
-table_period f m i some h = period_of_parts (entry f m) f.order m i some (λ a r. entry_period f m a r h)
+period_of_table f m i some h = period_of_parts (entry f m) f.order m i some (λ a r. entry_period f m a r h)
+
+-- a function within the limits is one
+pub pieces_of : {f : FunctionData} → IsWithinBounds f → IsPiecewise f
+pieces_of h = record {
+  order_low = h.order_low;
+  place_low = h.place_low;
+  place_high = h.place_high;
+  scale_low = h.scale_low;
+  left_length = h.left_length;
+  value_length = h.value_length;
+  right_length = h.right_length;
+}
+
+pub table_period : (f : FunctionData) (m i : ℕ) → 0 < m → IsWithinBounds f → table f m (i + f.order * m) ≡ table f m i
+table_period f m i some h = period_of_table f m i some (pieces_of h)
 
 value_scaled_z : (d m : ℕ) (x : ℤ) → pos (d * m) *ℤ x ≡ pos m *ℤ (pos d *ℤ x)
 value_scaled_z d m x = by_ring (pos d ∷ pos m ∷ x ∷ []) (search ring depth 20) refl

@@ -51,6 +51,17 @@ pub record IsWithinBounds (f : FunctionData) : Type 0 where
   pub right_small : All (IsSmallOver f.scale) f.right
   pub lowest : (d : ℕ) → d ∣ f.scale → All (λ n. d ∣ unsigned_abs n) (f.left ++ f.value ++ f.right) → d ≡ 1
 
+-- data of a function, of any order and with numbers of any size: 2 pieces or more, f strictly
+-- between 0 and 1, and for each piece a value and two limits
+pub record IsPiecewise (f : FunctionData) : Type 0 where
+  pub order_low : 2 ≤ f.order
+  pub place_low : 1 ≤ f.place
+  pub place_high : f.place < f.order
+  pub scale_low : 1 ≤ f.scale
+  pub left_length : length f.left ≡ f.order
+  pub value_length : length f.value ≡ f.order
+  pub right_length : length f.right ≡ f.order
+
 -- the three fractions at i/order are not all equal
 abbrev pub IsJump : FunctionData → ℕ → Type 0
 IsJump f i = (at f.left i ≢ at f.value i) ⊎ (at f.value i ≢ at f.right i)

@@ -37,3 +37,27 @@ pub struct Halves {
     /// The values of the second function, each times the scale.
     pub second: List<i128>,
 }
+
+/// A function that may jump, given on a grid by whole numbers over some scale.
+#[derive(Debug, Drop)]
+pub struct SideNumbers {
+    /// The limit from the left at each point of the grid.
+    pub left: List<i128>,
+    /// The value there.
+    pub value: List<i128>,
+    /// The limit from the right there.
+    pub right: List<i128>,
+}
+
+/// Two functions that may jump, on one grid and over one scale.
+#[derive(Debug, Drop)]
+pub struct LimitHalves {
+    /// The order of the grid.
+    pub order: u32,
+    /// The scale of all numbers.
+    pub scale: i128,
+    /// The first function.
+    pub first: SideNumbers,
+    /// The second function.
+    pub second: SideNumbers,
+}

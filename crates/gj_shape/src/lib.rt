@@ -31,7 +31,7 @@ mod violations;
 
 pub use breaks::{Break, BreakFault, Breaks};
 pub use denominators::small_denominator;
-pub use extremality::{CoverLine, Halves, RowName};
+pub use extremality::{CoverLine, Halves, LimitHalves, RowName, SideNumbers};
 pub use faces::{Face, FaceKind};
 pub use faults::ShapeFault;
 pub use index::wrapped;

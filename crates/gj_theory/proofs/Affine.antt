@@ -1,7 +1,7 @@
 -- On each face of a grid the slack is the sum of its limits at the corners, each with a weight.
 use Rattle.std.proofs.Common.{◌≡◌, ℕ, zero, suc, ◌+◌, ◌-◌, ◌*◌, ◌<◌, ◌≤◌, ℤ, pos, ◌+ℤ◌, ◌-ℤ◌, ◌*ℤ◌, List, [], ◌∷◌, length, refl, ap, ap₂, sym, ◌∙◌, arith}
 use Rattle.gj_lemmas.proofs.Ring.{by_ring, ring}
-use Rattle.gj_shape.specs.FunctionData.{FunctionData, IsWithinBounds, at}
+use Rattle.gj_shape.specs.FunctionData.{FunctionData, at}
 use Rattle.gj_shape.specs.Table.{table}
 use Rattle.gj_shape.specs.Faces.{corners_of, limits_of}
 use Rattle.gj_shape.specs.FirstViolation.{near, first_coordinates, second_coordinates}
@@ -337,15 +337,15 @@ near_upper f a b (suc (suc zero)) h below low =
 near_upper f a b (suc (suc (suc c))) h below low = absurd (omega arith)
 
 -- on every face
-pub near_corner : (f : FunctionData) (kind : FaceKind) (a b c h : ℕ) → IsWithinBounds f →
+pub near_corner : (f : FunctionData) (kind : FaceKind) (a b c h : ℕ) →
     c < length (corners_of kind a b) → length (corners_of kind a b) ≤ h →
     table f h (near h c (first_coordinates kind a b)) +ℤ table f h (near h c (second_coordinates kind a b))
     ≡ table f h (near h c (first_coordinates kind a b) + near h c (second_coordinates kind a b))
     +ℤ near_value h c (limits_of f kind a b)
-near_corner f Vertex a b zero h l below low = near_vertex f a b h low
-near_corner f Vertex a b (suc c) h l below low = absurd (omega arith)
-near_corner f Horizontal a b c h l below low = near_horizontal f a b c h below low
-near_corner f Vertical a b c h l below low = near_vertical f a b c h below low
-near_corner f Diagonal a b c h l below low = near_diagonal f a b c h below low
-near_corner f Lower a b c h l below low = near_lower f a b c h below low
-near_corner f Upper a b c h l below low = near_upper f a b c h below low
+near_corner f Vertex a b zero h below low = near_vertex f a b h low
+near_corner f Vertex a b (suc c) h below low = absurd (omega arith)
+near_corner f Horizontal a b c h below low = near_horizontal f a b c h below low
+near_corner f Vertical a b c h below low = near_vertical f a b c h below low
+near_corner f Diagonal a b c h below low = near_diagonal f a b c h below low
+near_corner f Lower a b c h below low = near_lower f a b c h below low
+near_corner f Upper a b c h below low = near_upper f a b c h below low

@@ -6,7 +6,7 @@ use Rattle.std.proofs.lemmas.Int.{ints}
 use Rattle.gj_lemmas.proofs.Integers.{mul_nonnegative_z}
 use Rattle.gj_lemmas.proofs.Quotients.{same_at_remainder, parts_of_remainder, place_sum_low, place_sum_high}
 use Rattle.gj_lemmas.proofs.Ring.{by_ring, ring}
-use Rattle.gj_shape.specs.FunctionData.{FunctionData, IsWithinBounds, at}
+use Rattle.gj_shape.specs.FunctionData.{FunctionData, IsWithinBounds, IsPiecewise, at}
 use Rattle.gj_shape.specs.Faces.{limits_of}
 use Rattle.gj_shape.specs.Table.{table, IsMinimalOnGrid, IsMinimal}
 use Rattle.gj_shape.specs.FirstViolation.{Test, Passes, PassesAll}
@@ -14,7 +14,7 @@ use Rattle.gj_shape.specs.FirstViolation.Test.{zero_at_zero, nonnegative_at, non
 use Rattle.gj_shape.specs.declared.faces.FaceKind.{FaceKind}
 use Rattle.gj_shape.specs.declared.faces.FaceKind.TheVariants.{Vertex, Horizontal, Vertical, Diagonal, Lower, Upper}
 use Rattle.gj_shape.proofs.AtLemmas.{at_wrapped}
-use Rattle.gj_shape.proofs.TableLemmas.{table_period}
+use Rattle.gj_shape.proofs.TableLemmas.{period_of_table, pieces_of}
 use Rattle.gj_theory.specs.EarlierTests.{IsTestOf}
 use Rattle.gj_theory.proofs.Everywhere.{at_same, opposite_index, everywhere, symmetric_everywhere}
 use Rattle.gj_theory.proofs.Affine.{limit_count, weighted, table_at_place, table_inside, slack_on_vertex, slack_on_horizontal, slack_on_vertical, slack_on_diagonal, slack_on_lower, slack_on_upper}
@@ -45,14 +45,14 @@ nonnegative_sum u r x y p q =
     omega (arith, ints)
 
 -- the limit from the left at every index but the first is that at an index below the order
-left_nonnegative : (f : FunctionData) → IsWithinBounds f → PassesEach f → (i : ℕ) → pos 0 ≤ℤ at f.left (i + 1)
+left_nonnegative : (f : FunctionData) → IsPiecewise f → PassesEach f → (i : ℕ) → pos 0 ≤ℤ at f.left (i + 1)
 left_nonnegative f l h i =
     let some : 0 < f.order = omega arith in
     let next : (i % f.order + 1) % f.order ≡ (i + 1) % f.order = mod-add-mod i f.order 1 in
     subst (λ z. pos 0 ≤ℤ z) (at_same f.left (i % f.order + 1) (i + 1) f.order l.left_length next)
     (h (nonnegative_before (i % f.order)) (mod-lt i some))
 
-sign_at : (f : FunctionData) → IsWithinBounds f → PassesEach f → (m i a : ℕ) → 0 < m → Place m i a →
+sign_at : (f : FunctionData) → IsPiecewise f → PassesEach f → (m i a : ℕ) → 0 < m → Place m i a →
     pos 0 ≤ℤ table f m i
 sign_at f l h m i a some (at_multiple e) =
     let any : 0 < f.order = omega arith in
@@ -70,7 +70,7 @@ sign_at f l h m i a some (inside r u e whole u_some r_some) =
 -- ---- symmetry
 
 -- the limits at opposite places add up to 1: b + 1 is opposite to a
-pub limits_symmetric : (f : FunctionData) → IsWithinBounds f → PassesEach f → (a b : ℕ) →
+pub limits_symmetric : (f : FunctionData) → IsPiecewise f → PassesEach f → (a b : ℕ) →
     (a + (b + 1)) % f.order ≡ f.place % f.order → at f.right a +ℤ at f.left (b + 1) ≡ pos f.scale
 limits_symmetric f l h a b e =
     let some : 0 < f.order = omega arith in
@@ -81,7 +81,7 @@ limits_symmetric f l h a b e =
     (opposite_index a (b + 1) f.place f.order some e) in
     ap₂ (λ x y. x +ℤ y) first second ∙ (h (symmetric_between c) (mod-lt a some)).0
 
-pub values_symmetric : (f : FunctionData) → IsWithinBounds f → PassesEach f → (a b : ℕ) →
+pub values_symmetric : (f : FunctionData) → IsPiecewise f → PassesEach f → (a b : ℕ) →
     (a + b) % f.order ≡ f.place % f.order → at f.value a +ℤ at f.value b ≡ pos f.scale
 values_symmetric f l h =
     symmetric_everywhere f.value f.order f.place f.scale l.value_length (omega arith)
@@ -111,7 +111,7 @@ opposite_parts i j k q m q_some m_some e =
     )
 
 -- opposite places are both at multiples of 1/order or both between them
-symmetric_low : (f : FunctionData) → IsWithinBounds f → PassesEach f → (m i j : ℕ) → 0 < m →
+symmetric_low : (f : FunctionData) → IsPiecewise f → PassesEach f → (m i j : ℕ) → 0 < m →
     (i + j) / m % f.order ≡ f.place % f.order → (i + j) % m ≡ 0 → i % m + j % m < m →
     table f m i +ℤ table f m j ≡ pos (f.scale * m)
 symmetric_low f l h m i j some e rest low =
@@ -121,7 +121,7 @@ symmetric_low f l h m i j some e rest low =
     ap₂ (λ x y. x +ℤ y) (table_at_place f m i (i / m) first some) (table_at_place f m j (j / m) second some)
     ∙ scaled_sum m f.scale _ _ (values_symmetric f l h (i / m) (j / m) (ap (λ n. n % f.order) (sym parts.0) ∙ e))
 
-symmetric_high : (f : FunctionData) → IsWithinBounds f → PassesEach f → (m i j : ℕ) → 0 < m →
+symmetric_high : (f : FunctionData) → IsPiecewise f → PassesEach f → (m i j : ℕ) → 0 < m →
     (i + j) / m % f.order ≡ f.place % f.order → (i + j) % m ≡ 0 → m ≤ i % m + j % m →
     table f m i +ℤ table f m j ≡ pos (f.scale * m)
 symmetric_high f l h m i j some e rest high =
@@ -143,7 +143,7 @@ symmetric_high f l h m i j some e rest high =
     ∙ weighted_sum s r m f.scale (at f.right a) (at f.left (a + 1)) (at f.right b) (at f.left (b + 1)) whole
     (limits_symmetric f l h a b there) (limits_symmetric f l h b a back)
 
-symmetric_places : (f : FunctionData) → IsWithinBounds f → PassesEach f → (m i j : ℕ) → 0 < m →
+symmetric_places : (f : FunctionData) → IsPiecewise f → PassesEach f → (m i j : ℕ) → 0 < m →
     (i + j) % (f.order * m) ≡ (f.place * m) % (f.order * m) → table f m i +ℤ table f m j ≡ pos (f.scale * m)
 symmetric_places f l h m i j some e =
     let parts = opposite_parts i j f.place f.order m (omega arith) some e in
@@ -231,18 +231,18 @@ square_of i q m q_some m_some =
     let below = mod-lt (i / m) q_some in
     omega arith
 
-subadditive_places : (f : FunctionData) → IsWithinBounds f → PassesEach f → (m : ℕ) → 0 < m →
+subadditive_places : (f : FunctionData) → IsPiecewise f → PassesEach f → (m : ℕ) → 0 < m →
     (i j : ℕ) → table f m (i + j) ≤ℤ (table f m i +ℤ table f m j)
 subadditive_places f l h m some =
     let n = f.order * m in
     let any : 0 < f.order = omega arith in
-    subadditive_from_below (table f m) n (λ i. table_period f m i some l) (λ i j.
+    subadditive_from_below (table f m) n (λ i. period_of_table f m i some l) (λ i j.
     subadditive_in_square f h m (i % n) (j % n) (i % n / m) (j % n / m) some (square_of i f.order m any some)
     (square_of j f.order m any some) (place_of m (i % n) some) (place_of m (j % n) some))
 
-minimal_on_grid : (f : FunctionData) → IsWithinBounds f → PassesEach f → (m : ℕ) → 0 < m → IsMinimalOnGrid f m
+minimal_on_grid : (f : FunctionData) → IsPiecewise f → PassesEach f → (m : ℕ) → 0 < m → IsMinimalOnGrid f m
 minimal_on_grid f l h m some = record {
-  has_period = λ i. table_period f m i some l;
+  has_period = λ i. period_of_table f m i some l;
   zero_at_zero =
       table_at_place f m 0 0 (omega arith) some ∙ ap (λ z. pos m *ℤ z) (h zero_at_zero tt) ∙ omega (arith, ints);
   nonnegative = λ i. sign_at f l h m i (i / m) some (place_of m i some);
@@ -251,5 +251,8 @@ minimal_on_grid f l h m some = record {
 }
 
 -- if all tests pass the table on every grid is minimal
+pub minimal_by_tests : (f : FunctionData) → IsPiecewise f → PassesAll f → IsMinimal f
+minimal_by_tests f l h m some = minimal_on_grid f l (test_has f (Passes f) h) m some
+
 pub minimal_from_tests : (f : FunctionData) → IsWithinBounds f → PassesAll f → IsMinimal f
-minimal_from_tests f l h m some = minimal_on_grid f l (test_has f (Passes f) h) m some
+minimal_from_tests f l h = minimal_by_tests f (pieces_of l) h

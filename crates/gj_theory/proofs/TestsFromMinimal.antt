@@ -3,7 +3,7 @@ use Rattle.std.proofs.Common.{◌≡◌, ℕ, ◌+◌, ◌-◌, ◌*◌, ◌%◌
 use Rattle.std.proofs.Math.Nat.{add-mod_right}
 use Rattle.std.proofs.lemmas.Int.{ints}
 use Rattle.gj_lemmas.proofs.Integers.{le_from_multiples_z}
-use Rattle.gj_shape.specs.FunctionData.{FunctionData, IsWithinBounds, at}
+use Rattle.gj_shape.specs.FunctionData.{FunctionData, at}
 use Rattle.gj_shape.specs.Faces.{corners_of, limits_of}
 use Rattle.gj_shape.specs.Table.{table, IsMinimal}
 use Rattle.gj_shape.specs.FirstViolation.{Test, Passes, PassesAll, near, first_coordinates, second_coordinates}
@@ -47,16 +47,16 @@ left_limit f h i =
 excess : (s w : ℤ) {x : ℤ} → x ≡ s +ℤ w → s ≤ℤ x → pos 0 ≤ℤ w
 excess s w e h = omega (arith, ints)
 
-pub slack_limit : (f : FunctionData) → IsWithinBounds f → IsMinimal f →
+pub slack_limit : (f : FunctionData) → IsMinimal f →
     (kind : FaceKind) (a b c : ℕ) →
     c < length (corners_of kind a b) → pos 0 ≤ℤ get_or (limits_of f kind a b) c (pos 0)
-slack_limit f l h kind a b c below =
+slack_limit f h kind a b c below =
     limit_from_near (length (limits_of f kind a b)) (get_or (limits_of f kind a b) c (pos 0))
     (total (limits_of f kind a b)) (λ n low some.
     let x = near n c (first_coordinates kind a b) in
     let y = near n c (second_coordinates kind a b) in
     excess (table f n (x + y)) (near_value n c (limits_of f kind a b))
-    (near_corner f kind a b c n l below (omega (arith, limit_count f kind a b, low)))
+    (near_corner f kind a b c n below (omega (arith, limit_count f kind a b, low)))
     ((h n some).subadditive x y))
 
 -- ---- symmetry
@@ -98,16 +98,16 @@ symmetric_values f h i below =
 
 -- ---- all tests
 
-pub passes_each : (f : FunctionData) → IsWithinBounds f → IsMinimal f →
+pub passes_each : (f : FunctionData) → IsMinimal f →
     (t : Test) → IsTestOf f t → Passes f t
-passes_each f l h zero_at_zero i = sym (table_of_order f 0) ∙ (h 1 (omega arith)).zero_at_zero
-passes_each f l h (nonnegative_at k) i =
+passes_each f h zero_at_zero i = sym (table_of_order f 0) ∙ (h 1 (omega arith)).zero_at_zero
+passes_each f h (nonnegative_at k) i =
     subst (λ z. pos 0 ≤ℤ z) (table_of_order f k) ((h 1 (omega arith)).nonnegative k)
-passes_each f l h (nonnegative_after k) i = right_limit f h k
-passes_each f l h (nonnegative_before k) i = left_limit f h k
-passes_each f l h (symmetric_at k) i = symmetric_values f h k i
-passes_each f l h (symmetric_between k) i = symmetric_limits f h k i
-passes_each f l h (subadditive_at kind a b c) i = slack_limit f l h kind a b c i.2
+passes_each f h (nonnegative_after k) i = right_limit f h k
+passes_each f h (nonnegative_before k) i = left_limit f h k
+passes_each f h (symmetric_at k) i = symmetric_values f h k i
+passes_each f h (symmetric_between k) i = symmetric_limits f h k i
+passes_each f h (subadditive_at kind a b c) i = slack_limit f h kind a b c i.2
 
-pub tests_from_minimal : (f : FunctionData) → IsWithinBounds f → IsMinimal f → PassesAll f
-tests_from_minimal f l h = each_test f (Passes f) (passes_each f l h)
+pub tests_from_minimal : (f : FunctionData) → IsMinimal f → PassesAll f
+tests_from_minimal f h = each_test f (Passes f) (passes_each f h)
