@@ -7,6 +7,7 @@ use Rattle.gj_shape.specs.Cover.{IsCovered}
 use Rattle.gj_shape.specs.Extreme.{IsExtreme}
 use Rattle.gj_shape.specs.FunctionData.{FunctionData, IsWithinBounds, IsContinuous}
 use Rattle.gj_shape.specs.Table.{table, IsMinimal}
+use Rattle.gj_shape.proofs.TableLemmas.{pieces_of}
 use Rattle.gj_theory.proofs.DecidingGrid.{HasNoPerturbation, none_from_extreme, not_uncovered}
 use Rattle.gj_fields.specs.Fields.{OrderedField, HasFloor, AtMost, number, whole}
 use Rattle.gj_fields.specs.Functions.{IsSamePoint, IsMinimalAmong, IsExtremeAmong, HasRules}
@@ -46,10 +47,10 @@ module _ {R : Type 0} (K : OrderedField R) (floors : HasFloor K) (f : FunctionDa
   no_perturbation : (m : ℕ) → 0 < m → HasNoPerturbation (table f m) (f.order * m) (f.place * m)
   no_perturbation m some =
       none_from_extreme (table f m) (f.order * m) (f.place * m) (f.scale * m)
-      (mul-pos (order_some K floors f bounds) some) (extreme m some)
+      (mul-pos (order_some K floors f (pieces_of bounds)) some) (extreme m some)
 
   pub minimal_there : IsMinimalAmong K v place
-  minimal_there = rules_minimal K v place (rules_at_reals K floors f bounds minimal)
+  minimal_there = rules_minimal K v place (rules_at_reals K floors f (pieces_of bounds) minimal)
 
   at_most_one : (a : R → R) → HasRules K a place → (x : R) → AtMost K (a x) e
   at_most_one a h x =
@@ -180,12 +181,12 @@ module _ {R : Type 0} (K : OrderedField R) (floors : HasFloor K) (f : FunctionDa
         let k = (i + j) % f.order in
         ap₂ plus (w_low i i_low) (w_low j j_low) ∙ at_tight i j tight
         ∙ turn (i + j) k o (sym (mod-mod (i + j) f.order))
-        ∙ sym (w_low k (mod-lt (i + j) (order_some K floors f bounds))))
+        ∙ sym (w_low k (mod-lt (i + j) (order_some K floors f (pieces_of bounds)))))
 
     zero_at : (i : ℕ) → d (p i o) ≡ o
     zero_at i =
         turn i (i % f.order) o (sym (mod-mod i f.order))
-        ∙ sym (w_low (i % f.order) (mod-lt i (order_some K floors f bounds)))
+        ∙ sym (w_low (i % f.order) (mod-lt i (order_some K floors f (pieces_of bounds))))
         ∙ zero_below (i % f.order)
 
     -- ---- 0 on each interval
@@ -218,9 +219,9 @@ module _ {R : Type 0} (K : OrderedField R) (floors : HasFloor K) (f : FunctionDa
     equal x =
         let z = Rattle.gj_fields.specs.Fields.HasFloor.floor floors (times q x) in
         let l = plus (times q x) (negative (whole K z)) in
-        let parts : HasParts K floors f bounds x z l = some_parts K floors f bounds x in
+        let parts : HasParts K floors f (pieces_of bounds) x z l = some_parts K floors f (pieces_of bounds) x in
         let i = index_of z f.order in
-        let some = order_some K floors f bounds in
+        let some = order_some K floors f (pieces_of bounds) in
         let index = index_is z f.order some in
         let n = number K index.n in
         let m = number K index.m in

@@ -5,6 +5,7 @@ use Rattle.std.proofs.Math.Nat.{mod-lt, div-add-mod'}
 use Rattle.gj_shape.specs.Extreme.{IsExtreme, AverageTo}
 use Rattle.gj_shape.specs.FunctionData.{FunctionData, IsWithinBounds, IsContinuous, at}
 use Rattle.gj_shape.specs.Table.{table, IsMinimalTable, IsMinimal}
+use Rattle.gj_shape.proofs.TableLemmas.{pieces_of}
 use Rattle.gj_theory.proofs.TightFaces.{value_at_place}
 use Rattle.gj_fields.specs.Fields.{OrderedField, HasFloor, AtMost, number, whole}
 use Rattle.gj_fields.specs.Functions.{IsSamePoint, IsValid, IsExtremeAmong, HasRules}
@@ -77,7 +78,7 @@ module _ {R : Type 0} (K : OrderedField R) (floors : HasFloor K) (f : FunctionDa
   rules = rules_of_minimal K floors v place (extreme_minimal K v place h)
 
   minimal : IsMinimal f
-  minimal = rules_give_minimal K floors f bounds rules
+  minimal = rules_give_minimal K floors f (pieces_of bounds) rules
 
   module _ (m : ℕ) (some : 0 < m) where
     abbrev t : ℕ → ℤ
@@ -90,7 +91,7 @@ module _ {R : Type 0} (K : OrderedField R) (floors : HasFloor K) (f : FunctionDa
     s = f.scale * m
 
     n_some : 0 < n
-    n_some = grid_some K floors f bounds m some
+    n_some = grid_some K floors f (pieces_of bounds) m some
 
     s_some : 0 < s
     s_some = mul-pos (omega (arith, bounds.scale_low)) some
@@ -124,7 +125,7 @@ module _ {R : Type 0} (K : OrderedField R) (floors : HasFloor K) (f : FunctionDa
         let N = number K r in
         let L = times (plus N l) w in
         let u = K.inverse (number K n) in
-        let M_is' = M_is K floors f bounds m some in
+        let M_is' = M_is K floors f (pieces_of bounds) m some in
         let V = whole K (at f.value a) in
         let V' = whole K (at f.value (a + 1)) in
         let first : whole K (t i) ≡ plus (times (plus M (negative N)) V) (times N V') =
@@ -159,8 +160,8 @@ module _ {R : Type 0} (K : OrderedField R) (floors : HasFloor K) (f : FunctionDa
         ∙ ring K (A ∷ M ∷ N ∷ l ∷ u ∷ w ∷ [])
         ((var 0 ⊗ var 1 ⊕ (var 2 ⊕ var 3) ⊗ (var 1 ⊗ var 5)) ⊗ var 4)
         ((var 0 ⊕ (var 2 ⊕ var 3) ⊗ var 5) ⊗ (var 4 ⊗ var 1)) refl
-        ∙ ap (times (plus A L)) (inverse_times K floors f bounds m some f.order
-        (order_some K floors f bounds)) in
+        ∙ ap (times (plus A L)) (inverse_times K floors f (pieces_of bounds) m some f.order
+        (order_some K floors f (pieces_of bounds))) in
         let w_low = inverse_low K M (number_low K m) (number_some K m some) in
         let L_inside : IsInside K floors L = record {
           low = K.times_keeps (plus N l) w
@@ -172,7 +173,7 @@ module _ {R : Type 0} (K : OrderedField R) (floors : HasFloor K) (f : FunctionDa
         } in
         ap v there ∙ on_line K floors f bounds continuous a L L_inside
         ∙ ap (times (line K floors f bounds continuous a L))
-        (sym (inverse_times K floors f bounds m some f.scale (omega (arith, bounds.scale_low))))
+        (sym (inverse_times K floors f (pieces_of bounds) m some f.scale (omega (arith, bounds.scale_low))))
         ∙ ring K (N ∷ l ∷ w ∷ V ∷ V' ∷ Y ∷ M ∷ [])
         (((unit ⊕ neg ((var 0 ⊕ var 1) ⊗ var 2)) ⊗ var 3 ⊕ (var 0 ⊕ var 1) ⊗ var 2 ⊗ var 4)
         ⊗ (var 5 ⊗ var 6))
@@ -193,7 +194,7 @@ module _ {R : Type 0} (K : OrderedField R) (floors : HasFloor K) (f : FunctionDa
         ∙ ring K (number K f.order ∷ M ∷ number K f.place ∷ K.inverse (number K f.order) ∷ [])
         (var 0 ⊗ var 1 ⊗ (var 2 ⊗ var 3)) (var 0 ⊗ (var 2 ⊗ var 1 ⊗ var 3)) refl
         ∙ inverse_at K (number K f.order) (times (number K f.place) M)
-        (number_some K f.order (order_some K floors f bounds))
+        (number_some K f.order (order_some K floors f (pieces_of bounds)))
         ∙ sym (number_times K f.place m)
 
     module _ (c : ℕ) (a b : ℕ → ℤ) (c_some : 0 < c) (A : IsMinimalTable a n (f.place * m) (c * s))
