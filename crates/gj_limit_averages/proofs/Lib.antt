@@ -1,0 +1,9 @@
+pub mod Corners
+pub mod RefinedData
+pub mod MinimalFromLimits
+pub mod MovedFunctions
+pub mod NoPerturbation
+pub mod FromAverages
+pub mod GridValues
+pub mod AverageValues
+pub mod FromConditions

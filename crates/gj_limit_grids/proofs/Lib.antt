@@ -1,0 +1,5 @@
+pub mod Bounds
+pub mod FaceWeights
+pub mod Refined
+pub mod Turned
+pub mod Zigzag
