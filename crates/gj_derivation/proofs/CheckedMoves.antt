@@ -16,12 +16,11 @@ use Rattle.gj_problem.proofs.RationalRing.{by_ring_q, ring_q}
 use Rattle.gj_problem.specs.declared.problem.Column.{Column}
 use Rattle.gj_problem.specs.declared.sums.Sum.{Sum}
 use Rattle.gj_problem.specs.Aggregates.{IsUpperBound}
-use Rattle.gj_problem.specs.RoundedCuts.{IsBelowOnGrid}
+use Rattle.gj_problem.specs.Moves.{IsBelowOnGrid, HasLower, HasUpper, IsMovedBy, AreMovedBy}
 use Rattle.gj_problem.proofs.AddedSums.{zero_frac, add_zero_q}
 use Rattle.gj_problem.proofs.GridParts.{below_from_floor}
 use Rattle.gj_problem.proofs.HeldInequalities.{whole_frac}
 use Rattle.gj_problem.proofs.MovedEntries.{double_neg}
-use Rattle.gj_derivation.specs.Moves.{HasLower, HasUpper, IsMovedBy, AreMovedBy}
 use Rattle.gj_derivation.specs.Derivations.{times, IsWholeTerm, AreWholeTerms, IsRoundedUp, IsRightOf}
 use Rattle.gj_derivation.specs.Checks.{IsUnmovable, IsFirstUnmovable, line_of_sum, claimed_at, IsWideMoved, IsWideMoving}
 use Rattle.gj_derivation.proofs.ClaimsHold.{at_most_zero}

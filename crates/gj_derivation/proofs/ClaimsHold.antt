@@ -18,9 +18,9 @@ use Rattle.gj_problem.specs.declared.problem.Sense.{Sense}
 use Rattle.gj_problem.specs.declared.problem.Sense.TheVariants.{AtMost, AtLeast, Equal}
 use Rattle.gj_problem.specs.Problems.{sum_at, Meets, MeetsColumn, MeetsConstraint, IsFeasible, Holds, IsConstraint}
 use Rattle.gj_problem.specs.Rows.{IsSignFor}
-use Rattle.gj_problem.specs.RoundedCuts.{IsBelowOnGrid}
+use Rattle.gj_problem.specs.Moves.{IsBelowOnGrid, IsUnmoved, IsMovedUp, IsMovedDown, IsMovedBy, HasLower, HasUpper, AreMovedBy}
 use Rattle.gj_problem.proofs.TurnedColumns.{lower_rounded, upper_rounded}
-use Rattle.gj_problem.proofs.HeldInequalities.{constraint_at, whole_sum, whole_product, if_some, raised, lowered, kept_change, no_change, change_step}
+use Rattle.gj_problem.proofs.HeldInequalities.{constraint_at, whole_sum, whole_product, if_some, move_low, no_change, change_step}
 use Rattle.gj_rule.specs.declared.kind.RuleKind.TheVariants.{Table}
 use Rattle.gj_shape.specs.FunctionData.{FunctionData}
 use Rattle.gj_safe_cut.specs.SafeCuts.{SafeCutHolds}
@@ -32,7 +32,6 @@ use Rattle.gj_derivation.specs.declared.step.Multiplier.{Multiplier}
 use Rattle.gj_derivation.specs.declared.step.Step.{Step}
 use Rattle.gj_derivation.specs.declared.step.StepRule.{StepRule}
 use Rattle.gj_derivation.specs.declared.step.StepRule.TheVariants.{Linear, Gmic, Function}
-use Rattle.gj_derivation.specs.Moves.{IsUnmoved, IsMovedUp, IsMovedDown, IsMovedBy, HasLower, HasUpper, AreMovedBy}
 use Rattle.gj_derivation.specs.Derivations.{Line, coefficient_in, line_of, coefficient_at, added, times, IsSigned, AreSigned, IsCutBy, IsUsable, IsBaseBy, IsBase, IsWholeTerm, AreWholeTerms, IsRightFor, IsShown, Follows, with_claim, IsDerivation}
 use Rattle.gj_derivation.proofs.ColumnSums.{column_sum, line_at, column_sum_zero, column_sum_more, column_sum_times, sum_by_columns}
 
@@ -54,25 +53,12 @@ below_upper c x b meets (u, is, rounded) =
 
 -- ---- moved coefficients
 
-move_low : (c : Column) (v x y shift : Rational) → MeetsColumn c v →
+column_low : (c : Column) (v x y shift : Rational) → MeetsColumn c v →
     IsMovedBy (HasLower c) (HasUpper c) x y shift →
     IsNonnegativeQ ((y -ℚ x) *ℚ v -ℚ shift)
-move_low c v x y shift meets =
-    ⊎_elim
-    (λ (h : IsUnmoved x y shift).
-    subst IsNonnegativeQ (kept_change x v ∙ ap₂ (λ a b. (a -ℚ x) *ℚ v -ℚ b) (sym h.same)
-    (sym h.shift_is)) (nonnegative_whole (pos 0) (omega (arith, ints))))
-    (⊎_elim
-    (λ (h : IsMovedUp (HasLower c) x y shift).
-    subst IsNonnegativeQ (raised (y -ℚ x) v (rational h.bound)
-    ∙ ap (λ w. (y -ℚ x) *ℚ v -ℚ w) (sym h.shift_is))
-    (nonnegative_mul (y -ℚ x) (v -ℚ rational h.bound) (difference_nonnegative x y h.greater)
-    (above_lower c v h.bound meets h.bound_is)))
-    (λ (h : IsMovedDown (HasUpper c) x y shift).
-    subst IsNonnegativeQ (lowered x y v (rational h.bound)
-    ∙ ap (λ w. (y -ℚ x) *ℚ v -ℚ w) (sym h.shift_is))
-    (nonnegative_mul (x -ℚ y) (rational h.bound -ℚ v) (difference_nonnegative y x h.lesser)
-    (below_upper c v h.bound meets h.bound_is))))
+column_low c v x y shift meets =
+    move_low (HasLower c) (HasUpper c) x y shift v (λ b. above_lower c v b meets)
+    (λ b. below_upper c v b meets)
 
 pub moves_low : (columns : List Column) (point : List Rational) (xs ys : ℕ → Rational)
     (total : Rational) → AllZip MeetsColumn columns point →
@@ -89,7 +75,7 @@ moves_low (c ∷ columns) (v ∷ point) xs ys total meets (shift, rest, moved, m
     subst IsNonnegativeQ
     (change_step (xs zero) (ys zero) v shift f g rest
     ∙ ap (λ w. ((ys zero *ℚ v +ℚ g) -ℚ (xs zero *ℚ v +ℚ f)) -ℚ w) (sym total_is))
-    (nonnegative_add _ _ (move_low c v (xs zero) (ys zero) shift meets.0 moved)
+    (nonnegative_add _ _ (column_low c v (xs zero) (ys zero) shift meets.0 moved)
     (moves_low columns point (λ j. xs (suc j)) (λ j. ys (suc j)) rest meets.1 more))
 
 -- ---- sums of constraints

@@ -5,7 +5,7 @@ use Rattle.gj_problem.proofs.RationalRing.{by_ring_q, ring_q}
 use Rattle.gj_problem.specs.declared.problem.Entry.{Entry}
 use Rattle.gj_problem.specs.Problems.{value_at, sum_at}
 use Rattle.gj_problem.proofs.AddedSums.{zero_step}
-use Rattle.gj_problem.proofs.OneColumn.{nothing_scaled}
+use Rattle.gj_problem.proofs.RationalLaws.{mul_zero_q}
 use Rattle.gj_derivation.specs.Derivations.{Line, unit, coefficient_in}
 
 -- the coefficients, each times its column
@@ -45,7 +45,7 @@ times_columns a x v f = by_ring_q (a ∷ x ∷ v ∷ f ∷ []) (search ring_q de
 
 pub column_sum_times : (point : List Rational) (a : Rational) (xs : ℕ → Rational) →
     column_sum point (λ j. a *ℚ xs j) ≡ a *ℚ column_sum point xs
-column_sum_times [] a xs = nothing_scaled a
+column_sum_times [] a xs = sym (mul_zero_q a)
 column_sum_times (v ∷ point) a xs =
     ap (λ w. (a *ℚ xs zero) *ℚ v +ℚ w) (column_sum_times point a (λ j. xs (suc j)))
     ∙ times_columns a (xs zero) v (column_sum point (λ j. xs (suc j)))

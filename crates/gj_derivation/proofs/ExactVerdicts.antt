@@ -1,5 +1,5 @@
 -- A step that is refused does not follow.
-use Rattle.std.proofs.Common.{◌≡◌, ◌⊎◌, ⊎_elim, inl, inr, ℕ, zero, suc, ◌<◌, Option, None, IfSome, List, [], ◌∷◌, length, get_or, All, refl, sym, subst, ◌∙◌, arith}
+use Rattle.std.proofs.Common.{◌≡◌, ◌⊎◌, ⊎_elim, inl, inr, ℕ, zero, suc, ◌<◌, Option, None, List, [], ◌∷◌, length, get_or, All, refl, sym, subst, ◌∙◌, arith}
 use Rattle.std.proofs.lemmas.List.Elements.{All-head}
 use Rattle.gj_shape.specs.FunctionData.{FunctionData}
 use Rattle.gj_lemmas.proofs.Lists.{All-back}
@@ -9,7 +9,6 @@ use Rattle.gj_problem.specs.declared.problem.Inequality.{Inequality}
 use Rattle.gj_problem.specs.declared.problem.Problem.{Problem}
 use Rattle.gj_safe_cut.specs.declared.cut.SafeCut.{SafeCut}
 use Rattle.gj_safe_cut.specs.declared.cut.SafeCut.TheVariants as cut
-use Rattle.gj_safe_cut.specs.SafeCuts.{IsSameCut}
 use Rattle.gj_derivation.specs.declared.step.Combination.{Combination}
 use Rattle.gj_derivation.specs.declared.step.Multiplier.{Multiplier}
 use Rattle.gj_derivation.specs.declared.step.Step.{Step}
@@ -17,8 +16,8 @@ use Rattle.gj_derivation.specs.declared.step.StepRule.{StepRule}
 use Rattle.gj_derivation.specs.declared.step.StepRule.TheVariants.{Linear}
 use Rattle.gj_derivation.specs.declared.step.Verdict.{Verdict}
 use Rattle.gj_derivation.specs.declared.step.Verdict.TheVariants.{Accepted, Sign, Free, Integral, Other, Bound, Right, Wide}
-use Rattle.gj_derivation.specs.Moves.{IsUnmoved, IsMovedUp, IsMovedDown, IsMovedBy, HasLower, HasUpper, AreMovedBy}
-use Rattle.gj_derivation.specs.Derivations.{Line, coefficient_in, line_of, times, IsSigned, AreSigned, IsUsable, IsCutOf, IsBase, Follows}
+use Rattle.gj_problem.specs.Moves.{IsUnmoved, IsMovedUp, IsMovedDown, IsMovedBy, HasLower, HasUpper, AreMovedBy}
+use Rattle.gj_derivation.specs.Derivations.{Line, coefficient_in, line_of, times, IsSigned, AreSigned, IsUsableFor, IsCutOf, IsBase, Follows}
 use Rattle.gj_derivation.specs.Checks.{IsFirstUnsigned, IsUnmovable, IsVerdict}
 use Rattle.gj_derivation.proofs.CheckedMoves.{at_most_same}
 use Rattle.gj_derivation.proofs.OneBase.{cut_is_one, sum_or_cut, no_cut_of_sum, one_base}
@@ -26,7 +25,7 @@ use Rattle.gj_derivation.proofs.OneRightSide.{follows_if}
 
 -- ---- moves
 
-not_moved : (c : Column) (x y s : Rational) → IsUnmovable c x y →
+pub not_moved : (c : Column) (x y s : Rational) → IsUnmovable c x y →
     IsMovedBy (HasLower c) (HasUpper c) x y s → ⊥
 not_moved c x y s stuck moved =
     ⊎_elim
@@ -42,7 +41,7 @@ not_moved c x y s stuck moved =
     ∙ is in absurd (cc))) moved)
     stuck
 
-not_all_moved : (columns : List Column) (j : ℕ) (c : Column) (xs ys : ℕ → Rational)
+pub not_all_moved : (columns : List Column) (j : ℕ) (c : Column) (xs ys : ℕ → Rational)
     (total : Rational) → j < length columns → c ≡ get_or columns j c →
     IsUnmovable c (xs j) (ys j) → AreMovedBy columns xs ys total → ⊥
 not_all_moved [] j c xs ys total below here stuck h = absurd (omega arith)
@@ -54,7 +53,7 @@ not_all_moved (d ∷ columns) (suc j) c xs ys total below here stuck h =
 
 -- ---- bases
 
-not_signed : (rule : StepRule) (p : Problem) (ms : List Multiplier) (i : ℕ) →
+pub not_signed : (rule : StepRule) (p : Problem) (ms : List Multiplier) (i : ℕ) →
     IsFirstUnsigned rule p ms i → AreSigned rule p ms → ⊥
 not_signed rule p ms i h signed =
     h.unsigned (All-head (IsSigned rule p) h.multiplier h.after
@@ -62,33 +61,34 @@ not_signed rule p ms i h signed =
     (subst (All (IsSigned rule p)) h.place signed)))
 
 -- where the row has no cut, there is no base
-no_base : (f : Option FunctionData) (p : Problem) (c : Combination) (base : Line)
-    (answer : SafeCut) → IfSome f IsUsable →
-    ((q : Inequality) → IsSameCut q answer → ⊥) → IsBase f p c base → IsCutOf f p c answer → ⊥
-no_base f p c base answer usable none h k =
+pub no_base : (f : Option FunctionData) (p : Problem) (c : Combination) (base : Line)
+    (answer : SafeCut) → IsUsableFor f c.rule → (answer ≡ cut.Wide → ⊥) →
+    ((q : Inequality) → cut.Cut q ≡ answer → ⊥) → IsBase f p c base → IsCutOf f p c answer → ⊥
+no_base f p c base answer usable narrow none h k =
     ⊎_elim
     (λ (linear : c.rule ≡ Linear). no_cut_of_sum f p c answer linear k)
     (λ (made : (q : Inequality) × IsCutOf f p c (cut.Cut q) × (base ≡ line_of q)). none made.0
-    (cut_is_one f p c made.0 answer usable made.1 k))
+    (cut_is_one f p c (cut.Cut made.0) answer usable made.1 k
+    (λ wide. absurd (cc), λ wide. absurd (narrow wide))))
     (sum_or_cut c.rule f p c base h.1)
 
 -- ---- verdicts
 
 pub verdict_exact : (f : Option FunctionData) (p : Problem) (s : Step) (v : Verdict) →
-    IfSome f IsUsable → IsVerdict f p s v → Follows f p s →
+    IsUsableFor f s.combination.rule → IsVerdict f p s v → Follows f p s →
     (v ≡ Accepted) ⊎ (v ≡ Wide)
 verdict_exact f p s Accepted usable h follows = inl refl
 verdict_exact f p s (Sign i) usable h (right, shown, below) =
     absurd (not_signed s.combination.rule p s.combination.multipliers i h shown.base_is.0)
 verdict_exact f p s (Free j) usable h (right, shown, below) =
-    absurd (no_base f p s.combination shown.base (cut.Free j) usable (λ q same. same) shown.base_is
-    h.1)
-verdict_exact f p s Integral usable h (right, shown, below) =
-    absurd (no_base f p s.combination shown.base cut.Integral usable (λ q same. same) shown.base_is
-    h.1)
-verdict_exact f p s Other usable h (right, shown, below) =
-    absurd (no_base f p s.combination shown.base cut.OtherFraction usable (λ q same. same)
+    absurd (no_base f p s.combination shown.base (cut.Free j) usable (λ e. cc) (λ q e. cc)
     shown.base_is h.1)
+verdict_exact f p s Integral usable h (right, shown, below) =
+    absurd (no_base f p s.combination shown.base cut.Integral usable (λ e. cc) (λ q e. cc)
+    shown.base_is h.1)
+verdict_exact f p s Other usable h (right, shown, below) =
+    absurd (no_base f p s.combination shown.base cut.OtherFraction usable (λ e. cc)
+    (λ q e. cc) shown.base_is h.1)
 verdict_exact f p s (Bound j) usable (base, is, h) (right, shown, below) =
     let factor = s.combination.factor in
     let ys = coefficient_in s.claim.entries in

@@ -9,11 +9,10 @@ use Rattle.gj_problem.proofs.RationalRing.{by_ring_q, ring_q}
 use Rattle.gj_problem.proofs.Prefixes.{default_unused}
 use Rattle.gj_problem.specs.declared.problem.Column.{Column}
 use Rattle.gj_problem.specs.Rows.{dot}
-use Rattle.gj_problem.specs.RoundedCuts.{IsGridValue, IsBelowOnGrid}
+use Rattle.gj_problem.specs.Moves.{IsGridValue, IsBelowOnGrid, IsGridCoefficient}
 use Rattle.gj_derivation.specs.Derivations.{unit}
 use Rattle.gj_derivation.specs.Checks.{claimed_at, IsUnmovable, IsFirstUnmovable}
 use Rattle.gj_derivation.specs.Drafts.{IsFoundFor, AreFoundFor, IsFirstNotFound}
-use Rattle.gj_derivation.specs.Moves.{IsGridCoefficient}
 use Rattle.gj_derivation.proofs.CheckedMoves.{at_most_itself, at_most_same}
 use Rattle.gj_derivation.proofs.OneBase.{first_is, later_is}
 
@@ -110,7 +109,7 @@ none_found grid columns xs ys none = record {
   found = λ j c below here. absurd (omega arith);
 }
 
-last_or_before : (i j : ℕ) → j < i + 1 → (j < i) ⊎ (j ≡ i)
+pub last_or_before : (i j : ℕ) → j < i + 1 → (j < i) ⊎ (j ≡ i)
 last_or_before zero zero below = inr refl
 last_or_before zero (suc j) below = absurd (omega arith)
 last_or_before (suc i) zero below = inl (omega arith)
@@ -149,6 +148,14 @@ all_found grid columns xs i ys end within h =
     let count = h.count in
     (omega arith, λ j c below here. h.found j c (omega arith) here)
 
+pub found_in_front : (grid : Option ℕ) (columns : List Column) (xs : ℕ → Rational) (i : ℕ)
+    (ys : List Frac) → i < length columns → AreFoundUpTo grid columns xs i ys →
+    AreFoundFor grid (take i columns) xs (claimed_at ys)
+found_in_front grid columns xs i ys below h j d j_below d_here =
+    let fewer : length (take i columns) ≡ i = length-take-le i columns (omega arith) in
+    let before : j < i = omega arith in
+    h.found j d before (d_here ∙ get_or-take i columns j d before)
+
 pub first_not_found : (grid : Option ℕ) (columns : List Column) (xs : ℕ → Rational) (i : ℕ)
     (ys : List Frac) (c : Column) → i < length columns →
     c ≡ get_or columns i c → ((y : Rational) → IsFoundFor grid c (xs i) y → ⊥) →
@@ -159,10 +166,7 @@ first_not_found grid columns xs i ys c below here none h = record {
   column = c;
   is = here;
   ys = claimed_at ys;
-  found_before = λ j d j_below d_here.
-      let fewer : length (take i columns) ≡ i = length-take-le i columns (omega arith) in
-      let before : j < i = omega arith in
-      h.found j d before (d_here ∙ get_or-take i columns j d before);
+  found_before = found_in_front grid columns xs i ys below h;
   none = none;
 }
 

@@ -1,5 +1,5 @@
 -- A step has one base, or one thing that stands against it.
-use Rattle.std.proofs.Common.{◌≡◌, ◌⊎◌, inl, inr, ◌↔◌, ℕ, zero, suc, ◌<◌, Bool, true, false, IsTrue, Contains, Option, Some, None, IfSome, List, [], ◌∷◌, length, get_or, pos, refl, sym, ap, ap₂, subst, ◌∙◌, arith}
+use Rattle.std.proofs.Common.{◌≡◌, ◌⊎◌, inl, inr, ◌↔◌, ℕ, zero, suc, ◌<◌, Bool, true, false, IsTrue, Contains, Option, Some, None, IfSome, List, [], ◌∷◌, length, get_or, pos, refl, sym, ap, ap₂, subst, subst₂, ◌∙◌, arith}
 use Rattle.gj_frac.specs.declared.Frac.{Frac}
 use Rattle.gj_shape.specs.FunctionData.{FunctionData}
 use Rattle.gj_problem.specs.Rational.{Rational, whole, rational, ◌+ℚ◌, ◌*ℚ◌, ◌-ℚ◌}
@@ -12,13 +12,12 @@ use Rattle.gj_problem.specs.Problems.{sum_at, surplus_at}
 use Rattle.gj_problem.specs.Rows.{dot}
 use Rattle.gj_safe_cut.specs.declared.cut.SafeCut.{SafeCut}
 use Rattle.gj_safe_cut.specs.declared.cut.SafeCut.TheVariants.{Cut}
-use Rattle.gj_safe_cut.specs.SafeCuts.{IsSameCut}
-use Rattle.gj_safe_cut.proofs.OneCut.{one_gmic_cut, one_function_cut}
+use Rattle.gj_safe_cut.proofs.OneCut.{AreAlike, one_of_gmic, one_of_function}
 use Rattle.gj_derivation.specs.declared.step.Combination.{Combination}
 use Rattle.gj_derivation.specs.declared.step.Multiplier.{Multiplier}
 use Rattle.gj_derivation.specs.declared.step.StepRule.{StepRule}
 use Rattle.gj_derivation.specs.declared.step.StepRule.TheVariants.{Linear, Gmic, Function}
-use Rattle.gj_derivation.specs.Derivations.{Line, unit, coefficient_in, line_of, AreMultipliers, AreAtUpper, IsUsable, IsCutBy, IsCutOf, IsBaseBy, IsBase}
+use Rattle.gj_derivation.specs.Derivations.{Line, unit, coefficient_in, line_of, AreMultipliers, AreAtUpper, IsUsable, IsUsableFor, IsCutBy, IsCutOf, IsBaseBy, IsBase}
 
 -- ---- one list of multipliers
 
@@ -28,7 +27,7 @@ first_is c cs = ap (λ w. rational c *ℚ whole (pos 1) +ℚ w) (dot_none cs) �
 pub later_is : (c : Frac) (cs : List Frac) (i : ℕ) → dot (c ∷ cs) (unit (suc i)) ≡ dot cs (unit i)
 later_is c cs i = no_time (rational c) (dot cs (unit i))
 
-same_numbers : (cs ds : List Frac) → length cs ≡ length ds →
+pub same_numbers : (cs ds : List Frac) → length cs ≡ length ds →
     ((i : ℕ) → dot cs (unit i) ≡ dot ds (unit i)) → cs ≡ ds
 same_numbers [] [] n h = refl
 same_numbers [] (d ∷ ds) n h = absurd (omega arith)
@@ -38,7 +37,7 @@ same_numbers (c ∷ cs) (d ∷ ds) n h =
     (rational_injective c d (sym (first_is c cs) ∙ h zero ∙ first_is d ds))
     (same_numbers cs ds (omega arith) (λ i. sym (later_is c cs i) ∙ h (suc i) ∙ later_is d ds i))
 
-one_multipliers : (p : Problem) (named : List Multiplier) (xs ys : List Frac) →
+pub one_multipliers : (p : Problem) (named : List Multiplier) (xs ys : List Frac) →
     AreMultipliers p named xs → AreMultipliers p named ys → xs ≡ ys
 one_multipliers p named xs ys h k = same_numbers xs ys (h.count ∙ sym k.count) (λ i. h.are i
     ∙ sym (k.are i))
@@ -61,7 +60,7 @@ same_flags P (a ∷ us) (b ∷ vs) n h k =
     (same_flags (λ j. P (suc j)) us vs (omega arith) (λ j below. h (suc j) (omega arith))
     (λ j below. k (suc j) (omega arith)))
 
-one_at_upper : (p : Problem) (named : List ℕ) (us vs : List Bool) → AreAtUpper p named us →
+pub one_at_upper : (p : Problem) (named : List ℕ) (us vs : List Bool) → AreAtUpper p named us →
     AreAtUpper p named vs → us ≡ vs
 one_at_upper p named us vs h k =
     let count = h.count in
@@ -70,27 +69,44 @@ one_at_upper p named us vs h k =
 
 -- ---- one cut
 
-cut_by_is_one : (rule : StepRule) (f : Option FunctionData) (p : Problem) (ms : List Frac)
-    (ups : List Bool) (q : Inequality) (cut : SafeCut) →
-    IfSome f IsUsable → IsCutBy rule f p ms ups (Cut q) → IsCutBy rule f p ms ups cut →
-    IsSameCut q cut
-cut_by_is_one Linear f p ms ups q cut usable h k = absurd h
-cut_by_is_one Gmic f p ms ups q cut usable h k = one_gmic_cut p ms ups q cut h k
-cut_by_is_one Function (Some f) p ms ups q cut usable h k =
-    one_function_cut f p ms ups q cut usable.bounds h k
-cut_by_is_one Function None p ms ups q cut usable h k = absurd h
+pub usable_from : (f : Option FunctionData) (rule : StepRule) → IfSome f IsUsable →
+    IsUsableFor f rule
+usable_from f Linear usable = tt
+usable_from f Gmic usable = tt
+usable_from f Function usable = usable
 
-pub cut_is_one : (f : Option FunctionData) (p : Problem) (c : Combination) (q : Inequality)
-    (cut : SafeCut) → IfSome f IsUsable →
-    IsCutOf f p c (Cut q) → IsCutOf f p c cut → IsSameCut q cut
-cut_is_one f p c q cut usable h k =
-    let multipliers : k.multipliers ≡ h.multipliers = one_multipliers p c.multipliers k.multipliers
-    h.multipliers k.multipliers_are h.multipliers_are in
-    let flags : k.at_upper ≡ h.at_upper = one_at_upper p c.at_upper k.at_upper h.at_upper
-    k.at_upper_are h.at_upper_are in
-    cut_by_is_one c.rule f p h.multipliers h.at_upper q cut usable h.cut_is
-    (subst (λ (ups : List Bool). IsCutBy c.rule f p h.multipliers ups cut) flags
-    (subst (λ (ms : List Frac). IsCutBy c.rule f p ms k.at_upper cut) multipliers k.cut_is))
+cut_by_is_one : (rule : StepRule) (f : Option FunctionData) (p : Problem) (ms : List Frac)
+    (ups : List Bool) (cut other : SafeCut) → IsUsableFor f rule →
+    IsCutBy rule f p ms ups cut → IsCutBy rule f p ms ups other → AreAlike cut other → cut ≡ other
+cut_by_is_one Linear f p ms ups cut other usable h k alike = absurd h
+cut_by_is_one Gmic f p ms ups cut other usable h k alike = one_of_gmic p ms ups cut other h k alike
+cut_by_is_one Function (Some f) p ms ups cut other usable h k alike =
+    one_of_function f p ms ups cut other usable.bounds h k alike
+cut_by_is_one Function None p ms ups cut other usable h k alike = absurd h
+
+-- another cut by the multipliers and the bounds of the first
+pub cut_at : (f : Option FunctionData) (p : Problem) (c : Combination) (cut other : SafeCut)
+    (h : IsCutOf f p c cut) → IsCutOf f p c other →
+    IsCutBy c.rule f p h.multipliers h.at_upper other
+cut_at f p c cut other h k =
+    subst₂ (λ (ms : List Frac) (ups : List Bool). IsCutBy c.rule f p ms ups other)
+    (one_multipliers p c.multipliers k.multipliers h.multipliers k.multipliers_are
+    h.multipliers_are)
+    (one_at_upper p c.at_upper k.at_upper h.at_upper k.at_upper_are h.at_upper_are) k.cut_is
+
+pub cut_is_one : (f : Option FunctionData) (p : Problem) (c : Combination) (cut other : SafeCut) →
+    IsUsableFor f c.rule → IsCutOf f p c cut → IsCutOf f p c other → AreAlike cut other →
+    cut ≡ other
+cut_is_one f p c cut other usable h k alike =
+    cut_by_is_one c.rule f p h.multipliers h.at_upper cut other usable h.cut_is
+    (cut_at f p c cut other h k) alike
+
+one_cut : (f : Option FunctionData) (p : Problem) (c : Combination) (q r : Inequality) →
+    IsUsableFor f c.rule → IsCutOf f p c (Cut q) → IsCutOf f p c (Cut r) → q ≡ r
+one_cut f p c q r usable h k =
+    let same : Cut q ≡ Cut r = cut_is_one f p c (Cut q) (Cut r) usable h k
+    (λ wide. absurd (cc), λ wide. absurd (cc)) in
+    cc
 
 -- ---- one line
 
@@ -115,15 +131,6 @@ coefficients_of q sum r none h j =
     ∙ ap₂ (λ v w. v +ℚ w) (h (unit j)) (right_of q sum r none h)
     ∙ sym (put_back (sum (unit j)) r)
 
-pub same_line : (q r : Inequality) → ((point : List Rational) →
-    surplus_at point r ≡ surplus_at point q) → line_of r ≡ line_of q
-same_line q r h =
-    let sum = λ (point : List Rational). sum_at point q.entries in
-    let none = nothing_sum q.entries in
-    let right = right_of r sum (rational q.right) none h in
-    let coefficients = coefficients_of r sum (rational q.right) none h in
-    λ i. record { coefficient = λ j. coefficients j i; right = right i }
-
 -- ---- one base
 
 -- a base that is no sum is a cut
@@ -141,15 +148,15 @@ no_cut_of_sum f p c cut linear h = subst (λ (rule : StepRule). IsCutBy rule f p
     h.at_upper cut) linear h.cut_is
 
 base_by_is_one : (rule : StepRule) (f : Option FunctionData) (p : Problem) (c : Combination)
-    (base other : Line) → IfSome f IsUsable →
+    (base other : Line) → IsUsableFor f c.rule →
     IsBaseBy rule f p c base → IsBaseBy rule f p c other → base ≡ other
 base_by_is_one Linear f p c base other usable h k = h ∙ sym k
 base_by_is_one Gmic f p c base other usable (q, h, is) (r, k, is') =
-    is ∙ same_line r q (cut_is_one f p c r (Cut q) usable k h) ∙ sym is'
+    is ∙ ap line_of (one_cut f p c q r usable h k) ∙ sym is'
 base_by_is_one Function f p c base other usable (q, h, is) (r, k, is') =
-    is ∙ same_line r q (cut_is_one f p c r (Cut q) usable k h) ∙ sym is'
+    is ∙ ap line_of (one_cut f p c q r usable h k) ∙ sym is'
 
 pub one_base : (f : Option FunctionData) (p : Problem) (c : Combination) (base other : Line) →
-    IfSome f IsUsable → IsBase f p c base →
+    IsUsableFor f c.rule → IsBase f p c base →
     IsBase f p c other → base ≡ other
 one_base f p c base other usable h k = base_by_is_one c.rule f p c base other usable h.1 k.1

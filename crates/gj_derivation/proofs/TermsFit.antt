@@ -20,10 +20,10 @@ use lib.IntN.{zero-*ℤ}
 
 -- ---- once, added to 0
 
-num_of_whole : (x : Frac) (z : ℤ) → rational x ≡ whole z → x.num ≡ z
+pub num_of_whole : (x : Frac) (z : ℤ) → rational x ≡ whole z → x.num ≡ z
 num_of_whole x z is = ap (λ (q : Rational). q.top) is ∙ whole_top z
 
-den_of_whole : (x : Frac) (z : ℤ) → rational x ≡ whole z → x.den ≡ pos 1
+pub den_of_whole : (x : Frac) (z : ℤ) → rational x ≡ whole z → x.den ≡ pos 1
 den_of_whole x z is = ap (λ (q : Rational). q.bottom) is ∙ whole_bottom z
 
 once_fits : (f v : Frac) → f.num ≡ pos 1 → f.den ≡ pos 1 → FitsProduct f v
@@ -85,7 +85,7 @@ terms_below : (j n : ℕ) (before : List Entry) (e : Entry) (after : List Entry)
 terms_below j n [] e after h = let rest = terms_end (e.column + 1) n after h.2 in omega arith
 terms_below j n (b ∷ before) e after h = terms_below (b.column + 1) n before e after h.2
 
-other_unit : (i j : ℕ) → j < i → value_at (unit i) j ≡ whole (pos 0)
+pub other_unit : (i j : ℕ) → j < i → value_at (unit i) j ≡ whole (pos 0)
 other_unit zero j below = absurd (omega arith)
 other_unit (suc i) zero below = refl
 other_unit (suc i) (suc j) below = other_unit i j (omega arith)

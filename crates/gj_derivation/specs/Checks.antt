@@ -26,7 +26,7 @@ use Rattle.gj_derivation.specs.declared.base.Base.{Base}
 use Rattle.gj_derivation.specs.declared.base.Base.TheVariants as base
 use Rattle.gj_derivation.specs.declared.moves.Moved.{Moved}
 use Rattle.gj_derivation.specs.declared.moves.Moved.TheVariants as moved
-use Rattle.gj_derivation.specs.Moves.{HasLower, HasUpper, IsMovedBy, AreMovedBy}
+use Rattle.gj_problem.specs.Moves.{HasLower, HasUpper, IsMovedBy, AreMovedBy}
 use Rattle.gj_derivation.specs.Derivations.{Line, unit, coefficient_in, line_of, coefficient_at, right_at, added_coefficient, added_right, multiplier_of, times, IsSigned, AreSigned, IsCutOf, IsBase, IsRightOf, IsShown, Follows}
 
 -- ---- the base

@@ -1,6 +1,6 @@
 -- Derivations: chains of inequalities, each shown from constraints and earlier ones (Chvátal 1973;
 -- Cook, Dash, Fukasawa and Goycoolea 2009; Cheung, Gleixner and Steffy 2017).
-use Rattle.std.specs.Prelude.{◌≡◌, ◌⊎◌, ◌↔◌, ℕ, zero, suc, pos, ◌<ℤ◌, ◌<◌, ℤ, Bool, true, false, Option, Some, None, List, [], ◌∷◌, ◌++◌, length, map, All, Contains, IsTrue, slice_index_or}
+use Rattle.std.specs.Prelude.{◌≡◌, ◌⊎◌, ◌↔◌, ℕ, zero, suc, pos, ◌<ℤ◌, ◌<◌, ℤ, Bool, true, false, Option, Some, None, List, [], ◌∷◌, ◌++◌, length, map, All, Contains, IfSome, IsTrue, slice_index_or}
 use Rattle.gj_frac.specs.declared.Frac.{Frac}
 use Rattle.gj_frac.specs.Fraction.{numerator}
 use Rattle.gj_shape.specs.FunctionData.{FunctionData, IsWithinBounds, IsContinuous}
@@ -15,7 +15,7 @@ use Rattle.gj_problem.specs.declared.problem.Sense.{Sense}
 use Rattle.gj_problem.specs.declared.problem.Sense.TheVariants.{AtLeast}
 use Rattle.gj_problem.specs.Problems.{value_at, sum_at, IsConstraint}
 use Rattle.gj_problem.specs.Rows.{dot, IsSignFor}
-use Rattle.gj_problem.specs.RoundedCuts.{IsBelowOnGrid}
+use Rattle.gj_problem.specs.Moves.{IsBelowOnGrid, AreMovedBy}
 use Rattle.gj_safe_cut.specs.declared.cut.SafeCut.{SafeCut}
 use Rattle.gj_safe_cut.specs.declared.cut.SafeCut.TheVariants.{Cut}
 use Rattle.gj_safe_cut.specs.SafeCuts.{IsGmicSafeCutOf, IsFunctionSafeCutOf}
@@ -24,7 +24,6 @@ use Rattle.gj_derivation.specs.declared.step.Multiplier.{Multiplier}
 use Rattle.gj_derivation.specs.declared.step.Step.{Step}
 use Rattle.gj_derivation.specs.declared.step.StepRule.{StepRule}
 use Rattle.gj_derivation.specs.declared.step.StepRule.TheVariants.{Linear, Gmic, Function}
-use Rattle.gj_derivation.specs.Moves.{AreMovedBy}
 
 -- ---- inequalities in numbers of any size
 
@@ -197,6 +196,12 @@ pub record IsUsable (f : FunctionData) : Type 0 where
   pub bounds : IsWithinBounds f
   pub minimal : IsMinimal f
   pub continuous : IsContinuous f
+
+-- the function, if there is one, is usable; only a step by a function asks for it
+abbrev pub IsUsableFor : Option FunctionData → StepRule → Type 0
+IsUsableFor f Linear = Unit {0}
+IsUsableFor f Gmic = Unit {0}
+IsUsableFor f Function = IfSome f IsUsable
 
 -- the function, if there is one, is minimal and continuous, and a step by a function has one
 abbrev pub HasFunctionFor : Option FunctionData → StepRule → Type 0

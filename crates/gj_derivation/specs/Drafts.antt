@@ -1,5 +1,5 @@
 -- Steps whose claims may be left open, and what is found for them (own).
-use Rattle.std.specs.Prelude.{◌≡◌, ◌⊎◌, ◌<◌, ◌^◌, pos, ◌<ℤ◌, ℕ, Option, Some, None, List, [], ◌∷◌, ◌++◌, length, map, take, Any, slice_index_or}
+use Rattle.std.specs.Prelude.{◌≡◌, ◌⊎◌, ◌<◌, ◌≤◌, ◌^◌, pos, ◌<ℤ◌, ℕ, Option, Some, None, List, [], ◌∷◌, ◌++◌, length, map, take, Any, slice_index_or}
 use Rattle.std.specs.List.{AllZip, range_with_len}
 use Rattle.gj_frac.specs.declared.Frac.{Frac}
 use Rattle.gj_frac.specs.Fits.{FitsProduct}
@@ -30,7 +30,7 @@ use Rattle.gj_derivation.specs.declared.terms.Found.{Found}
 use Rattle.gj_derivation.specs.declared.terms.Found.TheVariants as found
 use Rattle.gj_derivation.specs.Derivations.{Line, coefficient_in, times, IsBase, IsRightOf, IsShown, Follows, with_claim, IsDerivation}
 use Rattle.gj_derivation.specs.Checks.{claimed_at, IsBaseless, IsAgainstTerms, IsVerdict, IsWideMoving}
-use Rattle.gj_derivation.specs.Moves.{IsGridCoefficient}
+use Rattle.gj_problem.specs.Moves.{IsGridCoefficient}
 
 -- ---- the terms that are found
 
@@ -78,24 +78,28 @@ IsWideFoundAt grid c factor coefficient = (FitsProduct factor coefficient → �
     ⊎ ((x : Frac) × (rational x ≡ rational factor *ℚ rational coefficient)
     × IsWideGrid grid c.lower c.upper x)
 
--- so it is at some column
+-- so it is at some column, when those before it are found, or none is found there and the index of
+-- the column is 2^32 or more
 pub record IsWideFound (grid : Option ℕ) (columns : List Column) (factor : Frac)
     (base : Line) : Type 0 where
   pub index : ℕ
   pub below : index < length columns
   pub column : Column
   pub is : column ≡ slice_index_or columns index column
+  pub ys : ℕ → Rational
+  pub found_before : AreFoundFor grid (take index columns) (times factor base) ys
   pub coefficient : Frac
   pub coefficient_is : rational coefficient ≡ base.coefficient index
   pub wide : IsWideFoundAt grid column factor coefficient
+      ⊎ (((y : Rational) → IsFoundFor grid column (times factor base index) y → ⊥)
+      × (2 ^ 32 ≤ index))
 
--- a number of the terms that are found does not fit, or one of the moves to them, or there are more
--- than 2^32 columns
+-- a number of the terms that are found does not fit, or all are found, and a number of the moves to
+-- them does not fit, or there are more than 2^32 columns
 abbrev pub IsWideFinding : Option ℕ → List Column → Frac → Line → Type 0
 IsWideFinding grid columns factor base = IsWideFound grid columns factor base
-    ⊎ (((ys : ℕ → Rational) × AreFoundFor grid columns (times factor base) ys
-    × IsWideMoving columns factor base ys)
-    ⊎ (2 ^ 32 < length columns))
+    ⊎ ((ys : ℕ → Rational) × AreFoundFor grid columns (times factor base) ys
+    × (IsWideMoving columns factor base ys ⊎ (2 ^ 32 < length columns)))
 
 -- the claim that is found for a base, or the first column for which no coefficient is found
 abbrev pub IsFoundClaim : Option ℕ → List Column → Frac → Line → Inequality → Type 0
@@ -224,6 +228,23 @@ IsDerivedBy f grid p drafts (All xs) = AreShown f grid (begun p) drafts xs
 IsDerivedBy f grid p drafts (Lost i xs) = (r : Reached) × (d : Draft) × IsReached f grid p drafts i xs r d × IsLost r d.combination
 IsDerivedBy f grid p drafts (Failed failure xs) = (r : Reached) × (d : Draft) × IsReached f grid p drafts failure.step xs r d
     × IsNext f grid r d (shown.Against failure.verdict) × Ends d.claim (shown.Against failure.verdict)
+
+-- ---- where a number does not fit
+
+-- of the drafts that are told of, one after another, `Wide` is told where a number does not fit
+abbrev pub TellWide : Option FunctionData → Option ℕ → Reached → List Draft → List Shown → Type 0
+TellWide f grid r drafts [] = Unit {0}
+TellWide f grid r [] (x ∷ xs) = ⊥
+TellWide f grid r (d ∷ drafts) (x ∷ xs) =
+    ((c : Combination) → IsPlaced r d.combination c → IsAgainst f grid r.problem c d.claim Wide →
+    x ≡ shown.Against Wide)
+    × TellWide f grid (reach r x) drafts xs
+
+-- what is told of the drafts; that of the one that fails comes last
+abbrev pub told_by : Derived → List Shown
+told_by (All xs) = xs
+told_by (Lost i xs) = xs
+told_by (Failed failure xs) = xs ++ shown.Against failure.verdict ∷ []
 
 -- ---- the steps that come back
 

@@ -1,5 +1,5 @@
 -- What a check of a derivation answers (own).
-use Rattle.std.specs.Prelude.{◌≡◌, Option, List, [], ◌∷◌, ◌++◌, length}
+use Rattle.std.specs.Prelude.{◌≡◌, ◌⊎◌, ℕ, ◌<◌, Option, List, [], ◌∷◌, ◌++◌, length}
 use Rattle.gj_shape.specs.FunctionData.{FunctionData}
 use Rattle.gj_problem.specs.declared.problem.Problem.{Problem}
 use Rattle.gj_derivation.specs.declared.step.Step.{Step}
@@ -30,6 +30,25 @@ pub record IsFailure (f : Option FunctionData) (p : Problem) (steps : List Step)
 abbrev pub IsChecked : Option FunctionData → Problem → List Step → Checked → Type 0
 IsChecked f p steps checked.Accepted = IsDerivation f p steps
 IsChecked f p steps (checked.Failed failure) = IsFailure f p steps failure
+
+-- over the problem with the claims of the steps before it, a number of the i-th step does not fit
+pub record IsWideStep (f : Option FunctionData) (p : Problem) (steps : List Step) (i : ℕ) : Type 0
+  where
+    pub before : List Step
+    pub step : Step
+    pub after : List Step
+    pub place : steps ≡ before ++ step ∷ after
+    pub index : i ≡ length before
+    pub wide : IsVerdict f (with_claims p before) step Wide
+
+-- a step before the i-th is not accepted, or the i-th, since a number does not fit
+abbrev pub FailsBy : ℕ → Checked → Type 0
+FailsBy i c = (failure : Failure) × (c ≡ checked.Failed failure)
+    × ((failure.step < i) ⊎ ((failure.step ≡ i) × (failure.verdict ≡ Wide)))
+
+-- the answer does not pass over a step with a number that does not fit
+abbrev pub TellsWide : Option FunctionData → Problem → List Step → Checked → Type 0
+TellsWide f p steps c = (i : ℕ) → IsWideStep f p steps i → FailsBy i c
 
 -- at some step a number did not fit
 abbrev pub IsWideFailure : Checked → Type 0

@@ -1,9 +1,9 @@
 //! What a step makes of the constraints that it adds up.
 ghost use Rattle.std.specs.Prelude.{◌≡◌, ◌↔◌, ◌<◌, All, IfOk, IsTrue, MatchOption};
-ghost use Rattle.std.specs.Prelude.{OnErr, Err, length};
+ghost use Rattle.std.specs.Prelude.{OnErr, OnOk, Err, length};
 ghost use Rattle.std.specs.Option.{option_copied};
 ghost use Rattle.gj_frac.specs.Fraction.{numerator};
-ghost use Rattle.gj_safe_cut.specs.SafeCuts.{SafeCutHasTerms};
+ghost use Rattle.gj_safe_cut.specs.SafeCuts.{SafeCutHasTerms, TellsWide};
 ghost use Rattle.gj_derivation.specs.declared.step.Verdict.TheVariants.{Wide as wide};
 ghost use Rattle.gj_derivation.specs.Derivations.{AreMultipliers, AreAtUpper, HasFunctionFor};
 ghost use Rattle.gj_derivation.specs.Derivations.{IsSigned, AreSigned, IsSignIn, IsCutBy};
@@ -40,6 +40,8 @@ pub(crate) fn base_of(
         (IsBaseOf (option_copied function.entry) problem.now combination.now) }
     ensures wide { result ≡ Err Fault.Wide →
         IsBaseless (option_copied function.entry) problem.now combination.now wide }
+    ensures narrow { OnOk result
+        (¬ IsBaseless (option_copied function.entry) problem.now combination.now wide) }
 {
     let multipliers = combination.multipliers.as_slice();
     if let Some(line) = first_unsigned(combination.rule, problem, multipliers) {
@@ -108,6 +110,7 @@ fn sum_of(alloc: Global, problem: &Problem, multipliers: &[Multiplier]) -> Resul
     requires { AreSigned StepRule.Linear problem.now multipliers.now }
     ensures is { IfOk result (IsSumOf problem.now multipliers.now) }
     ensures wide { result ≡ Err Fault.Wide → IsWideAdded problem.now multipliers.now }
+    ensures narrow { OnOk result (¬ IsWideAdded problem.now multipliers.now) }
 {
     let mut sum = Sum::of_none(alloc, problem.columns.as_slice().len(), Frac::ratio(0, 1))?;
     for multiplier in multipliers {
@@ -122,6 +125,7 @@ fn add_constraint(problem: &Problem, multiplier: Multiplier, sum: &mut Sum) -> R
     ensures count { length sum.new.coefficients.items ≡ length sum.old.coefficients.items }
     ensures added { IfOk result (λ _. IsAdded problem.now multiplier sum.old sum.new) }
     ensures wide { OnErr result (IsWideAddition problem.now multiplier sum.old) }
+    ensures narrow { OnOk result (¬ IsWideAddition problem.now multiplier sum.old) }
 {
     let constraint = &problem.constraints.as_slice()[multiplier.line];
     sum.add(
@@ -147,6 +151,8 @@ fn cut_base(
         (IsBaseOf (option_copied function.entry) problem.now combination.now) }
     ensures wide { result ≡ Err Fault.Wide →
         IsBaseless (option_copied function.entry) problem.now combination.now wide }
+    ensures narrow { OnOk result
+        (¬ IsBaseless (option_copied function.entry) problem.now combination.now wide) }
 {
     let multipliers = multipliers_of(alloc, problem, combination.multipliers.as_slice())?;
     let at_upper = flags_of(alloc, problem, combination.at_upper.as_slice())?;
@@ -176,6 +182,8 @@ fn cut_by(
     requires at_upper { length at_upper.now ≡ length problem.now.columns }
     ensures is { IfOk result
         (IsCutBy rule (option_copied function.entry) problem.now multipliers.now at_upper.now) }
+    ensures narrow { IfOk result (TellsWide
+        (IsCutBy rule (option_copied function.entry) problem.now multipliers.now at_upper.now)) }
     ensures terms { IfOk result (SafeCutHasTerms problem.now) }
 {
     match (rule, function) {
@@ -192,6 +200,7 @@ fn base_from(alloc: Global, problem: &Problem, cut: SafeCut) -> Result<Base, Fau
     requires { SafeCutHasTerms problem.now cut }
     ensures is { IfOk result (IsBaseFrom (length problem.now.columns) cut) }
     ensures wide { result ≡ Err Fault.Wide → cut ≡ SafeCut.Wide }
+    ensures narrow { OnOk result (¬ (cut ≡ SafeCut.Wide)) }
 {
     match cut {
         SafeCut::Cut(q) => {
@@ -215,6 +224,7 @@ fn multipliers_of(
     requires { All (λ m. m.line < length problem.now.constraints) named.now }
     ensures are { IfOk result (λ v. AreMultipliers problem.now named.now v.items) }
     ensures wide { result ≡ Err Fault.Wide → IsWideNamed named.now }
+    ensures narrow { OnOk result (¬ IsWideNamed named.now) }
 {
     let count = problem.constraints.as_slice().len();
     let mut multipliers = vec![in alloc; Frac::ratio(0, 1); count]?;

@@ -1,9 +1,10 @@
 //! Checks of steps.
-ghost use Rattle.std.specs.Prelude.{◌≡◌, ◌⊎◌, IfOk, IfSome, Err, length};
+ghost use Rattle.std.specs.Prelude.{◌≡◌, ◌⊎◌, IfOk, IfSome, OnOk, Err, length};
 ghost use Rattle.std.specs.Option.{option_copied};
 ghost use Rattle.gj_shape.specs.FunctionData.{IsWithinBounds};
 ghost use Rattle.gj_derivation.specs.declared.step.Verdict.TheVariants.{Wide as wide};
 ghost use Rattle.gj_derivation.specs.Derivations.{coefficient_in, Follows, IsReady, IsReadyStep};
+ghost use Rattle.gj_derivation.specs.Derivations.{IsUsableFor};
 ghost use Rattle.gj_derivation.specs.Checks.{line_of_sum, IsMovedRight, IsWideFor, IsCompared};
 ghost use Rattle.gj_derivation.specs.Checks.{IsVerdict};
 
@@ -18,8 +19,8 @@ use std::alloc::{AllocError, Global};
 
 /// Checks a step over the problem with the earlier claims as constraints.
 ///
-/// `Wide` comes only where a number of the base, of the claim or of the moves does not fit, or an
-/// entry has no column. Else the answer is `Accepted` exactly if the step follows. It takes time
+/// `Wide` comes exactly where a number of the base, of the claim or of the moves does not fit, or
+/// an entry has no column. Else the answer is `Accepted` exactly if the step follows. It takes time
 /// for the entries of the constraints that are named and of the claim, and for a few passes over
 /// the columns and the constraints that clear a vector or look for what is not 0. The only error
 /// is want of memory.
@@ -33,6 +34,8 @@ pub fn check_step(
     ensures is { IfOk result (IsVerdict (option_copied function.entry) problem.now step.now) }
     ensures exact { IfOk result (λ v. Follows (option_copied function.entry) problem.now step.now →
         (v ≡ Verdict.Accepted) ⊎ (v ≡ Verdict.Wide)) }
+    ensures narrow { IfOk result (λ v. IsVerdict (option_copied function.entry)
+        problem.now step.now wide → v ≡ Verdict.Wide) }
 {
     read_bounds(function);
     match verdict_of(alloc, function, problem, &step.combination, &step.claim) {
@@ -64,6 +67,9 @@ pub(crate) fn verdict_of(
         (record { combination = combination.now; claim = claim.now })) }
     ensures wide { result ≡ Err Fault.Wide → IsVerdict (option_copied function.entry) problem.now
         (record { combination = combination.now; claim = claim.now }) wide }
+    ensures narrow { OnOk result (IsUsableFor (option_copied function.entry) combination.now.rule →
+        ¬ IsVerdict (option_copied function.entry) problem.now
+        (record { combination = combination.now; claim = claim.now }) wide) }
 {
     match base_of(alloc, function, problem, combination)? {
         Base::Line(sum) => {
@@ -88,6 +94,8 @@ pub(crate) fn shown_right(
         (coefficient_in entries.now)) }
     ensures wide { result ≡ Err Fault.Wide →
         IsWideFor problem.now.columns factor (line_of_sum sum.now) entries.now }
+    ensures narrow { OnOk result
+        (¬ IsWideFor problem.now.columns factor (line_of_sum sum.now) entries.now) }
 {
     let columns = problem.columns.as_slice();
     let terms = sum_of_terms(alloc, columns.len(), entries, Frac::ratio(0, 1))?;

@@ -1,20 +1,21 @@
 //! Claims found for drafts.
 ghost use Rattle.std.specs.Prelude.{◌≡◌, ◌<◌, ◌^◌, ℕ, All, IfOk, IfSome, MatchOption, None, Err};
-ghost use Rattle.std.specs.Prelude.{length, slice_index_or};
+ghost use Rattle.std.specs.Prelude.{OnOk, length, slice_index_or};
 ghost use Rattle.std.specs.Option.{option_copied};
 ghost use Rattle.gj_problem.specs.Rational.{rational};
 ghost use Rattle.gj_problem.specs.Problems.{AreTermsWithin};
 ghost use Rattle.gj_derivation.specs.declared.step.Verdict.TheVariants.{Wide as wide};
 ghost use Rattle.gj_derivation.specs.declared.draft.Shown.TheVariants.{Against};
 ghost use Rattle.gj_derivation.specs.declared.draft.Claim.TheVariants.{Absent, Terms, Given};
-ghost use Rattle.gj_derivation.specs.Derivations.{coefficient_in, IsReady};
+ghost use Rattle.gj_derivation.specs.Derivations.{coefficient_in, IsReady, IsUsableFor};
 ghost use Rattle.gj_derivation.specs.Checks.{claimed_at, line_of_sum};
 ghost use Rattle.gj_derivation.specs.Drafts.{IsFoundIn, IsWideFinding, IsFilled, IsAgainst};
 ghost use Rattle.gj_derivation.specs.Drafts.{IsShownBy, IsDerivedBy, DerivedIsDerivation};
 ghost use Rattle.gj_derivation.specs.Drafts.{begun, reach, IsPlaced, IsLost, Ends};
+ghost use Rattle.gj_derivation.specs.Drafts.{TellWide, told_by};
 
 use crate::base::{Base, base_of};
-use crate::check::{shown_right, verdict_of};
+use crate::check::{read_bounds, shown_right, verdict_of};
 use crate::draft::{Claim, Derived, Draft, Filled, Reached, Shown};
 use crate::moves::{Moved, moved_right};
 use crate::step::{Combination, Multiplier, Step, Verdict};
@@ -41,9 +42,12 @@ pub fn derived_step(
 ) -> Result<Shown, AllocError>
     requires ready { IsReady (option_copied function) draft.now.combination }
     requires grid { IfSome grid (λ n. 0 < n) }
-    ensures { IfOk result (IsShownBy (option_copied function.entry) grid problem.now
+    ensures is { IfOk result (IsShownBy (option_copied function.entry) grid problem.now
         draft.now.combination draft.now.claim) }
+    ensures narrow { IfOk result (λ x. IsAgainst (option_copied function.entry) grid problem.now
+        draft.now.combination draft.now.claim wide → x ≡ Against wide) }
 {
+    read_bounds(function);
     let combination = copied(alloc, &draft.combination)?;
     shown_by(alloc, function, problem, combination, &draft.claim, grid)
 }
@@ -59,8 +63,11 @@ fn shown_by(
 ) -> Result<Shown, AllocError>
     requires ready { IsReady (option_copied function) combination }
     requires grid { IfSome grid (λ n. 0 < n) }
-    ensures { IfOk result (IsShownBy (option_copied function.entry) grid problem.now
+    ensures is { IfOk result (IsShownBy (option_copied function.entry) grid problem.now
         combination claim.now) }
+    ensures narrow { IfOk result (λ x. IsUsableFor (option_copied function.entry) combination.rule →
+        IsAgainst (option_copied function.entry) grid problem.now
+        combination claim.now wide → x ≡ Against wide) }
 {
     match filled(alloc, function, problem, &combination, claim, grid) {
         Ok(Filled::Claim(claim)) => Ok(Shown::Step(Step { combination, claim })),
@@ -87,6 +94,9 @@ fn filled(
         combination.now claim.now) }
     ensures wide { result ≡ Err Fault.Wide → IsAgainst (option_copied function.entry)
         grid problem.now combination.now claim.now wide }
+    ensures narrow { OnOk result (IsUsableFor (option_copied function.entry) combination.now.rule →
+        ¬ IsAgainst (option_copied function.entry)
+        grid problem.now combination.now claim.now wide) }
 {
     match claim {
         Claim::Absent => found_claim(alloc, function, problem, combination, grid),
@@ -111,6 +121,9 @@ fn found_claim(
         combination.now Absent) }
     ensures wide { result ≡ Err Fault.Wide → IsAgainst (option_copied function.entry)
         grid problem.now combination.now Absent wide }
+    ensures narrow { OnOk result (IsUsableFor (option_copied function.entry) combination.now.rule →
+        ¬ IsAgainst (option_copied function.entry)
+        grid problem.now combination.now Absent wide) }
 {
     match base_of(alloc, function, problem, combination)? {
         Base::Line(sum) => found_in(alloc, problem, combination.factor, &sum, grid),
@@ -132,6 +145,8 @@ fn found_in(
         (IsFoundIn grid problem.now.columns factor (line_of_sum sum.now)) }
     ensures wide { result ≡ Err Fault.Wide →
         IsWideFinding grid problem.now.columns factor (line_of_sum sum.now) }
+    ensures narrow { OnOk result
+        (¬ IsWideFinding grid problem.now.columns factor (line_of_sum sum.now)) }
 {
     let columns = problem.columns.as_slice();
     match found_terms(alloc, columns, factor, sum, grid)? {
@@ -145,7 +160,7 @@ fn found_in(
     }
 }
 
-/// The inequality of these coefficients against the right side. Wide only if there are more than
+/// The inequality of these coefficients against the right side. Wide exactly if there are more than
 /// 2^32 columns.
 fn claim_from(alloc: Global, terms: Vec<Frac>, right: Frac) -> Result<Inequality, Fault>
     ensures terms { IfOk result (λ q.
@@ -154,6 +169,7 @@ fn claim_from(alloc: Global, terms: Vec<Frac>, right: Frac) -> Result<Inequality
     ensures coefficients { IfOk result (λ q. (j : ℕ) →
         coefficient_in q.entries j ≡ claimed_at terms.items j) }
     ensures wide { result ≡ Err Fault.Wide → 2 ^ 32 < length terms.items }
+    ensures narrow { OnOk result (¬ (2 ^ 32 < length terms.items)) }
 {
     let sum = Sum {
         coefficients: terms,
@@ -178,6 +194,9 @@ fn claim_with(
         combination.now (Terms entries.now)) }
     ensures wide { result ≡ Err Fault.Wide → IsAgainst (option_copied function.entry)
         None problem.now combination.now (Terms entries.now) wide }
+    ensures narrow { OnOk result (IsUsableFor (option_copied function.entry) combination.now.rule →
+        ¬ IsAgainst (option_copied function.entry)
+        None problem.now combination.now (Terms entries.now) wide) }
 {
     match base_of(alloc, function, problem, combination)? {
         Base::Line(sum) => {
@@ -206,6 +225,9 @@ fn given_claim(
         combination.now (Given claim.now)) }
     ensures wide { result ≡ Err Fault.Wide → IsAgainst (option_copied function.entry)
         None problem.now combination.now (Given claim.now) wide }
+    ensures narrow { OnOk result (IsUsableFor (option_copied function.entry) combination.now.rule →
+        ¬ IsAgainst (option_copied function.entry)
+        None problem.now combination.now (Given claim.now) wide) }
 {
     match verdict_of(alloc, function, problem, combination, claim)? {
         Verdict::Accepted => Ok(Filled::Claim(Inequality {
@@ -247,8 +269,11 @@ pub fn derived_steps(
     requires ready { All (λ d. IsReady (option_copied function) d.combination) drafts.now }
     requires grid { IfSome grid (λ n. 0 < n) }
     ensures is { IfOk result (IsDerivedBy (option_copied function.entry) grid problem drafts.now) }
+    ensures narrow { IfOk result (λ d. TellWide (option_copied function.entry) grid
+        (begun problem) drafts.now (told_by d)) }
     ensures derivation { IfOk result (DerivedIsDerivation (option_copied function.entry) problem) }
 {
+    read_bounds(function);
     let mut reached = begun_at(alloc, problem)?;
     let mut shown = Vec::new(alloc);
     for (i, draft) in drafts.iter().enumerate() {

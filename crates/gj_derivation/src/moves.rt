@@ -1,10 +1,10 @@
 //! Coefficients moved by the bounds of their columns.
 ghost use Rattle.std.specs.Prelude.{◌≡◌, ◌⊎◌, ◌↔◌, pos, ◌<ℤ◌, true, false, None, length};
-ghost use Rattle.std.specs.Prelude.{IfOk, IsTrue, MatchOption, OnErr};
+ghost use Rattle.std.specs.Prelude.{IfOk, IsTrue, MatchOption, OnErr, OnOk};
 ghost use Rattle.gj_problem.specs.Rational.{rational, ◌*ℚ◌, ◌≤ℚ◌};
 ghost use Rattle.gj_frac.specs.Fraction.{IsWhole, numerator};
 ghost use Rattle.gj_derivation.specs.Derivations.{IsWholeTerm, IsRoundedUp};
-ghost use Rattle.gj_derivation.specs.Moves.{HasLower, HasUpper, IsMovedBy};
+ghost use Rattle.gj_problem.specs.Moves.{HasLower, HasUpper, IsMovedBy};
 ghost use Rattle.gj_derivation.specs.Checks.{IsUnmovable, IsMovedRight, line_of_sum, claimed_at};
 ghost use Rattle.gj_derivation.specs.Checks.{IsWideTimesBound, IsWideShift, IsWideMoving};
 
@@ -36,6 +36,8 @@ pub(crate) fn moved_right(
         (claimed_at claimed.now)) }
     ensures wide { OnErr result (IsWideMoving columns.now factor (line_of_sum sum.now)
         (claimed_at claimed.now)) }
+    ensures narrow { OnOk result (¬ IsWideMoving columns.now factor (line_of_sum sum.now)
+        (claimed_at claimed.now)) }
 {
     let mut right = factor.checked_mul(sum.right)?;
     let mut is_whole = true;
@@ -66,6 +68,7 @@ fn shift(column: Column, x: Frac, y: Frac) -> Result<Option<Frac>, Wide>
         (λ s. IsMovedBy (HasLower column) (HasUpper column)
         (rational x) (rational y) (rational s))) }
     ensures wide { OnErr result (IsWideShift column x y) }
+    ensures narrow { OnOk result (¬ IsWideShift column x y) }
 {
     let change = y.checked_add(-x)?;
     if is_zero(change) {
@@ -82,6 +85,7 @@ fn times_lower(column: Column, change: Frac) -> Result<Option<Frac>, Wide>
     ensures is { IfOk result (λ made. MatchOption made (column.lower ≡ None)
         (λ s. (b : Frac) × HasLower column b × (rational s ≡ rational change *ℚ rational b))) }
     ensures wide { OnErr result (IsWideTimesBound (HasLower column) change) }
+    ensures narrow { OnOk result (¬ IsWideTimesBound (HasLower column) change) }
 {
     let Some(lower) = column.lower else {
         return Ok(None);
@@ -96,6 +100,7 @@ fn times_upper(column: Column, change: Frac) -> Result<Option<Frac>, Wide>
     ensures is { IfOk result (λ made. MatchOption made (column.upper ≡ None)
         (λ s. (b : Frac) × HasUpper column b × (rational s ≡ rational change *ℚ rational b))) }
     ensures wide { OnErr result (IsWideTimesBound (HasUpper column) change) }
+    ensures narrow { OnOk result (¬ IsWideTimesBound (HasUpper column) change) }
 {
     let Some(upper) = column.upper else {
         return Ok(None);

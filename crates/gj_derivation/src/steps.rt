@@ -3,7 +3,7 @@ ghost use Rattle.std.specs.Prelude.{◌≡◌, ◌⊎◌, All, IfOk};
 ghost use Rattle.std.specs.Option.{option_copied};
 ghost use Rattle.gj_problem.specs.Problems.{Holds};
 ghost use Rattle.gj_derivation.specs.Derivations.{with_claim, IsDerivation, IsReadyStep};
-ghost use Rattle.gj_derivation.specs.StepLists.{IsWideFailure, IsChecked};
+ghost use Rattle.gj_derivation.specs.StepLists.{IsWideFailure, IsChecked, TellsWide};
 
 use crate::check::{check_step, read_bounds};
 use crate::step::{Step, Verdict};
@@ -33,8 +33,8 @@ pub enum Checked {
 ///
 /// The steps are checked in their order. The claim of an accepted step becomes one more constraint
 /// of the problem, so that later steps may name it by its line. So each claim of accepted steps
-/// holds at all feasible points. A derivation is accepted, unless the verdict on a step is `Wide`.
-/// The only error is want of memory.
+/// holds at all feasible points. A derivation is accepted, unless the verdict on a step is `Wide`,
+/// which comes exactly where a number does not fit. The only error is want of memory.
 pub fn check_steps(
     alloc: Global,
     function: Option<&Shape>,
@@ -46,6 +46,7 @@ pub fn check_steps(
     ensures exact { IfOk result (λ c.
         IsDerivation (option_copied function.entry) problem steps.now →
         (c ≡ Checked.Accepted) ⊎ IsWideFailure c) }
+    ensures narrow { IfOk result (TellsWide (option_copied function.entry) problem steps.now) }
     ensures holds { IfOk result (λ c. c ≡ Checked.Accepted →
         All (λ s. Holds problem s.claim) steps.now) }
 {

@@ -1,10 +1,11 @@
 //! Terms over all columns, given or found.
-ghost use Rattle.std.specs.Prelude.{◌≡◌, ◌<◌, Some, IfOk, IfSome, OnErr, Err, length};
+ghost use Rattle.std.specs.Prelude.{◌≡◌, ◌<◌, Some, IfOk, IfSome, OnErr, OnOk, Err};
+ghost use Rattle.std.specs.Prelude.{length};
 ghost use Rattle.gj_problem.specs.Rational.{rational, ◌*ℚ◌};
 ghost use Rattle.gj_derivation.specs.Derivations.{coefficient_in, times};
 ghost use Rattle.gj_derivation.specs.Checks.{IsSumFor, IsWideTerms, line_of_sum};
 ghost use Rattle.gj_derivation.specs.Drafts.{IsFoundOrNone, IsFound, IsWideGrid, IsWideFoundAt};
-ghost use Rattle.gj_derivation.specs.Drafts.{IsWideFinding};
+ghost use Rattle.gj_derivation.specs.Drafts.{IsWideFound};
 
 use crate::moves::is_zero;
 use gj_frac::{Frac, Wide};
@@ -21,6 +22,7 @@ pub(crate) fn sum_of_terms(
     ensures is { IfOk result (IsSumFor columns
         (record { coefficient = coefficient_in entries.now; right = rational right })) }
     ensures wide { result ≡ Err Fault.Wide → IsWideTerms columns entries.now }
+    ensures narrow { OnOk result (¬ IsWideTerms columns entries.now) }
 {
     let mut sum = Sum::of_none(alloc, columns, Frac::ratio(0, 1))?;
     sum.add(Frac::ratio(1, 1), entries, right)?;
@@ -48,7 +50,8 @@ pub(crate) fn found_terms(
     requires grid { IfSome grid (λ n. 0 < n) }
     ensures is { IfOk result (IsFound grid columns.now (times factor (line_of_sum sum.now))) }
     ensures wide { result ≡ Err Fault.Wide →
-        IsWideFinding grid columns.now factor (line_of_sum sum.now) }
+        IsWideFound grid columns.now factor (line_of_sum sum.now) }
+    ensures narrow { OnOk result (¬ IsWideFound grid columns.now factor (line_of_sum sum.now)) }
 {
     let mut terms = Vec::new(alloc);
     for (j, column) in columns.iter().enumerate() {
@@ -73,6 +76,7 @@ fn found_term(
     requires { IfSome grid (λ n. 0 < n) }
     ensures is { IfOk result (IsFoundOrNone grid column (rational factor *ℚ rational coefficient)) }
     ensures wide { OnErr result (IsWideFoundAt grid column factor coefficient) }
+    ensures narrow { OnOk result (¬ IsWideFoundAt grid column factor coefficient) }
 {
     if is_zero(coefficient) {
         return Ok(Some(coefficient));
@@ -89,6 +93,7 @@ fn on_grid(column: Column, x: Frac, grid: u32) -> Result<Option<Frac>, Wide>
     requires { 0 < grid }
     ensures is { IfOk result (IsFoundOrNone (Some grid) column (rational x)) }
     ensures wide { OnErr result (IsWideGrid (Some grid) column.lower column.upper x) }
+    ensures narrow { OnOk result (¬ IsWideGrid (Some grid) column.lower column.upper x) }
 {
     match (column.lower, column.upper) {
         (Some(_), _) => Ok(Some(-below_on_grid(-x, u64::from(grid))?)),

@@ -22,6 +22,7 @@ use Rattle.gj_problem.specs.Aggregates.{pieces_at, AreMadeOf, Weighted, weighted
 use Rattle.gj_problem.proofs.Numerators.{numerator_is}
 use Rattle.gj_problem.proofs.AddedSums.{zero_frac}
 use Rattle.gj_problem.proofs.MadePieces.{Made}
+use Rattle.gj_problem.proofs.OneColumn.{multiple_surplus}
 use Rattle.gj_problem.proofs.HeldInequalities.{from_surplus, multiple_low, column_at, whole_sum, whole_product}
 
 -- ---- the equation
@@ -50,6 +51,13 @@ cancelled m d e f = by_ring_q (m ∷ d ∷ e ∷ f ∷ []) (search ring_q depth 
 opposite : (m d : Rational) → (m +ℚ neg_ℚ m) *ℚ d ≡ whole (pos 0)
 opposite m d = by_ring_q (m ∷ d ∷ []) (search ring_q depth 40) refl
 
+-- the surplus of a slack
+slack_at : (p : Problem) (point : List Rational) (w : Weighted) (s : Piece) (h : IsSlack p w s) →
+    surplus_at point s.inequality
+    ≡ whole (signed w.constraint.sense h.scale) *ℚ (sum_at point w.constraint.entries -ℚ rational w.constraint.right)
+slack_at p point w s h =
+    multiple_surplus point (whole (signed w.constraint.sense h.scale)) w.constraint.entries w.constraint.right s.inequality h.slack_is
+
 slack_cancels : (p : Problem) (point : List Rational) (w : Weighted) (s : Piece) → IsSlack p w s →
     rational w.multiplier *ℚ (sum_at point w.constraint.entries -ℚ rational w.constraint.right)
     +ℚ rational s.entry *ℚ surplus_at point s.inequality ≡ whole (pos 0)
@@ -57,7 +65,7 @@ slack_cancels p point w s h =
     let m = rational w.multiplier in
     let d = sum_at point w.constraint.entries -ℚ rational w.constraint.right in
     let f = whole (signed w.constraint.sense h.scale) in
-    ap (λ z. m *ℚ d +ℚ rational s.entry *ℚ z) (h.slack_is point) ∙ cancelled m d (rational s.entry) f
+    ap (λ z. m *ℚ d +ℚ rational s.entry *ℚ z) (slack_at p point w s h) ∙ cancelled m d (rational s.entry) f
     ∙ ap (λ z. (m +ℚ z) *ℚ d) h.entry_is ∙ opposite m d
 
 regrouped : (a b c d : Rational) → (a +ℚ b) +ℚ (c +ℚ d) ≡ (a +ℚ c) +ℚ (b +ℚ d)
@@ -108,7 +116,7 @@ pub slack_holds : (p : Problem) (w : Weighted) (s : Piece) → IsMet p w.constra
 slack_holds p w s met h =
     from_surplus p s.inequality
     (λ (point : List Rational) (feasible : IsFeasible p point).
-    subst IsNonnegativeQ (sym (h.slack_is point))
+    subst IsNonnegativeQ (sym (slack_at p point w s h))
     (multiple_low w.constraint.sense (signed w.constraint.sense h.scale) (sum_at point w.constraint.entries) (rational w.constraint.right)
     (sign_for w.constraint.sense h.scale) (met point feasible)))
 
@@ -163,6 +171,6 @@ scale_common c false n flag h = absurd (cc)
 pub slack_whole : (p : Problem) (w : Weighted) (s : Piece) → IsSlack p w s → IsTrue s.is_whole → HasWholeSurplus p s.inequality
 slack_whole p w s h flag point feasible =
     let c = w.constraint in
-    subst IsWholeNumber (sym (h.slack_is point))
+    subst IsWholeNumber (sym (slack_at p point w s h))
     (signed_whole c.sense h.scale (sum_at point c.entries -ℚ rational c.right)
     (scaled_surplus p point h.scale c feasible (scale_common c s.is_whole h.scale flag h.scale_is) (h.is_whole.0 flag)))

@@ -11,7 +11,7 @@ use Rattle.gj_problem.proofs.RationalRing.{by_ring_q, ring_q}
 use Rattle.gj_problem.proofs.HeldInequalities.{whole_frac}
 use Rattle.gj_problem.proofs.Numerators.{ratio_whole}
 use Rattle.gj_problem.proofs.TurnedColumns.{below_floor}
-use Rattle.gj_problem.specs.RoundedCuts.{IsGridValue, IsBelowOnGrid}
+use Rattle.gj_problem.specs.Moves.{IsGridValue, IsBelowOnGrid}
 
 -- n times k/n is k
 ratio_times : (y : Frac) (k n : ℤ) → IsRatio y k n → whole n *ℚ rational y ≡ whole k

@@ -1,6 +1,6 @@
 -- Inequalities that hold at all feasible points: multiples of constraints, bounds, and what is
 -- rounded.
-use Rattle.std.proofs.Common.{◌≡◌, ℕ, zero, suc, ◌<◌, ◌⊎◌, ⊎_elim, List, [], ◌∷◌, length, get_or, All, Some, Option, IfSome, ℤ, pos, negsuc, neg_ℤ, ◌+ℤ◌, ◌*ℤ◌, refl, sym, ap, ap₂, subst, ◌∙◌, arith}
+use Rattle.std.proofs.Common.{◌≡◌, ℕ, zero, suc, ◌<◌, ◌⊎◌, ⊎_elim, List, [], ◌∷◌, length, get_or, map, All, Some, None, Option, IfSome, ℤ, pos, negsuc, neg_ℤ, ◌+ℤ◌, ◌*ℤ◌, refl, sym, ap, ap₂, subst, ◌∙◌, arith}
 use Rattle.std.specs.List.{AllZip}
 use Rattle.std.proofs.lemmas.Int.{ints}
 use Rattle.std.proofs.lemmas.List.Elements.{All-head, All-tail, All-get_or}
@@ -20,7 +20,9 @@ use Rattle.gj_problem.specs.declared.problem.Sense.TheVariants.{AtMost, AtLeast,
 use Rattle.gj_problem.specs.declared.pieces.Piece.{Piece}
 use Rattle.gj_problem.specs.Aggregates.{combined_at, IsCutOver, IsTurnedBack}
 use Rattle.gj_problem.specs.Problems.{value_at, sum_at, surplus_at, Meets, MeetsColumn, MeetsConstraint, IsFeasible, Holds, IsColumn, IsWholeColumn, IsConstraint}
-use Rattle.gj_problem.specs.Rows.{HasWholeSurplus, IsSignFor, IsConstraintTimes, IsWholeInequality, IsKept, IsRaised, IsLowered, AreChanged, total_of, IsRounded}
+use Rattle.gj_problem.specs.Rows.{HasWholeSurplus, IsSignFor, IsConstraintTimes, IsWholeInequality}
+use Rattle.gj_problem.specs.Moves.{IsUnmoved, IsMovedUp, IsMovedDown, IsMovedBy, IsGiven}
+use Rattle.gj_problem.specs.RoundedCuts.{lower_of, upper_of, AreMovedAs, IsChanged, total_of, IsRounded}
 
 -- ---- surplus
 
@@ -128,39 +130,52 @@ whole_surplus p q h point feasible =
 
 -- ---- rounding
 
-pub raised : (d x b : Rational) → d *ℚ (x -ℚ b) ≡ d *ℚ x -ℚ d *ℚ b
+raised : (d x b : Rational) → d *ℚ (x -ℚ b) ≡ d *ℚ x -ℚ d *ℚ b
 raised d x b = by_ring_q (d ∷ x ∷ b ∷ []) (search ring_q depth 40) refl
 
-pub lowered : (e f x b : Rational) → (e -ℚ f) *ℚ (b -ℚ x) ≡ (f -ℚ e) *ℚ x -ℚ (f -ℚ e) *ℚ b
+lowered : (e f x b : Rational) → (e -ℚ f) *ℚ (b -ℚ x) ≡ (f -ℚ e) *ℚ x -ℚ (f -ℚ e) *ℚ b
 lowered e f x b = by_ring_q (e ∷ f ∷ x ∷ b ∷ []) (search ring_q depth 40) refl
 
-pub kept_change : (e x : Rational) → whole (pos 0) ≡ (e -ℚ e) *ℚ x -ℚ whole (pos 0)
+kept_change : (e x : Rational) → whole (pos 0) ≡ (e -ℚ e) *ℚ x -ℚ whole (pos 0)
 kept_change e x = by_ring_q (e ∷ x ∷ []) (search ring_q depth 40) refl
 
-kept_low : (e f : Entry) (x shift : Rational) → IsKept e f shift → IsNonnegativeQ ((rational f.value -ℚ rational e.value) *ℚ x -ℚ shift)
-kept_low e f x shift h =
-    subst IsNonnegativeQ
-    (kept_change (rational e.value) x ∙ ap₂ (λ v w. (v -ℚ rational e.value) *ℚ x -ℚ w) (sym h.same) (sym h.shift_is))
-    (nonnegative_whole (pos 0) (omega (arith, ints)))
-
-change_low : (p : Problem) (point : List Rational) (e f : Entry) (shift : Rational) → IsFeasible p point →
-    IsKept e f shift ⊎ (IsRaised p e f shift ⊎ IsLowered p e f shift) →
-    IsNonnegativeQ ((rational f.value -ℚ rational e.value) *ℚ value_at point e.column -ℚ shift)
-change_low p point e f shift feasible change =
-    let x = value_at point e.column in
-    let d = rational f.value -ℚ rational e.value in
-    ⊎_elim (kept_low e f x shift)
+-- a coefficient that is moved by bounds of v adds at least its shift
+pub move_low : (IsLower IsUpper : Frac → Type 0) (x y shift v : Rational) → ((b : Frac) → IsLower b → IsNonnegativeQ (v -ℚ rational b)) →
+    ((b : Frac) → IsUpper b → IsNonnegativeQ (rational b -ℚ v)) → IsMovedBy IsLower IsUpper x y shift →
+    IsNonnegativeQ ((y -ℚ x) *ℚ v -ℚ shift)
+move_low IsLower IsUpper x y shift v low high =
+    ⊎_elim
+    (λ (h : IsUnmoved x y shift).
+    subst IsNonnegativeQ (kept_change x v ∙ ap₂ (λ a b. (a -ℚ x) *ℚ v -ℚ b) (sym h.same) (sym h.shift_is))
+    (nonnegative_whole (pos 0) (omega (arith, ints))))
     (⊎_elim
-    (λ (h : IsRaised p e f shift).
-    subst IsNonnegativeQ (raised d x (rational h.bound) ∙ ap (λ w. d *ℚ x -ℚ w) (sym h.shift_is))
-    (nonnegative_mul d (x -ℚ rational h.bound) (difference_nonnegative (rational e.value) (rational f.value) h.greater)
-    (lower_at p point e.column h.column h.bound h.is h.bound_is feasible)))
-    (λ (h : IsLowered p e f shift).
-    subst IsNonnegativeQ (lowered (rational e.value) (rational f.value) x (rational h.bound) ∙ ap (λ w. d *ℚ x -ℚ w) (sym h.shift_is))
-    (nonnegative_mul (rational e.value -ℚ rational f.value) (rational h.bound -ℚ x)
-    (difference_nonnegative (rational f.value) (rational e.value) h.lesser)
-    (upper_at p point e.column h.column h.bound h.is h.bound_is feasible))))
-    change
+    (λ (h : IsMovedUp IsLower x y shift).
+    subst IsNonnegativeQ (raised (y -ℚ x) v (rational h.bound) ∙ ap (λ w. (y -ℚ x) *ℚ v -ℚ w) (sym h.shift_is))
+    (nonnegative_mul (y -ℚ x) (v -ℚ rational h.bound) (difference_nonnegative x y h.greater) (low h.bound h.bound_is)))
+    (λ (h : IsMovedDown IsUpper x y shift).
+    subst IsNonnegativeQ (lowered x y v (rational h.bound) ∙ ap (λ w. (y -ℚ x) *ℚ v -ℚ w) (sym h.shift_is))
+    (nonnegative_mul (x -ℚ y) (rational h.bound -ℚ v) (difference_nonnegative y x h.lesser) (high h.bound h.bound_is))))
+
+-- the column at an index with this bound, which f gives
+abbrev HasBound : (Column → Option Frac) → List Column → ℕ → Frac → Type 0
+HasBound f cs j b = (c : Column) × (j < length cs) × (get_or cs j c ≡ c) × (f c ≡ Some b)
+
+bound_at : (f : Column → Option Frac) (cs : List Column) (j : ℕ) (b : Frac) → get_or (map f cs) j None ≡ Some b → HasBound f cs j b
+bound_at f [] zero b e = absurd (cc)
+bound_at f [] (suc j) b e = absurd (cc)
+bound_at f (c ∷ cs) zero b e = (c, omega arith, refl, e)
+bound_at f (c ∷ cs) (suc j) b e = let (d, below, is, f_is) = bound_at f cs j b e in (d, omega arith, is, f_is)
+
+change_low : (p : Problem) (point : List Rational) (j : ℕ) (x y shift : Rational) → IsFeasible p point →
+    IsChanged (lower_of p j) (upper_of p j) x y shift → IsNonnegativeQ ((y -ℚ x) *ℚ value_at point j -ℚ shift)
+change_low p point j x y shift feasible =
+    move_low (IsGiven (lower_of p j)) (IsGiven (upper_of p j)) x y shift (value_at point j)
+    (λ b given.
+    let (c, below, is, bound_is) = bound_at (λ (d : Column). d.lower) p.columns j b given in
+    lower_at p point j c b (record { below = below; is = is }) bound_is feasible)
+    (λ b given.
+    let (c, below, is, bound_is) = bound_at (λ (d : Column). d.upper) p.columns j b given in
+    upper_at p point j c b (record { below = below; is = is }) bound_is feasible)
 
 pub no_change : whole (pos 0) ≡ (whole (pos 0) -ℚ whole (pos 0)) -ℚ whole (pos 0)
 no_change = by_ring_q [] (search ring_q depth 40) refl
@@ -169,7 +184,7 @@ pub change_step : (e f x s r q t : Rational) → ((f -ℚ e) *ℚ x -ℚ s) +ℚ
 change_step e f x s r q t = by_ring_q (e ∷ f ∷ x ∷ s ∷ r ∷ q ∷ t ∷ []) (search ring_q depth 60 fits 3000) refl
 
 changes_low : (p : Problem) (point : List Rational) (es fs : List Entry) (shifts : List Rational) → IsFeasible p point →
-    AreChanged p es fs shifts → IsNonnegativeQ ((sum_at point fs -ℚ sum_at point es) -ℚ total_of shifts)
+    AreMovedAs IsChanged p es fs shifts → IsNonnegativeQ ((sum_at point fs -ℚ sum_at point es) -ℚ total_of shifts)
 changes_low p point [] [] [] feasible h = subst IsNonnegativeQ no_change (nonnegative_whole (pos 0) (omega (arith, ints)))
 changes_low p point [] [] (s ∷ shifts) feasible h = absurd h
 changes_low p point [] (f ∷ fs) shifts feasible h = absurd h
@@ -177,7 +192,7 @@ changes_low p point (e ∷ es) [] shifts feasible h = absurd h
 changes_low p point (e ∷ es) (f ∷ fs) [] feasible h = absurd h
 changes_low p point (e ∷ es) (f ∷ fs) (s ∷ shifts) feasible h =
     let here : IsNonnegativeQ ((rational f.value -ℚ rational e.value) *ℚ value_at point e.column -ℚ s) =
-    change_low p point e f s feasible h.1 in
+    change_low p point e.column (rational e.value) (rational f.value) s feasible h.1 in
     subst IsNonnegativeQ
     (change_step (rational e.value) (rational f.value) (value_at point e.column) s (sum_at point es) (sum_at point fs) (total_of shifts)
     ∙ ap (λ (j : ℕ). ((rational f.value *ℚ value_at point j +ℚ sum_at point fs)

@@ -13,7 +13,12 @@ pub mod OneColumn
 pub mod GridParts
 pub mod Terms
 pub mod MovedEntries
+pub mod OneMove
+pub mod Failing
 pub mod OneRow
+pub mod NarrowSums
+pub mod OneTerms
 pub mod OnePieces
+pub mod NarrowRows
 pub mod WideRoundings
 pub mod WideScales

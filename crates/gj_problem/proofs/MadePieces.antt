@@ -1,5 +1,5 @@
 -- What items make, and sums of pieces.
-use Rattle.std.proofs.Common.{◌≡◌, ⊎_elim, inl, inr, List, [], ◌∷◌, ◌++◌, All, refl, sym, ap, subst, ◌∙◌}
+use Rattle.std.proofs.Common.{◌≡◌, ⊎_elim, inl, inr, List, [], ◌∷◌, ◌++◌, All, refl, sym, ap, ap₂, subst, ◌∙◌}
 use Rattle.std.specs.List.{AllZip}
 use Rattle.std.proofs.lemmas.List.Elements.{All-nil, All-cons, All-head, All-tail}
 use Rattle.gj_problem.specs.Rational.{Rational, rational, ◌+ℚ◌, ◌*ℚ◌}
@@ -56,6 +56,23 @@ none_from_made P M Q (y ∷ xs) ps h pass step =
     (λ (k : Made P M y xs ps). All-cons Q y xs (step y k.1 k.4) (none_from_made P M Q xs k.2 k.5 pass step))
     h
 
+-- what each item makes is one thing, so it is one list
+pub made_one : {A B : Type 0} (P : A → Type 0) (M : A → B → Type 0) → ((x : A) (s t : B) → M x s → M x t → s ≡ t) → (xs : List A) (ps qs : List B) →
+    AreMadeOf P M xs ps → AreMadeOf P M xs qs → ps ≡ qs
+made_one P M one [] ps qs h k = h ∙ sym k
+made_one {A} {B} P M one (x ∷ xs) ps qs h k =
+    ⊎_elim
+    (λ (a : P x × AreMadeOf P M xs ps).
+    ⊎_elim
+    (λ (b : P x × AreMadeOf P M xs qs). made_one P M one xs ps qs a.1 b.1)
+    (λ (b : Made P M x xs qs). absurd (b.0 a.0)) k)
+    (λ (a : Made P M x xs ps).
+    ⊎_elim
+    (λ (b : P x × AreMadeOf P M xs qs). absurd (a.0 b.0))
+    (λ (b : Made P M x xs qs).
+    a.3 ∙ ap₂ (λ (s : B) (rest : List B). s ∷ rest) (one x a.1 b.1 a.4 b.4) (made_one P M one xs a.2 b.2 a.5 b.5) ∙ sym b.3) k)
+    h
+
 -- ---- two lists
 
 pub zip_joined : {A B : Type 0} (R : A → B → Type 0) (xs xs' : List A) (ys ys' : List B) → AllZip R xs ys → AllZip R xs' ys' →
@@ -64,6 +81,25 @@ zip_joined R [] xs' [] ys' h k = k
 zip_joined R [] xs' (y ∷ ys) ys' h k = absurd h
 zip_joined R (x ∷ xs) xs' [] ys' h k = absurd h
 zip_joined R (x ∷ xs) xs' (y ∷ ys) ys' h k = (h.0, zip_joined R xs xs' ys ys' h.1 k)
+
+pub zip_split : {A B : Type 0} (R : A → B → Type 0) (xs xs' : List A) (zs : List B) → AllZip R (xs ++ xs') zs →
+    (us : List B) × (vs : List B) × (zs ≡ us ++ vs) × AllZip R xs us × AllZip R xs' vs
+zip_split R [] xs' zs h = ([], zs, refl, tt, h)
+zip_split R (x ∷ xs) xs' [] h = absurd h
+zip_split {A} {B} R (x ∷ xs) xs' (z ∷ zs) h =
+    let (us, vs, are, first, second) = zip_split R xs xs' zs h.1 in
+    (z ∷ us, vs, ap (λ (ws : List B). z ∷ ws) are, (h.0, first), second)
+
+-- what the items of the first list have is one thing, so it is one list
+pub zip_one : {A B : Type 0} (R : A → B → Type 0) → ((x : A) (y z : B) → R x y → R x z → y ≡ z) → (xs : List A) (ys zs : List B) →
+    AllZip R xs ys → AllZip R xs zs → ys ≡ zs
+zip_one R one [] [] [] h k = refl
+zip_one R one [] [] (z ∷ zs) h k = absurd k
+zip_one R one [] (y ∷ ys) zs h k = absurd h
+zip_one R one (x ∷ xs) [] zs h k = absurd h
+zip_one R one (x ∷ xs) (y ∷ ys) [] h k = absurd k
+zip_one {A} {B} R one (x ∷ xs) (y ∷ ys) (z ∷ zs) h k =
+    ap₂ (λ (w : B) (ws : List B). w ∷ ws) (one x y z h.0 k.0) (zip_one R one xs ys zs h.1 k.1)
 
 -- ---- sums
 

@@ -12,59 +12,20 @@ use Rattle.gj_problem.specs.declared.problem.Entry.{Entry}
 use Rattle.gj_problem.specs.declared.problem.Inequality.{Inequality}
 use Rattle.gj_problem.specs.declared.problem.Problem.{Problem}
 use Rattle.gj_problem.specs.Problems.{Holds, HasTerms, AreTermsWithin, sum_at, value_at}
-use Rattle.gj_problem.specs.Rows.{IsKept, IsRaised, IsLowered, AreChanged, total_of}
+use Rattle.gj_problem.specs.Moves.{IsGridValue, IsBelowOnGrid}
 use Rattle.gj_problem.proofs.AddedSums.{add_zero_q, none_first}
 use Rattle.gj_problem.proofs.HeldInequalities.{rounded_holds}
 use Rattle.gj_problem.specs.declared.rounding.RoundedCut.{RoundedCut}
 use Rattle.gj_problem.specs.declared.rounding.RoundedCut.TheVariants.{Cut, Free, Wide}
-use Rattle.gj_problem.specs.RoundedCuts.{IsBelowOnGrid, lower_of, upper_of, IsMoved, AreMoved, IsZero, AreSomeOf, IsRoundedOf, IsFreeEntry, RoundedHolds, RoundedHasTerms}
+use Rattle.gj_problem.specs.RoundedCuts.{lower_of, upper_of, AreMovedAs, total_of, IsChanged, IsMoved, AreMoved, IsZero, AreSomeOf, IsRoundedOf, IsFreeEntry, RoundedHolds, RoundedHasTerms}
 use Rattle.gj_problem.specs.Steps.{IsMadeNext}
 use Rattle.gj_problem.proofs.MadePieces.{Made}
 use Rattle.gj_problem.proofs.Prefixes.{made_next}
 use Rattle.gj_problem.proofs.Terms.{later_terms}
 
--- ---- bounds
-
--- the column at an index with this bound, which f gives
-abbrev HasBound : (Column → Option Frac) → List Column → ℕ → Frac → Type 0
-HasBound f cs j b = (c : Column) × (j < length cs) × (get_or cs j c ≡ c) × (f c ≡ Some b)
-
-bound_at : (f : Column → Option Frac) (cs : List Column) (j : ℕ) (b : Frac) → get_or (map f cs) j None ≡ Some b → HasBound f cs j b
-bound_at f [] zero b e = absurd (cc)
-bound_at f [] (suc j) b e = absurd (cc)
-bound_at f (c ∷ cs) zero b e = (c, omega arith, refl, e)
-bound_at f (c ∷ cs) (suc j) b e = let (d, below, is, f_is) = bound_at f cs j b e in (d, omega arith, is, f_is)
-
 -- ---- they hold
 
-abbrev IsChanged : Problem → Entry → Entry → Rational → Type 0
-IsChanged p e e' shift = IsKept e e' shift ⊎ (IsRaised p e e' shift ⊎ IsLowered p e e' shift)
-
-changed_from : (p : Problem) (n : ℕ) (e e' : Entry) (shift : Rational) (lower upper : Option Frac) → lower_of p e.column ≡ lower →
-    upper_of p e.column ≡ upper → IsMoved n lower upper (rational e.value) (rational e'.value) shift → IsChanged p e e' shift
-changed_from p n e e' shift (Some l) upper l_is u_is h =
-    let (c, below, is, bound_is) = bound_at (λ (d : Column). d.lower) p.columns e.column l l_is in
-    inr (inl (record {
-      column = c;
-      is = record { below = below; is = is };
-      bound = l;
-      bound_is = bound_is;
-      greater = at_most_turned (rational e.value) (rational e'.value) h.0.at_most;
-      shift_is = h.1;
-    }))
-changed_from p n e e' shift None (Some u) l_is u_is h =
-    let (c, below, is, bound_is) = bound_at (λ (d : Column). d.upper) p.columns e.column u u_is in
-    inr (inr (record {
-      column = c;
-      is = record { below = below; is = is };
-      bound = u;
-      bound_is = bound_is;
-      lesser = h.0.at_most;
-      shift_is = h.1;
-    }))
-changed_from p n e e' shift None None l_is u_is h = inl (record { same = h.1; shift_is = h.2 })
-
-moved_changed : (p : Problem) (n : ℕ) (es fs : List Entry) (shifts : List Rational) → AreMoved p n es fs shifts → AreChanged p es fs shifts
+moved_changed : (p : Problem) (n : ℕ) (es fs : List Entry) (shifts : List Rational) → AreMoved p n es fs shifts → AreMovedAs IsChanged p es fs shifts
 moved_changed p n [] [] [] h = tt
 moved_changed p n [] [] (s ∷ shifts) h = absurd h
 moved_changed p n [] (f ∷ fs) shifts h = absurd h
@@ -72,7 +33,7 @@ moved_changed p n (e ∷ es) [] shifts h = absurd h
 moved_changed p n (e ∷ es) (f ∷ fs) [] h = absurd h
 moved_changed p n (e ∷ es) (f ∷ fs) (s ∷ shifts) h = (
   h.0,
-  changed_from p n e f s (lower_of p e.column) (upper_of p e.column) refl refl h.1,
+  h.1.1,
   moved_changed p n es fs shifts h.2,
 )
 
@@ -146,7 +107,7 @@ not_free_at : (p : Problem) (n : ℕ) (e : Entry) (y shift : Rational) (lower up
     upper_of p e.column ≡ upper → IsMoved n lower upper (rational e.value) y shift → IsFreeEntry p n e → ⊥
 not_free_at p n e y shift (Some l) upper l_is u_is h free = let none = sym l_is ∙ free.no_lower in absurd (cc)
 not_free_at p n e y shift None (Some u) l_is u_is h free = let none = sym u_is ∙ free.no_upper in absurd (cc)
-not_free_at p n e y shift None None l_is u_is h free = free.off_grid h.0
+not_free_at p n e y shift None None l_is u_is h free = free.off_grid h.0.0
 
 pub none_free_in : (p : Problem) (n : ℕ) (es fs : List Entry) (shifts : List Rational) → AreMoved p n es fs shifts →
     All (λ e. IsFreeEntry p n e → ⊥) es
@@ -166,10 +127,29 @@ double_neg x = by_ring_q (x ∷ []) (search ring_q depth 30) refl
 pub raised_to : (n : ℕ) (x y z value l m shift : Frac) (upper : Option Frac) → rational y ≡ neg_ℚ (rational x) →
     IsBelowOnGrid n (rational y) (rational z) → rational value ≡ neg_ℚ (rational z) → m ≡ value →
     rational shift ≡ (rational value -ℚ rational x) *ℚ rational l → IsMoved n (Some l) upper (rational x) (rational m) (rational shift)
-raised_to n x y z value l m shift upper y_is below value_is m_is shift_is = (
-  subst₂ (IsBelowOnGrid n) y_is (sym (ap (λ (w : Frac). neg_ℚ (rational w)) m_is ∙ ap neg_ℚ value_is ∙ double_neg (rational z))) below,
-  shift_is ∙ ap (λ (w : Frac). (rational w -ℚ rational x) *ℚ rational l) (sym m_is),
-)
+raised_to n x y z value l m shift upper y_is below value_is m_is shift_is =
+    let on : IsBelowOnGrid n (neg_ℚ (rational x)) (neg_ℚ (rational m)) =
+    subst₂ (IsBelowOnGrid n) y_is (sym (ap (λ (w : Frac). neg_ℚ (rational w)) m_is ∙ ap neg_ℚ value_is ∙ double_neg (rational z))) below in (
+      on,
+      inr (inl (record {
+        bound = l;
+        bound_is = refl;
+        greater = at_most_turned (rational x) (rational m) on.at_most;
+        shift_is = shift_is ∙ ap (λ (w : Frac). (rational w -ℚ rational x) *ℚ rational l) (sym m_is);
+      })),
+    )
+
+-- ---- one that goes down
+
+pub lowered_to : (n : ℕ) (x value u m shift : Frac) (lower upper : Option Frac) → lower ≡ None → upper ≡ Some u →
+    IsBelowOnGrid n (rational x) (rational value) → m ≡ value → rational shift ≡ (rational value -ℚ rational x) *ℚ rational u →
+    IsMoved n lower upper (rational x) (rational m) (rational shift)
+lowered_to n x value u m shift lower upper lower_is upper_is below m_is shift_is =
+    subst₂ (λ (l o : Option Frac). IsMoved n l o (rational x) (rational m) (rational shift)) (sym lower_is) (sym upper_is)
+    (subst (λ (w : Frac). IsMoved n None (Some u) (rational x) (rational w) (rational shift)) (sym m_is) (
+      below,
+      inr (inr (record { bound = u; bound_is = refl; lesser = below.at_most; shift_is = shift_is })),
+    ))
 
 -- ---- terms
 

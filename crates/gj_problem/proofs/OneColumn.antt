@@ -1,7 +1,8 @@
 -- The surplus of an inequality with one column, and of the multiple of a constraint.
-use Rattle.std.proofs.Common.{◌≡◌, ℕ, zero, suc, ◌+◌, ◌<◌, ◌≤◌, List, [], ◌∷◌, ◌++◌, length, get_or, take, ℤ, pos, negsuc, neg_ℤ, ◌+ℤ◌, ◌*ℤ◌, ◌<ℤ◌, ◌≤ℤ◌, refl, sym, ap, ap₂, subst₂, ◌∙◌, arith}
+use Rattle.std.proofs.Common.{◌≡◌, ℕ, zero, suc, ◌+◌, ◌<◌, List, [], ◌∷◌, ◌++◌, length, get_or, take, ℤ, pos, negsuc, neg_ℤ, ◌+ℤ◌, ◌*ℤ◌, ◌<ℤ◌, ◌≤ℤ◌, refl, sym, ap, ap₂, subst₂, ◌∙◌, arith}
+use Rattle.std.specs.List.{AllZip}
 use Rattle.std.proofs.lemmas.Int.{ints}
-use Rattle.std.proofs.lemmas.List.{take_more, take_all}
+use Rattle.std.proofs.lemmas.List.{take_more}
 use Rattle.gj_frac.specs.declared.Frac.{Frac}
 use Rattle.gj_frac.specs.Floor.{IsFloor}
 use Rattle.gj_frac.specs.Fraction.{SameValue, fraction_of, product_of}
@@ -10,31 +11,35 @@ use Rattle.gj_problem.specs.Rational.{Rational, whole, rational, ◌+ℚ◌, ◌
 use Rattle.gj_problem.proofs.RationalLaws.{mul_zero_q, zero_add_q}
 use Rattle.gj_problem.proofs.RationalRing.{by_ring_q, ring_q}
 use Rattle.gj_problem.specs.declared.problem.Entry.{Entry}
+use Rattle.gj_problem.specs.declared.problem.Inequality.{Inequality}
 use Rattle.gj_problem.specs.declared.pieces.Piece.{Piece}
-use Rattle.gj_problem.specs.Problems.{value_at, sum_at}
+use Rattle.gj_problem.specs.Problems.{value_at, sum_at, surplus_at}
+use Rattle.gj_problem.specs.Rows.{IsMultiple, IsOneColumn}
 use Rattle.gj_problem.specs.Aggregates.{pieces_at, IsCeiling}
-use Rattle.gj_problem.proofs.AddedSums.{product_value, sum_at_append, add_zero_q}
-use Rattle.gj_problem.proofs.MadePieces.{pieces_joined}
+use Rattle.gj_problem.proofs.AddedSums.{product_value, add_zero_q}
+use Rattle.gj_problem.proofs.MadePieces.{zip_joined, pieces_joined}
 
 -- ---- one column
+
+column_surplus : (point : List Rational) (j : ℕ) (x b : Rational) (q : Inequality) → IsOneColumn j x b q →
+    surplus_at point q ≡ (x *ℚ value_at point j +ℚ whole (pos 0)) -ℚ b
+column_surplus point j x b q h =
+    ap₂ (λ (es : List Entry) w. sum_at point es -ℚ w) h.alone h.right_is
+    ∙ ap₂ (λ w (k : ℕ). (w *ℚ value_at point k +ℚ whole (pos 0)) -ℚ b) h.value h.column
 
 lower_step : (x b : Rational) → (whole (pos 1) *ℚ x +ℚ whole (pos 0)) -ℚ b ≡ x -ℚ b
 lower_step x b = by_ring_q (x ∷ b ∷ []) (search ring_q depth 40) refl
 
-pub lower_surplus : (point : List Rational) (es : List Entry) (j : ℕ) (v b : Frac) → es ≡ record { column = j; value = v } ∷ [] →
-    rational v ≡ whole (pos 1) → sum_at point es -ℚ rational b ≡ value_at point j -ℚ rational b
-lower_surplus point es j v b es_are v_is =
-    ap (λ (fs : List Entry). sum_at point fs -ℚ rational b) es_are
-    ∙ ap (λ w. (w *ℚ value_at point j +ℚ whole (pos 0)) -ℚ rational b) v_is ∙ lower_step (value_at point j) (rational b)
+pub lower_surplus : (point : List Rational) (j : ℕ) (b : Rational) (q : Inequality) → IsOneColumn j (whole (pos 1)) b q →
+    surplus_at point q ≡ value_at point j -ℚ b
+lower_surplus point j b q h = column_surplus point j (whole (pos 1)) b q h ∙ lower_step (value_at point j) b
 
 upper_step : (x b : Rational) → (whole (negsuc 0) *ℚ x +ℚ whole (pos 0)) -ℚ neg_ℚ b ≡ b -ℚ x
 upper_step x b = by_ring_q (x ∷ b ∷ []) (search ring_q depth 40) refl
 
-pub upper_surplus : (point : List Rational) (es : List Entry) (j : ℕ) (v b n : Frac) → es ≡ record { column = j; value = v } ∷ [] →
-    rational v ≡ whole (negsuc 0) → rational n ≡ neg_ℚ (rational b) → sum_at point es -ℚ rational n ≡ rational b -ℚ value_at point j
-upper_surplus point es j v b n es_are v_is n_is =
-    ap (λ (fs : List Entry). sum_at point fs -ℚ rational n) es_are
-    ∙ ap₂ (λ w z. (w *ℚ value_at point j +ℚ whole (pos 0)) -ℚ z) v_is n_is ∙ upper_step (value_at point j) (rational b)
+pub upper_surplus : (point : List Rational) (j : ℕ) (b : Rational) (q : Inequality) → IsOneColumn j (whole (negsuc 0)) (neg_ℚ b) q →
+    surplus_at point q ≡ b -ℚ value_at point j
+upper_surplus point j b q h = column_surplus point j (whole (negsuc 0)) (neg_ℚ b) q h ∙ upper_step (value_at point j) b
 
 -- ---- the right side
 
@@ -64,36 +69,38 @@ right_kept old new ps qs s qs_are new_is =
 
 -- ---- a multiple
 
-scaled_step : (f s v x : Rational) → f *ℚ s +ℚ (f *ℚ v) *ℚ x ≡ f *ℚ (s +ℚ v *ℚ x)
-scaled_step f s v x = by_ring_q (f ∷ s ∷ v ∷ x ∷ []) (search ring_q depth 40) refl
+-- the second entry is the first times x
+abbrev pub IsTimes : Rational → Entry → Entry → Type 0
+IsTimes x e f = (f.column ≡ e.column) × (rational f.value ≡ x *ℚ rational e.value)
 
-pub entry_scaled : (point : List Rational) (es : List Entry) (i : ℕ) (e made : Entry) (f : Frac) (old new : List Entry) → i < length es →
-    e ≡ get_or es i e → sum_at point old ≡ rational f *ℚ sum_at point (take i es) → new ≡ old ++ made ∷ [] → made.column ≡ e.column →
-    SameValue (fraction_of made.value) (product_of (fraction_of f) (fraction_of e.value)) →
-    sum_at point new ≡ rational f *ℚ sum_at point (take (i + 1) es)
-entry_scaled point es i e made f old new below here old_is new_is column value =
-    let x = value_at point e.column in
-    let more : sum_at point (take (i + 1) es) ≡ sum_at point (take i es) +ℚ rational e.value *ℚ x =
-    ap (sum_at point) (take_more es i e below ∙ ap (λ z. take i es ++ z ∷ []) (sym here)) ∙ sum_at_append point (take i es) e in
-    ap (sum_at point) new_is ∙ sum_at_append point old made
-    ∙ ap₂ (λ a b. a +ℚ b) old_is
-    (ap₂ (λ a (j : ℕ). a *ℚ value_at point j) (product_value f e.value made.value value) column)
-    ∙ scaled_step (rational f) (sum_at point (take i es)) (rational e.value) x ∙ ap (λ z. rational f *ℚ z) (sym more)
+pub multiple_more : (es : List Entry) (i : ℕ) (e made : Entry) (f : Frac) (old new : List Entry) → i < length es →
+    e ≡ get_or es i e → AllZip (IsTimes (rational f)) (take i es) old → new ≡ old ++ made ∷ [] → made.column ≡ e.column →
+    SameValue (fraction_of made.value) (product_of (fraction_of f) (fraction_of e.value)) → AllZip (IsTimes (rational f)) (take (i + 1) es) new
+multiple_more es i e made f old new below here h new_is column value =
+    let R : Entry → Entry → Type 0 = IsTimes (rational f) in
+    subst₂ (λ (fs gs : List Entry). AllZip R fs gs) (sym (take_more es i e below ∙ ap (λ z. take i es ++ z ∷ []) (sym here))) (sym new_is)
+    (zip_joined R (take i es) (e ∷ []) old (made ∷ []) h ((column, product_value f e.value made.value value), tt))
 
-pub nothing_scaled : (f : Rational) → whole (pos 0) ≡ f *ℚ whole (pos 0)
-nothing_scaled f = sym (mul_zero_q f)
+scaled_step : (f v x s : Rational) → (f *ℚ v) *ℚ x +ℚ f *ℚ s ≡ f *ℚ (v *ℚ x +ℚ s)
+scaled_step f v x s = by_ring_q (f ∷ v ∷ x ∷ s ∷ []) (search ring_q depth 40) refl
+
+multiple_sum : (point : List Rational) (x : Rational) (es fs : List Entry) → AllZip (IsTimes x) es fs → sum_at point fs ≡ x *ℚ sum_at point es
+multiple_sum point x [] [] h = sym (mul_zero_q x)
+multiple_sum point x [] (f ∷ fs) h = absurd h
+multiple_sum point x (e ∷ es) [] h = absurd h
+multiple_sum point x (e ∷ es) (f ∷ fs) h =
+    ap₂ (λ v (j : ℕ). v *ℚ value_at point j +ℚ sum_at point fs) h.0.1 h.0.0
+    ∙ ap (λ s. (x *ℚ rational e.value) *ℚ value_at point e.column +ℚ s) (multiple_sum point x es fs h.1)
+    ∙ scaled_step x (rational e.value) (value_at point e.column) (sum_at point es)
 
 difference_scaled : (f s r : Rational) → f *ℚ s -ℚ f *ℚ r ≡ f *ℚ (s -ℚ r)
 difference_scaled f s r = by_ring_q (f ∷ s ∷ r ∷ []) (search ring_q depth 40) refl
 
-pub all_scaled : (point : List Rational) (es : List Entry) (i : ℕ) (f right scaled : Frac) (made made' : List Entry) → length es ≤ i →
-    sum_at point made ≡ rational f *ℚ sum_at point (take i es) → made' ≡ made →
-    SameValue (fraction_of scaled) (product_of (fraction_of f) (fraction_of right)) →
-    sum_at point made' -ℚ rational scaled ≡ rational f *ℚ (sum_at point es -ℚ rational right)
-all_scaled point es i f right scaled made made' end is same scaled_is =
-    ap₂ (λ a b. a -ℚ b) (ap (sum_at point) same ∙ is ∙ ap (λ xs. rational f *ℚ sum_at point xs) (take_all i es end))
-    (product_value f right scaled scaled_is)
-    ∙ difference_scaled (rational f) (sum_at point es) (rational right)
+-- its surplus is that many times as much
+pub multiple_surplus : (point : List Rational) (x : Rational) (es : List Entry) (right : Frac) (q : Inequality) → IsMultiple x es right q →
+    surplus_at point q ≡ x *ℚ (sum_at point es -ℚ rational right)
+multiple_surplus point x es right q h =
+    ap₂ (λ a b. a -ℚ b) (multiple_sum point x es q.entries h.entries_are) h.right_is ∙ difference_scaled x (sum_at point es) (rational right)
 
 -- ---- rounding up
 

@@ -1,34 +1,33 @@
 -- A problem and its multipliers make one row: its slacks and its turned columns.
-use Rattle.std.proofs.Common.{◌≡◌, ◌↔◌, ◌<◌, ◌*◌, ℕ, List, [], ◌∷◌, ◌++◌, map, Bool, true, false, IsTrue, ℤ, pos, neg_ℤ, refl, sym, ap, ap₂, subst, subst₂, ◌∙◌, arith}
+use Rattle.std.proofs.Common.{◌≡◌, ◌↔◌, ◌<◌, ℕ, List, [], ◌∷◌, ◌++◌, map, Bool, true, false, IsTrue, pos, neg_ℤ, refl, sym, ap, ap₂, subst, ◌∙◌, arith}
 use Rattle.std.proofs.lemmas.Nat.Gcd.{dvd_antisymm}
 use Rattle.std.specs.List.{AllZip}
 use Rattle.std.proofs.lemmas.Int.{ints}
 use Rattle.gj_frac.specs.declared.Frac.{Frac}
 use Rattle.gj_shape.proofs.LeastDenominator.{least_common_some}
-use Rattle.gj_problem.specs.Rational.{Rational, whole, rational, ◌+ℚ◌, ◌*ℚ◌, neg_ℚ, ◌-ℚ◌, ◌≤ℚ◌}
+use Rattle.gj_problem.specs.Rational.{Rational, whole, rational, ◌*ℚ◌, neg_ℚ, ◌≤ℚ◌}
 use Rattle.gj_problem.proofs.RationalLaws.{whole_neg, neg_mul_q}
 use Rattle.gj_problem.proofs.RationalOrder.{at_most_both, at_most_cancel}
 use Rattle.gj_problem.proofs.RationalRing.{by_ring_q, ring_q}
-use Rattle.gj_problem.specs.declared.problem.Constraint.{Constraint}
 use Rattle.gj_problem.specs.declared.problem.Entry.{Entry}
 use Rattle.gj_problem.specs.declared.problem.Problem.{Problem}
 use Rattle.gj_problem.specs.declared.problem.Sense.{Sense}
 use Rattle.gj_problem.specs.declared.problem.Sense.TheVariants.{AtMost, AtLeast, Equal}
 use Rattle.gj_problem.specs.declared.pieces.Piece.{Piece}
-use Rattle.gj_problem.specs.Problems.{sum_at, surplus_at}
 use Rattle.gj_problem.specs.Aggregates.{Weighted, weighted, HasNoSlack, IsScale, IsSlack, IsRow, signed}
-use Rattle.gj_problem.proofs.MadePieces.{zip_joined}
-use Rattle.gj_problem.proofs.OneRow.{rational_injective, IsSamePiece, made_same, one_bounds}
+use Rattle.gj_problem.proofs.MadePieces.{made_one, zip_one}
+use Rattle.gj_problem.proofs.OneColumn.{IsTimes}
+use Rattle.gj_problem.proofs.OneRow.{same_entry, same_piece, one_bounds}
 
 -- ---- one scale
 
-one_test : (a b : Bool) (P : Type 0) → (IsTrue a ↔ P) → (IsTrue b ↔ P) → a ≡ b
+pub one_test : (a b : Bool) (P : Type 0) → (IsTrue a ↔ P) → (IsTrue b ↔ P) → a ≡ b
 one_test true true P h k = refl
 one_test true false P h k = sym (k.1 (h.0 refl))
 one_test false true P h k = h.1 (k.0 refl)
 one_test false false P h k = refl
 
-one_scale : (right : Frac) (es : List Entry) (b : Bool) (m n : ℕ) → IsScale right es b m → IsScale right es b n → m ≡ n
+pub one_scale : (right : Frac) (es : List Entry) (b : Bool) (m n : ℕ) → IsScale right es b m → IsScale right es b n → m ≡ n
 one_scale right es true m n h k = dvd_antisymm (h.least n k.common) (k.least m h.common)
 one_scale right es false m n h k = h ∙ sym k
 
@@ -64,29 +63,30 @@ cancel_signed Equal n x y some e = cancel n x y some e
 
 -- ---- one slack
 
-one_slack : (p : Problem) (w : Weighted) (s t : Piece) → IsSlack p w s → IsSlack p w t → IsSamePiece s t
+one_times : (x : Rational) (e f g : Entry) → IsTimes x e f → IsTimes x e g → f ≡ g
+one_times x e f g h k = same_entry f g (h.0 ∙ sym k.0) (h.1 ∙ sym k.1)
+
+pub one_slack : (p : Problem) (w : Weighted) (s t : Piece) → IsSlack p w s → IsSlack p w t → s ≡ t
 one_slack p w s t h k =
     let c = w.constraint in
     let kind : s.is_whole ≡ t.is_whole = one_test s.is_whole t.is_whole _ h.is_whole k.is_whole in
     let scale : h.scale ≡ k.scale =
     one_scale c.right c.entries t.is_whole h.scale k.scale (subst (λ (b : Bool). IsScale c.right c.entries b h.scale) kind h.scale_is) k.scale_is in
-    record {
-      is_whole = kind;
-      entry = rational_injective s.entry t.entry
-          (cancel_signed c.sense k.scale (rational s.entry) (rational t.entry) (scale_some c.right c.entries t.is_whole k.scale k.scale_is)
-          (ap (λ (n : ℕ). whole (signed c.sense n) *ℚ rational s.entry) (sym scale) ∙ h.entry_is ∙ sym k.entry_is));
-      surplus = λ (point : List Rational).
-          h.slack_is point
-          ∙ ap (λ (n : ℕ). whole (signed c.sense n) *ℚ (sum_at point c.entries -ℚ rational c.right)) scale
-          ∙ sym (k.slack_is point);
-    }
+    let factor : whole (signed c.sense h.scale) ≡ whole (signed c.sense k.scale) = ap (λ (n : ℕ). whole (signed c.sense n)) scale in
+    same_piece s t kind
+    (cancel_signed c.sense k.scale (rational s.entry) (rational t.entry) (scale_some c.right c.entries t.is_whole k.scale k.scale_is)
+    (ap (λ f. f *ℚ rational s.entry) (sym factor) ∙ h.entry_is ∙ sym k.entry_is))
+    (zip_one (IsTimes (whole (signed c.sense k.scale))) (one_times (whole (signed c.sense k.scale))) c.entries s.inequality.entries
+    t.inequality.entries (subst (λ f. AllZip (IsTimes f) c.entries s.inequality.entries) factor h.slack_is.entries_are) k.slack_is.entries_are)
+    (h.slack_is.right_is ∙ ap (λ f. f *ℚ rational c.right) factor ∙ sym k.slack_is.right_is)
 
 -- ---- one row
 
 pub one_pieces : (p : Problem) (ms : List Frac) (ups : List Bool) (ps qs : List Piece) (r s : Frac) → IsRow p ms ups ps r → IsRow p ms ups qs s →
-    AllZip IsSamePiece ps qs
+    ps ≡ qs
 one_pieces p ms ups ps qs r s row other =
-    subst₂ (λ (us vs : List Piece). AllZip IsSamePiece us vs) (sym row.pieces_are) (sym other.pieces_are)
-    (zip_joined IsSamePiece row.slacks row.bounds other.slacks other.bounds
-    (made_same HasNoSlack (IsSlack p) (one_slack p) (weighted ms p.constraints) row.slacks other.slacks row.slacks_are other.slacks_are)
-    (one_bounds p ms ups ps qs r s row other))
+    row.pieces_are
+    ∙ ap₂ (λ (us vs : List Piece). us ++ vs)
+    (made_one HasNoSlack (IsSlack p) (one_slack p) (weighted ms p.constraints) row.slacks other.slacks row.slacks_are other.slacks_are)
+    (one_bounds p ms ups ps qs r s row other)
+    ∙ sym other.pieces_are

@@ -1,6 +1,5 @@
 -- A problem and its multipliers have one sum, and either one right side or one first free column.
-use Rattle.std.proofs.Common.{◌≡◌, ⊎_elim, ℕ, List, [], ◌∷◌, ◌++◌, length, All, Bool, true, false, Option, Some, None, ℤ, pos, ◌-ℤ◌, ◌<ℤ◌, refl, sym, ap, ap₂, subst, subst₂, ◌∙◌, arith}
-use Rattle.std.specs.List.{AllZip}
+use Rattle.std.proofs.Common.{◌≡◌, ℕ, List, [], ◌∷◌, ◌++◌, length, All, Bool, true, false, Option, Some, None, ℤ, pos, negsuc, ◌-ℤ◌, ◌<ℤ◌, refl, sym, ap, ap₂, subst, ◌∙◌, arith}
 use Rattle.std.proofs.lemmas.Int.{ints}
 use Rattle.std.proofs.lemmas.List.Elements.{All-head, All-tail}
 use Rattle.gj_frac.specs.declared.Frac.{Frac}
@@ -8,15 +7,15 @@ use Rattle.gj_frac.specs.SameParts.{same_parts_same}
 use Rattle.gj_frac.proofs.Floors.{same_from_IsFloor}
 use Rattle.gj_lemmas.proofs.Integers.{mul_lt_cancel_right_z}
 use Rattle.gj_lemmas.proofs.Lists.{All-back}
-use Rattle.gj_problem.specs.Rational.{Rational, whole, rational, ◌+ℚ◌, ◌*ℚ◌, ◌-ℚ◌}
+use Rattle.gj_problem.specs.Rational.{Rational, whole, rational, ◌+ℚ◌, ◌*ℚ◌, neg_ℚ, ◌-ℚ◌}
 use Rattle.gj_problem.proofs.RationalRing.{by_ring_q, ring_q}
 use Rattle.gj_problem.specs.declared.problem.Problem.{Problem}
 use Rattle.gj_problem.specs.declared.pieces.Piece.{Piece}
-use Rattle.gj_problem.specs.Problems.{value_at, surplus_at}
-use Rattle.gj_problem.specs.Rows.{dot}
+use Rattle.gj_problem.specs.declared.problem.Entry.{Entry}
+use Rattle.gj_problem.specs.Rows.{dot, IsOneColumn}
 use Rattle.gj_problem.specs.declared.bounds.Held.{Held}
 use Rattle.gj_problem.specs.Aggregates.{pieces_at, AreMadeOf, Weighted, weighted, IsAggregate, held, IsLeftOut, IsCeiling, IsLowerBound, IsUpperBound, IsFromLower, IsFromUpper, IsTurnedFrom, IsTurned, IsFree, IsRow, IsFirstFree}
-use Rattle.gj_problem.proofs.MadePieces.{Made}
+use Rattle.gj_problem.proofs.MadePieces.{made_one}
 use Rattle.gj_problem.proofs.OneColumn.{put_back}
 use Rattle.gj_problem.proofs.TurnedColumns.{none_free}
 
@@ -55,16 +54,20 @@ turned_twice r = by_ring_q (r ∷ []) (search ring_q depth 40) refl
 right_at : (cs : List Frac) (r : Frac) → rational r ≡ whole (pos 0) -ℚ (dot cs [] -ℚ rational r)
 right_at cs r = turned_twice (rational r) ∙ ap (λ w. whole (pos 0) -ℚ (w -ℚ rational r)) (sym (dot_none cs))
 
-pub one_sum : (p : Problem) (ws : List Weighted) (cs ds : List Frac) (r s : Frac) → IsAggregate p ws cs r → IsAggregate p ws ds s →
-    (cs ≡ ds) × (r ≡ s)
-one_sum p ws cs ds r s h k =
-    let both : (point : List Rational) → dot cs point -ℚ rational r ≡ dot ds point -ℚ rational s = λ point. h.adds point ∙ sym (k.adds point) in
+-- sums with equal surpluses at all points are one
+pub same_sum : (cs ds : List Frac) (r s : Frac) → length cs ≡ length ds →
+    ((point : List Rational) → dot cs point -ℚ rational r ≡ dot ds point -ℚ rational s) → (cs ≡ ds) × (r ≡ s)
+same_sum cs ds r s count both =
     let right : rational r ≡ rational s = right_at cs r ∙ ap (λ w. whole (pos 0) -ℚ w) (both []) ∙ sym (right_at ds s) in (
-      same_coefficients cs ds (h.count ∙ sym k.count)
+      same_coefficients cs ds count
           (λ (point : List Rational). put_back (dot cs point) (rational r) ∙ ap₂ (λ v w. v +ℚ w) (both point) right
           ∙ sym (put_back (dot ds point) (rational s))),
       rational_injective r s right,
     )
+
+pub one_sum : (p : Problem) (ws : List Weighted) (cs ds : List Frac) (r s : Frac) → IsAggregate p ws cs r → IsAggregate p ws ds s →
+    (cs ≡ ds) × (r ≡ s)
+one_sum p ws cs ds r s h k = same_sum cs ds r s (h.count ∙ sym k.count) (λ point. h.adds point ∙ sym (k.adds point))
 
 -- ---- one bound
 
@@ -85,78 +88,54 @@ one_upper false u x y h k = ap rational (h ∙ sym k)
 
 -- ---- one turned column
 
--- the two pieces have one entry, and their surpluses are equal at all points
-pub record IsSamePiece (s t : Piece) : Type 0 where
-  pub is_whole : s.is_whole ≡ t.is_whole
-  pub entry : s.entry ≡ t.entry
-  pub surplus : (point : List Rational) → surplus_at point s.inequality ≡ surplus_at point t.inequality
+pub same_entry : (e f : Entry) → e.column ≡ f.column → rational e.value ≡ rational f.value → e ≡ f
+same_entry e f column value = ap₂ (λ (j : ℕ) (x : Frac). record { column = j; value = x }) column (rational_injective e.value f.value value)
 
-same_from_lower : (h : Held) (l : Frac) (s t : Piece) → s.is_whole ≡ t.is_whole → IsFromLower h l s → IsFromLower h l t → IsSamePiece s t
-same_from_lower h l s t kind a b = record {
-  is_whole = kind;
-  entry = rational_injective s.entry t.entry (a.entry_is ∙ sym b.entry_is);
-  surplus = λ (point : List Rational).
-      a.surplus_is point
-      ∙ ap (λ w. value_at point h.index -ℚ w) (one_lower h.column.is_whole l a.bound b.bound a.bound_is b.bound_is)
-      ∙ sym (b.surplus_is point);
-}
+pub same_piece : (s t : Piece) → s.is_whole ≡ t.is_whole → rational s.entry ≡ rational t.entry → s.inequality.entries ≡ t.inequality.entries →
+    rational s.inequality.right ≡ rational t.inequality.right → s ≡ t
+same_piece s t is_whole entry entries right =
+    let entries_same = rational_injective s.entry t.entry entry in
+    let rights_same = rational_injective s.inequality.right t.inequality.right right in
+    λ i. record { entry = entries_same i; inequality = record { entries = entries i; right = rights_same i }; is_whole = is_whole i }
 
-same_from_upper : (h : Held) (u : Frac) (s t : Piece) → s.is_whole ≡ t.is_whole → IsFromUpper h u s → IsFromUpper h u t → IsSamePiece s t
-same_from_upper h u s t kind a b = record {
-  is_whole = kind;
-  entry = rational_injective s.entry t.entry (a.entry_is ∙ sym b.entry_is);
-  surplus = λ (point : List Rational).
-      a.surplus_is point
-      ∙ ap (λ w. w -ℚ value_at point h.index) (one_upper h.column.is_whole u a.bound b.bound a.bound_is b.bound_is)
-      ∙ sym (b.surplus_is point);
-}
+one_column : (j : ℕ) (x b c : Rational) (s t : Piece) → s.is_whole ≡ t.is_whole → rational s.entry ≡ rational t.entry → b ≡ c →
+    IsOneColumn j x b s.inequality → IsOneColumn j x c t.inequality → s ≡ t
+one_column j x b c s t is_whole entry same h k =
+    same_piece s t is_whole entry
+    (h.alone ∙ ap (λ (e : Entry). e ∷ []) (same_entry h.entry k.entry (h.column ∙ sym k.column) (h.value ∙ sym k.value)) ∙ sym k.alone)
+    (h.right_is ∙ same ∙ sym k.right_is)
+
+same_from_lower : (h : Held) (l : Frac) (s t : Piece) → s.is_whole ≡ t.is_whole → IsFromLower h l s → IsFromLower h l t → s ≡ t
+same_from_lower h l s t kind a b =
+    one_column h.index (whole (pos 1)) (rational a.bound) (rational b.bound) s t kind (a.entry_is ∙ sym b.entry_is)
+    (one_lower h.column.is_whole l a.bound b.bound a.bound_is b.bound_is) a.inequality_is b.inequality_is
+
+same_from_upper : (h : Held) (u : Frac) (s t : Piece) → s.is_whole ≡ t.is_whole → IsFromUpper h u s → IsFromUpper h u t → s ≡ t
+same_from_upper h u s t kind a b =
+    one_column h.index (whole (negsuc 0)) (neg_ℚ (rational a.bound)) (neg_ℚ (rational b.bound)) s t kind (a.entry_is ∙ sym b.entry_is)
+    (ap neg_ℚ (one_upper h.column.is_whole u a.bound b.bound a.bound_is b.bound_is)) a.inequality_is b.inequality_is
 
 same_turned : (h : Held) (lower upper : Option Frac) (up : Bool) (s t : Piece) → s.is_whole ≡ t.is_whole →
-    IsTurnedFrom h lower upper up s → IsTurnedFrom h lower upper up t → IsSamePiece s t
+    IsTurnedFrom h lower upper up s → IsTurnedFrom h lower upper up t → s ≡ t
 same_turned h None None up s t kind a b = absurd a
 same_turned h None (Some u) up s t kind a b = same_from_upper h u s t kind a b
 same_turned h (Some l) None up s t kind a b = same_from_lower h l s t kind a b
 same_turned h (Some l) (Some u) true s t kind a b = same_from_upper h u s t kind a b
 same_turned h (Some l) (Some u) false s t kind a b = same_from_lower h l s t kind a b
 
-one_turned : (h : Held) (s t : Piece) → IsTurned h s → IsTurned h t → IsSamePiece s t
+pub one_turned : (h : Held) (s t : Piece) → IsTurned h s → IsTurned h t → s ≡ t
 one_turned h s t a b =
     same_turned h h.column.lower h.column.upper h.at_upper s t (a.is_whole ∙ sym b.is_whole) a.turned b.turned
 
 -- ---- one row
 
--- what the items make is one list, but for what does not matter
-pub made_same : {A : Type 0} (P : A → Type 0) (M : A → Piece → Type 0) → ((x : A) (s t : Piece) → M x s → M x t → IsSamePiece s t) →
-    (xs : List A) (ps qs : List Piece) → AreMadeOf P M xs ps → AreMadeOf P M xs qs → AllZip IsSamePiece ps qs
-made_same P M one [] ps qs a b = subst₂ (λ (us vs : List Piece). AllZip IsSamePiece us vs) (sym a) (sym b) tt
-made_same P M one (x ∷ xs) ps qs a b =
-    ⊎_elim
-    (λ (k : P x × AreMadeOf P M xs ps).
-    ⊎_elim
-    (λ (l : P x × AreMadeOf P M xs qs). made_same P M one xs ps qs k.1 l.1)
-    (λ (l : Made P M x xs qs). absurd (l.0 k.0)) b)
-    (λ (k : Made P M x xs ps).
-    ⊎_elim
-    (λ (l : P x × AreMadeOf P M xs qs). absurd (k.0 l.0))
-    (λ (l : Made P M x xs qs).
-    subst₂ (λ (us vs : List Piece). AllZip IsSamePiece us vs) (sym k.3) (sym l.3)
-    (one x k.1 l.1 k.4 l.4, made_same P M one xs k.2 l.2 k.5 l.5)) b)
-    a
-
-same_sum : (point : List Rational) (ps qs : List Piece) → AllZip IsSamePiece ps qs → pieces_at point ps ≡ pieces_at point qs
-same_sum point [] [] h = refl
-same_sum point [] (t ∷ qs) h = absurd h
-same_sum point (s ∷ ps) [] h = absurd h
-same_sum point (s ∷ ps) (t ∷ qs) h =
-    ap₂ (λ v w. v +ℚ w) (ap₂ (λ (e : Frac) (v : Rational). rational e *ℚ v) h.0.entry (h.0.surplus point)) (same_sum point ps qs h.1)
-
 pub one_bounds : (p : Problem) (ms : List Frac) (ups : List Bool) (ps qs : List Piece) (r s : Frac) (row : IsRow p ms ups ps r)
-    (other : IsRow p ms ups qs s) → AllZip IsSamePiece row.bounds other.bounds
+    (other : IsRow p ms ups qs s) → row.bounds ≡ other.bounds
 one_bounds p ms ups ps qs r s row other =
     let same = one_sum p (weighted ms p.constraints) row.coefficients other.coefficients row.against other.against row.sum other.sum in
     let made : AreMadeOf IsLeftOut IsTurned (held 0 p.columns other.coefficients ups) row.bounds =
     subst (λ (cs : List Frac). AreMadeOf IsLeftOut IsTurned (held 0 p.columns cs ups) row.bounds) same.0 row.bounds_are in
-    made_same IsLeftOut IsTurned one_turned (held 0 p.columns other.coefficients ups) row.bounds other.bounds made other.bounds_are
+    made_one IsLeftOut IsTurned one_turned (held 0 p.columns other.coefficients ups) row.bounds other.bounds made other.bounds_are
 
 pub one_right : (p : Problem) (ms : List Frac) (ups : List Bool) (ps qs : List Piece) (r s : Frac) → IsRow p ms ups ps r → IsRow p ms ups qs s →
     r ≡ s
@@ -164,7 +143,7 @@ one_right p ms ups ps qs r s row other =
     let same = one_sum p (weighted ms p.constraints) row.coefficients other.coefficients row.against other.against row.sum other.sum in
     rational_injective r s
     (row.right_is
-    ∙ ap₂ (λ v w. v +ℚ w) (ap rational same.1) (same_sum [] row.bounds other.bounds (one_bounds p ms ups ps qs r s row other))
+    ∙ ap₂ (λ v w. v +ℚ w) (ap rational same.1) (ap (pieces_at []) (one_bounds p ms ups ps qs r s row other))
     ∙ sym other.right_is)
 
 -- ---- no free column

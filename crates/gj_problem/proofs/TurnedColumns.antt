@@ -20,7 +20,7 @@ use Rattle.gj_problem.specs.declared.bounds.Held.{Held}
 use Rattle.gj_problem.specs.Aggregates.{pieces_at, AreMadeOf, held, IsLeftOut, IsCeiling, IsLowerBound, IsUpperBound, IsFromLower, IsFromUpper, IsTurnedFrom, IsTurned, IsFree}
 use Rattle.gj_problem.proofs.MadePieces.{Made, none_from_made}
 use Rattle.gj_problem.proofs.AddedSums.{zero_frac}
-use Rattle.gj_problem.proofs.OneColumn.{nothing_value}
+use Rattle.gj_problem.proofs.OneColumn.{lower_surplus, upper_surplus, nothing_value}
 use Rattle.gj_problem.proofs.Prefixes.{default_unused}
 use Rattle.gj_problem.proofs.HeldInequalities.{from_surplus, column_at, lower_at, upper_at, whole_frac, whole_sum, whole_product}
 
@@ -55,13 +55,13 @@ change_at h point s k =
     ⊎_elim
     (λ (low : (l : Frac) × (h.column.lower ≡ Some l) × IsFromLower h l s).
     let b = rational low.2.bound in
-    ap₂ (λ e z. e *ℚ z -ℚ e *ℚ surplus_at [] s.inequality) low.2.entry_is (low.2.surplus_is point)
-    ∙ ap (λ z. c *ℚ (x -ℚ b) -ℚ c *ℚ z) (low.2.surplus_is [] ∙ ap (λ z. z -ℚ b) (nothing_value h.index))
+    ap₂ (λ e z. e *ℚ z -ℚ e *ℚ surplus_at [] s.inequality) low.2.entry_is (lower_surplus point h.index (rational low.2.bound) s.inequality low.2.inequality_is)
+    ∙ ap (λ z. c *ℚ (x -ℚ b) -ℚ c *ℚ z) (lower_surplus [] h.index b s.inequality low.2.inequality_is ∙ ap (λ z. z -ℚ b) (nothing_value h.index))
     ∙ lower_change c x b)
     (λ (high : (u : Frac) × (h.column.upper ≡ Some u) × IsFromUpper h u s).
     let b = rational high.2.bound in
-    ap₂ (λ e z. e *ℚ z -ℚ e *ℚ surplus_at [] s.inequality) high.2.entry_is (high.2.surplus_is point)
-    ∙ ap (λ z. neg_ℚ c *ℚ (b -ℚ x) -ℚ neg_ℚ c *ℚ z) (high.2.surplus_is [] ∙ ap (λ z. b -ℚ z) (nothing_value h.index))
+    ap₂ (λ e z. e *ℚ z -ℚ e *ℚ surplus_at [] s.inequality) high.2.entry_is (upper_surplus point h.index (rational high.2.bound) s.inequality high.2.inequality_is)
+    ∙ ap (λ z. neg_ℚ c *ℚ (b -ℚ x) -ℚ neg_ℚ c *ℚ z) (upper_surplus [] h.index b s.inequality high.2.inequality_is ∙ ap (λ z. b -ℚ z) (nothing_value h.index))
     ∙ upper_change c x b)
     (from_bound h h.column.lower h.column.upper h.at_upper s k.turned)
 
@@ -185,10 +185,10 @@ turned_holds p h s of k =
     let meets = column_at p point h.index h.column of feasible in
     ⊎_elim
     (λ (low : (l : Frac) × (h.column.lower ≡ Some l) × IsFromLower h l s).
-    subst IsNonnegativeQ (sym (low.2.surplus_is point))
+    subst IsNonnegativeQ (sym (lower_surplus point h.index (rational low.2.bound) s.inequality low.2.inequality_is))
     (lower_rounded h.column.is_whole low.0 low.2.bound x low.2.bound_is meets.is_whole (lower_at p point h.index h.column low.0 of low.1 feasible)))
     (λ (high : (u : Frac) × (h.column.upper ≡ Some u) × IsFromUpper h u s).
-    subst IsNonnegativeQ (sym (high.2.surplus_is point))
+    subst IsNonnegativeQ (sym (upper_surplus point h.index (rational high.2.bound) s.inequality high.2.inequality_is))
     (upper_rounded h.column.is_whole high.0 high.2.bound x high.2.bound_is meets.is_whole (upper_at p point h.index h.column high.0 of high.1 feasible)))
     (from_bound h h.column.lower h.column.upper h.at_upper s k.turned))
 
@@ -202,10 +202,10 @@ turned_whole p h s of k flag point feasible =
     let x_whole : IsWholeNumber x = (column_at p point h.index h.column of feasible).is_whole column_flag in
     ⊎_elim
     (λ (low : (l : Frac) × (h.column.lower ≡ Some l) × IsFromLower h l s).
-    subst IsWholeNumber (sym (low.2.surplus_is point))
+    subst IsWholeNumber (sym (lower_surplus point h.index (rational low.2.bound) s.inequality low.2.inequality_is))
     (whole_difference x (rational low.2.bound) x_whole (lower_whole h.column.is_whole low.0 low.2.bound column_flag low.2.bound_is)))
     (λ (high : (u : Frac) × (h.column.upper ≡ Some u) × IsFromUpper h u s).
-    subst IsWholeNumber (sym (high.2.surplus_is point))
+    subst IsWholeNumber (sym (upper_surplus point h.index (rational high.2.bound) s.inequality high.2.inequality_is))
     (whole_difference (rational high.2.bound) x (upper_whole h.column.is_whole high.0 high.2.bound column_flag high.2.bound_is) x_whole))
     (from_bound h h.column.lower h.column.upper h.at_upper s k.turned)
 

@@ -7,7 +7,8 @@ use Rattle.gj_frac.specs.Floor.{IsFloor}
 use Rattle.gj_lemmas.proofs.Integers.{mul_nonnegative_z, neg_mul_z}
 use Rattle.gj_lemmas.proofs.Ring.{by_ring, ring}
 use Rattle.gj_problem.specs.Rational.{rational, neg_ℚ}
-use Rattle.gj_problem.specs.RoundedCuts.{IsBelowOnGrid, IsWideChange, IsWideMove}
+use Rattle.gj_problem.specs.Moves.{IsBelowOnGrid}
+use Rattle.gj_problem.specs.RoundedCuts.{IsWideChange, IsWideMove}
 use Rattle.gj_problem.proofs.MovedEntries.{double_neg}
 
 pub err_if_none : {T E : Type 0} (r : Result T E) (o : Option T) (P : Type 0) → o ≡ result_ok r → (o ≡ None → P) → OnErr r P

@@ -1,7 +1,7 @@
 -- The row of a problem by multipliers: the constraints, each times its multiplier, are added up;
 -- their slacks, and the columns turned to their bounds, are the columns of the row (Gomory 1960;
 -- Cook, Dash, Fukasawa and Goycoolea 2009).
-use Rattle.std.specs.Prelude.{◌≡◌, ◌⊎◌, ◌↔◌, ℕ, ◌+◌, ℤ, pos, ◌-ℤ◌, ◌*ℤ◌, neg_ℤ, ◌≤ℤ◌, ◌<ℤ◌, Bool, true, false, Option, Some, None, List, [], ◌∷◌, ◌++◌, length, map, All, IsTrue}
+use Rattle.std.specs.Prelude.{◌≡◌, ◌⊎◌, ◌↔◌, ℕ, ◌+◌, ℤ, pos, negsuc, ◌-ℤ◌, ◌*ℤ◌, neg_ℤ, ◌≤ℤ◌, ◌<ℤ◌, Bool, true, false, Option, Some, None, List, [], ◌∷◌, ◌++◌, length, map, All, IsTrue}
 use Rattle.gj_frac.specs.declared.Frac.{Frac}
 use Rattle.gj_frac.specs.Floor.{IsFloor}
 use Rattle.gj_frac.specs.Fraction.{IsWhole, numerator, denominator}
@@ -16,8 +16,8 @@ use Rattle.gj_problem.specs.declared.problem.Sense.{Sense}
 use Rattle.gj_problem.specs.declared.problem.Sense.TheVariants.{AtMost, AtLeast, Equal}
 use Rattle.gj_problem.specs.declared.pieces.Piece.{Piece}
 use Rattle.gj_problem.specs.declared.bounds.Held.{Held}
-use Rattle.gj_problem.specs.Problems.{IsFeasible, IsWholeColumn, Holds, sum_at, value_at, surplus_at}
-use Rattle.gj_problem.specs.Rows.{dot, IsConstraintTimes, HasWholeSurplus}
+use Rattle.gj_problem.specs.Problems.{IsFeasible, IsWholeColumn, Holds, sum_at, surplus_at}
+use Rattle.gj_problem.specs.Rows.{dot, IsMultiple, IsOneColumn, HasWholeSurplus}
 
 -- ---- pieces
 
@@ -87,7 +87,7 @@ pub record IsSlack (p : Problem) (w : Weighted) (s : Piece) : Type 0 where
   pub is_whole : IsTrue s.is_whole ↔ HasWholeColumns p w.constraint
   pub scale : ℕ
   pub scale_is : IsScale w.constraint.right w.constraint.entries s.is_whole scale
-  pub slack_is : IsConstraintTimes w.constraint (signed w.constraint.sense scale) s.inequality
+  pub slack_is : IsMultiple (whole (signed w.constraint.sense scale)) w.constraint.entries w.constraint.right s.inequality
   pub entry_is : whole (signed w.constraint.sense scale) *ℚ rational s.entry ≡ neg_ℚ (rational w.multiplier)
 
 -- ---- bounds
@@ -122,14 +122,14 @@ IsUpperBound false u b = b ≡ u
 pub record IsFromLower (h : Held) (l : Frac) (s : Piece) : Type 0 where
   pub bound : Frac
   pub bound_is : IsLowerBound h.column.is_whole l bound
-  pub surplus_is : (point : List Rational) → surplus_at point s.inequality ≡ value_at point h.index -ℚ rational bound
+  pub inequality_is : IsOneColumn h.index (whole (pos 1)) (rational bound) s.inequality
   pub entry_is : rational s.entry ≡ rational h.coefficient
 
 -- the upper bound minus the column; the entry changes its sign
 pub record IsFromUpper (h : Held) (u : Frac) (s : Piece) : Type 0 where
   pub bound : Frac
   pub bound_is : IsUpperBound h.column.is_whole u bound
-  pub surplus_is : (point : List Rational) → surplus_at point s.inequality ≡ rational bound -ℚ value_at point h.index
+  pub inequality_is : IsOneColumn h.index (whole (negsuc 0)) (neg_ℚ (rational bound)) s.inequality
   pub entry_is : rational s.entry ≡ neg_ℚ (rational h.coefficient)
 
 -- the lower bound is taken, unless there is none or the upper one is preferred

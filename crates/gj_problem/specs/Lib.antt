@@ -4,5 +4,6 @@ pub mod Rows
 pub mod Aggregates
 pub mod Steps
 pub mod Made
+pub mod Moves
 pub mod RoundedCuts
 pub mod WideRows

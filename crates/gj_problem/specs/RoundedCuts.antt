@@ -1,6 +1,6 @@
 -- Inequalities rounded to the grid of all k/n, so that they still hold (own).
 use Rattle.std.specs.Prelude.{◌≡◌, ◌⊎◌, ℕ, pos, List, [], ◌∷◌, ◌++◌, All, Option, Some, None, map, slice_index_or}
-use Rattle.gj_problem.specs.Rational.{Rational, whole, rational, ◌+ℚ◌, ◌*ℚ◌, neg_ℚ, ◌-ℚ◌, ◌≤ℚ◌, IsWholeNumber}
+use Rattle.gj_problem.specs.Rational.{Rational, whole, rational, ◌+ℚ◌, neg_ℚ, ◌-ℚ◌, ◌≤ℚ◌}
 use Rattle.gj_frac.specs.declared.Frac.{Frac}
 use Rattle.gj_frac.specs.Fits.{FitsProduct, FitsSum}
 use Rattle.gj_frac.specs.Fraction.{numerator}
@@ -8,20 +8,10 @@ use Rattle.gj_problem.specs.declared.problem.Entry.{Entry}
 use Rattle.gj_problem.specs.declared.problem.Inequality.{Inequality}
 use Rattle.gj_problem.specs.declared.problem.Problem.{Problem}
 use Rattle.gj_problem.specs.Problems.{Holds, HasTerms}
-use Rattle.gj_problem.specs.Rows.{total_of}
+use Rattle.gj_problem.specs.Moves.{IsMovedBy, IsGiven, IsGridValue, IsBelowOnGrid, IsGridCoefficient}
 use Rattle.gj_problem.specs.Aggregates.{AreMadeOf}
 use Rattle.gj_problem.specs.declared.rounding.RoundedCut.{RoundedCut}
 use Rattle.gj_problem.specs.declared.rounding.RoundedCut.TheVariants.{Cut, Free, Wide}
-
--- x is k/n for some whole number k
-abbrev pub IsGridValue : ℕ → Rational → Type 0
-IsGridValue n x = IsWholeNumber (whole (pos n) *ℚ x)
-
--- y is the greatest such number that is at most x
-pub record IsBelowOnGrid (n : ℕ) (x y : Rational) : Type 0 where
-  pub on_grid : IsGridValue n y
-  pub at_most : y ≤ℚ x
-  pub greatest : (z : Rational) → IsGridValue n z → z ≤ℚ x → z ≤ℚ y
 
 -- the bounds of a column; one that is not there has none
 abbrev pub lower_of : Problem → ℕ → Option Frac
@@ -30,19 +20,37 @@ lower_of p j = slice_index_or (map (λ c. c.lower) p.columns) j None
 abbrev pub upper_of : Problem → ℕ → Option Frac
 upper_of p j = slice_index_or (map (λ c. c.upper) p.columns) j None
 
--- y is x rounded: to the least k/n that is at least x if there is a lower bound, to the greatest
--- that is at most x if there is only an upper one, and x is on the grid if there is none; the shift
--- is the change times the bound
+-- ---- entries that are moved
+
+-- each entry is moved, as Moves says it of the bounds of its column and of its coefficients
+abbrev pub AreMovedAs : (Option Frac → Option Frac → Rational → Rational → Rational → Type 0) → Problem → List Entry → List Entry → List Rational → Type 0
+AreMovedAs Moves p [] [] [] = Unit {0}
+AreMovedAs Moves p (e ∷ es) (e' ∷ es') (shift ∷ shifts) = (e'.column ≡ e.column)
+    × Moves (lower_of p e.column) (upper_of p e.column) (rational e.value) (rational e'.value) shift × AreMovedAs Moves p es es' shifts
+AreMovedAs Moves p es es' shifts = ⊥
+
+abbrev pub total_of : List Rational → Rational
+total_of [] = whole (pos 0)
+total_of (x ∷ xs) = x +ℚ total_of xs
+
+-- by the bounds as they are given
+abbrev pub IsChanged : Option Frac → Option Frac → Rational → Rational → Rational → Type 0
+IsChanged lower upper x y shift = IsMovedBy (IsGiven lower) (IsGiven upper) x y shift
+
+-- the inequality with entries moved so, and a right side that is at most the old one and all shifts
+pub record IsRounded (p : Problem) (q rounded : Inequality) : Type 0 where
+  pub shifts : List Rational
+  pub changed : AreMovedAs IsChanged p q.entries rounded.entries shifts
+  pub right : rational rounded.right ≤ℚ (rational q.right +ℚ total_of shifts)
+
+-- ---- to a grid
+
+-- moved so, to a coefficient on the grid
 abbrev pub IsMoved : ℕ → Option Frac → Option Frac → Rational → Rational → Rational → Type 0
-IsMoved n (Some l) upper x y shift = IsBelowOnGrid n (neg_ℚ x) (neg_ℚ y) × (shift ≡ (y -ℚ x) *ℚ rational l)
-IsMoved n None (Some u) x y shift = IsBelowOnGrid n x y × (shift ≡ (y -ℚ x) *ℚ rational u)
-IsMoved n None None x y shift = IsGridValue n x × (y ≡ x) × (shift ≡ whole (pos 0))
+IsMoved n lower upper x y shift = IsGridCoefficient n lower upper x y × IsChanged lower upper x y shift
 
 abbrev pub AreMoved : Problem → ℕ → List Entry → List Entry → List Rational → Type 0
-AreMoved p n [] [] [] = Unit {0}
-AreMoved p n (e ∷ es) (e' ∷ es') (shift ∷ shifts) = (e'.column ≡ e.column)
-    × IsMoved n (lower_of p e.column) (upper_of p e.column) (rational e.value) (rational e'.value) shift × AreMoved p n es es' shifts
-AreMoved p n es es' shifts = ⊥
+AreMoved p n es es' shifts = AreMovedAs (IsMoved n) p es es' shifts
 
 -- the entry is 0
 abbrev pub IsZero : Entry → Type 0

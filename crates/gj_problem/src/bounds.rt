@@ -1,6 +1,6 @@
 //! Columns turned to their bounds.
 ghost use Rattle.std.specs.Prelude.{◌≡◌, ◌↔◌, true, false, [], None, Err, length};
-ghost use Rattle.std.specs.Prelude.{IfOk, IsTrue, MatchOption};
+ghost use Rattle.std.specs.Prelude.{IfOk, OnOk, IsTrue, MatchOption};
 ghost use Rattle.gj_problem.specs.Rational.{rational, ◌-ℚ◌};
 ghost use Rattle.gj_problem.specs.Aggregates.{pieces_at, held, IsLeftOut, IsTurned, IsFree};
 ghost use Rattle.gj_problem.specs.Aggregates.{IsLowerBound, IsUpperBound, IsFromLower, IsFromUpper};
@@ -47,6 +47,8 @@ pub(crate) fn turned_columns(
         (held 0 columns.now coefficients.now at_upper.now) right) }
     ensures wide { result ≡ Err Fault.Wide →
         AreWideTurns (held 0 columns.now coefficients.now at_upper.now) right }
+    ensures narrow { OnOk result
+        (¬ AreWideTurns (held 0 columns.now coefficients.now at_upper.now) right) }
 {
     let mut bounds = Bounds {
         pieces: Vec::new(alloc),
@@ -92,6 +94,7 @@ impl Held {
             (IsTurned self) bounds.old.pieces.items bounds.new.pieces.items) }
         ensures free { IfOk result (λ done. done ≡ false → IsFree self) }
         ensures wide { result ≡ Err Fault.Wide → IsWideTurn self bounds.old.right }
+        ensures narrow { OnOk result (¬ IsWideTurn self bounds.old.right) }
     {
         if self.is_left_out() {
             return Ok(true);

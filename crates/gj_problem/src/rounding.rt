@@ -1,8 +1,9 @@
 //! Cuts rounded to a grid.
-ghost use Rattle.std.specs.Prelude.{◌≡◌, ◌<◌, ◌↔◌, pos, IfOk, IsTrue, MatchOption, OnErr};
+ghost use Rattle.std.specs.Prelude.{◌≡◌, ◌<◌, ◌↔◌, pos, IfOk, IsTrue, MatchOption, OnErr, OnOk};
 ghost use Rattle.gj_problem.specs.Rational.{whole, rational, ◌-ℚ◌, ◌*ℚ◌};
 ghost use Rattle.gj_problem.specs.Problems.{Holds, HasTerms};
-ghost use Rattle.gj_problem.specs.RoundedCuts.{IsGridValue, IsBelowOnGrid, lower_of, upper_of};
+ghost use Rattle.gj_problem.specs.Moves.{IsGridValue, IsBelowOnGrid};
+ghost use Rattle.gj_problem.specs.RoundedCuts.{lower_of, upper_of};
 ghost use Rattle.gj_problem.specs.RoundedCuts.{IsMoved, IsFreeEntry, IsRoundedOf, RoundedHolds};
 ghost use Rattle.gj_problem.specs.RoundedCuts.{IsWideTimes, IsWideChange, IsWideMove};
 ghost use Rattle.gj_problem.specs.RoundedCuts.{IsWideRounding, RoundedHasTerms};
@@ -154,11 +155,12 @@ fn kept(x: Frac, grid: u64) -> Result<Option<Moved>, Wide>
     }
 }
 
-/// The greatest multiple of 1/grid that is at most x. Wide only if grid times x does not fit.
+/// The greatest multiple of 1/grid that is at most x. Wide exactly if grid times x does not fit.
 pub fn below_on_grid(x: Frac, grid: u64) -> Result<Frac, Wide>
     requires { 0 < grid }
     ensures value { IfOk result (λ y. IsBelowOnGrid grid (rational x) (rational y)) }
     ensures wide { OnErr result (IsWideTimes grid x) }
+    ensures narrow { OnOk result (¬ IsWideTimes grid x) }
 {
     let multiple = scaled(x, grid)?.floor();
     Frac::new(multiple, i128::from(grid)).ok_or(Wide)
@@ -168,6 +170,7 @@ pub fn below_on_grid(x: Frac, grid: u64) -> Result<Frac, Wide>
 fn scaled(x: Frac, grid: u64) -> Result<Frac, Wide>
     ensures value { IfOk result (λ s. rational s ≡ whole (pos grid) *ℚ rational x) }
     ensures wide { OnErr result (IsWideTimes grid x) }
+    ensures narrow { OnOk result (¬ IsWideTimes grid x) }
 {
     let n = Frac::new(i128::from(grid), 1).ok_or(Wide)?;
     n.checked_mul(x)

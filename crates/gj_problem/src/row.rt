@@ -1,5 +1,5 @@
 //! The row of a problem by multipliers.
-ghost use Rattle.std.specs.Prelude.{◌≡◌, IfOk, Err, length};
+ghost use Rattle.std.specs.Prelude.{◌≡◌, IfOk, OnOk, Err, length};
 ghost use Rattle.gj_problem.specs.Made.{IsMadeRow};
 ghost use Rattle.gj_problem.specs.WideRows.{IsWideRow};
 
@@ -33,8 +33,8 @@ pub enum MadeRow {
 
 /// The row that the multipliers make.
 ///
-/// `Memory` is for want of memory, and `Wide` comes only where a number of the sum, of a slack or
-/// of a bound does not fit, an entry has no column, or there are more than 2^32 columns.
+/// `Memory` is for want of memory, and `Wide` comes exactly where a number of the sum, of a slack
+/// or of a bound does not fit, an entry has no column, or a column has an index of 2^32 or more.
 pub fn row_of(
     alloc: Global,
     problem: &Problem,
@@ -46,6 +46,7 @@ pub fn row_of(
     ensures row { IfOk result (IsMadeRow problem.now multipliers.now at_upper.now) }
     ensures wide { result ≡ Err Fault.Wide →
         IsWideRow problem.now multipliers.now at_upper.now }
+    ensures narrow { OnOk result (¬ IsWideRow problem.now multipliers.now at_upper.now) }
 {
     let constraints = problem.constraints.as_slice();
     let Aggregate { sum, slacks } = added_up(alloc, problem, constraints, multipliers)?;

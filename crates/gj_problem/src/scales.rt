@@ -1,5 +1,6 @@
 //! Fractions divided and scaled.
-ghost use Rattle.std.specs.Prelude.{◌≡◌, ◌≤◌, ◌^◌, ℕ, pos, IfOk, OnErr, unsigned_abs};
+ghost use Rattle.std.specs.Prelude.{◌≡◌, ◌<◌, ◌≤◌, ◌^◌, ℕ, pos, IfOk, OnErr, OnOk};
+ghost use Rattle.std.specs.Prelude.{unsigned_abs};
 ghost use Rattle.gj_frac.specs.Fraction.{SameValue, fraction_of, quotient_of, denominator};
 ghost use Rattle.gj_frac.specs.Fits.{FitsQuotient};
 ghost use Rattle.gj_lemmas.specs.Divisors.{IsLcm};
@@ -11,8 +12,9 @@ ghost use Rattle.gj_problem.specs.WideRows.{IsWideScale, numbers_of};
 use crate::problem::{Entry, Sense};
 use gj_frac::{Frac, Wide, gcd};
 
-/// The quotient. Wide only if the divisor is 0 or the quotient does not fit in lowest terms.
+/// The quotient. Wide exactly if the divisor is 0 or the quotient does not fit in lowest terms.
 pub fn divided(x: Frac, y: Frac) -> Result<Frac, Wide>
+    ensures fits { OnOk result (FitsQuotient x y) }
     ensures wide { OnErr result (¬ FitsQuotient x y) }
     ensures value { IfOk result (λ z. SameValue (fraction_of z)
         (quotient_of (fraction_of x) (fraction_of y))) }
@@ -26,6 +28,7 @@ pub(crate) fn scale(right: Frac, entries: &[Entry], is_whole: bool) -> Result<Fr
     ensures scale { IfOk result (λ m. (n : ℕ) × IsScale right entries.now is_whole n ×
         (rational m ≡ whole (pos n))) }
     ensures wide { OnErr result (IsWideScale right entries.now is_whole) }
+    ensures narrow { OnOk result (¬ IsWideScale right entries.now is_whole) }
 {
     if is_whole {
         whole_number(common_denominator(right, entries)?)
@@ -60,6 +63,7 @@ fn with_denominator(m: u128, x: Frac) -> Result<u128, Wide>
 
 /// The fraction that is this whole number, if it fits.
 fn whole_number(n: u128) -> Result<Frac, Wide>
+    ensures fits { OnOk result (n < 2 ^ 127) }
     ensures value { IfOk result (λ x. rational x ≡ whole (pos n)) }
     ensures wide { OnErr result (2 ^ 127 ≤ n) }
 {

@@ -1,12 +1,15 @@
 //! Sums of constraints, and their slacks.
-ghost use Rattle.std.specs.Prelude.{◌≡◌, ◌↔◌, List, IfOk, IsTrue, Err, All, length};
+ghost use Rattle.std.specs.Prelude.{◌≡◌, ◌↔◌, List, IfOk, OnOk, IsTrue, Err, All};
+ghost use Rattle.std.specs.Prelude.{length};
+ghost use Rattle.gj_frac.specs.Fits.{FitsProduct};
 ghost use Rattle.gj_problem.specs.Rational.{Rational, rational, ◌+ℚ◌, ◌*ℚ◌, ◌-ℚ◌};
-ghost use Rattle.gj_problem.specs.Problems.{IsWholeColumn, sum_at, surplus_at};
-ghost use Rattle.gj_problem.specs.Rows.{dot};
+ghost use Rattle.gj_problem.specs.Problems.{IsWholeColumn, sum_at};
+ghost use Rattle.gj_problem.specs.Rows.{dot, IsMultiple};
 ghost use Rattle.gj_problem.specs.Aggregates.{AreMadeOf, IsAggregate, Weighted, weighted};
 ghost use Rattle.gj_problem.specs.Aggregates.{HasNoSlack, IsSlack};
 ghost use Rattle.gj_problem.specs.Steps.{IsMadeNext};
-ghost use Rattle.gj_problem.specs.WideRows.{IsWideMultiple, IsWideSlack, IsWideNext, IsWideSum};
+ghost use Rattle.gj_problem.specs.WideRows.{numbers_of, IsWideMultiple, IsWideSlack, IsWideNext};
+ghost use Rattle.gj_problem.specs.WideRows.{IsWideSum};
 
 use crate::faults::Fault;
 use crate::pieces::Piece;
@@ -42,6 +45,8 @@ pub(crate) fn added_up(
         (weighted multipliers.now constraints.now) made.slacks.items) }
     ensures wide { result ≡ Err Fault.Wide →
         IsWideSum problem.now (weighted multipliers.now constraints.now) }
+    ensures narrow { OnOk result
+        (¬ IsWideSum problem.now (weighted multipliers.now constraints.now)) }
 {
     let columns = problem.columns.as_slice().len();
     let sum = Sum::of_none(alloc, columns, Frac::ratio(0, 1))?;
@@ -77,6 +82,9 @@ fn add_weighted(
     ensures wide { result ≡ Err Fault.Wide →
         IsWideNext problem.now made.old.sum.coefficients.items made.old.sum.right
         (record { multiplier = multiplier; constraint = constraint.now }) }
+    ensures narrow { OnOk result
+        (¬ IsWideNext problem.now made.old.sum.coefficients.items made.old.sum.right
+        (record { multiplier = multiplier; constraint = constraint.now })) }
 {
     if multiplier.num() == 0 {
         return Ok(());
@@ -108,6 +116,8 @@ fn slack(
         (record { multiplier = multiplier; constraint = constraint.now })) }
     ensures wide { result ≡ Err Fault.Wide → IsWideSlack problem.now
         (record { multiplier = multiplier; constraint = constraint.now }) }
+    ensures narrow { OnOk result (¬ IsWideSlack problem.now
+        (record { multiplier = multiplier; constraint = constraint.now })) }
 {
     let entries = constraint.entries.as_slice();
     let is_whole = have_whole_columns(problem, entries);
@@ -144,11 +154,10 @@ fn is_whole_column(problem: &Problem, column: u32) -> bool
     }
 }
 
-/// The inequality whose surplus is the factor times what the sum of the entries has above the right
-/// side.
+/// The inequality of the entries and the right side, each times the factor.
 fn times(alloc: Global, factor: Frac, entries: &[Entry], right: Frac) -> Result<Inequality, Fault>
-    ensures surplus { IfOk result (λ q. (point : List Rational) → surplus_at point q
-        ≡ rational factor *ℚ (sum_at point entries.now -ℚ rational right)) }
+    ensures is { IfOk result (IsMultiple (rational factor) entries.now right) }
+    ensures fits { OnOk result (All (FitsProduct factor) (numbers_of right entries.now)) }
     ensures wide { result ≡ Err Fault.Wide → IsWideMultiple factor right entries.now }
 {
     let mut scaled = Vec::new(alloc);

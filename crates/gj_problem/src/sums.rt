@@ -1,6 +1,6 @@
 //! Sums over all columns, to which multiples of inequalities are added.
-ghost use Rattle.std.specs.Prelude.{◌≡◌, ◌<◌, ◌^◌, ◌⊎◌, ℕ, pos, List, IfOk, IfSome, IsNone, OnErr};
-ghost use Rattle.std.specs.Prelude.{length};
+ghost use Rattle.std.specs.Prelude.{◌≡◌, ◌↔◌, ◌<◌, ◌^◌, ◌⊎◌, ℕ, pos, List, IfOk, IfSome};
+ghost use Rattle.std.specs.Prelude.{IsNone, OnErr, OnOk, length};
 ghost use Rattle.gj_problem.specs.Rational.{Rational, whole, rational, ◌+ℚ◌, ◌*ℚ◌, ◌-ℚ◌};
 ghost use Rattle.gj_problem.specs.Problems.{value_at, sum_at, surplus_at, AreTermsWithin};
 ghost use Rattle.gj_problem.specs.Rows.{dot};
@@ -44,6 +44,7 @@ impl Sum {
             ≡ dot self.old.coefficients.items point +ℚ rational factor *ℚ
             (rational entry.value *ℚ value_at point entry.column)) }
         ensures wide { OnErr result (IsWideEntry self.old.coefficients.items factor entry) }
+        ensures narrow { OnOk result (¬ IsWideEntry self.old.coefficients.items factor entry) }
     {
         let column = entry.column as usize;
         if column >= self.coefficients.len() {
@@ -62,6 +63,8 @@ impl Sum {
             ≡ dot self.old.coefficients.items point +ℚ rational factor *ℚ sum_at
             point entries.now) }
         ensures wide { OnErr result (IsWideWithin self.old.coefficients.items factor entries.now) }
+        ensures narrow { OnOk result
+            (¬ IsWideWithin self.old.coefficients.items factor entries.now) }
     {
         for entry in entries {
             self.add_entry(factor, *entry)?;
@@ -71,8 +74,8 @@ impl Sum {
 
     /// The sum with this multiple of an inequality added.
     ///
-    /// Wide only if at one of the entries, or at the right side, a product or a sum does not fit,
-    /// or an entry has no column. Then a part of the entries has been added.
+    /// Wide exactly if at one of the entries, or at the right side, a product or a sum does not
+    /// fit, or an entry has no column. Then a part of the entries has been added.
     pub fn add(&mut self, factor: Frac, entries: &[Entry], right: Frac) -> Result<(), Wide>
         ensures count { length self.new.coefficients.items ≡ length self.old.coefficients.items }
         ensures added { IfOk result (λ _. (point : List Rational) →
@@ -81,16 +84,19 @@ impl Sum {
             +ℚ rational factor *ℚ (sum_at point entries.now -ℚ rational right)) }
         ensures wide { OnErr result (IsWideWithin self.old.coefficients.items factor entries.now
             ⊎ IsWideAt self.old.right factor right) }
+        ensures narrow { OnOk result
+            (¬ (IsWideWithin self.old.coefficients.items factor entries.now
+            ⊎ IsWideAt self.old.right factor right)) }
     {
         self.add_entries(factor, entries)?;
         self.right = with_multiple(self.right, factor, right)?;
         Ok(())
     }
 
-    /// The inequality of the coefficients that are not 0, in the order of the columns; none only if
-    /// there are more than 2^32 columns. The only error is want of memory.
+    /// The inequality of the coefficients that are not 0, in the order of the columns; none exactly
+    /// if there are more than 2^32 columns. The only error is want of memory.
     pub fn inequality(self, alloc: Global) -> Result<Option<Inequality>, AllocError>
-        ensures none { IfOk result (λ made. IsNone made → 2 ^ 32 < length self.coefficients.items) }
+        ensures none { IfOk result (λ made. IsNone made ↔ (2 ^ 32 < length self.coefficients.items)) }
         ensures surplus { IfOk result (λ made. IfSome made (λ q. (point : List Rational) →
             surplus_at point q
             ≡ dot self.coefficients.items point -ℚ rational self.right)) }
@@ -122,6 +128,7 @@ pub(crate) fn with_multiple(x: Frac, factor: Frac, value: Frac) -> Result<Frac, 
     ensures value { IfOk result
         (λ z. rational z ≡ rational x +ℚ rational factor *ℚ rational value) }
     ensures wide { OnErr result (IsWideAt x factor value) }
+    ensures narrow { OnOk result (¬ IsWideAt x factor value) }
 {
     x.checked_add(factor.checked_mul(value)?)
 }

@@ -10,8 +10,9 @@ ghost use Rattle.gj_problem.specs.Rational.{Rational, whole, rational, ◌*ℚ�
 ghost use Rattle.gj_problem.specs.Problems.{IsFeasible, Holds, IsColumn, IsConstraint, value_at};
 ghost use Rattle.gj_problem.specs.Problems.{surplus_at};
 ghost use Rattle.gj_problem.specs.Rows.{IsSignFor, IsConstraintTimes, IsWholeInequality};
-ghost use Rattle.gj_problem.specs.Rows.{HasWholeSurplus, IsRounded};
-ghost use Rattle.gj_problem.specs.RoundedCuts.{IsBelowOnGrid};
+ghost use Rattle.gj_problem.specs.Rows.{HasWholeSurplus};
+ghost use Rattle.gj_problem.specs.Moves.{IsBelowOnGrid};
+ghost use Rattle.gj_problem.specs.RoundedCuts.{IsRounded};
 ghost use Rattle.gj_problem.specs.Aggregates.{IsRow, IsFirstFree, IsSound, AddsUpAt, IsCutOver};
 ghost use Rattle.gj_problem.specs.Aggregates.{IsTurnedBack};
 
@@ -49,9 +50,13 @@ pub fn row_by_multipliers()
         (point : List Rational) → IsFeasible p point → AddsUpAt point pieces right }
 {}
 
-/// The multipliers make rows of one right side, or one column is the first free one, and not both.
-/// So a cut is by that right side.
+/// The multipliers make one row, or one column is the first free one, and not both. So a cut is by
+/// the right side of that row.
 pub fn one_row()
+    ensures pieces { (p : Problem) (multipliers : List Frac) (at_upper : List Bool)
+        (pieces others : List Piece) (right other : Frac) →
+        IsRow p multipliers at_upper pieces right →
+        IsRow p multipliers at_upper others other → pieces ≡ others }
     ensures right { (p : Problem) (multipliers : List Frac) (at_upper : List Bool)
         (pieces others : List Piece) (right other : Frac) →
         IsRow p multipliers at_upper pieces right →

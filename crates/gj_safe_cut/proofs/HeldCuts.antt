@@ -36,7 +36,7 @@ cuts_held (Gmic f) up down right usable minimal slopes part entries columns coef
 cuts_held (Table shape) up down right usable minimal slopes part entries columns coefficients weights values are_weights =
     mixed_by_function shape up down entries columns right coefficients weights usable slopes.0 minimal slopes.1 part values are_weights
 
-usable_from : (kind : RuleKind) → IsKindWithinBounds kind → IsUsable kind
+pub usable_from : (kind : RuleKind) → IsKindWithinBounds kind → IsUsable kind
 usable_from (Gmic f) h = h.0
 usable_from (Table shape) h = h
 

@@ -90,14 +90,14 @@ wide_in_first IsValue IsOut up down n ps qs none begun w = record {
   next = w.next;
   after = w.after ++ qs;
   place = ap (λ (xs : List Piece). xs ++ qs) w.place ∙ append_assoc w.before (w.next ∷ w.after) qs;
-  coefficients = w.added.coefficients;
-  given = w.added.given;
-  sum = w.reached.coefficients.items;
-  right = w.reached.right;
+  coefficients = w.coefficients;
+  given = w.given;
+  sum = w.sum;
+  right = w.right;
   count = w.count ∙ begun.count;
   adds = λ (point : List Rational).
-      against_first (dot none.coefficients.items point) (combined_at point w.added.coefficients w.before) (sum_surplus_at point w.reached) none.right
-      (begun.none point) begun.right (w.added.adds point);
+      against_first (dot none.coefficients.items point) (combined_at point w.coefficients w.before) (dot w.sum point -ℚ rational w.right) none.right
+      (begun.none point) begun.right (w.adds point);
   wide = w.wide;
 }
 
@@ -112,17 +112,17 @@ wide_in_second IsValue IsOut up down n ps qs none middle begun first count w =
       next = w.next;
       after = w.after;
       place = ap (λ (xs : List Piece). ps ++ xs) w.place ∙ sym (append_assoc ps w.before (w.next ∷ w.after));
-      coefficients = first.coefficients ++ w.added.coefficients;
-      given = zip_joined R ps w.before first.coefficients w.added.coefficients first.given w.added.given;
-      sum = w.reached.coefficients.items;
-      right = w.reached.right;
+      coefficients = first.coefficients ++ w.coefficients;
+      given = zip_joined R ps w.before first.coefficients w.coefficients first.given w.given;
+      sum = w.sum;
+      right = w.right;
       count = w.count ∙ count ∙ begun.count;
       adds = λ (point : List Rational).
           let a = combined_at point first.coefficients ps in
-          let b = combined_at point w.added.coefficients w.before in
-          let reached = sum_surplus_at point w.reached in
+          let b = combined_at point w.coefficients w.before in
+          let reached = dot w.sum point -ℚ rational w.right in
           against_one (dot none.coefficients.items point) a b (sum_surplus_at point middle) reached reached none.right (begun.none point)
-          begun.right (first.adds point) (w.added.adds point) refl
-          ∙ ap (λ z. z -ℚ whole (pos 1)) (sym (combined_joined R point ps w.before first.coefficients w.added.coefficients first.given));
+          begun.right (first.adds point) (w.adds point) refl
+          ∙ ap (λ z. z -ℚ whole (pos 1)) (sym (combined_joined R point ps w.before first.coefficients w.coefficients first.given));
       wide = w.wide;
     }

@@ -117,3 +117,7 @@ pub part_in_range : (x r : Frac) → IsRestOf x r.num r.den → pos 0 ≤ℤ r.n
 part_in_range x r rest low high fine =
     let parts = rest _ (quotient_is_floor x) in
     record { small = omega (arith, ints); fine = subst (λ (d : ℤ). unsigned_abs d < denominator_bound) (sym parts.1) fine }
+
+-- and only then
+pub fine_from_part : (x r : Frac) → IsRestOf x r.num r.den → IsRowNumber r → HasDenominatorBelow denominator_bound x
+fine_from_part x r rest h = subst (λ (d : ℤ). unsigned_abs d < denominator_bound) (rest _ (quotient_is_floor x)).1 h.fine

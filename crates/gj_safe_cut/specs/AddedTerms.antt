@@ -25,7 +25,14 @@ pub record IsWideAdding (IsValue : Frac → Frac → Type 0) (IsOut : Frac → T
   pub next : Piece
   pub after : List Piece
   pub place : pieces ≡ before ++ next ∷ after
-  pub reached : Sum
-  pub added : AreAdded (IsCoefficient IsValue up down) before old reached
-  pub count : length reached.coefficients.items ≡ length old.coefficients.items
-  pub wide : IsWideTerm IsValue IsOut up down reached.coefficients.items reached.right next
+  pub coefficients : List Frac
+  pub given : AllZip (IsCoefficient IsValue up down) before coefficients
+  pub sum : List Frac
+  pub right : Frac
+  pub count : length sum ≡ length old.coefficients.items
+  pub adds : (point : List Rational) → dot sum point -ℚ rational right ≡ sum_surplus_at point old +ℚ combined_at point coefficients before
+  pub wide : IsWideTerm IsValue IsOut up down sum right next
+
+-- there is at most one value at each fraction
+abbrev pub HasOneValue : (Frac → Frac → Type 0) → Type 0
+HasOneValue IsValue = (x y z : Frac) → IsValue x y → IsValue x z → y ≡ z

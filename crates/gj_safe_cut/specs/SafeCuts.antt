@@ -16,7 +16,7 @@ use Rattle.gj_problem.specs.declared.problem.Inequality.{Inequality}
 use Rattle.gj_problem.specs.declared.problem.Problem.{Problem}
 use Rattle.gj_problem.specs.declared.pieces.Piece.{Piece}
 use Rattle.gj_problem.specs.Rational.{Rational, whole, rational, ◌-ℚ◌}
-use Rattle.gj_problem.specs.Problems.{Holds, HasTerms, AreTermsWithin, surplus_at}
+use Rattle.gj_problem.specs.Problems.{Holds, HasTerms, AreTermsWithin}
 use Rattle.gj_problem.specs.Rows.{dot}
 use Rattle.gj_problem.specs.Aggregates.{combined_at, IsRow, IsFirstFree, IsTurnedBack}
 use Rattle.gj_problem.specs.Steps.{IsWideAt, IsWideWithin}
@@ -118,9 +118,13 @@ IsGmicCutOfRow n pieces right Wide = (f : Frac) × (up : Frac) × (down : Frac) 
 abbrev pub IsGmicSafeCutOf : Problem → List Frac → List Bool → SafeCut → Type 0
 IsGmicSafeCutOf = IsOfProblem IsGmicCutOfRow
 
--- the cut, if there is one, is q: it says the same at each point
+-- the answer is `Wide` if a number does not fit
+abbrev pub TellsWide : (SafeCut → Type 0) → SafeCut → Type 0
+TellsWide Is cut = Is Wide → cut ≡ Wide
+
+-- the answer is the cut q, or `Wide`
 abbrev pub IsSameCut : Inequality → SafeCut → Type 0
-IsSameCut q (Cut r) = (point : List Rational) → surplus_at point r ≡ surplus_at point q
+IsSameCut q (Cut r) = r ≡ q
 IsSameCut q Wide = Unit {0}
 IsSameCut q Integral = ⊥
 IsSameCut q OtherFraction = ⊥

@@ -1,13 +1,14 @@
 //! The cut of a problem by multipliers and a function.
 ghost use Rattle.std.specs.Prelude.{IfOk, ◌≡◌, length};
-ghost use Rattle.gj_shape.specs.FunctionData.{IsContinuous};
+ghost use Rattle.gj_shape.specs.FunctionData.{IsContinuous, IsWithinBounds};
 ghost use Rattle.gj_shape.specs.Limits.{IsRowNumber};
 ghost use Rattle.gj_shape.specs.Table.{IsMinimal};
 ghost use Rattle.gj_theory.specs.Cuts.{IsValueOf};
 ghost use Rattle.gj_rule.specs.Kept.{Evaluates};
 ghost use Rattle.gj_rule.specs.declared.kind.RuleKind.TheVariants as kind;
 ghost use Rattle.gj_mixed.specs.Slopes.{AreSlopesAtZero, IsSlope, Weighs};
-ghost use Rattle.gj_safe_cut.specs.SafeCuts.{IsFunctionSafeCutOf, SafeCutHolds, SafeCutHasTerms};
+ghost use Rattle.gj_safe_cut.specs.SafeCuts.{IsFunctionSafeCutOf, TellsWide, SafeCutHolds};
+ghost use Rattle.gj_safe_cut.specs.SafeCuts.{SafeCutHasTerms};
 
 use crate::cut::SafeCut;
 use crate::problem_cuts::safe_cut;
@@ -37,9 +38,13 @@ pub fn function_safe_cut(
     requires at_upper { length at_upper.now ≡ length problem.now.columns }
     ensures is { IfOk result
         (IsFunctionSafeCutOf shape.now problem.now multipliers.now at_upper.now) }
+    ensures narrow { IfOk result
+        (TellsWide (IsFunctionSafeCutOf shape.now problem.now multipliers.now at_upper.now)) }
     ensures holds { IfOk result (SafeCutHolds problem.now) }
     ensures terms { IfOk result (SafeCutHasTerms problem.now) }
 {
+    // it says that the function is within the bounds of functions
+    let _order = shape.order();
     let kept = shape.copy(alloc)?;
     let at_zero = SlopesAtZero::of_function(shape);
     let eval = |x: Frac|
@@ -70,6 +75,7 @@ fn cut_by<E: Evaluator, G: Evaluator>(
     multipliers: &[Frac],
     at_upper: &[bool],
 ) -> Result<SafeCut, AllocError>
+    requires bounds { IsWithinBounds shape }
     requires minimal { IsMinimal shape }
     requires jumps_not { IsContinuous shape }
     requires evaluates { Evaluates E.can_answer E.answers (kind.Table shape) eval }
@@ -81,6 +87,8 @@ fn cut_by<E: Evaluator, G: Evaluator>(
     requires at_upper { length at_upper.now ≡ length problem.now.columns }
     ensures is { IfOk result
         (IsFunctionSafeCutOf shape problem.now multipliers.now at_upper.now) }
+    ensures narrow { IfOk result
+        (TellsWide (IsFunctionSafeCutOf shape problem.now multipliers.now at_upper.now)) }
     ensures holds { IfOk result (SafeCutHolds problem.now) }
     ensures terms { IfOk result (SafeCutHasTerms problem.now) }
 {

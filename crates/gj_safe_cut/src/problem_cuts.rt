@@ -1,11 +1,12 @@
 //! The cut of a problem by multipliers.
-ghost use Rattle.std.specs.Prelude.{◌≡◌, IfOk, Err, length, ◌++◌};
+ghost use Rattle.std.specs.Prelude.{◌≡◌, IfOk, OnOk, Err, length, ◌++◌};
 ghost use Rattle.gj_rule.specs.Kind.{IsKindWithinBounds, IsMinimalKind};
 ghost use Rattle.gj_mixed.specs.Slopes.{AreSlopesOfKind};
 ghost use Rattle.gj_problem.specs.declared.problem.Inequality.{Inequality};
 ghost use Rattle.gj_safe_cut.specs.declared.cut.SafeCut.TheVariants.{Cut, Wide};
 ghost use Rattle.gj_safe_cut.specs.SafeCuts.{IsSafeCutOf, IsGmicSafeCutOf, IsCutOfRow};
-ghost use Rattle.gj_safe_cut.specs.SafeCuts.{IsGmicCutOfRow, SafeCutHolds, SafeCutHasTerms};
+ghost use Rattle.gj_safe_cut.specs.SafeCuts.{IsGmicCutOfRow, TellsWide, SafeCutHolds};
+ghost use Rattle.gj_safe_cut.specs.SafeCuts.{SafeCutHasTerms};
 
 use crate::cut::SafeCut;
 use crate::terms::turned_back;
@@ -20,7 +21,7 @@ use std::alloc::{AllocError, Global};
 /// The mixed-integer cut of the row that the multipliers make of the problem, in its columns.
 ///
 /// There is a multiplier for each constraint, and nothing is asked of it. `at_upper` says of each
-/// column whether its upper bound is preferred. It is `Wide` only where a number of the row, a
+/// column whether its upper bound is preferred. It is `Wide` exactly where a number of the row, a
 /// coefficient, or a number of the cut does not fit. Else it is `Integral` exactly if the right
 /// side of the row is whole, `Free` exactly at the first column that has no bound and cannot be left
 /// out, and never `OtherFraction`. The only error is want of memory.
@@ -33,6 +34,8 @@ pub fn gmic_safe_cut(
     requires multipliers { length multipliers.now ≡ length problem.now.constraints }
     requires at_upper { length at_upper.now ≡ length problem.now.columns }
     ensures is { IfOk result (IsGmicSafeCutOf problem.now multipliers.now at_upper.now) }
+    ensures narrow { IfOk result
+        (TellsWide (IsGmicSafeCutOf problem.now multipliers.now at_upper.now)) }
     ensures holds { IfOk result (SafeCutHolds problem.now) }
     ensures terms { IfOk result (SafeCutHasTerms problem.now) }
 {
@@ -62,6 +65,8 @@ pub fn safe_cut<E: Evaluator, G: Evaluator>(
     requires at_upper { length at_upper.now ≡ length problem.now.columns }
     ensures is { IfOk result (IsSafeCutOf rule.now.kind slopes.now.up slopes.now.down problem.now
         multipliers.now at_upper.now) }
+    ensures narrow { IfOk result (TellsWide (IsSafeCutOf rule.now.kind slopes.now.up
+        slopes.now.down problem.now multipliers.now at_upper.now)) }
     ensures holds { IfOk result (λ cut. IsMinimalKind rule.now.kind →
         SafeCutHolds problem.now cut) }
     ensures terms { IfOk result (SafeCutHasTerms problem.now) }
@@ -85,6 +90,8 @@ fn gmic_cut(
     ensures cut { IfOk result (IsGmicSafeCutOf problem.now multipliers.now at_upper.now) }
     ensures wide { result ≡ Err Fault.Wide →
         IsGmicSafeCutOf problem.now multipliers.now at_upper.now Wide }
+    ensures narrow { OnOk result
+        (¬ IsGmicSafeCutOf problem.now multipliers.now at_upper.now Wide) }
 {
     match row_of(alloc, problem, multipliers, at_upper)? {
         MadeRow::Row(row) => gmic_cut_of_row(alloc, problem.columns.as_slice().len(), &row),
@@ -98,6 +105,8 @@ fn gmic_cut_of_row(alloc: Global, columns: usize, row: &Row) -> Result<SafeCut, 
         (row.now.slacks.items ++ row.now.bounds.items) row.now.right) }
     ensures wide { result ≡ Err Fault.Wide → IsGmicCutOfRow columns
         (row.now.slacks.items ++ row.now.bounds.items) row.now.right Wide }
+    ensures narrow { OnOk result (¬ IsGmicCutOfRow columns
+        (row.now.slacks.items ++ row.now.bounds.items) row.now.right Wide) }
 {
     let Some(f) = part_of(row.right) else {
         return Ok(SafeCut::Integral);
@@ -124,6 +133,8 @@ fn rule_cut<E: Evaluator, G: Evaluator>(
         IsKindWithinBounds rule.now.kind) }
     ensures wide { result ≡ Err Fault.Wide → IsSafeCutOf rule.now.kind slopes.now.up
         slopes.now.down problem.now multipliers.now at_upper.now Wide }
+    ensures narrow { OnOk result (¬ IsSafeCutOf rule.now.kind slopes.now.up
+        slopes.now.down problem.now multipliers.now at_upper.now Wide) }
 {
     match row_of(alloc, problem, multipliers, at_upper)? {
         MadeRow::Row(row) => {
@@ -149,6 +160,9 @@ fn rule_cut_of_row<E: Evaluator, G: Evaluator>(
     ensures wide { result ≡ Err Fault.Wide →
         IsCutOfRow rule.now.kind slopes.now.up slopes.now.down columns
         (row.now.slacks.items ++ row.now.bounds.items) row.now.right Wide }
+    ensures narrow { OnOk result
+        (¬ IsCutOfRow rule.now.kind slopes.now.up slopes.now.down columns
+        (row.now.slacks.items ++ row.now.bounds.items) row.now.right Wide) }
 {
     match right_side(rule, row.right) {
         RightSide::Whole => Ok(SafeCut::Integral),

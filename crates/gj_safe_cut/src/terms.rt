@@ -1,8 +1,8 @@
 //! Terms of a cut, added up in the columns of a problem.
-ghost use Rattle.std.specs.Prelude.{◌≡◌, IfOk, OnErr, Err, length, ◌++◌};
+ghost use Rattle.std.specs.Prelude.{◌≡◌, IfOk, OnErr, OnOk, Err, length, ◌++◌};
 ghost use Rattle.gj_safe_cut.specs.SafeCuts.{IsCoefficient, HasNoCoefficient, IsCutOfPieces};
 ghost use Rattle.gj_safe_cut.specs.SafeCuts.{IsWideCut};
-ghost use Rattle.gj_safe_cut.specs.AddedTerms.{AreAdded, IsWideAdding};
+ghost use Rattle.gj_safe_cut.specs.AddedTerms.{HasOneValue, AreAdded, IsWideAdding};
 
 use crate::values::{Values, weight};
 use gj_frac::{Frac, Wide};
@@ -23,6 +23,9 @@ pub(crate) fn turned_back<V: Values>(
     ensures wide { result ≡ Err Fault.Wide →
         IsWideCut (V.has_value values.now) (V.is_out values.now) slopes.up slopes.down columns
         (row.now.slacks.items ++ row.now.bounds.items) }
+    ensures narrow { OnOk result (HasOneValue (V.has_value values.now) →
+        ¬ IsWideCut (V.has_value values.now) (V.is_out values.now) slopes.up slopes.down columns
+        (row.now.slacks.items ++ row.now.bounds.items)) }
 {
     let mut sum = Sum::of_none(alloc, columns, Frac::ratio(1, 1))?;
     add_terms(&mut sum, row.slacks.as_slice(), values, slopes)?;
@@ -46,6 +49,9 @@ fn add_terms<V: Values>(
         (V.has_value values.now) slopes.up slopes.down) pieces.now sum.old sum.new) }
     ensures wide { OnErr result (IsWideAdding (V.has_value values.now) (V.is_out values.now)
         slopes.up slopes.down pieces.now sum.old) }
+    ensures narrow { OnOk result (HasOneValue (V.has_value values.now) →
+        ¬ IsWideAdding (V.has_value values.now) (V.is_out values.now)
+        slopes.up slopes.down pieces.now sum.old) }
 {
     for piece in pieces {
         let coefficient = coefficient_of(piece, values, slopes)?;
@@ -61,6 +67,8 @@ fn coefficient_of<V: Values>(piece: &Piece, values: &V, slopes: SlopesAtZero) ->
         (IsCoefficient (V.has_value values.now) slopes.up slopes.down piece.now) }
     ensures wide { OnErr result
         (HasNoCoefficient (V.is_out values.now) slopes.up slopes.down piece.now) }
+    ensures narrow { OnOk result
+        (¬ HasNoCoefficient (V.is_out values.now) slopes.up slopes.down piece.now) }
 {
     if piece.is_whole {
         values.value(piece.entry)

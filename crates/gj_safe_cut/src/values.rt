@@ -1,5 +1,5 @@
 //! Values of rules at fractions of any size, if they fit.
-ghost use Rattle.std.specs.Prelude.{◌≡◌, ◌↔◌, ◌<ℤ◌, pos, IfOk, OnErr, IsTrue};
+ghost use Rattle.std.specs.Prelude.{◌≡◌, ◌↔◌, ◌<ℤ◌, pos, IfOk, OnErr, OnOk, IsTrue};
 ghost use Rattle.gj_frac.specs.declared.Frac.{Frac};
 ghost use Rattle.gj_frac.specs.Fraction.{SameValue, LessValue, fraction_of, quotient_of, IsInside};
 ghost use Rattle.gj_frac.specs.Fraction.{numerator};
@@ -24,7 +24,8 @@ pub(crate) trait Values {
     /// The value at x.
     fn value(&self, x: Frac) -> Result<Frac, Wide>
         ensures value { IfOk result (has_value self.now x) }
-        ensures wide { OnErr result (is_out self.now x) };
+        ensures wide { OnErr result (is_out self.now x) }
+        ensures narrow { OnOk result (¬ is_out self.now x) };
 }
 
 /// The values of a rule at fractions with denominators below 2^31: those at their fractional parts.

@@ -1,13 +1,14 @@
 use Rattle.std.proofs.Common.{◌<◌, ℕ, List, Bool, length, All, sym, subst}
 use Rattle.std.proofs.lemmas.List.Elements.{All-weaker}
-use Rattle.std.proofs.lemmas.Result.{IfOk-weaker}
+use Rattle.std.proofs.lemmas.Result.{IfOk-weaker, on_ok_weaker}
 use Rattle.std.specs.Option.{option_copied}
 use Rattle.gj_frac.specs.declared.Frac.{Frac}
 use Rattle.gj_derivation.specs.declared.base.Base.{Base}
 use Rattle.gj_derivation.specs.declared.step.Multiplier.{Multiplier}
 use Rattle.gj_derivation.specs.Derivations.{IsSigned, AreMultipliers, AreAtUpper, IsCutOf}
-use Rattle.gj_derivation.specs.Checks.{IsBaseOf, IsBaseFrom}
+use Rattle.gj_derivation.specs.Checks.{IsBaseOf, IsBaseFrom, IsWideNamed}
 use Rattle.gj_derivation.proofs.MadeBases.{cut_is_base}
+use Rattle.gj_derivation.proofs.NarrowBases.{narrow_cut}
 use Rattle.gj_derivation.proofs.NamedLines.{line_below}
 use Rattle.gj_derivation.proofs.base.cut_base.Goals as goal
 
@@ -43,3 +44,30 @@ returns-clause-is c =
     IfOk-weaker c.base_from.result (IsBaseFrom (length p.columns) cut) (IsBaseOf f p k)
     (λ (b : Base) (h : IsBaseFrom (length p.columns) cut b). cut_is_base f p k cut b c.requires.rule
     c.requires.signed made h) c.base_from.ensures.is
+
+pub returns-clause-narrow : goal.returns-clause-narrow
+returns-clause-narrow c =
+    let f = option_copied c.args.function in
+    let p = c.args.problem.now in
+    let k = c.args.combination.now in
+    let cut = c.in_ok-cut.cut in
+    let made : IsCutOf f p k cut = record {
+      multipliers = c.as_slice-3.result.now;
+      multipliers_are = subst (λ (ms : List Frac). AreMultipliers p k.multipliers ms)
+          (sym c.as_slice-3.ensures.value)
+          (subst (λ (named : List Multiplier). AreMultipliers p named
+          c.in_ok-multipliers.multipliers.items) c.as_slice.ensures
+          c.in_ok-multipliers.ensures.are);
+      at_upper = c.as_slice-4.result.now;
+      at_upper_are = subst (λ (us : List Bool). AreAtUpper p k.at_upper us)
+          (sym c.as_slice-4.ensures.value)
+          (subst (λ (named : List ℕ). AreAtUpper p named c.in_ok-at_upper.at_upper.items)
+          c.as_slice-2.ensures c.in_ok-at_upper.ensures);
+      cut_is = c.in_ok-cut.ensures.is;
+    } in
+    on_ok_weaker c.base_from.result
+    (narrow_cut f p k cut made c.requires.rule
+    (subst (λ (named : List Multiplier). IsWideNamed named → ⊥) c.as_slice.ensures
+    c.in_ok-multipliers.ensures.narrow)
+    c.in_ok-cut.ensures.narrow)
+    c.base_from.ensures.narrow

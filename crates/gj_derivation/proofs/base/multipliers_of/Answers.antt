@@ -1,11 +1,13 @@
 use Rattle.std.proofs.Common.{◌≡◌, ◌<◌, rules, ℕ, List, ap, pos, length, get_or, refl, sym, subst, ◌∙◌}
-use Rattle.std.proofs.lemmas.List.{length-replicate}
+use Rattle.std.proofs.lemmas.List.{length-replicate, take_all}
 use Rattle.gj_frac.specs.declared.Frac.{Frac}
 use Rattle.gj_problem.specs.Rational.{rational, ◌+ℚ◌}
 use Rattle.gj_problem.specs.Rows.{dot}
 use Rattle.gj_problem.proofs.AddedSums.{dot_zero, sum_value, whole_ratio}
 use Rattle.gj_derivation.specs.declared.step.Multiplier.{Multiplier}
-use Rattle.gj_derivation.specs.Derivations.{unit}
+use Rattle.gj_derivation.specs.Derivations.{unit, AreMultipliers}
+use Rattle.gj_derivation.specs.Checks.{IsWideNamed}
+use Rattle.gj_derivation.proofs.NarrowBases.{narrow_named_none, narrow_named_next}
 use Rattle.gj_derivation.proofs.NamedLines.{named_more, wide_named}
 use Rattle.gj_derivation.proofs.base.multipliers_of.Goals as goal
 
@@ -13,11 +15,15 @@ pub loop-multiplier-init : goal.loop-multiplier-init
 loop-multiplier-init c =
     let items = c.in_ok-multipliers.ensures.items_if_clones_equal (λ (y : Frac) h. h) in
     record {
-      count = ap (λ (cs : List Frac). length cs) items ∙ length-replicate _ c.ratio.result
-          ∙ ap (λ cs. length cs) c.as_slice-count.ensures;
-      are = λ (i : ℕ).
-          ap (λ (cs : List Frac). dot cs (unit i)) items
-          ∙ dot_zero _ c.ratio.result (unit i) (whole_ratio c.ratio.result (pos 0) c.ratio.ensures);
+      are = record {
+        count = ap (λ (cs : List Frac). length cs) items ∙ length-replicate _ c.ratio.result
+            ∙ ap (λ cs. length cs) c.as_slice-count.ensures;
+        are = λ (i : ℕ).
+            ap (λ (cs : List Frac). dot cs (unit i)) items
+            ∙ dot_zero _ c.ratio.result (unit i) (whole_ratio c.ratio.result (pos 0)
+            c.ratio.ensures);
+      };
+      narrow = narrow_named_none;
     }
 
 pub returns-in_err-sum-clause-wide : goal.returns-in_err-sum-clause-wide
@@ -32,7 +38,7 @@ returns-in_err-sum-clause-wide c = λ fault.
     c.index.result.now = search rules in
     wide_named p c.args.named.now i m c.loop-multiplier.multipliers.items c.index.result.now
     c.loop-multiplier-test.true c.multiplier-item.is line
-    c.loop-multiplier.invariant value c.in_err-sum.ensures.wide
+    c.loop-multiplier.invariant.are value c.in_err-sum.ensures.wide
 
 pub loop-multiplier-preserved : goal.loop-multiplier-preserved
 loop-multiplier-preserved c =
@@ -48,6 +54,25 @@ loop-multiplier-preserved c =
     c.index.result.now) +ℚ rational m.value =
     sum_value c.index.result.now m.value c.in_ok-sum.sum c.in_ok-sum.ensures.value
     ∙ ap (λ (x : Frac). rational x +ℚ rational m.value) value in
-    named_more p c.args.named.now i m c.loop-multiplier.multipliers.items _ c.in_ok-sum.sum
-    c.index.result.now c.loop-multiplier-test.true
-    c.multiplier-item.is line c.loop-multiplier.invariant sum refl
+    record {
+      are = named_more p c.args.named.now i m c.loop-multiplier.multipliers.items _ c.in_ok-sum.sum
+          c.index.result.now c.loop-multiplier-test.true
+          c.multiplier-item.is line c.loop-multiplier.invariant.are sum refl;
+      narrow = narrow_named_next p c.args.named.now i m c.loop-multiplier.multipliers.items
+          c.index.result.now c.loop-multiplier-test.true c.multiplier-item.is line
+          c.loop-multiplier.invariant.are value c.loop-multiplier.invariant.narrow
+          c.in_ok-sum.ensures.fits;
+    }
+
+pub returns-clause-are : goal.returns-clause-are
+returns-clause-are c =
+    subst (λ (ms : List Multiplier). AreMultipliers c.args.problem.now ms
+    c.loop-multiplier.multipliers.items)
+    (take_all c.loop-multiplier.multiplier-index c.args.named.now c.loop-multiplier-test.false)
+    c.loop-multiplier.invariant.are
+
+pub returns-clause-narrow : goal.returns-clause-narrow
+returns-clause-narrow c =
+    subst (λ (ms : List Multiplier). IsWideNamed ms → ⊥)
+    (take_all c.loop-multiplier.multiplier-index c.args.named.now c.loop-multiplier-test.false)
+    c.loop-multiplier.invariant.narrow

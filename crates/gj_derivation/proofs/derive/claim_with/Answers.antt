@@ -6,8 +6,9 @@ use Rattle.gj_derivation.specs.declared.base.Base.TheVariants as base
 use Rattle.gj_derivation.specs.declared.moves.Moved.{Moved}
 use Rattle.gj_derivation.specs.declared.moves.Moved.TheVariants as moved
 use Rattle.gj_derivation.specs.Derivations.{Line, coefficient_in, times}
-use Rattle.gj_derivation.specs.Checks.{line_of_sum, IsBaseOf, IsMovedRight, IsFirstUnmovable}
+use Rattle.gj_derivation.specs.Checks.{line_of_sum, IsBaseOf, IsMovedRight, IsFirstUnmovable, IsWideFor}
 use Rattle.gj_derivation.proofs.CheckedSteps.{shown_by, wide_for}
+use Rattle.gj_derivation.proofs.NarrowVerdicts.{narrow_with_base, narrow_against}
 use Rattle.gj_derivation.proofs.derive.claim_with.Goals as goal
 
 pub returns-in_err-right-in-Line-clause-wide : goal.returns-in_err-right-in-Line-clause-wide
@@ -55,3 +56,33 @@ returns-in-Line-clause-is c =
       subst (λ (l : Line). IsFirstUnmovable p.columns (times k.factor l)
           (coefficient_in c.args.entries.now) c.in-Bound.column) made.2.same stuck,
     )
+
+pub returns-in-Right-clause-narrow : goal.returns-in-Right-clause-narrow
+returns-in-Right-clause-narrow c usable =
+    let f = option_copied c.args.function in
+    let p = c.args.problem.now in
+    let k = c.args.combination.now in
+    narrow_with_base f p k usable
+    (λ (l : Line). IsWideFor p.columns k.factor l c.args.entries.now) c.in-Line.sum
+    (subst (λ (b : Base). IsBaseOf f p k b) c.in-Line.is c.in_ok-sum.ensures.is)
+    c.in_ok-sum.ensures.narrow c.in_ok-right-in-Line.ensures.narrow
+
+pub returns-in-Line-clause-narrow : goal.returns-in-Line-clause-narrow
+returns-in-Line-clause-narrow c usable =
+    let f = option_copied c.args.function in
+    let p = c.args.problem.now in
+    let k = c.args.combination.now in
+    narrow_with_base f p k usable
+    (λ (l : Line). IsWideFor p.columns k.factor l c.args.entries.now) c.in-Line.sum
+    (subst (λ (b : Base). IsBaseOf f p k b) c.in-Line.is c.in_ok-sum.ensures.is)
+    c.in_ok-sum.ensures.narrow c.in_ok-right-in-Line.ensures.narrow
+
+pub returns-clause-narrow : goal.returns-clause-narrow
+returns-clause-narrow c usable =
+    let f = option_copied c.args.function in
+    let p = c.args.problem.now in
+    let k = c.args.combination.now in
+    narrow_against f p k usable (λ (l : Line). IsWideFor p.columns k.factor l c.args.entries.now)
+    c.in-Against.verdict
+    (subst (λ (b : Base). IsBaseOf f p k b) c.in-Against.is c.in_ok-sum.ensures.is)
+    c.in_ok-sum.ensures.narrow

@@ -1,7 +1,9 @@
 use Rattle.gj_frac.proofs.Refusals.{on_err}
 use Rattle.gj_problem.proofs.AddedSums.{product_value}
-use Rattle.gj_derivation.specs.Moves.{HasUpper}
+use Rattle.gj_problem.specs.Moves.{HasUpper}
 use Rattle.gj_derivation.specs.Checks.{IsWideTimesBound}
+use Rattle.gj_derivation.proofs.NarrowMoves.{narrow_bound}
+use Rattle.gj_derivation.proofs.OneRightSide.{upper_same}
 use Rattle.gj_derivation.proofs.moves.times_upper.Goals as goal
 
 pub returns-clause-is : goal.returns-clause-is
@@ -19,3 +21,9 @@ returns-in_err-shift-clause-wide c =
       (c.in-Some.upper, c.in-Some.is, c.upper_bound-bound.ensures),
       c.in_err-shift.ensures.wide,
     )
+
+pub returns-clause-narrow : goal.returns-clause-narrow
+returns-clause-narrow c =
+    narrow_bound (HasUpper c.args.column) c.args.change c.upper_bound-bound.result
+    (upper_same c.args.column) (c.in-Some.upper, c.in-Some.is, c.upper_bound-bound.ensures)
+    c.in_ok-shift.ensures.fits

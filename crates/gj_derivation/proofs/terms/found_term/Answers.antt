@@ -1,5 +1,5 @@
 use Rattle.std.proofs.Common.{◌≡◌, ℕ, inr, Option, Some, pos, sym, ap, subst, subst₂, ◌∙◌}
-use Rattle.std.proofs.lemmas.Result.{IfOk-weaker}
+use Rattle.std.proofs.lemmas.Result.{IfOk-weaker, on_ok_weaker}
 use Rattle.gj_frac.specs.declared.Frac.{Frac}
 use Rattle.gj_frac.proofs.Refusals.{on_err_along}
 use Rattle.gj_problem.specs.Rational.{Rational, whole, rational, ◌*ℚ◌}
@@ -8,6 +8,7 @@ use Rattle.gj_problem.proofs.RationalLaws.{mul_zero_q}
 use Rattle.gj_safe_cut.proofs.PointCuts.{is_true}
 use Rattle.gj_derivation.specs.Drafts.{IsFoundFor, IsFoundOrNone, IsWideGrid, IsWideFoundAt}
 use Rattle.gj_derivation.proofs.FoundTerms.{found_zero}
+use Rattle.gj_derivation.proofs.NarrowTerms.{narrow_found_zero, narrow_found}
 use Rattle.gj_derivation.proofs.terms.found_term.Goals as goal
 
 pub returns-then-is_zero-clause-is : goal.returns-then-is_zero-clause-is
@@ -53,3 +54,16 @@ returns-in-Some-clause-wide c =
           (sym c.in-Some.is) wide,
     ))
     c.on_grid.ensures.wide
+
+pub returns-then-is_zero-clause-narrow : goal.returns-then-is_zero-clause-narrow
+returns-then-is_zero-clause-narrow c =
+    narrow_found_zero c.args.grid c.args.column c.args.factor c.args.coefficient
+    (c.is_zero.ensures.0 (is_true c.is_zero.result c.if-is_zero.true))
+
+pub returns-in-Some-clause-narrow : goal.returns-in-Some-clause-narrow
+returns-in-Some-clause-narrow c =
+    on_ok_weaker c.on_grid.result
+    (narrow_found c.args.grid c.in-Some.n c.args.column c.args.factor c.args.coefficient c.in_ok-x.x
+    c.in-Some.is c.in_ok-x.ensures.fits
+    (product_value c.args.factor c.args.coefficient c.in_ok-x.x c.in_ok-x.ensures.value))
+    c.on_grid.ensures.narrow

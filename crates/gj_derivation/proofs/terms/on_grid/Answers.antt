@@ -3,11 +3,13 @@ use Rattle.gj_frac.specs.declared.Frac.{Frac}
 use Rattle.gj_frac.specs.TotalOrder.{parts_Decides}
 use Rattle.gj_frac.proofs.Refusals.{on_err}
 use Rattle.gj_problem.specs.Rational.{rational}
-use Rattle.gj_problem.specs.RoundedCuts.{IsBelowOnGrid, IsWideTimes}
+use Rattle.gj_problem.specs.Moves.{IsBelowOnGrid}
+use Rattle.gj_problem.specs.RoundedCuts.{IsWideTimes}
 use Rattle.gj_problem.proofs.AddedSums.{negation_value}
 use Rattle.gj_problem.proofs.OneRow.{rational_injective}
 use Rattle.gj_derivation.specs.Drafts.{IsWideGrid}
 use Rattle.gj_derivation.proofs.FoundTerms.{found_above, found_there, not_found}
+use Rattle.gj_derivation.proofs.NarrowTerms.{narrow_above, narrow_below}
 use Rattle.gj_derivation.proofs.terms.on_grid.Goals as goal
 
 pub returns-in_err-below_on_grid-in-Some-default-clause-wide :
@@ -69,3 +71,31 @@ returns-else-eq-clause-is c =
     c.in_ok-y-in-None-None.ensures.value)
     (λ same. let t = (parts_Decides y c.args.x).1 (rational_injective y c.args.x same) in let e =
     c.eq.ensures in absurd (cc))
+
+pub returns-in_ok-below_on_grid-in-Some-default-clause-narrow :
+    goal.returns-in_ok-below_on_grid-in-Some-default-clause-narrow
+returns-in_ok-below_on_grid-in-Some-default-clause-narrow c =
+    narrow_above c.args.grid c.args.column.lower c.args.column.upper c.in-Some-default.field-0-0
+    c.args.x c.neg.result c.in-Some-default.is-0
+    (negation_value c.args.x c.neg.result c.neg.ensures)
+    (subst (λ (n : ℕ). IsWideTimes n c.neg.result → ⊥) c.from.ensures
+    c.in_ok-below_on_grid-in-Some-default.ensures.narrow)
+
+pub returns-in_ok-below_on_grid-in-None-Some-clause-narrow :
+    goal.returns-in_ok-below_on_grid-in-None-Some-clause-narrow
+returns-in_ok-below_on_grid-in-None-Some-clause-narrow c =
+    narrow_below c.args.grid c.args.column.lower c.args.column.upper c.args.x c.in-None-Some.is-0
+    (subst (λ (n : ℕ). IsWideTimes n c.args.x → ⊥) c.from-in-None-Some.ensures
+    c.in_ok-below_on_grid-in-None-Some.ensures.narrow)
+
+pub returns-then-eq-clause-narrow : goal.returns-then-eq-clause-narrow
+returns-then-eq-clause-narrow c =
+    narrow_below c.args.grid c.args.column.lower c.args.column.upper c.args.x c.in-None-None.is-0
+    (subst (λ (n : ℕ). IsWideTimes n c.args.x → ⊥) c.from-in-None-None.ensures
+    c.in_ok-y-in-None-None.ensures.narrow)
+
+pub returns-else-eq-clause-narrow : goal.returns-else-eq-clause-narrow
+returns-else-eq-clause-narrow c =
+    narrow_below c.args.grid c.args.column.lower c.args.column.upper c.args.x c.in-None-None.is-0
+    (subst (λ (n : ℕ). IsWideTimes n c.args.x → ⊥) c.from-in-None-None.ensures
+    c.in_ok-y-in-None-None.ensures.narrow)

@@ -1,8 +1,9 @@
-use Rattle.std.proofs.Common.{⊎_elim, ap, pos, ◌∙◌}
+use Rattle.std.proofs.Common.{⊎_elim, inl, ap, pos, ◌∙◌}
 use Rattle.gj_problem.specs.Rational.{rational}
 use Rattle.gj_problem.specs.Steps.{IsWideAt, IsWideWithin}
 use Rattle.gj_problem.proofs.AddedSums.{whole_ratio}
 use Rattle.gj_derivation.proofs.CheckedSums.{terms_are}
+use Rattle.gj_derivation.proofs.NarrowBases.{narrow_terms}
 use Rattle.gj_derivation.proofs.TermsFit.{not_wide_at}
 use Rattle.gj_derivation.proofs.terms.sum_of_terms.Goals as goal
 
@@ -33,3 +34,11 @@ returns-clause-is c =
     c.in_ok-add.ensures.count c.in_ok-add.ensures.added c.in_ok-sum.ensures.none
     (ap rational c.in_ok-sum.ensures.right ∙ whole_ratio c.ratio.result (pos 0) c.ratio.ensures)
     (whole_ratio c.ratio-2.result (pos 1) c.ratio-2.ensures)
+
+pub returns-clause-narrow : goal.returns-clause-narrow
+returns-clause-narrow c =
+    let none = c.in_ok-sum.sum in
+    narrow_terms c.args.columns c.args.entries.now none.coefficients.items c.ratio-2.result
+    c.in_ok-sum.ensures.count c.in_ok-sum.ensures.none
+    (whole_ratio c.ratio-2.result (pos 1) c.ratio-2.ensures)
+    (λ wide. c.in_ok-add.ensures.narrow (inl wide))

@@ -4,7 +4,7 @@ use Rattle.std.proofs.lemmas.Int.{to_z-of_z}
 use Rattle.std.proofs.lemmas.Option.{MatchOption-at_some}
 use Rattle.gj_frac.specs.Fraction.{IsRatio}
 use Rattle.gj_problem.specs.Rational.{rational}
-use Rattle.gj_problem.specs.RoundedCuts.{IsBelowOnGrid}
+use Rattle.gj_problem.specs.Moves.{IsBelowOnGrid}
 use Rattle.gj_problem.proofs.AddedSums.{ok_if_some}
 use Rattle.gj_problem.proofs.GridParts.{below_from_floor}
 use Rattle.gj_problem.proofs.rounding.below_on_grid.Goals as goal

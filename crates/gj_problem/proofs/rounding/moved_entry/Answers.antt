@@ -6,7 +6,7 @@ use Rattle.gj_frac.specs.declared.Frac.{Frac}
 use Rattle.gj_problem.specs.Rational.{rational}
 use Rattle.gj_problem.proofs.AddedSums.{negation_value}
 use Rattle.gj_problem.specs.RoundedCuts.{upper_of, IsMoved}
-use Rattle.gj_problem.proofs.MovedEntries.{raised_to}
+use Rattle.gj_problem.proofs.MovedEntries.{raised_to, lowered_to}
 use Rattle.gj_problem.proofs.rounding.moved_entry.Goals as goal
 
 pub returns-in_ok-moved_to-in-Some-default-clause-value : goal.returns-in_ok-moved_to-in-Some-default-clause-value
@@ -52,3 +52,12 @@ returns-in_err-moved_to-in-None-Some-clause-wide c =
     (subst₂ (λ (o o' : Option Frac). IsWideMove c.args.grid o o' x) (sym c.in-None-Some.is-0 ∙ c.lower_bound.ensures)
     (sym c.in-None-Some.is-1 ∙ c.upper_bound.ensures)
     (inr (c.in_ok-below_on_grid-in-None-Some.field-0, c.in_ok-below_on_grid-in-None-Some.ensures.value, c.in_err-moved_to-in-None-Some.ensures.wide)))
+
+pub returns-in_ok-moved_to-in-None-Some-clause-value : goal.returns-in_ok-moved_to-in-None-Some-clause-value
+returns-in_ok-moved_to-in-None-Some-clause-value c =
+    let p = c.args.problem.now in
+    let j = c.args.entry.column in
+    let made = c.in_ok-moved_to-in-None-Some in
+    lowered_to c.args.grid c.args.entry.value c.in_ok-below_on_grid-in-None-Some.field-0 c.in-None-Some.upper made.field-0.value made.field-0.shift
+    (lower_of p j) (upper_of p j) (sym c.lower_bound.ensures ∙ c.in-None-Some.is-0) (sym c.upper_bound.ensures ∙ c.in-None-Some.is-1)
+    c.in_ok-below_on_grid-in-None-Some.ensures.value made.ensures.value made.ensures.shift

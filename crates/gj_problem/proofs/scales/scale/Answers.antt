@@ -1,5 +1,5 @@
-use Rattle.std.proofs.Common.{◌^◌, Bool, [], pos, refl, sym, subst, arith}
-use Rattle.std.proofs.lemmas.Result.{on_err_weaker}
+use Rattle.std.proofs.Common.{◌<◌, ◌^◌, Bool, [], pos, refl, sym, subst, arith}
+use Rattle.std.proofs.lemmas.Result.{on_err_weaker, on_ok_weaker}
 use Rattle.gj_frac.proofs.Refusals.{on_err}
 use Rattle.gj_problem.specs.Aggregates.{IsScale}
 use Rattle.gj_problem.specs.WideRows.{IsWideScale, numbers_of}
@@ -30,3 +30,11 @@ returns-in_ok-common_denominator-clause-wide c =
       λ n least. least_grows numbers [] numbers m n (2 ^ 127) (no_more numbers) c.in_ok-common_denominator.ensures.least least over,
     ))
     c.whole_number.ensures.wide
+
+pub returns-in_ok-common_denominator-clause-narrow : goal.returns-in_ok-common_denominator-clause-narrow
+returns-in_ok-common_denominator-clause-narrow c =
+    let m = c.in_ok-common_denominator.field-0 in
+    on_ok_weaker c.whole_number.result
+    (λ (small : m < 2 ^ 127) (wide : IsWideScale c.args.right c.args.entries.now c.args.is_whole).
+    let low = wide.1 m c.in_ok-common_denominator.ensures.least in omega arith)
+    c.whole_number.ensures.fits

@@ -1,7 +1,7 @@
 use Rattle.std.proofs.Common.{◌≡◌, ℤ, pos, to_z, of_z, inl, inr, ⊎_elim, ◌⊎◌, List, sym, ap, subst, ◌∙◌}
 use Rattle.gj_frac.specs.Fraction.{numerator}
 use Rattle.gj_frac.proofs.Reduced.{read_part}
-use Rattle.gj_problem.specs.Rational.{Rational, rational, ◌-ℚ◌}
+use Rattle.gj_problem.specs.Rational.{Rational, rational, ◌+ℚ◌, ◌*ℚ◌, ◌-ℚ◌}
 use Rattle.gj_problem.specs.declared.problem.Sense.TheVariants.{Equal}
 use Rattle.gj_problem.specs.Problems.{sum_at}
 use Rattle.gj_problem.specs.Rows.{dot}
@@ -51,3 +51,32 @@ returns-in_err-piece-clause-wide c = λ fault.
         c.in_err-piece.ensures.wide (handed_on c.from_residual-in_err-piece.result _ _ c.from_residual-in_err-piece.ensures.1 fault),
       );
     }
+
+pub returns-clause-sum : goal.returns-clause-sum
+returns-clause-sum c = λ (point : List Rational).
+    let k = c.args.constraint.now in
+    let sum = c.args.made.now.sum in
+    c.in_ok-add.ensures.added point
+    ∙ ap (λ (es : List Entry). (dot sum.coefficients.items point -ℚ rational sum.right)
+    +ℚ rational c.args.multiplier *ℚ (sum_at point es -ℚ rational k.right)) c.as_slice.ensures
+
+pub returns-then-is_equation-clause-narrow : goal.returns-then-is_equation-clause-narrow
+returns-then-is_equation-clause-narrow c w =
+    let m = c.args.multiplier in
+    let k = c.args.constraint.now in
+    let sum = c.args.made.now.sum in
+    let equal : k.sense ≡ Equal = c.is_equation.ensures.0 c.if-is_equation.true in
+    ⊎_elim
+    (subst (λ (es : List Entry). IsWideWithin sum.coefficients.items m es ⊎ IsWideAt sum.right m k.right → ⊥) c.as_slice.ensures
+    c.in_ok-add.ensures.narrow)
+    (λ a. a.0 (inr equal)) w.wide
+
+pub returns-clause-narrow : goal.returns-clause-narrow
+returns-clause-narrow c w =
+    let m = c.args.multiplier in
+    let k = c.args.constraint.now in
+    let sum = c.args.made.now.sum in
+    ⊎_elim
+    (subst (λ (es : List Entry). IsWideWithin sum.coefficients.items m es ⊎ IsWideAt sum.right m k.right → ⊥) c.as_slice.ensures
+    c.in_ok-add.ensures.narrow)
+    (λ a. c.in_ok-piece.ensures.narrow a.1) w.wide

@@ -9,6 +9,8 @@ use Rattle.gj_problem.specs.Aggregates.{AreMadeOf, Weighted, weighted, aggregate
 use Rattle.gj_problem.proofs.WideRoundings.{handed_on}
 use Rattle.gj_problem.proofs.AddedSums.{nothing_minus}
 use Rattle.gj_problem.proofs.Prefixes.{made_next, weighted_next, weighted_split, weighted_all_taken, aggregate_next}
+use Rattle.gj_problem.specs.WideRows.{IsWideSum}
+use Rattle.gj_problem.proofs.NarrowRows.{narrow_sum_of_none, narrow_sum_with}
 use Rattle.gj_problem.proofs.slacks.added_up.Goals as goal
 
 pub loop-constraint-init : goal.loop-constraint-init
@@ -18,6 +20,7 @@ loop-constraint-init c = record {
       nothing_minus (dot c.in_ok-sum.sum.coefficients.items point) c.in_ok-sum.sum.right c.ratio.result (c.in_ok-sum.ensures.none point)
       c.in_ok-sum.ensures.right c.ratio.ensures;
   slacks = c.new.ensures.items;
+  narrow = narrow_sum_of_none c.args.problem.now;
 }
 
 pub loop-constraint-preserved : goal.loop-constraint-preserved
@@ -42,6 +45,9 @@ loop-constraint-preserved c =
           (c.loop-constraint.invariant.adds point) (c.in_ok-add_weighted.ensures.sum point);
       slacks = made_next HasNoSlack (IsSlack c.args.problem.now) ws vs w c.loop-constraint.made.slacks.items
           c.add_weighted.new.made.slacks.items next c.loop-constraint.invariant.slacks c.in_ok-add_weighted.ensures.slack;
+      narrow = narrow_sum_with c.args.problem.now ws vs w c.loop-constraint.made.sum.coefficients.items c.loop-constraint.made.sum.right next
+          (record { count = c.loop-constraint.invariant.count; adds = c.loop-constraint.invariant.adds })
+          c.loop-constraint.invariant.narrow c.in_ok-add_weighted.ensures.narrow;
     }
 
 pub returns-clause-sum : goal.returns-clause-sum
@@ -94,3 +100,16 @@ returns-in_err-add_weighted-clause-wide c = λ fault.
       wide = c.in_err-add_weighted.ensures.wide
           (handed_on c.from_residual-in_err-add_weighted.result _ _ c.from_residual-in_err-add_weighted.ensures.1 fault);
     }
+
+pub returns-clause-narrow : goal.returns-clause-narrow
+returns-clause-narrow c =
+    let ms = c.args.multipliers.now in
+    let cs = c.args.constraints.now in
+    let done = c.loop-constraint.yielded in
+    let end : length cs ≤ length done =
+    subst (λ n. length cs ≤ n)
+    (sym (zip_end cs ms done c.into_iter-constraint-iterator.result c.loop-constraint.constraint-iterator c.next.new.self c.next.result
+    (search rules) (search rules) c.loop-constraint.yielded_by c.in-None.is c.next.ensures.steps))
+    (le-min (omega arith) (omega (arith, c.requires))) in
+    subst (λ (ws : List Weighted). IsWideSum c.args.problem.now ws → ⊥) (weighted_all_taken ms cs (length done) end)
+    c.loop-constraint.invariant.narrow

@@ -1,28 +1,46 @@
-use Rattle.std.proofs.Common.{List, map, refl, ap, ◌∙◌}
-use Rattle.std.proofs.lemmas.List.Elements.{All-head, All-tail}
+use Rattle.std.proofs.Common.{All, List, [], map, refl, sym, subst, subst₂}
+use Rattle.std.specs.List.{AllZip}
+use Rattle.std.proofs.lemmas.List.{take_all}
+use Rattle.std.proofs.lemmas.List.Elements.{All-nil, All-cons, All-head, All-tail, All-map, All-more}
 use Rattle.gj_frac.specs.Fits.{FitsProduct}
-use Rattle.gj_problem.specs.Rational.{Rational, rational}
-use Rattle.gj_problem.specs.Problems.{sum_at}
+use Rattle.gj_problem.specs.Rational.{rational}
 use Rattle.gj_problem.specs.declared.problem.Entry.{Entry}
-use Rattle.gj_problem.proofs.OneColumn.{nothing_scaled, entry_scaled, all_scaled}
+use Rattle.gj_problem.proofs.AddedSums.{product_value}
+use Rattle.gj_problem.proofs.OneColumn.{IsTimes, multiple_more}
 use Rattle.gj_problem.proofs.WideScales.{value_in}
 use Rattle.gj_problem.proofs.slacks.times.Goals as goal
 
 pub loop-entry-init : goal.loop-entry-init
-loop-entry-init c = λ (point : List Rational).
-    ap (λ (es : List Entry). sum_at point es) c.new-scaled.ensures.items ∙ nothing_scaled (rational c.args.factor)
+loop-entry-init c = record {
+  are = subst (λ (made : List Entry). AllZip (IsTimes (rational c.args.factor)) [] made) (sym c.new-scaled.ensures.items) tt;
+  fit = All-nil (λ (e : Entry). FitsProduct c.args.factor e.value);
+}
 
 pub loop-entry-preserved : goal.loop-entry-preserved
-loop-entry-preserved c = λ (point : List Rational).
+loop-entry-preserved c =
     let made : Entry = record { column = c.entry-item.result.column; value = c.in_ok-value.value } in
-    entry_scaled point c.args.entries.now c.loop-entry.entry-index c.entry-item.result made c.args.factor c.loop-entry.scaled.items
-    c.push.new.self.items c.loop-entry-test.true c.entry-item.is (c.loop-entry.invariant point) c.in_ok-push.ensures.items refl
-    c.in_ok-value.ensures.value
+    let P : Entry → Type 0 = λ e. FitsProduct c.args.factor e.value in
+    record {
+      are = multiple_more c.args.entries.now c.loop-entry.entry-index c.entry-item.result made c.args.factor c.loop-entry.scaled.items
+          c.push.new.self.items c.loop-entry-test.true c.entry-item.is c.loop-entry.invariant.are c.in_ok-push.ensures.items refl
+          c.in_ok-value.ensures.value;
+      fit = All-more P c.args.entries.now c.loop-entry.entry-index c.entry-item.result c.loop-entry-test.true c.loop-entry.invariant.fit
+          (subst P c.entry-item.is c.in_ok-value.ensures.fits);
+    }
 
-pub returns-clause-surplus : goal.returns-clause-surplus
-returns-clause-surplus c = λ (point : List Rational).
-    all_scaled point c.args.entries.now c.loop-entry.entry-index c.args.factor c.args.right c.in_ok-right.right c.loop-entry.scaled.items
-    c.of.result c.loop-entry-test.false (c.loop-entry.invariant point) c.of.ensures c.in_ok-right.ensures.value
+pub returns-clause-is : goal.returns-clause-is
+returns-clause-is c = record {
+  entries_are = subst₂ (λ (es made : List Entry). AllZip (IsTimes (rational c.args.factor)) es made)
+      (take_all c.loop-entry.entry-index c.args.entries.now c.loop-entry-test.false) (sym c.of.ensures) c.loop-entry.invariant.are;
+  right_is = product_value c.args.factor c.args.right c.in_ok-right.right c.in_ok-right.ensures.value;
+}
+
+pub returns-clause-fits : goal.returns-clause-fits
+returns-clause-fits c =
+    let P : Entry → Type 0 = λ e. FitsProduct c.args.factor e.value in
+    All-cons (FitsProduct c.args.factor) c.args.right (map (λ (e : Entry). e.value) c.args.entries.now) c.in_ok-right.ensures.fits
+    (All-map (FitsProduct c.args.factor) (λ (e : Entry). e.value) c.args.entries.now
+    (subst (All P) (take_all c.loop-entry.entry-index c.args.entries.now c.loop-entry-test.false) c.loop-entry.invariant.fit))
 
 pub returns-in_err-value-clause-wide : goal.returns-in_err-value-clause-wide
 returns-in_err-value-clause-wide c = λ fault all.

@@ -1,8 +1,12 @@
-use Rattle.std.proofs.Common.{◌≡◌, List, take}
-use Rattle.gj_problem.specs.Rational.{Rational, rational, ◌*ℚ◌}
-use Rattle.gj_problem.specs.Problems.{sum_at}
+use Rattle.std.proofs.Common.{All, take}
+use Rattle.std.specs.List.{AllZip}
+use Rattle.gj_frac.specs.Fits.{FitsProduct}
+use Rattle.gj_problem.specs.Rational.{rational}
+use Rattle.gj_problem.proofs.OneColumn.{IsTimes}
 use Rattle.gj_problem.proofs.slacks.times.Given as goal
 
 abbrev pub invariant-loop-entry : goal.invariant-loop-entry
-invariant-loop-entry l = (point : List Rational) → sum_at point l.scaled.items
-    ≡ rational l.factor *ℚ sum_at point (take l.entry-index l.entries)
+invariant-loop-entry l = record {
+  are : AllZip (IsTimes (rational l.factor)) (take l.entry-index l.entries) l.scaled.items;
+  fit : All (λ e. FitsProduct l.factor e.value) (take l.entry-index l.entries);
+}

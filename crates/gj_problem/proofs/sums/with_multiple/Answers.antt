@@ -1,8 +1,9 @@
 use Rattle.std.proofs.Common.{◌≡◌, inr}
-use Rattle.std.proofs.lemmas.Result.{IfOk-weaker, on_err_weaker}
+use Rattle.std.proofs.lemmas.Result.{IfOk-weaker, on_err_weaker, on_ok_weaker}
 use Rattle.gj_frac.specs.Fraction.{SameValue, fraction_of, sum_of}
 use Rattle.gj_problem.specs.Rational.{rational, ◌+ℚ◌, ◌*ℚ◌}
 use Rattle.gj_problem.proofs.AddedSums.{multiple_value}
+use Rattle.gj_problem.proofs.NarrowSums.{narrow_at}
 use Rattle.gj_problem.proofs.sums.with_multiple.Goals as goal
 
 pub returns-clause-value : goal.returns-clause-value
@@ -16,3 +17,8 @@ pub returns-clause-wide : goal.returns-clause-wide
 returns-clause-wide c =
     on_err_weaker c.checked_add.result (λ wide. inr (c.in_ok-checked_mul.field-0, c.in_ok-checked_mul.ensures.value, wide))
     c.checked_add.ensures.wide
+
+pub returns-clause-narrow : goal.returns-clause-narrow
+returns-clause-narrow c =
+    on_ok_weaker c.checked_add.result
+    (narrow_at c.args.x c.args.factor c.args.value c.in_ok-checked_mul.field-0 c.in_ok-checked_mul.ensures.value) c.checked_add.ensures.fits

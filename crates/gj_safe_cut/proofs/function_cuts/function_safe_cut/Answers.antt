@@ -1,7 +1,7 @@
 use Rattle.std.proofs.Common.{sym, subst}
 use Rattle.gj_shape.specs.FunctionData.{FunctionData}
 use Rattle.gj_shape.specs.Table.{IsMinimal}
-use Rattle.gj_safe_cut.specs.SafeCuts.{IsFunctionSafeCutOf}
+use Rattle.gj_safe_cut.specs.SafeCuts.{IsFunctionSafeCutOf, TellsWide}
 use Rattle.gj_safe_cut.proofs.function_cuts.function_safe_cut.Goals as goal
 
 pub cut_by-requires-clause-minimal : goal.cut_by-requires-clause-minimal
@@ -13,3 +13,10 @@ returns-clause-is c =
     (λ (f : FunctionData).
     IsFunctionSafeCutOf f c.args.problem.now c.args.multipliers.now c.args.at_upper.now c.in_ok-cut.cut)
     c.in_ok-kept.ensures c.in_ok-cut.ensures.is
+
+pub returns-clause-narrow : goal.returns-clause-narrow
+returns-clause-narrow c =
+    subst
+    (λ (f : FunctionData).
+    TellsWide (IsFunctionSafeCutOf f c.args.problem.now c.args.multipliers.now c.args.at_upper.now) c.in_ok-cut.cut)
+    c.in_ok-kept.ensures c.in_ok-cut.ensures.narrow

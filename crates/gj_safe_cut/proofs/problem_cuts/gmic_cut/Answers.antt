@@ -1,5 +1,5 @@
-use Rattle.std.proofs.Common.{◌++◌, inl, inr, IfOk, List, length, subst}
-use Rattle.std.proofs.lemmas.Result.{IfOk-weaker}
+use Rattle.std.proofs.Common.{◌++◌, inl, inr, IfOk, OnOk, List, length, subst}
+use Rattle.std.proofs.lemmas.Result.{IfOk-weaker, on_ok_weaker}
 use Rattle.gj_problem.specs.Aggregates.{IsRow}
 use Rattle.gj_problem.specs.Made.{IsMadeRow}
 use Rattle.gj_problem.specs.declared.problem.Column.{Column}
@@ -7,7 +7,7 @@ use Rattle.gj_problem.specs.declared.row.MadeRow.{MadeRow}
 use Rattle.gj_problem.proofs.WideRoundings.{handed_on}
 use Rattle.gj_safe_cut.specs.SafeCuts.{IsGmicCutOfRow, IsGmicSafeCutOf}
 use Rattle.gj_safe_cut.specs.declared.cut.SafeCut.TheVariants.{Wide}
-use Rattle.gj_safe_cut.proofs.CutRows.{of_row}
+use Rattle.gj_safe_cut.proofs.CutRows.{of_row, narrow_of_row, narrow_of_free}
 use Rattle.gj_safe_cut.proofs.problem_cuts.gmic_cut.Goals as goal
 
 pub returns-in-Row-clause-cut : goal.returns-in-Row-clause-cut
@@ -39,3 +39,23 @@ returns-in-Row-clause-wide c = λ fault.
 
 pub returns-in_err-row-clause-wide : goal.returns-in_err-row-clause-wide
 returns-in_err-row-clause-wide c = λ fault. inl (c.in_err-row.ensures.wide (handed_on c.from_residual.result _ _ c.from_residual.ensures.1 fault))
+
+pub returns-in-Row-clause-narrow : goal.returns-in-Row-clause-narrow
+returns-in-Row-clause-narrow c =
+    let p = c.args.problem.now in
+    let ms = c.args.multipliers.now in
+    let ups = c.args.at_upper.now in
+    let row = c.in-Row.row in
+    let pieces = row.slacks.items ++ row.bounds.items in
+    let is : IsRow p ms ups pieces row.right = subst (λ (made : MadeRow). IsMadeRow p ms ups made) c.in-Row.is c.in_ok-row.ensures.row in
+    on_ok_weaker c.gmic_cut_of_row.result (narrow_of_row IsGmicCutOfRow p ms ups c.in_ok-row.ensures.narrow pieces row.right is)
+    (subst (λ (cs : List Column). OnOk c.gmic_cut_of_row.result (IsGmicCutOfRow (length cs) pieces row.right Wide → ⊥)) c.as_slice.ensures
+    c.gmic_cut_of_row.ensures.narrow)
+
+pub returns-in-Free-clause-narrow : goal.returns-in-Free-clause-narrow
+returns-in-Free-clause-narrow c =
+    let p = c.args.problem.now in
+    let ms = c.args.multipliers.now in
+    let ups = c.args.at_upper.now in
+    narrow_of_free IsGmicCutOfRow p ms ups c.in_ok-row.ensures.narrow c.in-Free.column
+    (subst (λ (made : MadeRow). IsMadeRow p ms ups made) c.in-Free.is c.in_ok-row.ensures.row)

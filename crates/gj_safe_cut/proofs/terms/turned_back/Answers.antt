@@ -1,4 +1,4 @@
-use Rattle.std.proofs.Common.{◌≡◌, ◌++◌, inl, ℕ, List, Option, IfSome, length, pos, sym, ap, subst, ◌∙◌}
+use Rattle.std.proofs.Common.{◌≡◌, ⊎_elim, ◌<◌, ◌^◌, ◌++◌, inl, ℕ, List, Option, IfSome, IsNone, length, pos, sym, ap, subst, ◌∙◌}
 use Rattle.gj_frac.specs.declared.Frac.{Frac}
 use Rattle.gj_problem.specs.Rational.{Rational, whole, rational, ◌-ℚ◌}
 use Rattle.gj_problem.specs.declared.problem.Inequality.{Inequality}
@@ -10,6 +10,7 @@ use Rattle.gj_problem.proofs.AddedSums.{whole_ratio}
 use Rattle.gj_safe_cut.specs.SafeCuts.{IsCoefficient}
 use Rattle.gj_safe_cut.specs.AddedTerms.{sum_surplus_at, AreAdded, IsWideAdding}
 use Rattle.gj_problem.proofs.MadePieces.{zip_joined}
+use Rattle.gj_safe_cut.proofs.NarrowTerms.{narrow_joined}
 use Rattle.gj_safe_cut.proofs.TermSums.{IsBegun, combined_joined, against_one, wide_in_first, wide_in_second}
 use Rattle.gj_safe_cut.proofs.terms.turned_back.Goals as goal
 
@@ -78,3 +79,29 @@ returns-in_err-add_terms-2-clause-wide g c = λ fault.
     (λ (xs : List Piece). IsWideAdding (g.V.Values.has_value c.args.values.now) (g.V.Values.is_out c.args.values.now) c.args.slopes.up
     c.args.slopes.down xs middle)
     c.as_slice-2.ensures.value c.in_err-add_terms-2.ensures.wide))
+
+pub returns-in-Some-clause-narrow : goal.returns-in-Some-clause-narrow
+returns-in-Some-clause-narrow g c one =
+    let V = g.V.Values.has_value c.args.values.now in
+    let Out = g.V.Values.is_out c.args.values.now in
+    let up = c.args.slopes.up in
+    let down = c.args.slopes.down in
+    let ps = c.args.row.now.slacks.items in
+    let qs = c.args.row.now.bounds.items in
+    let none = c.in_ok-sum.sum in
+    let middle = c.add_terms.new.sum in
+    let last = c.add_terms-2.new.sum in
+    let begun : IsBegun c.args.columns none = record {
+      count = c.in_ok-sum.ensures.count;
+      none = c.in_ok-sum.ensures.none;
+      right = ap rational c.in_ok-sum.ensures.right ∙ whole_ratio c.ratio.result (pos 1) c.ratio.ensures;
+    } in
+    let few : 2 ^ 32 < length last.coefficients.items → ⊥ =
+    λ many. let none = subst (λ (q : Option Inequality). IsNone q) c.in-Some.is (c.in_ok-cut.ensures.none.1 many) in absurd (cc) in
+    ⊎_elim
+    (narrow_joined V Out up down one c.args.columns ps qs none middle begun
+    (subst (λ (xs : List Piece). AreAdded (IsCoefficient V up down) xs none middle) c.as_slice.ensures.value c.in_ok-add_terms.ensures.added)
+    c.in_ok-add_terms.ensures.count
+    (subst (λ (xs : List Piece). IsWideAdding V Out up down xs none → ⊥) c.as_slice.ensures.value (c.in_ok-add_terms.ensures.narrow one))
+    (subst (λ (xs : List Piece). IsWideAdding V Out up down xs middle → ⊥) c.as_slice-2.ensures.value (c.in_ok-add_terms-2.ensures.narrow one)))
+    (subst (λ (n : ℕ). 2 ^ 32 < n → ⊥) (c.in_ok-add_terms-2.ensures.count ∙ c.in_ok-add_terms.ensures.count ∙ c.in_ok-sum.ensures.count) few)

@@ -6,6 +6,7 @@ use Rattle.gj_problem.specs.Aggregates.{IsLeftOut, IsTurned}
 use Rattle.gj_problem.specs.declared.pieces.Piece.{Piece}
 use Rattle.gj_problem.proofs.AddedSums.{negation_value}
 use Rattle.gj_problem.proofs.OneColumn.{right_kept}
+use Rattle.gj_problem.proofs.NarrowRows.{narrow_turn}
 use Rattle.gj_problem.proofs.bounds.Held.turn.Goals as goal
 
 minus_times : (r e v : Rational) → r +ℚ neg_ℚ e *ℚ v ≡ r +ℚ neg_ℚ (e *ℚ v)
@@ -41,3 +42,12 @@ returns-in_err-bounds-clause-wide c = λ fault.
       against_is = negation_value c.in-Some.piece.entry c.neg.result c.neg.ensures;
       wide = c.in_err-bounds.ensures.wide;
     }
+
+pub returns-clause-narrow : goal.returns-clause-narrow
+returns-clause-narrow c =
+    let h : Held = c.args.self in
+    let s = c.in-Some.piece in
+    let turned : IsTurned h s =
+    subst (λ (made : Option Piece). MatchOption made ((h.column.lower ≡ None) × (h.column.upper ≡ None)) (IsTurned h)) c.in-Some.is
+    c.in_ok-piece.ensures in
+    narrow_turn h c.args.bounds.now.right s c.neg.result turned (negation_value s.entry c.neg.result c.neg.ensures) c.in_ok-bounds.ensures.narrow

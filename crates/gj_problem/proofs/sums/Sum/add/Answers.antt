@@ -1,4 +1,4 @@
-use Rattle.std.proofs.Common.{◌⊎◌, inr, List, ap, subst, ◌∙◌}
+use Rattle.std.proofs.Common.{◌⊎◌, ⊎_elim, inr, List, ap, subst, ◌∙◌}
 use Rattle.gj_frac.proofs.Refusals.{on_err}
 use Rattle.gj_frac.specs.declared.Frac.{Frac}
 use Rattle.gj_problem.specs.Rational.{Rational, rational, ◌+ℚ◌, ◌*ℚ◌, ◌-ℚ◌}
@@ -21,3 +21,8 @@ returns-in_err-self-clause-wide c =
     on_err c.from_residual-in_err-self.result
     (IsWideWithin c.args.self.now.coefficients.items c.args.factor c.args.entries.now ⊎ IsWideAt c.args.self.now.right c.args.factor c.args.right)
     (inr (subst (λ (r : Frac). IsWideAt r c.args.factor c.args.right) c.add_entries.ensures.right c.in_err-self.ensures.wide))
+
+pub returns-clause-narrow : goal.returns-clause-narrow
+returns-clause-narrow c =
+    ⊎_elim c.in_ok-add_entries.ensures.narrow
+    (subst (λ (r : Frac). IsWideAt r c.args.factor c.args.right → ⊥) c.add_entries.ensures.right c.in_ok-self.ensures.narrow)

@@ -5,6 +5,7 @@ use Rattle.gj_frac.specs.declared.Frac.{Frac}
 use Rattle.gj_frac.specs.Fraction.{SameValue, fraction_of, quotient_of}
 use Rattle.gj_rule.proofs.ClosedForm.{rest_parts}
 use Rattle.gj_theory.specs.Cuts.{IsGmicValue}
+use Rattle.gj_safe_cut.specs.SafeCuts.{HasNoValue}
 use Rattle.gj_safe_cut.proofs.ValueParts.{complement_parts, rising_value, falling_value, rising_back, falling_back}
 use Rattle.gj_safe_cut.proofs.values.PlaceValues.value.Goals as goal
 
@@ -74,3 +75,13 @@ returns-else-is_below-clause-wide c =
       );
     }))
     c.divided-else-is_below.ensures.wide
+
+pub returns-then-is_below-clause-narrow : goal.returns-then-is_below-clause-narrow
+returns-then-is_below-clause-narrow c =
+    IfOk-weaker c.divided.result (IsGmicValue c.args.self.now.f c.args.x) (λ y. HasNoValue (IsGmicValue c.args.self.now.f) c.args.x → ⊥)
+    (λ y is none. none y is) (returns-then-is_below-clause-value c)
+
+pub returns-else-is_below-clause-narrow : goal.returns-else-is_below-clause-narrow
+returns-else-is_below-clause-narrow c =
+    IfOk-weaker c.divided-else-is_below.result (IsGmicValue c.args.self.now.f c.args.x) (λ y. HasNoValue (IsGmicValue c.args.self.now.f) c.args.x → ⊥)
+    (λ y is none. none y is) (returns-else-is_below-clause-value c)
