@@ -48,12 +48,12 @@ fails_in_front H xs ys d h = record { before = h.before; first = first_failing_i
 -- ---- steps
 
 -- the demand on the size of its numbers holds; of residues there is none
-abbrev SizeHolds : Numbers → (Demand → Type 0) → ℕ → ℕ → Type 0
+abbrev pub SizeHolds : Numbers → (Demand → Type 0) → ℕ → ℕ → Type 0
 SizeHolds Whole H g r = H (size g r)
 SizeHolds Residues H g r = Unit {0}
 
 -- or it fails
-abbrev SizeFails : Numbers → (Demand → Type 0) → ℕ → ℕ → Demand → Type 0
+abbrev pub SizeFails : Numbers → (Demand → Type 0) → ℕ → ℕ → Demand → Type 0
 SizeFails Whole H g r d = (d ≡ size g r) × (H (size g r) → ⊥)
 SizeFails Residues H g r d = ⊥
 
@@ -63,7 +63,7 @@ pub record StepHolds (numbers : Numbers) (H : Demand → Type 0) (g r : ℕ) : T
   pub fits : SizeHolds numbers H g r
 
 -- this is the first of them that fails
-abbrev StepFails : Numbers → (Demand → Type 0) → ℕ → ℕ → Demand → Type 0
+abbrev pub StepFails : Numbers → (Demand → Type 0) → ℕ → ℕ → Demand → Type 0
 StepFails numbers H g r d =
     ((d ≡ reduce g r) × (H (reduce g r) → ⊥)) ⊎ (H (reduce g r) × SizeFails numbers H g r d)
 
@@ -76,7 +76,7 @@ size_fails : (numbers : Numbers) (H : Demand → Type 0) (g r : ℕ) (d : Demand
 size_fails Whole H g r d h = subst (FailsFirst H (size g r ∷ [])) (sym h.0) (fails_here H (size g r) [] h.1)
 size_fails Residues H g r d h = absurd h
 
-steps_hold : (numbers : Numbers) (H : Demand → Type 0) (g r : ℕ) (columns : List ℕ) → ((j : ℕ) → StepHolds numbers H g j) →
+pub steps_hold : (numbers : Numbers) (H : Demand → Type 0) (g r : ℕ) (columns : List ℕ) → ((j : ℕ) → StepHolds numbers H g j) →
     All H (step_demands_by numbers g r columns)
 steps_hold numbers H g r [] h = All-nil H
 steps_hold numbers H g r (c ∷ columns) h =
@@ -93,7 +93,7 @@ step_fails numbers H g r more d (inr h) =
     fails_next H (reduce g r) (size_demands numbers g r ++ more) d h.0
     (fails_in_front H (size_demands numbers g r) more d (size_fails numbers H g r d h.1))
 
-steps_fail : (numbers : Numbers) (H : Demand → Type 0) (g r m : ℕ) (columns : List ℕ) (d : Demand) → r ≤ m → m < r + length columns →
+pub steps_fail : (numbers : Numbers) (H : Demand → Type 0) (g r m : ℕ) (columns : List ℕ) (d : Demand) → r ≤ m → m < r + length columns →
     ((j : ℕ) → j < m → StepHolds numbers H g j) → StepFails numbers H g m d → FailsFirst H (step_demands_by numbers g r columns) d
 steps_fail numbers H g r m [] d low high h fails = absurd (omega arith)
 steps_fail numbers H g r m (c ∷ columns) d low high h fails =
@@ -118,7 +118,7 @@ pub record AllHoldAt (numbers : Numbers) (H : Demand → Type 0) (g : ℕ) : Typ
   pub pivot_holds : H (pivot g)
 
 -- this is the first of them that fails
-data FailsAt (numbers : Numbers) (H : Demand → Type 0) (g : ℕ) (columns : List ℕ) (d : Demand) : Type 0 where
+pub data FailsAt (numbers : Numbers) (H : Demand → Type 0) (g : ℕ) (columns : List ℕ) (d : Demand) : Type 0 where
   row_fails : d ≡ row g → (H (row g) → ⊥) → FailsAt numbers H g columns d
   some_step_fails : H (row g) → FailsFirst H (step_demands_by numbers g 0 columns) d → FailsAt numbers H g columns d
   pivot_fails : d ≡ pivot g → H (row g) → All H (step_demands_by numbers g 0 columns) → (H (pivot g) → ⊥) → FailsAt numbers H g columns d
@@ -127,7 +127,7 @@ data FailsAt (numbers : Numbers) (H : Demand → Type 0) (g : ℕ) (columns : Li
 abbrev demands_on : Numbers → ℕ → PivotRow → List PivotRow → List Demand
 demands_on numbers g one more = step_demands_by numbers g 0 one.reduce ++ pivot g ∷ group_demands_by numbers (g + 1) more
 
-groups_hold : (numbers : Numbers) (H : Demand → Type 0) (g : ℕ) (rows : List PivotRow) → ((j : ℕ) → AllHoldAt numbers H j) → All H (group_demands_by numbers g rows)
+pub groups_hold : (numbers : Numbers) (H : Demand → Type 0) (g : ℕ) (rows : List PivotRow) → ((j : ℕ) → AllHoldAt numbers H j) → All H (group_demands_by numbers g rows)
 groups_hold numbers H g [] h = All-nil H
 groups_hold numbers H g (one ∷ more) h =
     All-cons H (row g) (demands_on numbers g one more) (h g).row_holds
@@ -147,7 +147,7 @@ group_fails numbers H g one more d (pivot_fails is holds all fails) =
     (fails_behind H (step_demands_by numbers g 0 one.reduce) (pivot g ∷ group_demands_by numbers (g + 1) more) (pivot g) all
     (fails_here H (pivot g) (group_demands_by numbers (g + 1) more) fails)))
 
-groups_fail : (numbers : Numbers) (H : Demand → Type 0) (g m : ℕ) (front : List PivotRow) (one : PivotRow) (back : List PivotRow) (d : Demand) →
+pub groups_fail : (numbers : Numbers) (H : Demand → Type 0) (g m : ℕ) (front : List PivotRow) (one : PivotRow) (back : List PivotRow) (d : Demand) →
     m ≡ g + length front → ((j : ℕ) → j < m → AllHoldAt numbers H j) → FailsAt numbers H m one.reduce d →
     FailsFirst H (group_demands_by numbers g (front ++ one ∷ back)) d
 groups_fail numbers H g m [] one back d count h fails =
@@ -202,7 +202,7 @@ all_groups_hold numbers f component n rows h =
 
 -- ---- the lines of groups
 
-reductions_split : (g r m : ℕ) (front : List ℕ) (c : ℕ) (back : List ℕ) → m ≡ r + length front →
+pub reductions_split : (g r m : ℕ) (front : List ℕ) (c : ℕ) (back : List ℕ) → m ≡ r + length front →
     reduction_lines g r (front ++ c ∷ back)
     ≡ reduction_lines g r front ++ record { name = reduction g m; bytes = reduction_line c } ∷ reduction_lines g (m + 1) back
 reductions_split g r m [] c back count =
@@ -376,7 +376,7 @@ group_fails_as numbers f component n rows g front one back failure at (at_pivot 
 -- ---- the first failure
 
 -- a line in the rest of some lines
-line_in_rest : (all front rest above : List OwnLine) (line : OwnLine) (under : List OwnLine) → all ≡ front ++ rest →
+pub line_in_rest : (all front rest above : List OwnLine) (line : OwnLine) (under : List OwnLine) → all ≡ front ++ rest →
     rest ≡ above ++ line ∷ under → all ≡ (front ++ above) ++ line ∷ under
 line_in_rest all front rest above line under first second =
     first ∙ ap (λ ls. front ++ ls) second ∙ sym (append_assoc front above (line ∷ under))

@@ -22,3 +22,5 @@ mod step;
 
 pub use failure::{GroupFailure, GroupRule};
 pub use groups::failure_in_groups;
+pub use modulo::inverse_modulo;
+pub use residue::{less_product, product, residue_of};

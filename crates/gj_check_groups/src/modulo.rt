@@ -44,7 +44,7 @@ pub(crate) fn multiply(factor: i128, row: &mut [i128])
 }
 
 /// The inverse of a residue, if it has one.
-pub(crate) fn inverse_modulo(x: i128) -> Option<u64>
+pub fn inverse_modulo(x: i128) -> Option<u64>
     requires { IsResidue x }
     ensures { result ≡ inverse modulus x }
 {

@@ -7,14 +7,14 @@ ghost use Rattle.gj_check_groups.specs.RowNumbers.{IsResidue};
 use gj_proof::MODULUS;
 
 /// The residue of a number.
-pub(crate) fn residue_of(x: i128) -> i128
+pub fn residue_of(x: i128) -> i128
     ensures { result ≡ residue modulus x }
 {
     x.rem_euclid(MODULUS)
 }
 
 /// The residue of the product of two residues.
-pub(crate) fn product(u: i128, x: i128) -> i128
+pub fn product(u: i128, x: i128) -> i128
     requires first { IsResidue u }
     requires second { IsResidue x }
     ensures { result ≡ residue modulus (u *ℤ x) }
@@ -23,7 +23,7 @@ pub(crate) fn product(u: i128, x: i128) -> i128
 }
 
 /// The residue of x - u e, of residues; u may be the modulus too.
-pub(crate) fn less_product(x: i128, u: i128, e: i128) -> i128
+pub fn less_product(x: i128, u: i128, e: i128) -> i128
     requires number { IsResidue x }
     requires low { pos 0 ≤ℤ u }
     requires high { u ≤ℤ pos modulus }

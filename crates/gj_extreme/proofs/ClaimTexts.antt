@@ -50,7 +50,7 @@ faces_below q =
     All-joined (IsSquareBelow q) (faces_of_square a) 0 q (λ b b_low.
     each_kind q a b (omega arith) (omega arith) (Vertex ∷ Horizontal ∷ Vertical ∷ Diagonal ∷ Lower ∷ Upper ∷ [])))
 
-first_face_below : (q : ℕ) (P : FaceKind → ℕ → ℕ → Type 0) (face : Face) → IsFirstFace q P face → (face.a < q) × (face.b < q)
+pub first_face_below : (q : ℕ) (P : FaceKind → ℕ → ℕ → Type 0) (face : Face) → IsFirstFace q P face → (face.a < q) × (face.b < q)
 first_face_below q P face h =
     let all = subst (All (IsSquareBelow q)) h.first.place (faces_below q) in
     All-head (IsSquareBelow q) face h.first.after (All-back (IsSquareBelow q) h.before (face ∷ h.first.after) all)
@@ -91,7 +91,7 @@ line_below q Tight before l (inr h) =
     }
 
 -- what holds of each line behind those before it, holds of all
-each_line : (P : CoverLine → Type 0) (lines : List CoverLine) →
+pub each_line : (P : CoverLine → Type 0) (lines : List CoverLine) →
     ((before : List CoverLine) (l : CoverLine) (after : List CoverLine) → lines ≡ before ++ l ∷ after → P l) → All P lines
 each_line P lines h = behind [] lines refl
   where
@@ -115,7 +115,7 @@ lines_are_all f lines component n h =
 
 -- ---- groups
 
-range_between : (a n : ℕ) → All (λ i. (a ≤ i) × (i < a + n)) (range_with_len a n)
+pub range_between : (a n : ℕ) → All (λ i. (a ≤ i) × (i < a + n)) (range_with_len a n)
 range_between a zero = All-nil (λ i. (a ≤ i) × (i < a + zero))
 range_between a (suc n) =
     All-cons (λ i. (a ≤ i) × (i < a + suc n)) a (range_with_len (a + 1) n) (omega arith, omega arith)
@@ -146,7 +146,7 @@ name_below f i = by_place (cases_lt i (length (row_names f)))
     by_place (inr past) = subst (IsRowNameBelow f.order) (sym (get_or_past (row_names f) i Period past)) tt
 
 -- each step is at the pivot of an earlier row
-steps_below : (numbers : Numbers) (n : ℕ) (kept : List KeptRow) (row : List ℤ) (columns : List ℕ) → All (λ k. k.pivot < n) kept →
+pub steps_below : (numbers : Numbers) (n : ℕ) (kept : List KeptRow) (row : List ℤ) (columns : List ℕ) → All (λ k. k.pivot < n) kept →
     StepsMeet numbers kept row columns → All (λ c. c < n) columns
 steps_below numbers n kept row [] low h = All-nil (λ c. c < n)
 steps_below numbers n kept row (c ∷ columns) low h =
@@ -157,7 +157,7 @@ steps_below numbers n kept row (c ∷ columns) low h =
     of_some rows all (i, k, below, is, e) =
         subst (λ (j : ℕ). j < n) (ap (λ r. r.pivot) is ∙ e) (All-get_or (λ r. r.pivot < n) rows i k below all)
 
-pivot_below : (numbers : Numbers) (n : ℕ) (kept : List KeptRow) (row : List ℤ) (c : ℕ) → MeetsPivotBy numbers n kept row c → c < n
+pub pivot_below : (numbers : Numbers) (n : ℕ) (kept : List KeptRow) (row : List ℤ) (c : ℕ) → MeetsPivotBy numbers n kept row c → c < n
 pivot_below Whole n kept row c h = h.column
 pivot_below Residues n kept row c h = h.0.column
 

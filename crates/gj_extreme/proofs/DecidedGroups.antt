@@ -91,7 +91,7 @@ pub alike_entries : (a b : List KeptRow) (c : ℕ) → map plain a ≡ map plain
     entries_of (row_with_pivot a c) ≡ entries_of (row_with_pivot b c)
 alike_entries a b c e = entries_plain a c ∙ ap (λ ks. entries_of (row_with_pivot ks c)) e ∙ sym (entries_plain b c)
 
-alike_present : (numbers : Numbers) (a b : List KeptRow) (row : List ℤ) (columns : List ℕ) → map plain a ≡ map plain b →
+pub alike_present : (numbers : Numbers) (a b : List KeptRow) (row : List ℤ) (columns : List ℕ) → map plain a ≡ map plain b →
     present_over numbers a row columns ≡ present_over numbers b row columns
 alike_present numbers a b row [] e = refl
 alike_present numbers a b row (c ∷ columns) e =
@@ -119,7 +119,7 @@ all_alike (x ∷ a) (y ∷ b) c e h =
     (λ is. All-head (λ k. k.pivot ≢ c) x a h (ap (λ k. k.pivot) heads ∙ is))
     (all_alike a b c tails (All-tail (λ k. k.pivot ≢ c) x a h))
 
-steps_alike : (numbers : Numbers) (a b : List KeptRow) (row : List ℤ) (columns : List ℕ) → map plain a ≡ map plain b →
+pub steps_alike : (numbers : Numbers) (a b : List KeptRow) (row : List ℤ) (columns : List ℕ) → map plain a ≡ map plain b →
     StepsMeet numbers a row columns → StepsMeet numbers b row columns
 steps_alike numbers a b row [] e h = tt
 steps_alike numbers a b row (c ∷ columns) e h =
@@ -139,7 +139,7 @@ pivot_alike n a b row c e h = record {
   not_zero = h.not_zero;
 }
 
-pivot_alike_by : (numbers : Numbers) (n : ℕ) (a b : List KeptRow) (row : List ℤ) (c : ℕ) → map plain a ≡ map plain b →
+pub pivot_alike_by : (numbers : Numbers) (n : ℕ) (a b : List KeptRow) (row : List ℤ) (c : ℕ) → map plain a ≡ map plain b →
     MeetsPivotBy numbers n a row c → MeetsPivotBy numbers n b row c
 pivot_alike_by Whole n a b row c e h = pivot_alike n a b row c e h
 pivot_alike_by Residues n a b row c e h = (pivot_alike n a b row c e h.0, h.1)
@@ -185,15 +185,15 @@ met_at numbers f component n kept (x ∷ front) k back h =
     subst (λ (ks : List KeptRow). MeetsKept numbers f component n ks k) (append_assoc kept (x ∷ []) front)
     (met_at numbers f component n (kept ++ x ∷ []) front k back h.1)
 
-record SplitsAs {X Y : Type 0} (g : X → Y) (xs : List X) (before : List Y) (y : Y) : Type 0 where
-  front : List X
-  x : X
-  back : List X
-  place : xs ≡ front ++ x ∷ back
-  before_is : map g front ≡ before
-  item_is : g x ≡ y
+pub record SplitsAs {X Y : Type 0} (g : X → Y) (xs : List X) (before : List Y) (y : Y) : Type 0 where
+  pub front : List X
+  pub x : X
+  pub back : List X
+  pub place : xs ≡ front ++ x ∷ back
+  pub before_is : map g front ≡ before
+  pub item_is : g x ≡ y
 
-split_made : {X Y : Type 0} (g : X → Y) (xs : List X) (before : List Y) (y : Y) (after : List Y) →
+pub split_made : {X Y : Type 0} (g : X → Y) (xs : List X) (before : List Y) (y : Y) (after : List Y) →
     map g xs ≡ before ++ y ∷ after → SplitsAs g xs before y
 split_made g [] [] y after e = absurd cc
 split_made g [] (b ∷ before) y after e = absurd cc

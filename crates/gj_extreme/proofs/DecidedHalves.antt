@@ -41,7 +41,7 @@ use Rattle.gj_extreme.specs.Decision.{AreAllCovered, slope_elimination, slope_pe
 
 -- ---- what is not not so
 
-less_stable : (a q : ℕ) → ((a < q → ⊥) → ⊥) → a < q
+pub less_stable : (a q : ℕ) → ((a < q → ⊥) → ⊥) → a < q
 less_stable a q h = elim (cases_lt a q) [
   | inl low ↦ low
   | inr high ↦ absurd (h (λ low. omega arith))
@@ -57,7 +57,7 @@ not_listed (x ∷ xs) j e = by_test (eqb j x) refl e (not_listed xs j)
     by_test false t e later =
         All-cons (λ y. y ≢ j) x xs (λ same. let u = eq-eqb j x (sym same) in absurd cc) (later e)
 
-contains_stable : (xs : List ℕ) (j : ℕ) → ((Contains xs j → ⊥) → ⊥) → Contains xs j
+pub contains_stable : (xs : List ℕ) (j : ℕ) → ((Contains xs j → ⊥) → ⊥) → Contains xs j
 contains_stable xs j h = by_test (list_any (eqb j) xs) refl
   where
     by_test : (b : Bool) → list_any (eqb j) xs ≡ b → Contains xs j
@@ -65,7 +65,7 @@ contains_stable xs j h = by_test (list_any (eqb j) xs) refl
     by_test false t = absurd (h (λ one. all_contained (λ x. x ≢ j) xs j (not_listed xs j t) one refl))
 
 -- what not not holds of each number below a bound, not not holds of all
-not_not_all : (P : ℕ → Type 0) (n : ℕ) → ((i : ℕ) → i < n → (P i → ⊥) → ⊥) → (((i : ℕ) → i < n → P i) → ⊥) → ⊥
+pub not_not_all : (P : ℕ → Type 0) (n : ℕ) → ((i : ℕ) → i < n → (P i → ⊥) → ⊥) → (((i : ℕ) → i < n → P i) → ⊥) → ⊥
 not_not_all P zero h none = none (λ i low. absurd (omega arith))
 not_not_all P (suc n) h none =
     not_not_all P n (λ i low. h i (omega arith))
@@ -136,7 +136,7 @@ zigzag_halves f h l continuous minimal zig =
 
 -- ---- the slopes of a solution
 
-all_made_of : {X Y : Type 0} (P : Y → Type 0) (g : X → Y) (xs : List X) → All P (map g xs) → All (λ x. P (g x)) xs
+pub all_made_of : {X Y : Type 0} (P : Y → Type 0) (g : X → Y) (xs : List X) → All P (map g xs) → All (λ x. P (g x)) xs
 all_made_of P g [] h = All-nil (λ x. P (g x))
 all_made_of P g (x ∷ xs) h =
     All-cons (λ y. P (g y)) x xs (All-head P (g x) (map g xs) h) (all_made_of P g xs (All-tail P (g x) (map g xs) h))
@@ -149,7 +149,7 @@ begun_columns f component n (name ∷ names) =
     (length-map-range_with_len (row_entry component f.order f.place name) 0 n) (begun_columns f component n names)
 
 -- what is so of a solution, if there is one, is so of this one
-of_some : (o : Option Solution) (s : Solution) (P : Solution → Type 0) → o ≡ Some s → IfSome o P → P s
+pub of_some : (o : Option Solution) (s : Solution) (P : Solution → Type 0) → o ≡ Some s → IfSome o P → P s
 of_some o s P e h = subst (λ (r : Option Solution). IfSome r P) e h
 
 -- what the solution gives
@@ -173,7 +173,7 @@ solution_solves f component n s e =
     }
 
 -- a column where a number is positive
-positive_column : (xs : List ℤ) → Any (λ x. pos 0 <ℤ x) xs → (c : ℕ) × (c < length xs) × (pos 0 <ℤ at_column xs c)
+pub positive_column : (xs : List ℤ) → Any (λ x. pos 0 <ℤ x) xs → (c : ℕ) × (c < length xs) × (pos 0 <ℤ at_column xs c)
 positive_column xs (k, x, low, there, h) =
     (k, low, subst (λ (z : ℤ). pos 0 <ℤ z) (sym there ∙ get_or_default xs k x (pos 0) low) h)
 

@@ -44,13 +44,13 @@ each_step numbers P g r (c ∷ columns) reduce size =
     (each_step numbers P g (r + 1) columns reduce size))
 
 -- what holds at each group
-record HoldAtGroups (numbers : Numbers) (P : Demand → Type 0) : Type 0 where
-  row : (g : ℕ) → P (Demand.row g)
-  reduce : (g r : ℕ) → P (Demand.reduce g r)
-  size : (g r : ℕ) → All P (size_demands numbers g r)
-  pivot : (g : ℕ) → P (Demand.pivot g)
+pub record HoldAtGroups (numbers : Numbers) (P : Demand → Type 0) : Type 0 where
+  pub row : (g : ℕ) → P (Demand.row g)
+  pub reduce : (g r : ℕ) → P (Demand.reduce g r)
+  pub size : (g r : ℕ) → All P (size_demands numbers g r)
+  pub pivot : (g : ℕ) → P (Demand.pivot g)
 
-each_group : (numbers : Numbers) (P : Demand → Type 0) (g : ℕ) (rows : List PivotRow) → HoldAtGroups numbers P →
+pub each_group : (numbers : Numbers) (P : Demand → Type 0) (g : ℕ) (rows : List PivotRow) → HoldAtGroups numbers P →
     All P (group_demands_by numbers g rows)
 each_group numbers P g [] h = All-nil P
 each_group numbers P g (one ∷ more) h =
@@ -60,7 +60,7 @@ each_group numbers P g (one ∷ more) h =
     (All-append P steps (Demand.pivot g ∷ later) (each_step numbers P g 0 one.reduce (h.reduce g) (h.size g))
     (All-cons P (Demand.pivot g) later (h.pivot g) (each_group numbers P (g + 1) more h)))
 
-each_pair : (P : Demand → Type 0) (a n : ℕ) → ((i : ℕ) → i < a + n → P (Demand.range i) × P (Demand.average i)) →
+pub each_pair : (P : Demand → Type 0) (a n : ℕ) → ((i : ℕ) → i < a + n → P (Demand.range i) × P (Demand.average i)) →
     All P (pair_demands (range_with_len a n))
 each_pair P a zero h = All-nil P
 each_pair P a (suc n) h =

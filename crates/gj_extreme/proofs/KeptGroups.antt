@@ -55,15 +55,15 @@ IsWide x = 2 ^ 127 ≤ unsigned_abs x
 
 -- ---- the two arithmetics
 
-abbrev sound_of : Numbers → SoundArithmetic
+abbrev pub sound_of : Numbers → SoundArithmetic
 sound_of Whole = whole_sound
 sound_of Residues = modulo_sound modulus (lit< tt)
 
 -- kept rows of n columns with different pivots
-abbrev AreTriangularOver : Numbers → ℕ → List KeptRow → Type 0
+abbrev pub AreTriangularOver : Numbers → ℕ → List KeptRow → Type 0
 AreTriangularOver numbers n kept = AreTriangularBy (sound_of numbers).is_pivot n kept
 
-length_read : (numbers : Numbers) (n : ℕ) (row : List ℤ) → length row ≡ n → length ((arithmetic_of numbers).read row) ≡ n
+pub length_read : (numbers : Numbers) (n : ℕ) (row : List ℤ) → length row ≡ n → length ((arithmetic_of numbers).read row) ≡ n
 length_read Whole n row len = len
 length_read Residues n row len = length-map row (residue modulus) ∙ len
 
@@ -77,7 +77,7 @@ step_over Residues n kept row a k h len e none =
     let law = sound_of Residues in
     (step_leaves_columns law n kept row a k h len e, step_leaves_zero law n kept row a k h len e none)
 
-triangular_over : (numbers : Numbers) (n number : ℕ) (kept : List KeptRow) (row : List ℤ) → AreTriangularOver numbers n kept →
+pub triangular_over : (numbers : Numbers) (n number : ℕ) (kept : List KeptRow) (row : List ℤ) → AreTriangularOver numbers n kept →
     length row ≡ n →
     AreTriangularOver numbers n
     (kept_behind kept number (inserted_by (arithmetic_of numbers) n kept row).reduce (inserted_by (arithmetic_of numbers) n kept row).kept)
@@ -143,9 +143,9 @@ PivotMeets numbers n kept row reduce (Some p) =
     MeetsPivotBy numbers n kept (present_over numbers kept row reduce) p.0
     × (p.1 ≡ entries_or_none ((arithmetic_of numbers).keep (present_over numbers kept row reduce) p.0))
 
-record InsertionMeets (numbers : Numbers) (n : ℕ) (kept : List KeptRow) (row : List ℤ) (i : Insertion) : Type 0 where
-  steps : StepsMeet numbers kept row i.reduce
-  pivot : PivotMeets numbers n kept row i.reduce i.kept
+pub record InsertionMeets (numbers : Numbers) (n : ℕ) (kept : List KeptRow) (row : List ℤ) (i : Insertion) : Type 0 where
+  pub steps : StepsMeet numbers kept row i.reduce
+  pub pivot : PivotMeets numbers n kept row i.reduce i.kept
 
 -- one step in front
 steps_behind : (numbers : Numbers) (n : ℕ) (kept : List KeptRow) (row entries : List ℤ) (c : ℕ) (i : Insertion) →
@@ -214,7 +214,7 @@ meets_at numbers n kept a row onward h below len none later false e fits =
     meets_here numbers n kept a row onward h below len none later (row_with_pivot kept a) refl
     (not_from_Decides (int_eq (at_column row a) (pos 0)) (Decides-int_eq (at_column row a) (pos 0)) e) fits
 
-insertion_meets : (numbers : Numbers) (n : ℕ) (kept : List KeptRow) (a m : ℕ) (row : List ℤ) → AreTriangularOver numbers n kept →
+pub insertion_meets : (numbers : Numbers) (n : ℕ) (kept : List KeptRow) (a m : ℕ) (row : List ℤ) → AreTriangularOver numbers n kept →
     a + m ≡ n → length row ≡ n → IsZeroBefore row a →
     (Passes (insertion_by (arithmetic_of numbers) kept (range_with_len a m) row).marked → ⊥) →
     InsertionMeets numbers n kept row (insertion_by (arithmetic_of numbers) kept (range_with_len a m) row)

@@ -12,12 +12,12 @@ use Rattle.gj_shape.specs.declared.extremality.CoverLine.{CoverLine}
 use Rattle.gj_shape.specs.declared.faces.Face.{Face}
 use Rattle.gj_shape.specs.declared.faces.FaceKind.{FaceKind}
 
-one_first_face : (q : ℕ) (P : FaceKind → ℕ → ℕ → Type 0) (f g : Face) → IsFirstFace q P f → IsFirstFace q P g → f ≡ g
+pub one_first_face : (q : ℕ) (P : FaceKind → ℕ → ℕ → Type 0) (f g : Face) → IsFirstFace q P f → IsFirstFace q P g → f ≡ g
 one_first_face q P f g h k =
     let Other : Face → Type 0 = λ x. P x.kind x.a x.b → ⊥ in
     (one_first_failing (All Other) (All-front Other) (faces_of q) h.before k.before f g h.first k.first).1
 
-same_line : (l m : CoverLine) → l.interval ≡ m.interval → l.from ≡ m.from → l.face ≡ m.face → l ≡ m
+pub same_line : (l m : CoverLine) → l.interval ≡ m.interval → l.from ≡ m.from → l.face ≡ m.face → l ≡ m
 same_line l m interval from face =
     let line : ℕ → ℕ → Face → CoverLine = λ i j f. record { interval = i; from = j; face = f } in
     ap (λ i. line i l.from l.face) interval ∙ ap (λ j. line m.interval j l.face) from ∙ ap (λ f. line m.interval m.from f) face

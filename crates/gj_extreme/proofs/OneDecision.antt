@@ -126,13 +126,13 @@ one_pair f m p g h a b =
 
 -- ---- one zigzag
 
-contains_from_test : (xs : List ℕ) (x : ℕ) → list_any (λ a. eqb a x) xs ≡ true → Contains xs x
+pub contains_from_test : (xs : List ℕ) (x : ℕ) → list_any (λ a. eqb a x) xs ≡ true → Contains xs x
 contains_from_test xs x e = of_any (Any-from_list_any (λ a. eqb a x) xs e)
   where
     of_any : Any (λ a. eqb a x ≡ true) xs → Contains xs x
     of_any (k, a, low, there, is) = subst (Contains xs) ((Decides-eqb a x).0 is) (k, low, there)
 
-test_from_contains : (xs : List ℕ) (x : ℕ) → Contains xs x → list_any (λ a. eqb a x) xs ≡ true
+pub test_from_contains : (xs : List ℕ) (x : ℕ) → Contains xs x → list_any (λ a. eqb a x) xs ≡ true
 test_from_contains xs x (k, low, there) =
     list_any-from_Any (λ a. eqb a x) xs (k, x, low, there, eq-eqb x x refl)
 

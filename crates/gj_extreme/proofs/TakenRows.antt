@@ -184,7 +184,7 @@ pub record IsInserted (n : ℕ) (row : List ℤ) (old new : Rows) : Type 0 where
   pub seen : new.seen ≡ old.seen
 
 -- the marked numbers of a row that do not pass change nothing
-marked_behind : (first marked : List ℤ) → (Passes first → ⊥) → (Passes (first ++ marked) ↔ Passes marked)
+pub marked_behind : (first marked : List ℤ) → (Passes first → ⊥) → (Passes (first ++ marked) ↔ Passes marked)
 marked_behind first marked narrow = (λ h. by_part (either_passes first marked h), λ h. back_passes first marked h)
   where
     by_part : Passes first ⊎ Passes marked → Passes marked
@@ -245,7 +245,7 @@ row_taken f component n old new name rest h short taken names =
     )
 
 -- the names with that of a row that is kept
-names_kept : (g : KeptRow → RowName) (kept : List KeptRow) (number : ℕ) (reduce : List ℕ) (names : List RowName) (name : RowName)
+pub names_kept : {N : Type 0} (g : KeptRow → N) (kept : List KeptRow) (number : ℕ) (reduce : List ℕ) (names : List N) (name : N)
     (o : Option (ℕ × List ℤ)) (c : ℕ) → names ≡ map g kept →
     ((p : ℕ × List ℤ) → g (record { number = number; reduce = reduce; pivot = p.0; entries = p.1 }) ≡ name) →
     Pivot c ≡ answer_of o → names ++ name ∷ [] ≡ map g (kept_behind kept number reduce o)
@@ -255,7 +255,7 @@ names_kept g kept number reduce names name (Some p) c are is e =
     ap₂ (λ xs x. xs ++ x ∷ []) are (sym (is p))
     ∙ sym (map-append g kept (record { number = number; reduce = reduce; pivot = p.0; entries = p.1 } ∷ []))
 
-names_as_before : (g : KeptRow → RowName) (kept : List KeptRow) (number : ℕ) (reduce : List ℕ) (names : List RowName)
+pub names_as_before : {N : Type 0} (g : KeptRow → N) (kept : List KeptRow) (number : ℕ) (reduce : List ℕ) (names : List N)
     (o : Option (ℕ × List ℤ)) → names ≡ map g kept → Nothing ≡ answer_of o → names ≡ map g (kept_behind kept number reduce o)
 unfolding kept_behind
 names_as_before g kept number reduce names None are e = are

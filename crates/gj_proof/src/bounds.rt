@@ -12,7 +12,7 @@ use gj_shape::{
 };
 
 /// Whether the intervals and the square of each line are below the order, and no face is a vertex.
-pub(crate) fn are_cover_lines_below(order: u32, lines: &[CoverLine]) -> bool
+pub fn are_cover_lines_below(order: u32, lines: &[CoverLine]) -> bool
     ensures { IsTrue result ↔ All (IsCoverLineBelow order) lines.now }
 {
     lines.iter().all(|line| is_cover_line_below(order, *line))

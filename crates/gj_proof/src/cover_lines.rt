@@ -37,8 +37,9 @@ pub(crate) struct CoverWords<'a> {
     pub b: &'a [u8],
 }
 
-/// The lines of all intervals of a function of this order, and what follows them.
-pub(crate) fn cover_lines_at(
+/// The lines of all intervals of a function of this order, and what follows them. The fault is that
+/// of the first line that is none.
+pub fn cover_lines_at(
     alloc: Global,
     text: &[u8],
     order: u32,

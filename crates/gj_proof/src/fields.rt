@@ -81,7 +81,7 @@ pub(crate) fn five_fields_of<'a>(
 }
 
 /// The count below the limit that the word spells.
-pub(crate) fn count_below(word: &[u8], limit: u32) -> Result<u32, Reason>
+pub fn count_below(word: &[u8], limit: u32) -> Result<u32, Reason>
     ensures found { IfOk result (λ n. (word.now ≡ decimal n) × (n < limit)) }
     ensures fault { IfErr result (λ e. (e ≡ Number) × ((n : ℕ) → n < limit →
         word.now ≡ decimal n → ⊥)) }
@@ -97,7 +97,7 @@ pub(crate) fn count_below(word: &[u8], limit: u32) -> Result<u32, Reason>
 
 /// The whole number, at most 2^127 - 1 in absolute value, that the word spells. A count of few
 /// digits is read as such.
-pub(crate) fn whole_of(word: &[u8]) -> Option<i128>
+pub fn whole_of(word: &[u8]) -> Option<i128>
     ensures found { IfSome result (λ n. (word.now ≡ signed_decimal n) × Fits n) }
     ensures none { IfNone result ((n : ℤ) → word.now ≡ signed_decimal n → Fits n → ⊥) }
 {

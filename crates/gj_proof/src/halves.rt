@@ -19,8 +19,10 @@ use std::alloc::Global;
 
 /// The order and the scale of halves.
 #[derive(Clone, Copy)]
-pub(crate) struct HalvesHead {
+pub struct HalvesHead {
+    /// The order of the grid, from 2 to 4,000.
     pub order: u32,
+    /// The scale of all numbers, from 1 to 2^124.
     pub scale: i128,
 }
 
@@ -41,7 +43,7 @@ pub(crate) fn halves_at(alloc: Global, text: &[u8]) -> Result<(Halves, &[u8]), P
 }
 
 /// The order and the scale in the next line, and what follows the line. It takes no memory.
-fn halves_head_at(text: &[u8]) -> Result<(HalvesHead, &[u8]), PartFault>
+pub fn halves_head_at(text: &[u8]) -> Result<(HalvesHead, &[u8]), PartFault>
     ensures found { IfOk result (λ r. (form_part halves_form).Reads text.now r.0 r.1.now) }
     ensures fault { IfErr result (IsFaultOf (form_part halves_form) text.now) }
 {

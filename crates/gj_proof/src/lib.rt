@@ -26,9 +26,13 @@ mod write;
 mod write_cuts;
 mod write_extreme;
 
+pub use bounds::are_cover_lines_below;
 pub use claim::{Claim, Proof};
+pub use cover_lines::cover_lines_at;
 pub use cut::{CutLine, CutRule, CutTerm, SkipReason};
 pub use faults::ProofFault;
+pub use fields::{count_below, whole_of};
+pub use halves::{HalvesHead, halves_head_at};
 pub use laws::{
     extreme_proof_text_is_short, no_fault_in_proof_text, numbers_of_lines, one_first_fault,
     one_spelling, proof_text_is_short, proof_texts_are_read,
@@ -38,9 +42,12 @@ pub use layout::{
     line_behind_row, line_behind_rule, line_below, line_of_pair, lines_with_steps,
     lines_with_terms,
 };
+pub use modulus::behind_modulus;
 pub use numbers::{MODULUS, Numbers};
 pub use pivot::PivotRow;
 pub use read::read_proof;
 pub use write::{push_violation_line, write_proof};
 pub use write_cuts::{NAMED_SPACE, push_cut_head, push_rule_lines, push_skip_line, write_named};
-pub use write_extreme::{push_halves, push_halves_line};
+pub use write_extreme::{
+    push_column, push_halves, push_halves_line, push_modulus, push_reductions, push_whole,
+};

@@ -22,8 +22,8 @@ pub(crate) fn modulus_at(text: &[u8], numbers: Numbers) -> Result<&[u8], PartFau
     }
 }
 
-/// What follows the line of the modulus.
-fn behind_modulus(text: &[u8]) -> Result<&[u8], PartFault>
+/// What follows the line of the modulus, which has to come next. It takes no memory.
+pub fn behind_modulus(text: &[u8]) -> Result<&[u8], PartFault>
     ensures found { IfOk result (λ rest. (form_part modulus_form).Reads text.now tt rest.now) }
     ensures fault { IfErr result (IsFaultOf (form_part modulus_form) text.now) }
 {

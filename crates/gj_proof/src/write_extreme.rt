@@ -32,7 +32,7 @@ pub(crate) fn push_extreme_lines(
 }
 
 /// Appends the line of the modulus, by residues.
-fn push_modulus(out: &mut Vec<u8>, numbers: Numbers) -> Result<(), AllocError>
+pub fn push_modulus(out: &mut Vec<u8>, numbers: Numbers) -> Result<(), AllocError>
     ensures { OnOk result (out.new.items ≡ out.old.items ++ modulus_text numbers) }
 {
     match numbers {
@@ -79,7 +79,7 @@ fn push_row_name(out: &mut Vec<u8>, name: RowName) -> Result<(), AllocError>
 }
 
 /// Appends the lines of steps.
-fn push_reductions(out: &mut Vec<u8>, columns: &[u32]) -> Result<(), AllocError>
+pub fn push_reductions(out: &mut Vec<u8>, columns: &[u32]) -> Result<(), AllocError>
     ensures { OnOk result (out.new.items ≡ out.old.items ++ flat_map reduction_line columns.now) }
 {
     for column in columns {
@@ -89,7 +89,7 @@ fn push_reductions(out: &mut Vec<u8>, columns: &[u32]) -> Result<(), AllocError>
 }
 
 /// Appends a word, a count and the end of the line.
-fn push_column(out: &mut Vec<u8>, word: &[u8], column: u32) -> Result<(), AllocError>
+pub fn push_column(out: &mut Vec<u8>, word: &[u8], column: u32) -> Result<(), AllocError>
     ensures { OnOk result (out.new.items ≡ out.old.items ++ line (word.now ++ decimal column)) }
 {
     out.extend_from_slice(word)?;
@@ -152,7 +152,7 @@ fn push_whole_line(out: &mut Vec<u8>, n: i128) -> Result<(), AllocError>
 }
 
 /// Appends a whole number.
-fn push_whole(out: &mut Vec<u8>, n: i128) -> Result<(), AllocError>
+pub fn push_whole(out: &mut Vec<u8>, n: i128) -> Result<(), AllocError>
     ensures { OnOk result (out.new.items ≡ out.old.items ++ signed_decimal n) }
 {
     let mut buffer = Buffer::new();

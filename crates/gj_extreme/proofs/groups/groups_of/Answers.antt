@@ -3,7 +3,8 @@ use Rattle.std.proofs.Math.Seq.{take-length}
 use Rattle.std.proofs.lemmas.Slice.Zip.{zip_turn, zip_end}
 use Rattle.gj_shape.specs.declared.extremality.RowName.TheVariants.{Period}
 use Rattle.gj_extreme.specs.Decision.{group_of}
-use Rattle.gj_extreme.proofs.GroupLists.{one_group_more, lines_count}
+use Rattle.gj_extreme.specs.RowsToCome.{name_of}
+use Rattle.gj_extreme.proofs.GroupLists.{record_of, one_group_more, lines_count}
 use Rattle.gj_extreme.proofs.groups.groups_of.Goals as goal
 
 pub loop-name-preserved : goal.loop-name-preserved
@@ -14,7 +15,7 @@ loop-name-preserved c = λ f kept names lines.
     c.next.ensures.steps in
     let inside = turn.1 in
     let whole = lines_count kept c.args.log.now lines in
-    one_group_more f kept c.args.names.now c.args.log.now c.loop-name.groups.items c.push.new.self.items i c.in-Some.name.now
+    one_group_more (name_of f) record_of Period kept c.args.names.now c.args.log.now c.loop-name.groups.items c.push.new.self.items i c.in-Some.name.now
     c.in-Some.line.now c.of.result (omega arith) names lines (turn.2 Period) (turn.3 c.in-Some.line.now)
     (c.of.ensures ∙ c.in_ok-reduce.ensures.items ∙ c.as_slice.ensures) (c.loop-name.invariant f kept names lines) c.in_ok-push.ensures.items
     ∙ ap (λ n. map (group_of f) (take n kept)) (sym (length-append c.loop-name.yielded ((c.in-Some.name, c.in-Some.line) ∷ [])))

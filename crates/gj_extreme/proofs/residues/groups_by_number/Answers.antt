@@ -6,6 +6,7 @@ use Rattle.gj_frac.proofs.Refusals.{on_ok_along}
 use Rattle.gj_shape.specs.Elimination.{KeptRow}
 use Rattle.gj_shape.specs.FunctionData.{FunctionData}
 use Rattle.gj_shape.specs.SlopeRows.{row_names}
+use Rattle.gj_shape.specs.declared.extremality.RowName.TheVariants.{Period}
 use Rattle.gj_elim.specs.KeptRows.{log_row}
 use Rattle.gj_elim.specs.declared.log.LogRow.{LogRow}
 use Rattle.gj_extreme.specs.Decision.{group_of}
@@ -26,7 +27,7 @@ loop-line-preserved c =
       more ∙ ap (λ n. n + 1) c.loop-line.invariant.0,
       λ f kept names log.
           let whole = ap length log ∙ length-map kept log_row in
-          one_name_more f kept c.args.log.now c.args.names.now c.loop-line.kept.items c.push.new.self.items c.loop-line.line-index _
+          one_name_more (row_names f) Period kept c.args.log.now c.args.names.now c.loop-line.kept.items c.push.new.self.items c.loop-line.line-index _
           line (omega arith) log c.line-item.is names low (c.loop-line.invariant.1 f kept names log) c.in_ok-push.ensures.items,
     )
 

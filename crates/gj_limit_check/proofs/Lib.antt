@@ -1,0 +1,14 @@
+pub mod PlainRules
+pub mod LimitNumberedLines
+pub mod PlainClaims
+pub mod FirstLimitDemand
+pub mod LimitHalvesMeaning
+pub mod LimitHalvesDemands
+pub mod LinearRows
+pub mod LineCovers
+pub mod SolutionNumbers
+pub mod KeptGroups
+pub mod LimitExtremeMeaning
+pub mod RulesGiveMeaning
+pub mod ClaimLimitGroups
+pub mod LimitExtremeDemands

@@ -1,0 +1,3 @@
+pub mod FirstFailure
+pub mod LimitCoverLines
+pub mod HalvesLines

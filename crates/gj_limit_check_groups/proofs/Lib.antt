@@ -1,0 +1,9 @@
+pub mod SideBySide
+pub mod MergedRows
+pub mod ChangedRows
+pub mod SparseEntries
+pub mod StepsOnEntries
+pub mod SparseTables
+pub mod NamedEntries
+pub mod LimitGroupsInTurn
+pub mod LimitGroupDemands

@@ -1,0 +1,9 @@
+use Rattle.std.proofs.Common.{length}
+use Rattle.gj_shape.specs.SlopeRows.{component_in}
+use Rattle.gj_limit_check_groups.proofs.LimitGroupsInTurn.{AreChecked}
+use Rattle.gj_limit_check_groups.proofs.groups.failure_in_turn.Given as goal
+
+abbrev pub invariant-loop-group : goal.invariant-loop-group
+invariant-loop-group l =
+    AreChecked l.numbers l.shape (component_in l.system.component) (length l.initial.table) l.rows
+    l.group-index l.table l.above

@@ -1,0 +1,4 @@
+pub mod HalfNumbers
+pub mod HalfTests
+pub mod Refinements
+pub mod DifferentHalves

@@ -1,0 +1,9 @@
+pub mod SideBounds
+pub mod FaceLanes
+pub mod SquareLanes
+pub mod Mirrors
+pub mod LeastLimits
+pub mod RefinedEntries
+pub mod LimitSplits
+pub mod GreatestOfSides
+pub mod ListedNumbers

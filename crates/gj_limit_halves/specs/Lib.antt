@@ -1,0 +1,5 @@
+pub mod Sides
+pub mod LeastLimit
+pub mod LimitLanes
+pub mod Moves
+pub mod LimitHalves

@@ -1,0 +1,10 @@
+pub mod Sides
+pub mod LimitText
+pub mod LimitRowsKept
+pub mod LimitMeaning
+pub mod LimitRules
+pub mod LimitGrammar
+pub mod FirstFault
+pub mod PrintedBytes
+pub mod RowWords
+pub mod PairWords
