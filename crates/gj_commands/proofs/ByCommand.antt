@@ -9,19 +9,27 @@ use Rattle.gj_shape.specs.Table.{IsMinimal}
 use Rattle.gj_shape.specs.declared.extremality.Halves.{Halves}
 use Rattle.gj_theory.proofs.Violations.{violation_denies}
 use Rattle.gj_proof.specs.Meaning.{ClaimHolds, CutLineHolds}
-use Rattle.gj_proof.specs.ProofText.{Subject, subject_of, AreSubjectLines, numbers_of, claim_word, own_text, IsProofText}
+use Rattle.gj_proof.specs.ProofText.{Subject, subject_of, AreSubjectLines, numbers_of, claim_fields, claim_word, own_text, title_fields, IsProofText}
 use Rattle.gj_proof.specs.ProofText.Subject.{function}
+use Rattle.gj_forms.specs.LineForms.{bytes_of}
+use Rattle.gj_function_lines.specs.FunctionLines.{line}
+use Rattle.gj_limit_averages.specs.Averages.{IsExtremeFunction}
+use Rattle.gj_limit_proof.specs.declared.claim.LimitClaim.{LimitClaim}
+use Rattle.gj_limit_proof.specs.declared.claim.LimitClaim.TheVariants as limit
+use Rattle.gj_limit_proof.specs.LimitMeaning.{LimitClaimHolds}
+use Rattle.gj_limit_proof.specs.LimitText.{IsLimitProofText, claim_word as limit_claim_word, function_of as limit_function_of, own_text as own_limit_text}
 use Rattle.gj_proof.specs.declared.claim.Claim.{Claim}
 use Rattle.gj_proof.specs.declared.claim.Claim.TheVariants as claim
 use Rattle.gj_proof.specs.declared.cut.CutLine.{CutLine}
 use Rattle.gj_proof.specs.declared.cut.CutRule.{CutRule}
+use Rattle.gj_proof.specs.declared.numbers.Numbers.{Numbers}
 use Rattle.gj_proof.specs.declared.numbers.Numbers.TheVariants.{Whole, Residues}
 use Rattle.gj_cut_text.specs.MixedLines.{AreMixedCutsOf, MixedLineHolds}
 use Rattle.gj_cut_text.specs.declared.mixed_lines.MixedLine.{MixedLine}
 use Rattle.gj_demo.specs.Summary.{IsSummary, HasSummary}
 use Rattle.gj_json.specs.JsonFunction.{IsJsonFunction}
 use Rattle.gj_json.specs.JsonText.{IsJsonText, IsReport}
-use Rattle.gj_words.specs.Grammar.{command_words, IsInBounds, json_word, takes_json}
+use Rattle.gj_words.specs.Grammar.{HasFlag, command_words, IsInBounds, json_word, jumps_word, takes_json, takes_jumps}
 use Rattle.gj_words.specs.declared.requests.Command.{Command}
 use Rattle.gj_words.specs.declared.requests.Command.TheVariants as command
 use Rattle.gj_words.specs.declared.requests.Request.{Request}
@@ -49,46 +57,92 @@ use Rattle.gj_derivation_text.specs.DerivationInputs.{IsDerivationText, IsDraftT
 use Rattle.gj_derivation_text.specs.declared.input.DerivationInput.{DerivationInput}
 use Rattle.gj_derivation_text.specs.declared.input.DraftInput.{DraftInput}
 use Rattle.gj_derivation_text.proofs.PrintedDerivations.{derived_is_read}
+use Rattle.gj_top.specs.Check.Checkable.{of_claim, of_limit_claim, of_steps}
 use Rattle.gj_top.specs.Check.{Checkable, SpellsCheckable, IsTrueCheck}
+use Rattle.gj_top.specs.Faces.{IsJumpsFacesText}
+use Rattle.gj_top.specs.LimitExtreme.{IsJumpsExtremality, IsTrueLimitExtremality, IsTrueJumpsExtremality}
 use Rattle.gj_top.specs.Derive.{IsTrueDerivedText}
 use Rattle.gj_top.specs.Told.{Told, IsTold}
 use Rattle.gj_top.proofs.DerivationForms.{one_derivation, proof_begins_otherwise, derivation_begins}
 use Rattle.gj_top.specs.Problem.{AreProblemCuts}
 use Rattle.gj_top.specs.Extreme.{IsTrueExtremality, IsDecisionText}
-use Rattle.gj_top.specs.Forms.{IsFunctionInput, IsProofOf, function_promise}
+use Rattle.gj_top.specs.Forms.{IsFunctionInput, IsProofOf, IsLimitProofOf, function_promise}
 use Rattle.gj_top.specs.Minimal.{IsTrueVerdict}
 use Rattle.gj_top.specs.Promise.{Promise, IsTrueReply}
-use Rattle.gj_top.specs.Report.{IsReportOf, Tells}
+use Rattle.gj_top.specs.Report.{claims, limit_claims, IsReportBy, Tells}
 use Rattle.gj_top.specs.Show.{IsShownText}
 use Rattle.gj_top.specs.Task.{IsReply}
 use Rattle.gj_commands.specs.CommandTexts.{HasWritten, IsTextOf, IsProofWith, Calls, Reports, TellsMinimality, TellsExtremality}
 use Rattle.gj_commands.specs.CommandTexts.{ShowsNotMinimal, ShowsNotExtreme, accepted, IsTextOfCutLines, IsTextOfMixedLines}
 use Rattle.gj_commands.specs.CommandTexts.{IsPrintedDerivation, AreTrueSteps}
+use Rattle.gj_commands.specs.CommandTexts.{IsLimitProofWith, CallsByLimits, TellsJumpsExtremality, ShowsNotExtremeByLimits}
+use Rattle.gj_commands.specs.CommandTexts.{IsCalledExtremeIn, IsCalledNotExtremeIn, ProvesClaim}
 use Rattle.gj_top.proofs.Clauses.{weaker}
 use Rattle.gj_top.proofs.Commands.{one_named}
+use Rattle.gj_top.proofs.LimitExtremality.{halves_deny}
+use Rattle.gj_top.proofs.LimitTexts.{limit_begins_otherwise, limit_decided_bounded}
 use Rattle.gj_top.proofs.OneCuts.{one_cut_spelled}
 use Rattle.gj_top.proofs.Sound.{sound}
 use Rattle.gj_top.proofs.TextLaws.{function_is_bounded, one_function, one_spelled, canonical_text_is_read}
 
 -- ---- a run
 
--- a command without the flag
+-- a command without a flag, with `--json`, with `--jumps`, and with both
 abbrev pub plain : Command → Request
-plain c = record { command = c; json = false }
+plain c = record { command = c; json = false; jumps = false }
 
--- with it
 abbrev pub flagged : Command → Request
-flagged c = record { command = c; json = true }
+flagged c = record { command = c; json = true; jumps = false }
+
+abbrev pub jumping : Command → Request
+jumping c = record { command = c; json = false; jumps = true }
+
+abbrev pub jumping_flagged : Command → Request
+jumping_flagged c = record { command = c; json = true; jumps = true }
 
 -- the words of a command name it
 plain_named : (words : List (String Global)) (c : Command) → IsInBounds c → map string_bytes words ≡ command_words c → IsNamed words (plain c)
-plain_named words c bounds same = record { in_bounds = bounds; allowed = λ e. absurd (cc); placed = same }
+plain_named words c bounds same = record {
+  in_bounds = bounds;
+  json_allowed = λ e. absurd (cc);
+  jumps_allowed = λ e. absurd (cc);
+  placed = (command_words c, refl, same);
+}
 
--- with the flag behind them, too
+-- with a flag behind them, too
+flag_behind : (flag : List ℕ) (bare : List (List ℕ)) → HasFlag flag true bare (bare ++ flag ∷ [])
+flag_behind flag bare = (bare, [], sym (append-nil bare), refl)
+
 flagged_named : (words : List (String Global)) (c : Command) → IsInBounds c → takes_json c ≡ true →
     map string_bytes words ≡ command_words c ++ json_word ∷ [] → IsNamed words (flagged c)
-flagged_named words c bounds takes same =
-    record { in_bounds = bounds; allowed = λ e. takes; placed = (command_words c, [], sym (append-nil (command_words c)), same) }
+flagged_named words c bounds takes same = record {
+  in_bounds = bounds;
+  json_allowed = λ e. takes;
+  jumps_allowed = λ e. absurd (cc);
+  placed = (command_words c ++ json_word ∷ [], flag_behind json_word (command_words c), same);
+}
+
+jumping_named : (words : List (String Global)) (c : Command) → IsInBounds c → takes_jumps c ≡ true →
+    map string_bytes words ≡ command_words c ++ jumps_word ∷ [] → IsNamed words (jumping c)
+jumping_named words c bounds takes same = record {
+  in_bounds = bounds;
+  json_allowed = λ e. absurd (cc);
+  jumps_allowed = λ e. takes;
+  placed = (command_words c, refl, subst (HasFlag jumps_word true (command_words c)) (sym same) (flag_behind jumps_word (command_words c)));
+}
+
+jumping_flagged_named : (words : List (String Global)) (c : Command) → IsInBounds c → takes_json c ≡ true → takes_jumps c ≡ true →
+    map string_bytes words ≡ (command_words c ++ json_word ∷ []) ++ jumps_word ∷ [] → IsNamed words (jumping_flagged c)
+jumping_flagged_named words c bounds takes too same = record {
+  in_bounds = bounds;
+  json_allowed = λ e. takes;
+  jumps_allowed = λ e. too;
+  placed = (
+    command_words c ++ json_word ∷ [],
+    flag_behind json_word (command_words c),
+    subst (HasFlag jumps_word true (command_words c ++ json_word ∷ [])) (sym same) (flag_behind jumps_word (command_words c ++ json_word ∷ [])),
+  );
+}
 
 -- what holds of each reply with Done to a request holds of what words that name it have written
 written_by : (spelled : List (List ℕ)) (r : Request) (P : List ℕ → List ℕ → Type 0) →
@@ -107,7 +161,7 @@ written_by spelled r P named keeps words status left before after run = λ same 
     ))
     (run done input (λ q other read. told))
 
--- a command without the flag
+-- a command without a flag
 pub written : (c : Command) (P : List ℕ → List ℕ → Type 0) → IsInBounds c →
     ((input text : List ℕ) → IsReply (task_for (plain c)) input end.Done text → P input text) →
     (words : List (String Global)) (status : Status) (left before after : Option (List ℕ)) →
@@ -115,7 +169,7 @@ pub written : (c : Command) (P : List ℕ → List ℕ → Type 0) → IsInBound
     HasWritten (command_words c) P words status left before after
 written c P bounds keeps = written_by (command_words c) (plain c) P (λ words. plain_named words c bounds) keeps
 
--- and with it
+-- with `--json`
 pub written_with : (c : Command) (P : List ℕ → List ℕ → Type 0) → IsInBounds c → takes_json c ≡ true →
     ((input text : List ℕ) → IsReply (task_for (flagged c)) input end.Done text → P input text) →
     (words : List (String Global)) (status : Status) (left before after : Option (List ℕ)) →
@@ -123,6 +177,25 @@ pub written_with : (c : Command) (P : List ℕ → List ℕ → Type 0) → IsIn
     HasWritten (command_words c ++ json_word ∷ []) P words status left before after
 written_with c P bounds takes keeps =
     written_by (command_words c ++ json_word ∷ []) (flagged c) P (λ words. flagged_named words c bounds takes) keeps
+
+-- with `--jumps`
+pub written_jumping : (c : Command) (P : List ℕ → List ℕ → Type 0) → IsInBounds c → takes_jumps c ≡ true →
+    ((input text : List ℕ) → IsReply (task_for (jumping c)) input end.Done text → P input text) →
+    (words : List (String Global)) (status : Status) (left before after : Option (List ℕ)) →
+    (status ≡ Done → (input : List ℕ) → IsInput words left input → IfSome before (λ b. IsDoneRun words input b after)) →
+    HasWritten (command_words c ++ jumps_word ∷ []) P words status left before after
+written_jumping c P bounds takes keeps =
+    written_by (command_words c ++ jumps_word ∷ []) (jumping c) P (λ words. jumping_named words c bounds takes) keeps
+
+-- and with both flags
+pub written_jumping_with : (c : Command) (P : List ℕ → List ℕ → Type 0) → IsInBounds c → takes_json c ≡ true → takes_jumps c ≡ true →
+    ((input text : List ℕ) → IsReply (task_for (jumping_flagged c)) input end.Done text → P input text) →
+    (words : List (String Global)) (status : Status) (left before after : Option (List ℕ)) →
+    (status ≡ Done → (input : List ℕ) → IsInput words left input → IfSome before (λ b. IsDoneRun words input b after)) →
+    HasWritten ((command_words c ++ json_word ∷ []) ++ jumps_word ∷ []) P words status left before after
+written_jumping_with c P bounds takes too keeps =
+    written_by ((command_words c ++ json_word ∷ []) ++ jumps_word ∷ []) (jumping_flagged c) P
+    (λ words. jumping_flagged_named words c bounds takes too) keeps
 
 -- a reply keeps what its request promises
 true_of : (r : Request) (input text : List ℕ) → IsReply (task_for r) input end.Done text → IsTrueReply (promise_for r) input text
@@ -190,6 +263,44 @@ extremality_shown f text (inr (inl (h, p, continuous, minimal, shown, denied))) 
     inr (inl (h, proof_of (claim.NotExtreme f h) f text refl p, shown))
 extremality_shown f text (inr (inr (v, p, shown, denied))) = inr (inr (v, proof_of (claim.NotMinimal f v) f text refl p, shown))
 
+-- ---- verdicts by limits
+
+limit_proof_of : (c : LimitClaim) (text : List ℕ) → IsLimitProofText c text →
+    IsLimitProofWith (limit_claim_word c) (limit_function_of c) (own_limit_text c) text
+limit_proof_of c text p = record { function_lines = p.subject; are_function_lines = p.are_function_lines; spelled = p.spelled }
+
+calls_by_limits : (c : LimitClaim) (text : List ℕ) → IsLimitProofText c text → CallsByLimits (limit_function_of c) text (limit_claim_word c)
+calls_by_limits c text p = (own_limit_text c, limit_proof_of c text p)
+
+limit_extremality : (f : FunctionData) (text : List ℕ) → IsTrueLimitExtremality f text → TellsJumpsExtremality f (Calls f text) (CallsByLimits f text)
+limit_extremality f text (inl ((numbers, lines, rows, p), jumps, extreme)) =
+    inr (inl (calls_by_limits (limit.Extreme numbers f lines rows) text p, jumps, extreme))
+limit_extremality f text (inr (h, p, jumps, minimal, shown, denied)) =
+    inr (inr (calls_by_limits (limit.NotExtreme f h) text p, jumps, minimal, denied))
+
+jumps_extremality : (f : FunctionData) (text : List ℕ) → IsTrueJumpsExtremality false f text →
+    TellsJumpsExtremality f (Calls f text) (CallsByLimits f text)
+jumps_extremality f text (inl h) = inl (extremality f text h)
+jumps_extremality f text (inr h) = limit_extremality f text h
+
+-- the lines that show a verdict
+abbrev Shown : FunctionData → List ℕ → Type 0
+Shown f text =
+    Calls f text (codes "extreme") ⊎ ShowsNotExtreme f text ⊎ ShowsNotMinimal f text ⊎ CallsByLimits f text (codes "extreme")
+    ⊎ ShowsNotExtremeByLimits f text
+
+as_shown : (f : FunctionData) (text : List ℕ) → (Calls f text (codes "extreme") ⊎ ShowsNotExtreme f text ⊎ ShowsNotMinimal f text) → Shown f text
+as_shown f text (inl h) = inl h
+as_shown f text (inr (inl h)) = inr (inl h)
+as_shown f text (inr (inr h)) = inr (inr (inl h))
+
+jumps_extremality_shown : (f : FunctionData) (text : List ℕ) → IsTrueJumpsExtremality false f text → Shown f text
+jumps_extremality_shown f text (inl h) = as_shown f text (extremality_shown f text h)
+jumps_extremality_shown f text (inr (inl ((numbers, lines, rows, p), jumps, extreme))) =
+    inr (inr (inr (inl (calls_by_limits (limit.Extreme numbers f lines rows) text p))))
+jumps_extremality_shown f text (inr (inr (h, p, jumps, minimal, shown, denied))) =
+    inr (inr (inr (inr (h, limit_proof_of (limit.NotExtreme f h) text p, shown))))
+
 -- ---- reports
 
 -- the bytes before the first line feed
@@ -210,17 +321,27 @@ word_is (claim.Extreme f lines rows) text p = ap word_in p.spelled
 word_is (claim.ExtremeByResidues f lines rows) text p = ap word_in p.spelled
 word_is (claim.NotExtreme f h) text p = ap word_in p.spelled
 
+limit_word_is : (c : LimitClaim) (text : List ℕ) → IsLimitProofText c text → word_in text ≡ limit_claim_word c
+unfolding word_in before_feed
+limit_word_is (limit.Extreme numbers f lines rows) text p = ap word_in p.spelled
+limit_word_is (limit.NotExtreme f h) text p = ap word_in p.spelled
+
 -- the verdict of a report is the word of each claim with its proof text
-reports : (c : Claim) (P : List ℕ → Type 0) (text : List ℕ) (r : IsReportOf P text) → IsProofText c r.proof → Reports text (claim_word c)
+reports : (c : Claim) (P : List ℕ → Type 0) (text : List ℕ) (r : IsReportBy claims P text) → IsProofText c r.proof → Reports text (claim_word c)
 reports c P text r p =
     (r.proof, subst (λ (w : List ℕ). IsReport w r.proof text) (sym (word_is r.claim r.proof r.spelled) ∙ word_is c r.proof p) r.report)
 
+reports_limits : (c : LimitClaim) (P : List ℕ → Type 0) (text : List ℕ) (r : IsReportBy limit_claims P text) → IsLimitProofText c r.proof →
+    Reports text (limit_claim_word c)
+reports_limits c P text r p =
+    (r.proof, subst (λ (w : List ℕ). IsReport w r.proof text) (sym (limit_word_is r.claim r.proof r.spelled) ∙ limit_word_is c r.proof p) r.report)
+
 module _ (f : FunctionData) (text : List ℕ) where
-  minimality_reported : (r : IsReportOf (IsTrueVerdict f) text) → IsTrueVerdict f r.proof → TellsMinimality f (Reports text)
+  minimality_reported : (r : IsReportBy claims (IsTrueVerdict f) text) → IsTrueVerdict f r.proof → TellsMinimality f (Reports text)
   minimality_reported r (inl (p, minimal)) = inl (reports (claim.Minimal f) _ text r p, minimal)
   minimality_reported r (inr (v, p, shown, denied)) = inr (reports (claim.NotMinimal f v) _ text r p, denied)
 
-  extremality_reported : (r : IsReportOf (IsTrueExtremality f) text) → IsTrueExtremality f r.proof → TellsExtremality f (Reports text)
+  extremality_reported : (r : IsReportBy claims (IsTrueExtremality f) text) → IsTrueExtremality f r.proof → TellsExtremality f (Reports text)
   extremality_reported r (inl ((Whole, lines, rows, p), continuous, extreme)) =
       inl (reports (claim.Extreme f lines rows) _ text r p, continuous, extreme)
   extremality_reported r (inl ((Residues, lines, rows, p), continuous, extreme)) =
@@ -228,6 +349,17 @@ module _ (f : FunctionData) (text : List ℕ) where
   extremality_reported r (inr (inl (h, p, continuous, minimal, shown, denied))) =
       inr (inl (reports (claim.NotExtreme f h) _ text r p, continuous, minimal, denied))
   extremality_reported r (inr (inr (v, p, shown, denied))) = inr (inr (reports (claim.NotMinimal f v) _ text r p, denied))
+
+  limit_extremality_reported : (r : IsReportBy limit_claims (IsTrueLimitExtremality f) text) → IsTrueLimitExtremality f r.proof →
+      TellsJumpsExtremality f (Reports text) (Reports text)
+  limit_extremality_reported r (inl ((numbers, lines, rows, p), jumps, extreme)) =
+      inr (inl (reports_limits (limit.Extreme numbers f lines rows) _ text r p, jumps, extreme))
+  limit_extremality_reported r (inr (h, p, jumps, minimal, shown, denied)) =
+      inr (inr (reports_limits (limit.NotExtreme f h) _ text r p, jumps, minimal, denied))
+
+  jumps_extremality_reported : IsTrueJumpsExtremality true f text → TellsJumpsExtremality f (Reports text) (Reports text)
+  jumps_extremality_reported (inl r) = inl (extremality_reported r r.holds)
+  jumps_extremality_reported (inr r) = limit_extremality_reported r r.holds
 
 -- what is promised of the function in JSON holds of the one that the input says
 promised_json : (headline : FunctionData → List ℕ → Type 0) (f : FunctionData) (input text : List ℕ) → IsJsonFunction input f →
@@ -238,16 +370,22 @@ promised_json headline f input text given kept =
 pub minimal_json : (input text : List ℕ) → IsReply (task_for (flagged command.Minimal)) input end.Done text → (f : FunctionData) →
     IsJsonFunction input f → TellsMinimality f (Reports text)
 minimal_json input text reply f given =
-    let report : IsReportOf (IsTrueVerdict f) text =
+    let report : IsReportBy claims (IsTrueVerdict f) text =
     promised_json (λ g. Tells true (IsTrueVerdict g)) f input text given (true_of (flagged command.Minimal) input text reply) in
     minimality_reported f text report report.holds
 
 pub extreme_json : (input text : List ℕ) → IsReply (task_for (flagged command.Extreme)) input end.Done text → (f : FunctionData) →
     IsJsonFunction input f → TellsExtremality f (Reports text)
 extreme_json input text reply f given =
-    let report : IsReportOf (IsTrueExtremality f) text =
+    let report : IsReportBy claims (IsTrueExtremality f) text =
     promised_json (λ g. Tells true (IsTrueExtremality g)) f input text given (true_of (flagged command.Extreme) input text reply) in
     extremality_reported f text report report.holds
+
+pub jumps_json : (input text : List ℕ) → IsReply (task_for (jumping_flagged command.Extreme)) input end.Done text → (f : FunctionData) →
+    IsJsonFunction input f → TellsJumpsExtremality f (Reports text) (Reports text)
+jumps_json input text reply f given =
+    jumps_extremality_reported f text
+    (promised_json (IsTrueJumpsExtremality true) f input text given (true_of (jumping_flagged command.Extreme) input text reply))
 
 pub show_json : (input text : List ℕ) → IsReply (task_for (flagged command.Show)) input end.Done text → (f : FunctionData) →
     IsJsonFunction input f → IsJsonText text f
@@ -315,6 +453,39 @@ module _ (input text : List ℕ) (reply : IsReply (task_for (plain command.Extre
         },
         said.holds,
       )
+
+-- ---- `extreme --jumps`
+
+module _ (input text : List ℕ) (reply : IsReply (task_for (jumping command.Extreme)) input end.Done text) where
+  true_jumps : IsTrueReply (function_promise false (IsTrueJumpsExtremality false)) input text
+  true_jumps = true_of (jumping command.Extreme) input text reply
+
+  pub jumps_told : (f : FunctionData) × IsWithinBounds f × TellsJumpsExtremality f (Calls f text) (CallsByLimits f text)
+  jumps_told = (
+    true_jumps.thing,
+    function_is_bounded input true_jumps.thing true_jumps.spelled,
+    jumps_extremality true_jumps.thing text true_jumps.holds,
+  )
+
+  pub jumps_of_input : (f : FunctionData) → IsFunctionInput input f → TellsJumpsExtremality f (Calls f text) (CallsByLimits f text)
+  jumps_of_input f given = jumps_extremality f text (promised (IsTrueJumpsExtremality false) f input text given true_jumps)
+
+  pub jumps_shown : (f : FunctionData) × IsWithinBounds f × Shown f text
+  jumps_shown = (
+    true_jumps.thing,
+    function_is_bounded input true_jumps.thing true_jumps.spelled,
+    jumps_extremality_shown true_jumps.thing text true_jumps.holds,
+  )
+
+  pub jumps_claimed : ProvesClaim text
+  jumps_claimed = go reply.replied
+    where
+      within : IsWithinBounds reply.thing
+      within = function_is_bounded input reply.thing reply.spelled
+
+      go : IsJumpsExtremality false reply.thing end.Done text → ProvesClaim text
+      go (inl d) = inl (d.claim, record { bounded = decided_is_bounded reply.thing d.claim within d.decided; spelled = d.spelled }, d.holds)
+      go (inr d) = inr (d.claim, record { bounded = limit_decided_bounded reply.thing d.claim within d.decided; spelled = d.spelled }, d.holds)
 
 -- ---- `check`
 
@@ -396,6 +567,26 @@ says_not_extreme (claim.Extreme f lines rows) input p holds e =
 says_not_extreme (claim.ExtremeByResidues f lines rows) input p holds e =
     absurd (omega (arith, same_number 101 110 (ap (letter 0) e)))
 
+-- a claim about a function that jumps says extreme, or not extreme
+limit_says_extreme : (c : LimitClaim) (input : List ℕ) → IsLimitProofOf input c → LimitClaimHolds c → limit_claim_word c ≡ codes "extreme" →
+    (f : FunctionData) × IsWithinBounds f × CallsByLimits f input (codes "extreme") × IsExtremeFunction f
+limit_says_extreme (limit.Extreme numbers f lines rows) input p extreme e =
+    (f, p.bounded, calls_by_limits (limit.Extreme numbers f lines rows) input p.spelled, extreme)
+limit_says_extreme (limit.NotExtreme f h) input p holds e =
+    absurd (omega (arith, same_number 110 101 (ap (letter 0) e)))
+
+limit_says_not_extreme : (c : LimitClaim) (input : List ℕ) → IsLimitProofOf input c → LimitClaimHolds c → limit_claim_word c ≡ codes "not-extreme" →
+    (f : FunctionData) × IsWithinBounds f × CallsByLimits f input (codes "not-extreme") × IsMinimal f × (IsExtremeFunction f → ⊥)
+limit_says_not_extreme (limit.NotExtreme f h) input p (minimal, shown) e =
+    (f, p.bounded, calls_by_limits (limit.NotExtreme f h) input p.spelled, minimal, halves_deny f h shown)
+limit_says_not_extreme (limit.Extreme numbers f lines rows) input p holds e =
+    absurd (omega (arith, same_number 101 110 (ap (letter 0) e)))
+
+-- it says nothing else
+limit_letter : (c : LimitClaim) → (letter 0 (limit_claim_word c) ≡ 101) ⊎ (letter 4 (limit_claim_word c) ≡ 101)
+limit_letter (limit.Extreme numbers f lines rows) = inl refl
+limit_letter (limit.NotExtreme f h) = inr refl
+
 -- the proof text of a claim about cuts
 cut_lines_of : (r : CutRule) (lines : List CutLine) (text : List ℕ) → IsProofText (claim.Cut r lines) text → IsTextOfCutLines r lines text
 cut_lines_of r lines text p = record { rule_lines = p.subject; are_rule_lines = p.are_subject_lines; spelled = p.spelled }
@@ -429,23 +620,40 @@ no_claim_word (claim.NotExtreme f h) e = omega (arith, same_number 110 100 (ap (
 abbrev IsAcceptedClaim : List ℕ → List ℕ → Type 0
 IsAcceptedClaim input text = (c : Claim) × IsProofOf input c × ClaimHolds c × (text ≡ accepted (claim_word c))
 
+-- the same of a claim about a function that jumps
+abbrev IsAcceptedLimitClaim : List ℕ → List ℕ → Type 0
+IsAcceptedLimitClaim input text = (c : LimitClaim) × IsLimitProofOf input c × LimitClaimHolds c × (text ≡ accepted (limit_claim_word c))
+
 -- it tells steps whose claims hold, and the text says that the derivation is accepted
 abbrev IsAcceptedDerivation : List ℕ → List ℕ → Type 0
 IsAcceptedDerivation input text = (d : DerivationInput) × IsDerivationText input d × AreTrueSteps d × (text ≡ accepted (codes "derivation"))
 
-said : (input text : List ℕ) (thing : Checkable) → SpellsCheckable input thing → IsTrueCheck thing text →
-    IsAcceptedClaim input text ⊎ IsAcceptedDerivation input text
-said input text (inl c) spelled h = inl (c, spelled, h.0, h.1)
-said input text (inr t) spelled h = inr (t.told, spelled.1, h.0, h.1)
+-- one of these
+abbrev IsAcceptance : List ℕ → List ℕ → Type 0
+IsAcceptance input text = IsAcceptedClaim input text ⊎ IsAcceptedLimitClaim input text ⊎ IsAcceptedDerivation input text
+
+said : (input text : List ℕ) (thing : Checkable) → SpellsCheckable input thing → IsTrueCheck thing text → IsAcceptance input text
+said input text (of_claim c) spelled h = inl (c, spelled, h.0, h.1)
+said input text (of_limit_claim c) spelled h = inr (inl (c, spelled, h.0, h.1))
+said input text (of_steps t) spelled h = inr (inr (t.told, spelled.1, h.0, h.1))
 
 -- what holds of each claim with a word that is no derivation's holds if the text says that word
-by_word : {P : Type 0} (word input text : List ℕ) → IsAcceptedClaim input text ⊎ IsAcceptedDerivation input text → text ≡ accepted word →
-    (codes "derivation" ≡ word → ⊥) → ((c : Claim) → IsProofOf input c → ClaimHolds c → claim_word c ≡ word → P) → P
-by_word word input text (inl (c, p, holds, is)) e other says = says c p holds (one_word text _ _ is e)
-by_word word input text (inr (d, told, hold, is)) e other says = absurd (other (one_word text _ _ is e))
+by_word : {P : Type 0} (word input text : List ℕ) → IsAcceptance input text → text ≡ accepted word → (codes "derivation" ≡ word → ⊥) →
+    ((c : Claim) → IsProofOf input c → ClaimHolds c → claim_word c ≡ word → P) →
+    ((c : LimitClaim) → IsLimitProofOf input c → LimitClaimHolds c → limit_claim_word c ≡ word → P) → P
+by_word word input text (inl (c, p, holds, is)) e other says limits = says c p holds (one_word text _ _ is e)
+by_word word input text (inr (inl (c, p, holds, is))) e other says limits = limits c p holds (one_word text _ _ is e)
+by_word word input text (inr (inr (d, told, hold, is))) e other says limits = absurd (other (one_word text _ _ is e))
+
+-- a word that no claim about a function that jumps has
+no_limit_word : (word : List ℕ) → (letter 0 word ≡ 101 → ⊥) → (letter 4 word ≡ 101 → ⊥) → (c : LimitClaim) → limit_claim_word c ≡ word → ⊥
+no_limit_word word first later c e = elim (limit_letter c) [
+  | inl is ↦ first (sym (ap (letter 0) e) ∙ is)
+  | inr is ↦ later (sym (ap (letter 4) e) ∙ is)
+]
 
 module _ (input text : List ℕ) (reply : IsReply (task_for (plain command.Check)) input end.Done text) where
-  all_said : IsAcceptedClaim input text ⊎ IsAcceptedDerivation input text
+  all_said : IsAcceptance input text
   all_said = let kept = true_of (plain command.Check) input text reply in said input text kept.thing kept.spelled kept.holds
 
   pub check_minimal : text ≡ accepted (codes "minimal") →
@@ -453,42 +661,52 @@ module _ (input text : List ℕ) (reply : IsReply (task_for (plain command.Check
   check_minimal e =
       by_word (codes "minimal") input text all_said e (λ same. omega (arith, same_number 100 109 (ap (letter 0) same)))
       (λ c p holds word. says_minimal c input p holds word)
+      (λ c p holds word. absurd (no_limit_word (codes "minimal") (λ h. omega (arith, h)) (λ h. omega (arith, h)) c word))
 
   pub check_not_minimal : text ≡ accepted (codes "not-minimal") →
       (f : FunctionData) × IsWithinBounds f × Calls f input (codes "not-minimal") × (IsMinimal f → ⊥)
   check_not_minimal e =
       by_word (codes "not-minimal") input text all_said e (λ same. omega (arith, same_number 100 110 (ap (letter 0) same)))
       (λ c p holds word. says_not_minimal c input p holds word)
+      (λ c p holds word. absurd (no_limit_word (codes "not-minimal") (λ h. omega (arith, h)) (λ h. omega (arith, h)) c word))
 
-  pub check_extreme : text ≡ accepted (codes "extreme") →
-      (f : FunctionData) × IsWithinBounds f × Calls f input (codes "extreme") × IsContinuous f × IsExtreme f
+  pub check_extreme : text ≡ accepted (codes "extreme") → (f : FunctionData) × IsWithinBounds f × IsCalledExtremeIn f input
   check_extreme e =
       by_word (codes "extreme") input text all_said e (λ same. omega (arith, same_number 100 101 (ap (letter 0) same)))
-      (λ c p holds word. says_extreme c input p holds word)
+      (λ c p holds word.
+      let (f, within, called, continuous, extreme) = says_extreme c input p holds word in (f, within, inl (called, continuous, extreme)))
+      (λ c p holds word. let (f, within, called, extreme) = limit_says_extreme c input p holds word in (f, within, inr (called, extreme)))
 
-  pub check_not_extreme : text ≡ accepted (codes "not-extreme") →
-      (f : FunctionData) × IsWithinBounds f × Calls f input (codes "not-extreme") × IsContinuous f × IsMinimal f × (IsExtreme f → ⊥)
+  pub check_not_extreme : text ≡ accepted (codes "not-extreme") → (f : FunctionData) × IsWithinBounds f × IsCalledNotExtremeIn f input
   check_not_extreme e =
       by_word (codes "not-extreme") input text all_said e (λ same. omega (arith, same_number 100 110 (ap (letter 0) same)))
-      (λ c p holds word. says_not_extreme c input p holds word)
+      (λ c p holds word.
+      let (f, within, called, continuous, minimal, denied) = says_not_extreme c input p holds word in
+      (f, within, inl (called, continuous, minimal, denied)))
+      (λ c p holds word.
+      let (f, within, called, minimal, denied) = limit_says_not_extreme c input p holds word in (f, within, inr (called, minimal, denied)))
 
   pub check_cut : text ≡ accepted (codes "cut") →
       (r : CutRule) × (lines : List CutLine) × IsTextOfCutLines r lines input × All CutLineHolds lines
   check_cut e =
       by_word (codes "cut") input text all_said e (λ same. omega (arith, same_number 100 99 (ap (letter 0) same)))
       (λ c p holds word. says_cuts c input p holds word)
+      (λ c p holds word. absurd (no_limit_word (codes "cut") (λ h. omega (arith, h)) (λ h. omega (arith, h)) c word))
 
-  pub check_claimed : ((c : Claim) × IsProofOf input c × ClaimHolds c × (text ≡ accepted (claim_word c))) ⊎ (text ≡ accepted (codes "derivation"))
+  pub check_claimed : IsAcceptedClaim input text ⊎ IsAcceptedLimitClaim input text ⊎ (text ≡ accepted (codes "derivation"))
   check_claimed = elim all_said [
-    | inl accepted_claim ↦ inl accepted_claim
-    | inr (d, told, hold, is) ↦ inr is
+    | inl claimed ↦ inl claimed
+    | inr (inl claimed) ↦ inr (inl claimed)
+    | inr (inr (d, told, hold, is)) ↦ inr (inr is)
   ]
 
   -- the steps of an accepted derivation
   pub check_steps : text ≡ accepted (codes "derivation") → (d : DerivationInput) × IsDerivationText input d × AreTrueSteps d
   check_steps e = elim all_said [
     | inl (c, p, holds, is) ↦ absurd (no_claim_word c (one_word text _ _ is e))
-    | inr (d, told, hold, is) ↦ (d, told, hold)
+    | inr (inl (c, p, holds, is)) ↦
+        absurd (no_limit_word (codes "derivation") (λ h. omega (arith, h)) (λ h. omega (arith, h)) c (one_word text _ _ is e))
+    | inr (inr (d, told, hold, is)) ↦ (d, told, hold)
   ]
 
   -- an input that is the printed text of a derivation
@@ -498,11 +716,22 @@ module _ (input text : List ℕ) (reply : IsReply (task_for (plain command.Check
       by_case d left told all_said
     where
       by_case : (d : DerivationInput) (left : List ℕ) → IsDerivationText input (record d { left = left }) →
-          IsAcceptedClaim input text ⊎ IsAcceptedDerivation input text → AreTrueSteps d × (text ≡ accepted (codes "derivation"))
+          IsAcceptance input text → AreTrueSteps d × (text ≡ accepted (codes "derivation"))
       by_case d left told (inl (c, p, holds, is)) =
           absurd (proof_begins_otherwise c input p.spelled (derivation_begins input (record d { left = left }) told))
-      by_case d left told (inr (e, other, hold, is)) =
+      by_case d left told (inr (inl (c, p, holds, is))) =
+          absurd (limit_begins_otherwise c input p.spelled (derivation_begins input (record d { left = left }) told))
+      by_case d left told (inr (inr (e, other, hold, is))) =
           (subst AreTrueSteps (one_derivation input e (record d { left = left }) other told) hold, is)
+
+-- no text is one of each kind
+pub one_kind : (f g : FunctionData) (text word other : List ℕ) → Calls f text word → CallsByLimits g text other → ⊥
+one_kind f g text word other (own, p) (theirs, q) = by_title p.numbers p.spelled q.spelled
+  where
+    by_title : (n : Numbers) → text ≡ bytes_of (title_fields n) ++ bytes_of (claim_fields word) ++ p.function_lines ++ own ++ line (codes "end") →
+        text ≡ line (codes "gj-proof 3") ++ bytes_of (claim_fields other) ++ q.function_lines ++ theirs ++ line (codes "end") → ⊥
+    by_title Whole e d = omega (arith, same_number 49 51 (ap (letter 9) (sym e ∙ d)))
+    by_title Residues e d = omega (arith, same_number 50 51 (ap (letter 9) (sym e ∙ d)))
 
 -- ---- `derive`
 
@@ -582,6 +811,11 @@ pub faces_told : (input text : List ℕ) → IsReply (task_for (plain command.Fa
     IsFacesText f text
 faces_told input text reply f given =
     subst (λ (g : FunctionData). IsFacesText g text) (one_function input reply.thing f reply.spelled (input_of f input given)) reply.replied.1
+
+pub jumps_faces_told : (input text : List ℕ) → IsReply (task_for (jumping command.Faces)) input end.Done text → (f : FunctionData) → IsTextOf f input →
+    IsJumpsFacesText f text
+jumps_faces_told input text reply f given =
+    promised IsJumpsFacesText f input text (input_of f input given) (true_of (jumping command.Faces) input text reply)
 
 pub demo_told : (n : ℕ) (input text : List ℕ) → IsReply (task_for (plain (command.Demo n))) input end.Done text →
     (f : FunctionData) × (h : Halves) × IsSummary n f h text × IsContinuous f × IsMinimal f × (IsExtreme f → ⊥)

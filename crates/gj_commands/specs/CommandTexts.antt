@@ -7,16 +7,22 @@ use Rattle.gj_shape.specs.FunctionData.{FunctionData, IsWithinBounds, IsContinuo
 use Rattle.gj_shape.specs.Table.{IsMinimal}
 use Rattle.gj_shape.specs.Violation.{ShowsViolation}
 use Rattle.gj_shape.specs.declared.extremality.Halves.{Halves}
+use Rattle.gj_shape.specs.declared.extremality.LimitHalves.{LimitHalves}
 use Rattle.gj_shape.specs.declared.violations.Violation.{Violation}
 use Rattle.gj_function_lines.specs.FunctionLines.{line, AreFunctionLines}
 use Rattle.gj_function_text.specs.FunctionText.{IsCanonicalText}
 use Rattle.gj_json.specs.JsonText.{IsReport}
-use Rattle.gj_proof.specs.Meaning.{ShowHalves}
+use Rattle.gj_proof.specs.Meaning.{ClaimHolds, ShowHalves}
 use Rattle.gj_proof.specs.ProofText.{AreSubjectLines, subject_of_rule, title_fields, claim_fields, violation_line, halves_text, row_text}
 use Rattle.gj_proof.specs.declared.cut.CutLine.{CutLine}
 use Rattle.gj_proof.specs.declared.cut.CutRule.{CutRule}
 use Rattle.gj_proof.specs.declared.numbers.Numbers.{Numbers}
 use Rattle.gj_proof.specs.declared.numbers.Numbers.TheVariants.{Whole}
+use Rattle.gj_proof.specs.declared.claim.Claim.{Claim}
+use Rattle.gj_limit_averages.specs.Averages.{IsExtremeFunction}
+use Rattle.gj_limit_proof.specs.LimitMeaning.{LimitClaimHolds, ShowLimitHalves}
+use Rattle.gj_limit_proof.specs.LimitText.{halves_text as limit_halves_text}
+use Rattle.gj_limit_proof.specs.declared.claim.LimitClaim.{LimitClaim}
 use Rattle.gj_cut_text.specs.MixedLines.{mixed_row_text}
 use Rattle.gj_cut_text.specs.declared.mixed_lines.MixedLine.{MixedLine}
 use Rattle.gj_problem.specs.Problems.{Holds}
@@ -25,6 +31,7 @@ use Rattle.gj_derivation.specs.declared.step.Step.{Step}
 use Rattle.gj_derivation_text.specs.PrintedDerivation.{IsDerivedText}
 use Rattle.gj_derivation_text.specs.Readable.{IsReadableDerivation}
 use Rattle.gj_derivation_text.specs.declared.input.DerivationInput.{DerivationInput}
+use Rattle.gj_top.specs.Forms.{IsProofOf, IsLimitProofOf}
 use Rattle.gj_top.specs.declared.status.Status.{Status}
 use Rattle.gj_top.specs.declared.status.Status.TheVariants.{Done}
 
@@ -79,6 +86,51 @@ ShowsNotMinimal f text = (v : Violation) × IsProofWith (codes "not-minimal") f 
 -- the text has the lines of halves, which show that f is not extreme
 abbrev pub ShowsNotExtreme : FunctionData → List ℕ → Type 0
 ShowsNotExtreme f text = (h : Halves) × IsProofWith (codes "not-extreme") f (halves_text h) text × ShowHalves f h
+
+-- ---- proof texts about functions that jump
+
+-- the text is the line `gj-proof 3`, the line `claim W`, the lines of f, these lines, and `end`
+pub record IsLimitProofWith (word : List ℕ) (f : FunctionData) (own text : List ℕ) : Type 0 where
+  pub function_lines : List ℕ
+  pub are_function_lines : AreFunctionLines f function_lines
+  pub spelled : text ≡ line (codes "gj-proof 3") ++ bytes_of (claim_fields word) ++ function_lines ++ own ++ line (codes "end")
+
+-- the text calls f so: it is such a proof text, with any lines behind those of f
+abbrev pub CallsByLimits : FunctionData → List ℕ → List ℕ → Type 0
+CallsByLimits f text word = (own : List ℕ) × IsLimitProofWith word f own text
+
+-- f is told as without `--jumps`; or it jumps, and is called extreme, and it is minimal and no
+-- average of two different minimal functions; or it jumps and is called not extreme, and it is
+-- minimal, and such an average
+abbrev pub TellsJumpsExtremality : FunctionData → (List ℕ → Type 0) → (List ℕ → Type 0) → Type 0
+TellsJumpsExtremality f IsCalled IsCalledByLimits =
+    TellsExtremality f IsCalled
+    ⊎ (IsCalledByLimits (codes "extreme") × (IsContinuous f → ⊥) × IsExtremeFunction f)
+    ⊎ (IsCalledByLimits (codes "not-extreme") × (IsContinuous f → ⊥) × IsMinimal f × (IsExtremeFunction f → ⊥))
+
+-- the text has the lines of halves, which show that f is not extreme
+abbrev pub ShowsNotExtremeByLimits : FunctionData → List ℕ → Type 0
+ShowsNotExtremeByLimits f text = (h : LimitHalves) × IsLimitProofWith (codes "not-extreme") f (limit_halves_text h) text × ShowLimitHalves f h
+
+-- what is accepted of a text: f is called extreme in it, and it is continuous and extreme; or by
+-- limits, and it is no average of two different minimal functions
+abbrev pub IsCalledExtremeIn : FunctionData → List ℕ → Type 0
+IsCalledExtremeIn f text =
+    (Calls f text (codes "extreme") × IsContinuous f × IsExtreme f)
+    ⊎ (CallsByLimits f text (codes "extreme") × IsExtremeFunction f)
+
+-- or f is called not extreme in it, and it is minimal and not extreme
+abbrev pub IsCalledNotExtremeIn : FunctionData → List ℕ → Type 0
+IsCalledNotExtremeIn f text =
+    (Calls f text (codes "not-extreme") × IsContinuous f × IsMinimal f × (IsExtreme f → ⊥))
+    ⊎ (CallsByLimits f text (codes "not-extreme") × IsMinimal f × (IsExtremeFunction f → ⊥))
+
+-- the text is the proof text of a claim that holds, or of one about a function that jumps
+abbrev pub ProvesClaim : List ℕ → Type 0
+ProvesClaim text =
+    ((c : Claim) × IsProofOf text c × ClaimHolds c) ⊎ ((c : LimitClaim) × IsLimitProofOf text c × LimitClaimHolds c)
+
+-- ---- acceptance
 
 -- the line of an accepted claim with this word
 abbrev pub accepted : List ℕ → List ℕ

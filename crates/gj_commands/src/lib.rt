@@ -19,6 +19,9 @@ ghost use Rattle.gj_proof.specs.ProofText.{claim_word};
 ghost use Rattle.gj_proof.specs.declared.claim.Claim.{Claim};
 ghost use Rattle.gj_proof.specs.declared.cut.CutLine.{CutLine};
 ghost use Rattle.gj_proof.specs.declared.cut.CutRule.{CutRule};
+ghost use Rattle.gj_limit_proof.specs.LimitMeaning.{LimitClaimHolds};
+ghost use Rattle.gj_limit_proof.specs.LimitText.{claim_word as limit_claim_word};
+ghost use Rattle.gj_limit_proof.specs.declared.claim.LimitClaim.{LimitClaim};
 ghost use Rattle.gj_cut_text.specs.MixedLines.{AreMixedCutsOf, MixedLineHolds};
 ghost use Rattle.gj_cut_text.specs.declared.mixed_lines.MixedLine.{MixedLine};
 ghost use Rattle.gj_demo.specs.Summary.{IsSummary};
@@ -27,7 +30,8 @@ ghost use Rattle.gj_json.specs.JsonFunction.{IsJsonFunction};
 ghost use Rattle.gj_json.specs.JsonText.{IsJsonText};
 ghost use Rattle.gj_top.specs.Cut.{AreCutsOf, SpellsCutInput};
 ghost use Rattle.gj_top.specs.declared.cut_input.CutInput.{CutInput};
-ghost use Rattle.gj_top.specs.Forms.{IsFunctionInput, IsProofOf};
+ghost use Rattle.gj_top.specs.Faces.{IsJumpsFacesText};
+ghost use Rattle.gj_top.specs.Forms.{IsFunctionInput, IsProofOf, IsLimitProofOf};
 ghost use Rattle.gj_problem_text.specs.PrintedInput.{IsPrintedInput};
 ghost use Rattle.gj_problem_text.specs.SafeInputs.{IsSafeInput};
 ghost use Rattle.gj_problem_text.specs.declared.input.SafeInput.{SafeInput};
@@ -43,6 +47,9 @@ ghost use Rattle.gj_top.specs.Transform.{IsTimesText, IsMirrorText, IsRestrictio
 ghost use Rattle.gj_commands.specs.CommandTexts.{HasWritten, IsTextOf, Calls, Reports, accepted};
 ghost use Rattle.gj_commands.specs.CommandTexts.{TellsMinimality, TellsExtremality};
 ghost use Rattle.gj_commands.specs.CommandTexts.{ShowsNotMinimal, ShowsNotExtreme};
+ghost use Rattle.gj_commands.specs.CommandTexts.{CallsByLimits, TellsJumpsExtremality};
+ghost use Rattle.gj_commands.specs.CommandTexts.{ShowsNotExtremeByLimits, ProvesClaim};
+ghost use Rattle.gj_commands.specs.CommandTexts.{IsCalledExtremeIn, IsCalledNotExtremeIn};
 ghost use Rattle.gj_commands.specs.CommandTexts.{IsTextOfCutLines, IsTextOfMixedLines};
 ghost use Rattle.gj_commands.specs.CommandTexts.{IsPrintedDerivation, AreTrueSteps};
 
@@ -50,7 +57,7 @@ mod laws;
 
 use gj_port::{Sink, Source};
 use gj_top::{Status, run};
-pub use laws::one_list_of_mixed_cuts;
+pub use laws::{one_kind_of_proof_text, one_list_of_mixed_cuts};
 use std::alloc::Global;
 
 /// Runs as [`run`] does. Each clause is a theorem about one command: if its words were given and
@@ -124,6 +131,39 @@ pub fn run_command<S: Source, K: Sink>(
         (λ input text. (c : Claim) × IsProofOf text c × ClaimHolds c)
         words.now result (S.left source.old) (K.written sink.old) (K.written sink.new) }
 
+    // With `--jumps` it also calls a function that jumps what it is, in a text of its own kind:
+    // extreme, or minimal and not extreme. So it calls the function whose canonical text is the
+    // input, or that any function text, or with `--json` a function in JSON, gives.
+    ensures extreme_jumps { HasWritten (codes "extreme" ∷ codes "--jumps" ∷ [])
+        (λ input text. (f : FunctionData) × IsWithinBounds f × TellsJumpsExtremality f
+        (Calls f text) (CallsByLimits f text))
+        words.now result (S.left source.old) (K.written sink.old) (K.written sink.new) }
+    ensures extreme_jumps_of { HasWritten (codes "extreme" ∷ codes "--jumps" ∷ [])
+        (λ input text. (f : FunctionData) → IsTextOf f input → TellsJumpsExtremality f
+        (Calls f text) (CallsByLimits f text))
+        words.now result (S.left source.old) (K.written sink.old) (K.written sink.new) }
+    ensures extreme_jumps_input { HasWritten (codes "extreme" ∷ codes "--jumps" ∷ [])
+        (λ input text. (f : FunctionData) → IsFunctionInput input f → TellsJumpsExtremality f
+        (Calls f text) (CallsByLimits f text))
+        words.now result (S.left source.old) (K.written sink.old) (K.written sink.new) }
+    ensures extreme_jumps_json { HasWritten
+        (codes "extreme" ∷ codes "--json" ∷ codes "--jumps" ∷ [])
+        (λ input text. (f : FunctionData) → IsJsonFunction input f → TellsJumpsExtremality f
+        (Reports text) (Reports text))
+        words.now result (S.left source.old) (K.written sink.old) (K.written sink.new) }
+
+    // Its lines show why a function is not extreme, or not minimal.
+    ensures extreme_jumps_shown { HasWritten (codes "extreme" ∷ codes "--jumps" ∷ [])
+        (λ input text. (f : FunctionData) × IsWithinBounds f × (Calls f text (codes "extreme") ⊎
+        ShowsNotExtreme f text ⊎ ShowsNotMinimal f text ⊎ CallsByLimits f text (codes "extreme") ⊎
+        ShowsNotExtremeByLimits f text))
+        words.now result (S.left source.old) (K.written sink.old) (K.written sink.new) }
+
+    // It is the proof text of a claim that holds.
+    ensures extreme_jumps_claim { HasWritten (codes "extreme" ∷ codes "--jumps" ∷ [])
+        (λ input text. ProvesClaim text)
+        words.now result (S.left source.old) (K.written sink.old) (K.written sink.new) }
+
     // What `check` writes accepts the input: that calls a function what it is, or has cuts that
     // hold.
     ensures check_minimal { HasWritten (codes "check" ∷ [])
@@ -136,21 +176,24 @@ pub fn run_command<S: Source, K: Sink>(
         words.now result (S.left source.old) (K.written sink.old) (K.written sink.new) }
     ensures check_extreme { HasWritten (codes "check" ∷ [])
         (λ input text. text ≡ accepted (codes "extreme") → (f : FunctionData) × IsWithinBounds f ×
-        Calls f input (codes "extreme") × IsContinuous f × IsExtreme f)
+        IsCalledExtremeIn f input)
         words.now result (S.left source.old) (K.written sink.old) (K.written sink.new) }
     ensures check_not_extreme { HasWritten (codes "check" ∷ [])
         (λ input text. text ≡ accepted (codes "not-extreme") → (f : FunctionData) × IsWithinBounds f
-        × Calls f input (codes "not-extreme") × IsContinuous f × IsMinimal f × (IsExtreme f → ⊥))
+        × IsCalledNotExtremeIn f input)
         words.now result (S.left source.old) (K.written sink.old) (K.written sink.new) }
     ensures check_cut { HasWritten (codes "check" ∷ [])
         (λ input text. text ≡ accepted (codes "cut") → (r : CutRule) × (lines : List CutLine) ×
         IsTextOfCutLines r lines input × All CutLineHolds lines)
         words.now result (S.left source.old) (K.written sink.old) (K.written sink.new) }
 
-    // The input is the proof text of a claim that holds, or what is accepted is a derivation.
+    // The input is the proof text of a claim that holds, or of one about a function that jumps, or
+    // what is accepted is a derivation.
     ensures check_claim { HasWritten (codes "check" ∷ [])
         (λ input text. ((c : Claim) × IsProofOf input c × ClaimHolds c ×
-        (text ≡ accepted (claim_word c))) ⊎ (text ≡ accepted (codes "derivation")))
+        (text ≡ accepted (claim_word c))) ⊎
+        ((c : LimitClaim) × IsLimitProofOf input c × LimitClaimHolds c ×
+        (text ≡ accepted (limit_claim_word c))) ⊎ (text ≡ accepted (codes "derivation")))
         words.now result (S.left source.old) (K.written sink.old) (K.written sink.new) }
 
     // Of an input that is the printed text of a derivation: each claim holds at all feasible points
@@ -211,14 +254,17 @@ pub fn run_command<S: Source, K: Sink>(
         words.now result (S.left source.old) (K.written sink.old) (K.written sink.new) }
 
     // Of the function whose canonical text is the input: what `group` says of its table of its own
-    // order is so; `faces` lists its maximal additive faces and its covered intervals; `fill`
-    // writes its fill-in; and `times`, `mirror` and `restrict` write the canonical text of the
-    // function that they make of it.
+    // order is so; `faces` lists its maximal additive faces and its covered intervals, with
+    // `--jumps` also of one that jumps; `fill` writes its fill-in; and `times`, `mirror` and
+    // `restrict` write the canonical text of the function that they make of it.
     ensures group { HasWritten (codes "group" ∷ [])
         (λ input text. (f : FunctionData) → IsTextOf f input → IsTrueGroupText f text)
         words.now result (S.left source.old) (K.written sink.old) (K.written sink.new) }
     ensures faces { HasWritten (codes "faces" ∷ [])
         (λ input text. (f : FunctionData) → IsTextOf f input → IsFacesText f text)
+        words.now result (S.left source.old) (K.written sink.old) (K.written sink.new) }
+    ensures faces_jumps { HasWritten (codes "faces" ∷ codes "--jumps" ∷ [])
+        (λ input text. (f : FunctionData) → IsTextOf f input → IsJumpsFacesText f text)
         words.now result (S.left source.old) (K.written sink.old) (K.written sink.new) }
     ensures fill { HasWritten (codes "fill" ∷ [])
         (λ input text. (f : FunctionData) → IsTextOf f input → IsFillText f text)

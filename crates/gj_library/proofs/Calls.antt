@@ -7,9 +7,10 @@ use Rattle.std.specs.declared.alloc.Global.{Global}
 use Rattle.gj_port.specs.Faults.{HasFailed}
 use Rattle.gj_port.specs.MemorySource.{MemorySource, never_fails}
 use Rattle.gj_port.specs.Runs.{IsSourceFault}
-use Rattle.gj_words.specs.Grammar.{HasFlag, command_words, json_word}
+use Rattle.gj_words.specs.Grammar.{HasFlag, HasFlags, command_words, json_word, jumps_word}
 use Rattle.gj_words.specs.declared.requests.Command.{Command}
 use Rattle.gj_words.specs.declared.requests.Command.TheVariants.{Minimal, Extreme, Cut, Check, Show, Faces, Demo, Mixed, Problem, Derive, Fill, Group, Times, Mirror, Restrict}
+use Rattle.gj_words.specs.declared.requests.Request.{Request}
 use Rattle.gj_top.specs.declared.status.Status.{Status}
 use Rattle.gj_top.specs.declared.status.Status.TheVariants.{WriteFault, Memory}
 use Rattle.gj_top.specs.Answer.{IsAnswer}
@@ -47,19 +48,26 @@ unflagged (Times n j) e = cc
 unflagged Mirror e = cc
 unflagged (Restrict d) e = cc
 
-flagged : (front back : List (List ℕ)) → [] ≡ front ++ json_word ∷ back → ⊥
-flagged [] back e = cc
-flagged (x ∷ front) back e = cc
+flagged : (flag : List ℕ) (front back : List (List ℕ)) → [] ≡ front ++ flag ∷ back → ⊥
+flagged flag [] back e = cc
+flagged flag (x ∷ front) back e = cc
 
-no_words : (c : Command) (json : Bool) → HasFlag json (command_words c) [] → ⊥
-no_words c true h = flagged h.0 h.1 h.3
-no_words c false h = unflagged c h
+-- no words have a flag, and without it they are none
+bare : (flag : List ℕ) (given : Bool) (some : List (List ℕ)) → HasFlag flag given some [] → [] ≡ some
+bare flag true some h = absurd (flagged flag h.0 h.1 h.3)
+bare flag false some h = h
+
+no_words : (r : Request) → HasFlags r [] → ⊥
+no_words r (some, json, jumps) =
+    let none : [] ≡ some = bare jumps_word r.jumps some jumps in
+    unflagged r.command
+    (bare json_word r.json (command_words r.command) (subst (HasFlag json_word r.json (command_words r.command)) (sym none) json))
 
 -- no words name no request
 none_named : (words : List (String Global)) → words ≡ [] → NameNone words
 none_named words e = λ r named.
     let empty : IsNamed [] r = subst (λ (w : List (String Global)). IsNamed w r) e named in
-    no_words r.command r.json empty.placed
+    no_words r empty.placed
 
 -- ---- the answer of a run
 

@@ -33,7 +33,7 @@ use Rattle.gj_library.specs.ProblemCall.{problem_word, IsProblemCall, IsProblemC
 use Rattle.gj_library.proofs.Codes.{back, status_is}
 
 abbrev request : Request
-request = record { command = Problem; json = false }
+request = record { command = Problem; json = false; jumps = false }
 
 -- the word is text
 abbrev are_small : List ℕ → Bool
@@ -48,7 +48,12 @@ small (b ∷ bytes) h =
 
 -- and it names the request
 named_problem : (words : List (String Global)) → AreWordsOf problem_word words → IsNamed words request
-named_problem words (inl are) = record { in_bounds = tt; allowed = λ flag. absurd (let no : false ≡ true = flag in cc); placed = are.1 }
+named_problem words (inl are) = record {
+  in_bounds = tt;
+  json_allowed = λ flag. absurd (let no : false ≡ true = flag in cc);
+  jumps_allowed = λ flag. absurd (let no : false ≡ true = flag in cc);
+  placed = (problem_word ∷ [], refl, are.1);
+}
 named_problem words (inr are) = absurd (are.0 (IsUtf8-from_ascii problem_word (IsAscii-from_all problem_word (small problem_word refl))))
 
 -- no end has one of these codes

@@ -35,15 +35,18 @@ use Rattle.gj_top.specs.Command.{promise_with, work_with}
 use Rattle.gj_top.specs.Causes.{IsDoneRun}
 use Rattle.gj_top.specs.Minimal.{IsTrueVerdict}
 use Rattle.gj_top.specs.Extreme.{IsTrueExtremality}
+use Rattle.gj_top.specs.LimitExtreme.{IsTrueLimitExtremality, IsTrueJumpsExtremality}
+use Rattle.gj_top.specs.Report.{claims, limit_claims}
 use Rattle.gj_top.specs.Problem.{AreProblemCuts}
+use Rattle.gj_top.specs.Check.Checkable.{of_claim, of_limit_claim, of_steps}
 use Rattle.gj_top.specs.Check.{Checkable, SpellsCheckable, IsTrueCheck}
 use Rattle.gj_top.specs.Derive.{IsTrueDerivedText}
 use Rattle.gj_top.specs.Told.{Told}
 use Rattle.gj_top.specs.declared.cut_input.CutInput.{CutInput}
 use Rattle.gj_top.specs.Cut.{SpellsCutInput, HasLinesOfRule}
-use Rattle.gj_top.proofs.OneReport.{reported}
+use Rattle.gj_top.proofs.OneReport.{reported, told, told_by}
 use Rattle.gj_top.proofs.Sound.{sound}
-use Rattle.gj_top.proofs.TextLaws.{function_is_bounded, json_is_bounded}
+use Rattle.gj_top.proofs.TextLaws.{function_is_bounded, json_is_bounded, spelled_is_bounded}
 use Rattle.gj_fields.specs.Fields.{OrderedField, HasFloor}
 use Rattle.gj_reals.proofs.OnlyExtremeAtReals.{extreme_from_reals}
 use Rattle.gj_real_cuts.specs.RealRows.{RealCutHolds}
@@ -51,9 +54,9 @@ use Rattle.gj_real_answers.specs.RealMeaning.{RealHoldsFor}
 use Rattle.gj_real_problems.proofs.Cuts.{cuts_transferred}
 use Rattle.gj_real_problems.proofs.Transfer.{transferred}
 use Rattle.gj_real_problems.specs.RealProblems.{RealHolds}
-use Rattle.gj_real_answers.proofs.Claims.{minimal_at_reals, minimal_from_reals, extreme_at_reals, claim_at_reals}
+use Rattle.gj_real_answers.proofs.Claims.{minimal_at_reals, minimal_from_reals, extreme_at_reals, claim_at_reals, extreme_function_at_reals, extreme_function_from_reals, limit_claim_at_reals}
 use Rattle.gj_real_answers.proofs.MixedCuts.{cut_by_function, cut_by_gmic}
-use Rattle.gj_real_answers.specs.RealAnswers.{IsRealVerdict, IsRealExtremality, RealLineHolds, RealMixedLineHolds, IsRealCheck, IsRealDerivedText, AreRealMixedCuts, AreRealProblemCuts, real_headline, IsTrueRealRun}
+use Rattle.gj_real_answers.specs.RealAnswers.{IsRealVerdict, IsRealExtremality, IsRealLimitExtremality, IsRealJumpsExtremality, RealLineHolds, RealMixedLineHolds, IsRealCheck, IsRealDerivedText, AreRealMixedCuts, AreRealProblemCuts, real_headline, IsTrueRealRun}
 
 -- a function of a rule that is read is within the limits
 rule_is_bounded : (r : CutRule) (text rest : List ℕ) → HasLinesOfRule text r rest → IsBoundedRule r
@@ -94,6 +97,28 @@ module _ {R : Type 0} (K : OrderedField R) (floors : HasFloor K) where
       ))
   extremality f text bounds (inr (inr h)) =
       inr (inr (h.0, h.1, λ real. h.3 (minimal_from_reals K floors f bounds real)))
+
+  -- of a function that jumps
+  limit_extremality : (f : FunctionData) (text : List ℕ) → IsWithinBounds f →
+      IsTrueLimitExtremality f text → IsRealLimitExtremality K floors f text
+  limit_extremality f text bounds (inl h) =
+      inl (h.0, extreme_function_at_reals K floors f bounds h.2)
+  limit_extremality f text bounds (inr h) =
+      inr (
+        h.0,
+        h.1,
+        minimal_at_reals K floors f bounds h.3,
+        λ real. h.5 (extreme_function_from_reals K floors f bounds real),
+      )
+
+  jumps_extremality : (json : Bool) (f : FunctionData) (text : List ℕ) → IsWithinBounds f →
+      IsTrueJumpsExtremality json f text → IsRealJumpsExtremality K floors json f text
+  jumps_extremality json f text bounds (inl h) =
+      inl (told json (IsTrueExtremality f) (IsRealExtremality K floors f)
+      (λ proof. extremality f proof bounds) text h)
+  jumps_extremality json f text bounds (inr h) =
+      inr (told_by limit_claims json (IsTrueLimitExtremality f) (IsRealLimitExtremality K floors f)
+      (λ proof. limit_extremality f proof bounds) text h)
 
   -- the line of a cut with the names of its columns
   named_holds : (columns : List (List ℕ)) (row : Row) (cut : MixedCut) (line : CutLine)
@@ -159,8 +184,11 @@ module _ {R : Type 0} (K : OrderedField R) (floors : HasFloor K) where
 
   checked : (thing : Checkable) (input text : List ℕ) → SpellsCheckable input thing →
       IsTrueCheck thing text → IsRealCheck K floors thing text
-  checked (inl c) input text spelled h = (claim_at_reals K floors c spelled.bounded h.0, h.1)
-  checked (inr t) input text spelled h =
+  checked (of_claim c) input text spelled h =
+      (claim_at_reals K floors c spelled.bounded h.0, h.1)
+  checked (of_limit_claim c) input text spelled h =
+      (limit_claim_at_reals K floors c spelled.bounded h.0, h.1)
+  checked (of_steps t) input text spelled h =
       (claims_transferred t.told.problem t.told.steps h.0, h.1)
 
   pub derived : (t : Told DraftInput) (text : List ℕ) → IsTrueDerivedText t text →
@@ -170,36 +198,40 @@ module _ {R : Type 0} (K : OrderedField R) (floors : HasFloor K) where
     hold = claims_transferred t.told.drafts.task.problem (steps_of h.shown) h.hold;
   }
 
-  real_reply : (command : Command) (json : Bool) (thing : (promise_with command json).Thing)
-      (input text : List ℕ) → Spells (promise_with command json).form input thing →
-      (work_with command json).replies thing Done text →
-      (promise_with command json).headline thing text →
-      real_headline K floors command json thing text
-  real_reply Minimal true f input text spelled replied h =
-      reported (IsTrueVerdict f) (IsRealVerdict K floors f)
+  real_reply : (command : Command) (json jumps : Bool)
+      (thing : (promise_with command json jumps).Thing) (input text : List ℕ) →
+      Spells (promise_with command json jumps).form input thing →
+      (work_with command json jumps).replies thing Done text →
+      (promise_with command json jumps).headline thing text →
+      real_headline K floors command json jumps thing text
+  real_reply Minimal true jumps f input text spelled replied h =
+      reported claims (IsTrueVerdict f) (IsRealVerdict K floors f)
       (λ proof. verdict f proof (json_is_bounded input f spelled)) text h
-  real_reply Minimal false f input text spelled replied h =
+  real_reply Minimal false jumps f input text spelled replied h =
       verdict f text (function_is_bounded input f spelled) h
-  real_reply Extreme true f input text spelled replied h =
-      reported (IsTrueExtremality f) (IsRealExtremality K floors f)
+  real_reply Extreme json true f input text spelled replied h =
+      jumps_extremality json f text (spelled_is_bounded json input f spelled) h
+  real_reply Extreme true false f input text spelled replied h =
+      reported claims (IsTrueExtremality f) (IsRealExtremality K floors f)
       (λ proof. extremality f proof (json_is_bounded input f spelled)) text h
-  real_reply Extreme false f input text spelled replied h =
+  real_reply Extreme false false f input text spelled replied h =
       extremality f text (function_is_bounded input f spelled) h
-  real_reply Check json thing input text spelled replied h = checked thing input text spelled h
-  real_reply Mixed json thing input text spelled replied h =
+  real_reply Check json jumps thing input text spelled replied h = checked thing input text spelled h
+  real_reply Mixed json jumps thing input text spelled replied h =
       mixed_cuts thing input text spelled replied.0 h
-  real_reply Problem json asked input text spelled replied h = problem_cuts asked text h
-  real_reply Derive json t input text spelled replied h = derived t text h
-  real_reply Show true thing input text spelled replied h = h
-  real_reply Show false thing input text spelled replied h = h
-  real_reply Faces json thing input text spelled replied h = h
-  real_reply Cut json thing input text spelled replied h = h
-  real_reply (Demo n) json thing input text spelled replied h = h
-  real_reply Fill json thing input text spelled replied h = h
-  real_reply Group json thing input text spelled replied h = h
-  real_reply (Times n j) json thing input text spelled replied h = h
-  real_reply Mirror json thing input text spelled replied h = h
-  real_reply (Restrict d) json thing input text spelled replied h = h
+  real_reply Problem json jumps asked input text spelled replied h = problem_cuts asked text h
+  real_reply Derive json jumps t input text spelled replied h = derived t text h
+  real_reply Show true jumps thing input text spelled replied h = h
+  real_reply Show false jumps thing input text spelled replied h = h
+  real_reply Faces json true thing input text spelled replied h = h
+  real_reply Faces json false thing input text spelled replied h = h
+  real_reply Cut json jumps thing input text spelled replied h = h
+  real_reply (Demo n) json jumps thing input text spelled replied h = h
+  real_reply Fill json jumps thing input text spelled replied h = h
+  real_reply Group json jumps thing input text spelled replied h = h
+  real_reply (Times n j) json jumps thing input text spelled replied h = h
+  real_reply Mirror json jumps thing input text spelled replied h = h
+  real_reply (Restrict d) json jumps thing input text spelled replied h = h
 
   pub real_run : (words : List (String Global)) (input before : List ℕ)
       (written : Option (List ℕ)) → IsDoneRun words input before written →
@@ -214,7 +246,7 @@ module _ {R : Type 0} (K : OrderedField R) (floors : HasFloor K) where
         text = done.text;
         thing = reply.thing;
         spelled = reply.spelled;
-        holds = real_reply done.request.command done.request.json reply.thing input done.text
-            reply.spelled reply.replied headline;
+        holds = real_reply done.request.command done.request.json done.request.jumps reply.thing
+            input done.text reply.spelled reply.replied headline;
         gain = done.gain;
       }

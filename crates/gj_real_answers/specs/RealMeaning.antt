@@ -5,6 +5,8 @@ use Rattle.gj_shape.specs.FunctionData.{FunctionData}
 use Rattle.gj_proof.specs.Meaning.{CutLineHolds}
 use Rattle.gj_proof.specs.declared.claim.Claim.{Claim}
 use Rattle.gj_proof.specs.declared.claim.Claim.TheVariants.{Minimal, NotMinimal, Cut, Extreme, ExtremeByResidues, NotExtreme}
+use Rattle.gj_limit_proof.specs.declared.claim.LimitClaim.{LimitClaim}
+use Rattle.gj_limit_proof.specs.declared.claim.LimitClaim.TheVariants as limit
 use Rattle.gj_row.specs.declared.tableau.Row.{Row}
 use Rattle.gj_mixed.specs.declared.cut.MixedCut.{MixedCut}
 use Rattle.gj_mixed.specs.declared.cut.MixedCut.TheVariants as mixed_cut
@@ -31,6 +33,12 @@ RealClaimHolds K floors (Cut rule rows) = All CutLineHolds rows
 RealClaimHolds K floors (Extreme f lines rows) = IsRealExtreme K floors f
 RealClaimHolds K floors (ExtremeByResidues f lines rows) = IsRealExtreme K floors f
 RealClaimHolds K floors (NotExtreme f h) =
+    IsRealMinimal K floors f × (IsRealExtreme K floors f → ⊥)
+
+-- the same of a claim about a function that jumps
+abbrev pub RealLimitClaimHolds : {R : Type 0} (K : OrderedField R) → HasFloor K → LimitClaim → Type 0
+RealLimitClaimHolds K floors (limit.Extreme numbers f lines rows) = IsRealExtreme K floors f
+RealLimitClaimHolds K floors (limit.NotExtreme f h) =
     IsRealMinimal K floors f × (IsRealExtreme K floors f → ⊥)
 
 -- the mixed cut of a row, if it has one, holds at all whole and real amounts

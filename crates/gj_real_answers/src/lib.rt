@@ -15,11 +15,15 @@ ghost use Rattle.gj_mixed.specs.declared.cut.MixedCut.{MixedCut};
 ghost use Rattle.gj_proof.specs.Meaning.{ClaimHolds};
 ghost use Rattle.gj_proof.specs.ProofText.{IsBounded};
 ghost use Rattle.gj_proof.specs.declared.claim.Claim.{Claim};
+ghost use Rattle.gj_limit_proof.specs.LimitMeaning.{LimitClaimHolds};
+ghost use Rattle.gj_limit_proof.specs.LimitText.{IsBounded as IsLimitBounded};
+ghost use Rattle.gj_limit_proof.specs.declared.claim.LimitClaim.{LimitClaim};
 ghost use Rattle.gj_problem_text.specs.declared.input.SafeInput.{SafeInput};
 ghost use Rattle.gj_top.specs.Causes.{IsDoneRun};
 ghost use Rattle.gj_top.specs.Problem.{AreProblemCuts};
 ghost use Rattle.gj_real_answers.specs.RealAnswers.{AreRealProblemCuts, IsTrueRealRun};
 ghost use Rattle.gj_real_answers.specs.RealMeaning.{RealClaimHolds, RealHoldsFor};
+ghost use Rattle.gj_real_answers.specs.RealMeaning.{RealLimitClaimHolds};
 
 use gj_fields::reals::Reals;
 
@@ -30,6 +34,14 @@ use gj_fields::reals::Reals;
 /// the limits of functions (`IsWithinBounds` in `IsBounded`), as that of each text is.
 pub fn claims_hold_over_reals<K: Reals>()
     ensures { (c : Claim) → IsBounded c → ClaimHolds c → RealClaimHolds K.field K.floors c }
+{}
+
+/// A claim about a function that jumps says so of all real numbers, too, if it holds: one that is
+/// called extreme is minimal, and no average of two different valid functions, and one that is
+/// called not extreme is minimal, and not extreme.
+pub fn limit_claims_hold_over_reals<K: Reals>()
+    ensures { (c : LimitClaim) → IsLimitBounded c → LimitClaimHolds c →
+        RealLimitClaimHolds K.field K.floors c }
 {}
 
 /// The mixed cut of a row, by a continuous minimal function or the mixed-integer cut, holds at all
@@ -54,7 +66,8 @@ pub fn problem_cuts_hold_over_reals<K: Reals>()
 /// A run that ends with Done, of which the clause `reply` of `run` says `IsDoneRun`, tells the
 /// truth of all real numbers. What it calls minimal is minimal among all valid functions. What it
 /// calls extreme is minimal, and no average of two different valid functions. What it calls not
-/// minimal, or not extreme, is not. So it is with the claims that it accepts. Each mixed cut that
+/// minimal, or not extreme, is not; and so it is of a function that jumps. So it is with the claims
+/// that it accepts. Each mixed cut that
 /// it writes holds at all whole and real amounts. Each cut of a problem, and each claim of a
 /// derivation that is accepted or written, holds at all feasible points of real numbers. No limit is
 /// asked: a function that is read is within the limits.

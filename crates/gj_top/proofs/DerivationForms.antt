@@ -58,7 +58,7 @@ one_told Tells one input a b h k =
 -- ---- first words
 
 -- a text whose first line has other words is read as a proof text
-other_title : (text rest w : List ℕ) (ws : List (List ℕ)) → (line_part Lenient (words_rule (w ∷ ws))).Reads text tt rest →
+pub other_title : (text rest w : List ℕ) (ws : List (List ℕ)) → (line_part Lenient (words_rule (w ∷ ws))).Reads text tt rest →
     ((more : List (List ℕ)) → w ∷ ws ≡ codes "gj-derivation" ∷ more → ⊥) → ((more : List (List ℕ)) → w ∷ ws ≡ codes "gj-function" ∷ more → ⊥) →
     BeginsAsDerivation text → ⊥
 other_title text rest w ws (start, words, line, is) derivation function (inl begins) =

@@ -20,6 +20,7 @@ use Rattle.gj_top.specs.declared.status.Status.{Status}
 use Rattle.gj_top.specs.declared.status.Status.TheVariants.{Done, Rejected}
 use Rattle.gj_top.specs.Answer.{IsAnswerTo}
 use Rattle.gj_top.specs.Answer.IsAnswerTo.{too_long, refused, replied}
+use Rattle.gj_top.specs.Check.Checkable.{of_claim, of_limit_claim, of_steps}
 use Rattle.gj_top.specs.Check.{Checkable, SpellsCheckable, IsCheckReply, check}
 use Rattle.gj_top.specs.Derivation.{rule_in_front, IsDerivationReply, IsWideAnswer}
 use Rattle.gj_top.specs.Derive.{IsFilledIn, derive}
@@ -28,6 +29,7 @@ use Rattle.gj_top.specs.Reply.{status_of}
 use Rattle.gj_top.specs.Task.{IsReply}
 use Rattle.gj_top.specs.Told.{Told}
 use Rattle.gj_top.proofs.DerivationForms.{one_derivation, proof_begins_otherwise, derivation_begins}
+use Rattle.gj_top.proofs.LimitTexts.{limit_begins_otherwise}
 use Rattle.gj_top.proofs.OneObjection.{no_objection}
 use Rattle.gj_top.proofs.Sound.{check_sound}
 
@@ -60,8 +62,10 @@ good_end t e answer sure derivation h =
 
 good_reply : (text : List ℕ) (thing : Checkable) (e : End) (answer : List ℕ) → IsGoodDerivation text → SpellsCheckable text thing →
     IsCheckReply thing e answer → IsEnd e answer
-good_reply text (inl c) e answer g spelled h = absurd (proof_begins_otherwise c text spelled.spelled (derivation_begins text g.told g.is_told))
-good_reply text (inr t) e answer g spelled h =
+good_reply text (of_claim c) e answer g spelled h = absurd (proof_begins_otherwise c text spelled.spelled (derivation_begins text g.told g.is_told))
+good_reply text (of_limit_claim c) e answer g spelled h =
+    absurd (limit_begins_otherwise c text spelled.spelled (derivation_begins text g.told g.is_told))
+good_reply text (of_steps t) e answer g spelled h =
     let same : g.told ≡ t.told = one_derivation text g.told t.told g.is_told spelled.1 in
     good_end t e answer (subst (λ (d : DerivationInput). IfSome d.function IsUsable) same g.usable)
     (subst (λ (d : DerivationInput). IsDerivation d.function d.problem d.steps) same g.derivation) h
@@ -101,5 +105,5 @@ derived_answer input text answer s r short (too_long a) =
     absurd (omega arith)
 derived_answer input text answer s r short (refused a) =
     let g = derived_is_good input text r in
-    absurd (check_sound.form text answer (inr (record { text = text; told = g.told })) (refl, g.is_told) a.refused)
+    absurd (check_sound.form text answer (of_steps (record { text = text; told = g.told })) (refl, g.is_told) a.refused)
 derived_answer input text answer s r short (replied a) = status_is s a.end answer a.status_is (derived_reply input text answer a.end r a.reply)

@@ -4,6 +4,7 @@ use Rattle.gj_top.specs.declared.status.Status.TheVariants.{WriteFault}
 use Rattle.gj_top.specs.IsRun.{IsRun}
 use Rattle.gj_top.specs.Outcome.{IsOutcome}
 use Rattle.gj_top.specs.Run.{Run, SinkFailed}
+use Rattle.gj_top.proofs.ByLimits.{by_limits_clause}
 use Rattle.gj_top.proofs.ByOrder4q.{order_4q_clause}
 use Rattle.gj_top.proofs.Clauses as clauses
 use Rattle.gj_top.proofs.NeverWide.{narrow_clause}
@@ -35,4 +36,5 @@ is_run run o failed reads writes = record {
   order_4q = order_4q_clause run o;
   two_slopes = two_slopes_clause run o;
   called_extreme = called_extreme_clause run o;
+  by_limits = by_limits_clause run o;
 }

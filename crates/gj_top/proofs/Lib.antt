@@ -1,4 +1,5 @@
 pub mod Accepted
+pub mod ByLimits
 pub mod ByOrder4q
 pub mod Clauses
 pub mod Commands
@@ -13,11 +14,15 @@ pub mod EveryRun
 pub mod Extremality
 pub mod InputLines
 pub mod InputRead
+pub mod JumpsReplies
+pub mod LimitExtremality
+pub mod LimitTexts
 pub mod Made
 pub mod NeverWide
 pub mod OneAnswer
 pub mod OneCheck
 pub mod OneCuts
+pub mod OneLimitVerdict
 pub mod OneListing
 pub mod OneMade
 pub mod OneMixed

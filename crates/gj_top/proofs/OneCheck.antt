@@ -7,34 +7,54 @@ use Rattle.gj_derivation_text.specs.declared.input.DerivationInput.{DerivationIn
 use Rattle.gj_derivation_text.specs.declared.input.DraftInput.{DraftInput}
 use Rattle.gj_top.specs.declared.reply.End.{End}
 use Rattle.gj_top.specs.declared.reply.End.TheVariants.{Done}
+use Rattle.gj_top.specs.Check.Checkable.{of_claim, of_limit_claim, of_steps}
 use Rattle.gj_top.specs.Check.{Checkable, SpellsCheckable, check_form, RefusesCheckable, IsCheckReply, check}
 use Rattle.gj_top.specs.Derive.{draft_form, RefusesDrafts, derive}
 use Rattle.gj_top.specs.Told.{Told}
 use Rattle.gj_top.proofs.DerivationForms.{one_draft_fault, one_derivation_fault, one_drafts, one_derivation, one_told, proof_begins_otherwise, derivation_begins}
 use Rattle.gj_top.proofs.Determined.{SpellsOne, RefusesOne, EndsOne, IsSettled, one_named_fault}
+use Rattle.gj_limit_proof.proofs.LimitOneText.{one_fault as one_limit_fault}
+use Rattle.gj_top.proofs.LimitTexts.{limit_begins_otherwise, one_limit_proof, texts_differ}
+use Rattle.gj_top.proofs.OneLimitVerdict.{one_limit_judgement}
 use Rattle.gj_top.proofs.OneVerdict.{one_judgement}
 use Rattle.gj_top.proofs.TextLaws.{one_proof}
 
 -- it is a claim
 abbrev pub IsClaim : Checkable → Type 0
-IsClaim (inl c) = Unit {0}
-IsClaim (inr t) = ⊥
+IsClaim (of_claim c) = Unit {0}
+IsClaim (of_limit_claim c) = Unit {0}
+IsClaim (of_steps t) = ⊥
 
-one_checkable : SpellsOne check_form
-one_checkable input (inl c) (inl d) h k = ap inl (one_proof input c d h k)
-one_checkable input (inl c) (inr t) h k = absurd (proof_begins_otherwise c input h.spelled (derivation_begins input t.told k.1))
-one_checkable input (inr t) (inl c) h k = absurd (proof_begins_otherwise c input k.spelled (derivation_begins input t.told h.1))
-one_checkable input (inr t) (inr u) h k = ap inr (one_told IsDerivationText one_derivation input t u h k)
+pub one_checkable : SpellsOne check_form
+one_checkable input (of_claim c) (of_claim d) h k = ap of_claim (one_proof input c d h k)
+one_checkable input (of_claim c) (of_limit_claim d) h k = absurd (texts_differ c d input h.spelled k.spelled)
+one_checkable input (of_claim c) (of_steps t) h k = absurd (proof_begins_otherwise c input h.spelled (derivation_begins input t.told k.1))
+one_checkable input (of_limit_claim c) (of_claim d) h k = absurd (texts_differ d c input k.spelled h.spelled)
+one_checkable input (of_limit_claim c) (of_limit_claim d) h k = ap of_limit_claim (one_limit_proof input c d h k)
+one_checkable input (of_limit_claim c) (of_steps t) h k =
+    absurd (limit_begins_otherwise c input h.spelled (derivation_begins input t.told k.1))
+one_checkable input (of_steps t) (of_claim c) h k = absurd (proof_begins_otherwise c input k.spelled (derivation_begins input t.told h.1))
+one_checkable input (of_steps t) (of_limit_claim c) h k =
+    absurd (limit_begins_otherwise c input k.spelled (derivation_begins input t.told h.1))
+one_checkable input (of_steps t) (of_steps u) h k = ap of_steps (one_told IsDerivationText one_derivation input t u h k)
 
 one_refusal : RefusesOne RefusesCheckable
 one_refusal input x y (inl (begins, h)) (inl (begins', k)) = one_named_fault _ (λ n m e d. one_derivation_fault input n m e d) x y h k
-one_refusal input x y (inl (begins, h)) (inr (not, k)) = absurd (not begins)
-one_refusal input x y (inr (not, h)) (inl (begins, k)) = absurd (not begins)
-one_refusal input x y (inr (not, h)) (inr (not', k)) = one_named_fault _ (λ n m e d. one_proof_fault input n m e d) x y h k
+one_refusal input x y (inl (begins, h)) (inr (inl (not, limits, k))) = absurd (not begins)
+one_refusal input x y (inl (begins, h)) (inr (inr (not, none, k))) = absurd (not begins)
+one_refusal input x y (inr (inl (not, limits, h))) (inl (begins, k)) = absurd (not begins)
+one_refusal input x y (inr (inl (not, limits, h))) (inr (inl (not', limits', k))) =
+    one_named_fault _ (λ n m e d. one_limit_fault input n m e d) x y h k
+one_refusal input x y (inr (inl (not, limits, h))) (inr (inr (not', none, k))) = absurd (none limits)
+one_refusal input x y (inr (inr (not, none, h))) (inl (begins, k)) = absurd (not begins)
+one_refusal input x y (inr (inr (not, none, h))) (inr (inl (not', limits, k))) = absurd (none limits)
+one_refusal input x y (inr (inr (not, none, h))) (inr (inr (not', none', k))) =
+    one_named_fault _ (λ n m e d. one_proof_fault input n m e d) x y h k
 
 one_reply : (Exact : Type 0) → EndsOne check_form IsCheckReply IsClaim Exact
-one_reply Exact input (inl c) known spelled e d x y h k = let same = one_judgement c e d x y h k in (same.0, λ exact. same.1)
-one_reply Exact input (inr t) known spelled e d x y h k = absurd known
+one_reply Exact input (of_claim c) known spelled e d x y h k = let same = one_judgement c e d x y h k in (same.0, λ exact. same.1)
+one_reply Exact input (of_limit_claim c) known spelled e d x y h k = let same = one_limit_judgement c e d x y h k in (same.0, λ exact. same.1)
+one_reply Exact input (of_steps t) known spelled e d x y h k = absurd known
 
 pub check_is_settled : (Exact : Type 0) → IsSettled check IsClaim Exact
 check_is_settled Exact = record { spells = one_checkable; refuses = one_refusal; replies = one_reply Exact }

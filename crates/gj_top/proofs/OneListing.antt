@@ -1,5 +1,5 @@
 -- The commands `faces`, `fill` and `demo` have one answer.
-use Rattle.std.proofs.Common.{◌≡◌, ◌≢◌, ℕ, ◌+◌, ◌*◌, ◌<◌, Bool, true, false, cond, ◌&&◌, ℤ, pos, neg_ℤ, int_lt, ◌+ℤ◌, ◌*ℤ◌, unsigned_abs, List, [], ◌∷◌, ◌++◌, All, length, codes, map, flat_map, refl, sym, ap, ap₂, subst, ◌∙◌, arith}
+use Rattle.std.proofs.Common.{◌≡◌, ◌≢◌, inl, inr, ℕ, ◌+◌, ◌*◌, ◌<◌, Bool, true, false, cond, ◌&&◌, ℤ, pos, neg_ℤ, int_lt, ◌+ℤ◌, ◌*ℤ◌, unsigned_abs, List, [], ◌∷◌, ◌++◌, All, length, codes, map, flat_map, refl, sym, ap, ap₂, subst, ◌∙◌, arith}
 use Rattle.std.specs.List.{AllZip}
 use Rattle.std.proofs.lemmas.Int.{ints}
 use Rattle.std.proofs.lemmas.List.Elements.{All-head, All-tail}
@@ -37,6 +37,8 @@ use Rattle.gj_demo.specs.Summary.{IsSummary, HasSummary, lines_with}
 use Rattle.gj_top.specs.declared.reply.End.TheVariants as end
 use Rattle.gj_top.specs.Demo.{demo}
 use Rattle.gj_verdict_text.specs.FacesText.{IsFacesText, uncovered_line}
+use Rattle.gj_limit_faces_text.proofs.OneFacesText.{one_limit_faces_text}
+use Rattle.gj_top.specs.Faces.{IsJumpsFacesText}
 use Rattle.gj_top.specs.Fill.{IsFillText, NamesFirstPair, IsFillReply}
 use Rattle.gj_top.proofs.Determined.{AnswersOne, IsDetermined, one_done}
 use Rattle.gj_transform.proofs.OneTransform.{over_both}
@@ -62,6 +64,12 @@ one_faces_text f x y h k =
     let lines = one_cover f.order (IsTight f) h.lines k.lines h.cover k.cover in
     let intervals = one_picked _ h.uncovered k.uncovered in
     h.spelled ∙ (λ i. listing f.order (listed i) (lines i) (intervals i)) ∙ sym k.spelled
+
+pub one_jumps_faces : (f : FunctionData) (x y : List ℕ) → IsJumpsFacesText f x → IsJumpsFacesText f y → x ≡ y
+one_jumps_faces f x y (inl h) (inl k) = one_faces_text f x y h.1 k.1
+one_jumps_faces f x y (inl h) (inr k) = absurd (k.0 h.0)
+one_jumps_faces f x y (inr h) (inl k) = absurd (h.0 k.0)
+one_jumps_faces f x y (inr h) (inr k) = one_limit_faces_text f x y h.1 k.1
 
 -- ---- fill-ins
 

@@ -8,7 +8,8 @@ use Rattle.gj_top.specs.declared.reply.End.{End}
 use Rattle.gj_top.specs.declared.reply.End.TheVariants.{NotContinuous, NoFunction}
 use Rattle.gj_top.specs.Objection.{NamesViolation, NamesJump, IsObjection}
 use Rattle.gj_top.proofs.OneCuts.{one_violation_text, no_violation}
-use Rattle.gj_top.proofs.OneVerdict.{one_jump_text, no_jump_named}
+use Rattle.gj_top.proofs.JumpsReplies.{no_jump_named}
+use Rattle.gj_top.proofs.OneVerdict.{one_jump_text}
 
 made_no_violation : (r : CutRule) (x : List ℕ) → IsBoundedRule r → MakesContinuousCuts r → NamesViolation r x → ⊥
 made_no_violation Gmic x l h k = k

@@ -8,10 +8,10 @@ use Rattle.serde_json.specs.Written.{outline, items_outline, compact_text}
 use Rattle.serde_json.proofs.Texts.{print-outline}
 use Rattle.gj_lemmas.proofs.Choices.{same_some}
 use Rattle.gj_json.specs.JsonText.{strings, report_value, IsReport}
-use Rattle.gj_proof.specs.ProofText.{IsBounded, IsProofText, claim_word}
+use Rattle.gj_proof.specs.ProofText.{IsBounded, IsProofText}
 use Rattle.gj_proof.specs.declared.claim.Claim.{Claim}
 use Rattle.gj_proof.proofs.OneText.{one_claim}
-use Rattle.gj_top.specs.Report.{IsReportOf, Tells}
+use Rattle.gj_top.specs.Report.{Kind, claims, IsReportBy, Tells, TellsBy}
 
 -- ---- the lines as strings
 
@@ -74,8 +74,9 @@ one_claim_reported c d verdict word first second text b e p q r s =
 -- ---- what holds of the proof text of a report
 
 -- what follows of it
-pub reported : (P Q : List ℕ → Type 0) → ((proof : List ℕ) → P proof → Q proof) → (text : List ℕ) → IsReportOf P text → IsReportOf Q text
-reported P Q keeps text r = record {
+pub reported : (kind : Kind) (P Q : List ℕ → Type 0) → ((proof : List ℕ) → P proof → Q proof) → (text : List ℕ) → IsReportBy kind P text →
+    IsReportBy kind Q text
+reported kind P Q keeps text r = record {
   proof = r.proof;
   holds = keeps r.proof r.holds;
   claim = r.claim;
@@ -83,21 +84,28 @@ reported P Q keeps text r = record {
   report = r.report;
 }
 
+pub told_by : (kind : Kind) (json : Bool) (P Q : List ℕ → Type 0) → ((proof : List ℕ) → P proof → Q proof) → (text : List ℕ) →
+    TellsBy kind json P text → TellsBy kind json Q text
+told_by kind false P Q keeps text p = keeps text p
+told_by kind true P Q keeps text p = reported kind P Q keeps text p
+
 pub told : (json : Bool) (P Q : List ℕ → Type 0) → ((proof : List ℕ) → P proof → Q proof) → (text : List ℕ) → Tells json P text → Tells json Q text
-told false P Q keeps text p = keeps text p
-told true P Q keeps text p = reported P Q keeps text p
+told = told_by claims
 
 -- two properties of it hold of one proof text
-pub also_reported : (P Q : List ℕ → Type 0) (text : List ℕ) (r : IsReportOf P text) → IsReportOf Q text → Q r.proof
-also_reported P Q text r s =
-    let same = one_report (claim_word s.claim) (claim_word r.claim) s.proof r.proof text s.report r.report in
-    subst Q same.1 s.holds
+pub also_reported : (kind other : Kind) (P Q : List ℕ → Type 0) (text : List ℕ) (r : IsReportBy kind P text) (s : IsReportBy other Q text) →
+    s.proof ≡ r.proof
+also_reported kind other P Q text r s = (one_report (other.word s.claim) (kind.word r.claim) s.proof r.proof text s.report r.report).1
 
 -- it has a property exactly if A holds, if that follows from another of its properties
+pub told_exactly_by : (kind : Kind) (json : Bool) (P Q : List ℕ → Type 0) (A : Type 0) → ((proof : List ℕ) → P proof → Q proof ↔ A) → (text : List ℕ) →
+    TellsBy kind json P text → TellsBy kind json Q text ↔ A
+told_exactly_by kind false P Q A exactly text p = exactly text p
+told_exactly_by kind true P Q A exactly text r = (
+  λ s. (exactly r.proof r.holds).0 (subst Q (also_reported kind kind P Q text r s) s.holds),
+  λ a. reported kind P Q (λ proof p. (exactly proof p).1 a) text r,
+)
+
 pub told_exactly : (json : Bool) (P Q : List ℕ → Type 0) (A : Type 0) → ((proof : List ℕ) → P proof → Q proof ↔ A) → (text : List ℕ) →
     Tells json P text → Tells json Q text ↔ A
-told_exactly false P Q A exactly text p = exactly text p
-told_exactly true P Q A exactly text r = (
-  λ s. (exactly r.proof r.holds).0 (also_reported P Q text r s),
-  λ a. reported P Q (λ proof p. (exactly proof p).1 a) text r,
-)
+told_exactly = told_exactly_by claims

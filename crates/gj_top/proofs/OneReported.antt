@@ -13,10 +13,13 @@ use Rattle.gj_proof.specs.declared.claim.Claim.{Claim}
 use Rattle.gj_proof.specs.declared.numbers.Numbers.{Numbers}
 use Rattle.gj_proof.specs.declared.numbers.Numbers.TheVariants.{Whole, Residues}
 use Rattle.gj_proof.specs.ProofText.{IsProofText, claim_word, title_fields, numbers_of, own_text}
+use Rattle.gj_limit_proof.specs.declared.claim.LimitClaim.{LimitClaim}
+use Rattle.gj_limit_proof.specs.declared.claim.LimitClaim.TheVariants.{Extreme, NotExtreme}
+use Rattle.gj_limit_proof.specs.LimitText.{IsLimitProofText, claim_word as limit_claim_word, own_text as own_limit_text}
 use Rattle.gj_forms.specs.LineForms.{bytes_of}
 use Rattle.gj_top.specs.declared.reply.End.{End}
 use Rattle.gj_top.specs.declared.reply.End.TheVariants as end
-use Rattle.gj_top.specs.Report.{Tells, IsToldReply}
+use Rattle.gj_top.specs.Report.{Kind, claims, limit_claims, TellsBy, IsToldBy, IsToldReply}
 use Rattle.gj_top.specs.Show.{IsShownText}
 use Rattle.gj_top.proofs.Determined.{AnswersOne, each_one}
 use Rattle.gj_top.proofs.ProofBytes.{known, claim_word_printable}
@@ -63,41 +66,67 @@ title_no_feed : (n : Numbers) → NoFeed (title_text n)
 title_no_feed Whole = printable_no_feed (title_text Whole) (known (title_text Whole) refl)
 title_no_feed Residues = printable_no_feed (title_text Residues) (known (title_text Residues) refl)
 
-word_no_feed : (c : Claim) → NoFeed (codes "claim " ++ claim_word c)
-word_no_feed c =
-    printable_no_feed (codes "claim " ++ claim_word c)
-    (All-append IsPrintable (codes "claim ") (claim_word c) (known (codes "claim ") refl) (claim_word_printable c))
+word_no_feed : (word : List ℕ) → All IsPrintable word → NoFeed (codes "claim " ++ word)
+word_no_feed word h =
+    printable_no_feed (codes "claim " ++ word) (All-append IsPrintable (codes "claim ") word (known (codes "claim ") refl) h)
 
 -- the first lines of two texts
 first_lines : (a b r q : List ℕ) → NoFeed a → NoFeed b → line a ++ r ≡ line b ++ q → (a ≡ b) × (r ≡ q)
 first_lines a b r q h k e = one_cut a b r q h k (sym (append_assoc a (10 ∷ []) r) ∙ e ∙ append_assoc b (10 ∷ []) q)
 
--- what follows the word of the claim, and what follows the title
-abbrev behind_word : Claim → List ℕ → List ℕ
-behind_word c subject = subject ++ (own_text c ++ line (codes "end"))
+-- a text begins with a title and the line of a claim of this word
+record IsHeaded (text word : List ℕ) : Type 0 where
+  title : List ℕ
+  title_ends : NoFeed title
+  word_ends : NoFeed (codes "claim " ++ word)
+  rest : List ℕ
+  spelled : text ≡ line title ++ (line (codes "claim " ++ word) ++ rest)
 
-abbrev behind_title : Claim → List ℕ → List ℕ
-behind_title c subject = line (codes "claim " ++ claim_word c) ++ behind_word c subject
+one_head : (text v w : List ℕ) → IsHeaded text v → IsHeaded text w → v ≡ w
+one_head text v w h k =
+    let titles =
+    first_lines h.title k.title (line (codes "claim " ++ v) ++ h.rest) (line (codes "claim " ++ w) ++ k.rest) h.title_ends k.title_ends
+    (sym h.spelled ∙ k.spelled) in
+    let words = first_lines (codes "claim " ++ v) (codes "claim " ++ w) h.rest k.rest h.word_ends k.word_ends titles.1 in
+    ap (drop 6) words.0
 
 regrouped : (a b s l e : List ℕ) → a ++ b ++ s ++ l ++ e ≡ a ++ (b ++ (s ++ (l ++ e)))
 regrouped a b s l e = append_assoc (a ++ b ++ s) l e ∙ append_assoc (a ++ b) s (l ++ e) ∙ append_assoc a b (s ++ (l ++ e))
 
-by_title : (c : Claim) (text : List ℕ) (h : IsProofText c text) → text ≡ line (title_text (numbers_of c)) ++ behind_title c h.subject
-by_title c text h =
-    h.spelled ∙ ap (λ t. t ++ line (codes "claim " ++ claim_word c) ++ h.subject ++ own_text c ++ line (codes "end"))
-    (title_line (numbers_of c))
-    ∙ regrouped (line (title_text (numbers_of c))) (line (codes "claim " ++ claim_word c)) h.subject (own_text c)
-    (line (codes "end"))
+proof_headed : (c : Claim) (text : List ℕ) → IsProofText c text → IsHeaded text (claim_word c)
+proof_headed c text h = record {
+  title = title_text (numbers_of c);
+  title_ends = title_no_feed (numbers_of c);
+  word_ends = word_no_feed (claim_word c) (claim_word_printable c);
+  rest = h.subject ++ (own_text c ++ line (codes "end"));
+  spelled = h.spelled ∙ ap (λ t. t ++ line (codes "claim " ++ claim_word c) ++ h.subject ++ own_text c ++ line (codes "end"))
+      (title_line (numbers_of c))
+      ∙ regrouped (line (title_text (numbers_of c))) (line (codes "claim " ++ claim_word c)) h.subject (own_text c) (line (codes "end"));
+}
 
-one_word : (c d : Claim) (text : List ℕ) → IsProofText c text → IsProofText d text → claim_word c ≡ claim_word d
-one_word c d text h k =
-    let titles =
-    first_lines (title_text (numbers_of c)) (title_text (numbers_of d)) (behind_title c h.subject) (behind_title d k.subject)
-    (title_no_feed (numbers_of c)) (title_no_feed (numbers_of d)) (sym (by_title c text h) ∙ by_title d text k) in
-    let words =
-    first_lines (codes "claim " ++ claim_word c) (codes "claim " ++ claim_word d) (behind_word c h.subject) (behind_word d k.subject)
-    (word_no_feed c) (word_no_feed d) titles.1 in
-    ap (drop 6) words.0
+limit_word_printable : (c : LimitClaim) → All IsPrintable (limit_claim_word c)
+limit_word_printable (Extreme numbers f lines rows) = known (codes "extreme") refl
+limit_word_printable (NotExtreme f h) = known (codes "not-extreme") refl
+
+limit_headed : (c : LimitClaim) (text : List ℕ) → IsLimitProofText c text → IsHeaded text (limit_claim_word c)
+limit_headed c text h = record {
+  title = codes "gj-proof 3";
+  title_ends = printable_no_feed (codes "gj-proof 3") (known (codes "gj-proof 3") refl);
+  word_ends = word_no_feed (limit_claim_word c) (limit_word_printable c);
+  rest = h.subject ++ (own_limit_text c ++ line (codes "end"));
+  spelled = h.spelled
+      ∙ regrouped (line (codes "gj-proof 3")) (line (codes "claim " ++ limit_claim_word c)) h.subject (own_limit_text c) (line (codes "end"));
+}
+
+-- a text of a kind has one word
+abbrev HasOneWord : Kind → Type 0
+HasOneWord kind = (c d : kind.Said) (text : List ℕ) → kind.IsText c text → kind.IsText d text → kind.word c ≡ kind.word d
+
+one_word : HasOneWord claims
+one_word c d text h k = one_head text (claim_word c) (claim_word d) (proof_headed c text h) (proof_headed d text k)
+
+one_limit_word : HasOneWord limit_claims
+one_limit_word c d text h k = one_head text (limit_claim_word c) (limit_claim_word d) (limit_headed c text h) (limit_headed d text k)
 
 -- ---- the lines of a proof text
 
@@ -123,40 +152,50 @@ one_report_text word proof x y (ls, h, x_is) (ms, k, y_is) =
 -- ---- replies that are told
 
 -- the text tells of the proof text: it is that, or its report
-abbrev TellsOf : Bool → List ℕ → List ℕ → Type 0
-TellsOf false proof text = text ≡ proof
-TellsOf true proof text = (c : Claim) × IsProofText c proof × IsReport (claim_word c) proof text
-
-proof_told : (json : Bool) (P : List ℕ → Type 0) (text : List ℕ) → Tells json P text → (proof : List ℕ) × P proof × TellsOf json proof text
-proof_told false P text h = (text, h, refl)
-proof_told true P text h = (h.proof, h.holds, (h.claim, h.spelled, h.report))
-
-one_told : (json : Bool) (proof x y : List ℕ) → TellsOf json proof x → TellsOf json proof y → x ≡ y
-one_told false proof x y h k = h ∙ sym k
-one_told true proof x y (c, p, h) (d, q, k) =
-    one_report_text (claim_word c) proof x y h (subst (λ (w : List ℕ). IsReport w proof y) (one_word d c proof q p) k)
+abbrev TellsOf : Kind → Bool → List ℕ → List ℕ → Type 0
+TellsOf kind false proof text = text ≡ proof
+TellsOf kind true proof text = (c : kind.Said) × kind.IsText c proof × IsReport (kind.word c) proof text
 
 -- the text of a reply with this end tells of that text
-abbrev TellsReply : Bool → End → List ℕ → List ℕ → Type 0
-TellsReply json end.Done proof text = TellsOf json proof text
-TellsReply json e proof text = text ≡ proof
+abbrev TellsReply : Kind → Bool → End → List ℕ → List ℕ → Type 0
+TellsReply kind json end.Done proof text = TellsOf kind json proof text
+TellsReply kind json e proof text = text ≡ proof
 
-reply_told : (json : Bool) (replies : FunctionData → End → List ℕ → Type 0) (f : FunctionData) (e : End) (text : List ℕ) →
-    IsToldReply json replies f e text → (proof : List ℕ) × replies f e proof × TellsReply json e proof text
-reply_told json replies f end.Done text h = proof_told json (replies f end.Done) text h
-reply_told json replies f e text h = (text, h, refl)
+module _ (kind : Kind) (word : HasOneWord kind) where
+  proof_told : (json : Bool) (P : List ℕ → Type 0) (text : List ℕ) → TellsBy kind json P text →
+      (proof : List ℕ) × P proof × TellsOf kind json proof text
+  proof_told false P text h = (text, h, refl)
+  proof_told true P text h = (h.proof, h.holds, (h.claim, h.spelled, h.report))
 
-one_told_as : (json : Bool) (e : End) (proof x y : List ℕ) → TellsReply json e proof x → TellsReply json e proof y → x ≡ y
-one_told_as json end.Done proof x y h k = one_told json proof x y h k
-one_told_as json e proof x y h k = h ∙ sym k
+  one_told : (json : Bool) (proof x y : List ℕ) → TellsOf kind json proof x → TellsOf kind json proof y → x ≡ y
+  one_told false proof x y h k = h ∙ sym k
+  one_told true proof x y (c, p, h) (d, q, k) =
+      one_report_text (kind.word c) proof x y h (subst (λ (w : List ℕ). IsReport w proof y) (word d c proof q p) k)
+
+  reply_told : (json : Bool) (replies : FunctionData → End → List ℕ → Type 0) (f : FunctionData) (e : End) (text : List ℕ) →
+      IsToldBy kind json replies f e text → (proof : List ℕ) × replies f e proof × TellsReply kind json e proof text
+  reply_told json replies f end.Done text h = proof_told json (replies f end.Done) text h
+  reply_told json replies f e text h = (text, h, refl)
+
+  one_told_as : (json : Bool) (e : End) (proof x y : List ℕ) → TellsReply kind json e proof x → TellsReply kind json e proof y → x ≡ y
+  one_told_as json end.Done proof x y h k = one_told json proof x y h k
+  one_told_as json e proof x y h k = h ∙ sym k
+
+  one_told_by : (json : Bool) (replies : FunctionData → End → List ℕ → Type 0) → AnswersOne replies → AnswersOne (IsToldBy kind json replies)
+  one_told_by json replies one f l e d x y h k =
+      let (p, first, tells) = reply_told json replies f e x h in
+      let (q, second, others) = reply_told json replies f d y k in
+      let same = one f l e d p q first second in (
+        same.0,
+        one_told_as json e p x y tells
+            (subst (λ (t : List ℕ). TellsReply kind json e t y) (sym same.1)
+            (subst (λ (n : End). TellsReply kind json n q y) (sym same.0) others)),
+      )
 
 pub one_told_reply : (json : Bool) (replies : FunctionData → End → List ℕ → Type 0) → AnswersOne replies →
     AnswersOne (IsToldReply json replies)
-one_told_reply json replies one f l e d x y h k =
-    let (p, first, tells) = reply_told json replies f e x h in
-    let (q, second, others) = reply_told json replies f d y k in
-    let same = one f l e d p q first second in (
-      same.0,
-      one_told_as json e p x y tells
-          (subst (λ (t : List ℕ). TellsReply json e t y) (sym same.1) (subst (λ (n : End). TellsReply json n q y) (sym same.0) others)),
-    )
+one_told_reply = one_told_by claims one_word
+
+pub one_told_limit_reply : (json : Bool) (replies : FunctionData → End → List ℕ → Type 0) → AnswersOne replies →
+    AnswersOne (IsToldBy limit_claims json replies)
+one_told_limit_reply = one_told_by limit_claims one_limit_word

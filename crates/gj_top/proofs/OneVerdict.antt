@@ -8,7 +8,7 @@ use Rattle.gj_function_lines.specs.FunctionLines.{line, fraction_line}
 use Rattle.gj_shape.specs.FunctionData.{FunctionData, IsWithinBounds, IsContinuous, IsFirstJump}
 use Rattle.gj_shape.specs.Table.{IsMinimal}
 use Rattle.gj_shape.specs.declared.violations.Violation.{Violation}
-use Rattle.gj_theory.proofs.Violations.{violation_denies, first_shown}
+use Rattle.gj_theory.proofs.Violations.{violation_denies}
 use Rattle.gj_function_text.proofs.OneText.{one_first_fault as one_function_fault}
 use Rattle.gj_json.proofs.OneReason.{one_reason as one_json_reason}
 use Rattle.gj_proof.specs.declared.claim.Claim.{Claim}
@@ -16,21 +16,19 @@ use Rattle.gj_proof.specs.declared.claim.Claim.TheVariants.{Minimal, NotMinimal,
 use Rattle.gj_proof.specs.ProofText.{IsProofText}
 use Rattle.gj_proof.proofs.OneText.{one_text}
 use Rattle.gj_check.proofs.DemandsOfClaims.{one_failure, no_failure}
-use Rattle.gj_check.specs.RuleWords.{rule_word}
-use Rattle.gj_extreme.specs.Decision.{IsDecided}
 use Rattle.gj_extreme.proofs.DecidedTexts.{decided_is_bounded}
 use Rattle.gj_extreme.proofs.NotTooWide.{decided_not_wide}
 use Rattle.gj_extreme.proofs.OneDecision.{one_decision}
 use Rattle.gj_extreme.proofs.OneViolation.{one_violation}
-use Rattle.gj_extreme.proofs.TwoSlopeDecisions.{continuous_no_jump}
 use Rattle.gj_top.specs.declared.reply.End.{End}
 use Rattle.gj_top.specs.declared.reply.End.TheVariants as end
 use Rattle.gj_top.specs.Continuity.{NamesFirstJump, IsContinuousReply}
-use Rattle.gj_top.specs.Check.{IsJudgement, IsRejected}
+use Rattle.gj_top.specs.Check.{IsJudgement, IsRejected, rejected_line}
 use Rattle.gj_top.specs.Extreme.{IsDecisionText, IsExtremality, IsJumpText, IsWideText}
 use Rattle.gj_top.specs.Forms.{RefusesFunction, json_refused_line, function_task}
 use Rattle.gj_top.specs.Minimal.{IsVerdict}
 use Rattle.gj_top.proofs.Determined.{RefusesOne, AnswersOne, IsDetermined, one_named_fault}
+use Rattle.gj_top.proofs.JumpsReplies.{decided_continuous, no_jump_named}
 use Rattle.gj_top.proofs.TextLaws.{spelled_is_bounded, one_spelled}
 
 -- ---- the forms
@@ -70,9 +68,6 @@ one_jump_text f x y l h k =
     (subst (λ (i : ℕ). IsRatio k.point (pos i) (pos f.order)) same k.point_is) in
     h.spelled ∙ ap (fraction_line (codes "not continuous ")) point ∙ sym k.spelled
 
-pub no_jump_named : (f : FunctionData) (x : List ℕ) → IsContinuous f → NamesFirstJump f x → ⊥
-no_jump_named f x continuous h = continuous_no_jump f h.index continuous h.first.jump
-
 -- a function has one reply if it has one as a continuous function
 pub one_continuous : (replies : FunctionData → End → List ℕ → Type 0) → AnswersOne replies → AnswersOne (IsContinuousReply replies)
 one_continuous replies one f l end.NotContinuous end.NotContinuous x y h k = (refl, one_jump_text f x y l h k)
@@ -95,7 +90,7 @@ one_verdict f x y l (inr h) (inr k) =
 one_rejection : (c : Claim) (x y : List ℕ) → IsRejected c x → IsRejected c y → x ≡ y
 one_rejection c x y h k =
     let same = one_failure c h.at_line k.at_line h.rule k.rule h.first k.first in
-    h.spelled ∙ ap₂ (λ n r. line (codes "rejected line " ++ decimal n ++ codes " " ++ rule_word r)) same.0 same.1 ∙ sym k.spelled
+    h.spelled ∙ ap₂ rejected_line same.0 same.1 ∙ sym k.spelled
 
 pub one_judgement : (c : Claim) (e d : End) (x y : List ℕ) → IsJudgement c e x → IsJudgement c d y → (e ≡ d) × (x ≡ y)
 one_judgement c end.Done end.Done x y h k = (refl, h.spelled ∙ sym k.spelled)
@@ -112,15 +107,6 @@ one_decision_text : (f : FunctionData) (x y : List ℕ) → IsWithinBounds f →
 one_decision_text f x y l h k =
     let same : k.claim ≡ h.claim = one_decision f k.claim h.claim l k.decided h.decided in
     one_text h.claim x y (decided_is_bounded f h.claim l h.decided) h.spelled (subst (λ (c : Claim). IsProofText c y) same k.spelled)
-
--- a minimal function that is decided is continuous
-decided_continuous : (f : FunctionData) (c : Claim) → IsWithinBounds f → IsMinimal f → IsDecided f c → IsContinuous f
-decided_continuous f (Minimal g) l m h = absurd h
-decided_continuous f (NotMinimal g v) l m h = absurd (violation_denies f v l (first_shown f v l h.1) m)
-decided_continuous f (Cut r rows) l m h = absurd h
-decided_continuous f (Extreme g lines rows) l m h = h.2
-decided_continuous f (ExtremeByResidues g lines rows) l m h = h.2
-decided_continuous f (NotExtreme g halves) l m h = h.2
 
 decided_no_jump : (f : FunctionData) (x y : List ℕ) → IsWithinBounds f → IsDecisionText f x → IsJumpText f y → ⊥
 decided_no_jump f x y l h k = no_jump_named f y (decided_continuous f h.claim l k.0 h.decided) k.1

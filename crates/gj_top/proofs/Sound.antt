@@ -17,9 +17,11 @@ use Rattle.gj_top.proofs.DerivationForms.{no_draft_fault, no_derivation_fault, p
 use Rattle.gj_top.specs.Minimal.{IsVerdict, IsTrueVerdict}
 use Rattle.gj_top.specs.Extreme.{IsExtremality, IsTrueExtremality, extreme}
 use Rattle.gj_top.specs.Show.{IsShownText, show}
+use Rattle.gj_top.specs.Check.Checkable.{of_claim, of_limit_claim, of_steps}
 use Rattle.gj_top.specs.Check.{Checkable, SpellsCheckable, RefusesCheckable, IsCheckReply, IsTrueCheck, check}
 use Rattle.gj_top.specs.Derive.{IsDerivedReply, IsTrueDerivedText, derive}
 use Rattle.gj_verdict_text.specs.FacesText.{IsFacesText}
+use Rattle.gj_top.specs.Faces.{IsJumpsFacesText}
 use Rattle.gj_top.specs.Continuity.{IsContinuousReply}
 use Rattle.gj_top.specs.Cut.{cut}
 use Rattle.gj_top.specs.Mixed.{mixed}
@@ -36,7 +38,10 @@ use Rattle.gj_proof.specs.declared.claim.Claim.TheVariants.{NotExtreme}
 use Rattle.gj_shape.specs.declared.extremality.Halves.{Halves}
 use Rattle.gj_top.proofs.CutForm.{cut_input_refuses_only_others}
 use Rattle.gj_top.specs.Command.{task_with, task_for}
+use Rattle.gj_top.specs.LimitExtreme.{IsJumpsExtremality, IsTrueJumpsExtremality, extreme_with_jumps}
 use Rattle.gj_top.proofs.Extremality.{extremality_true}
+use Rattle.gj_top.proofs.LimitExtremality.{jumps_extremality_true}
+use Rattle.gj_top.proofs.LimitTexts.{limit_begins, limit_begins_otherwise, limit_proof_has_no_fault, proof_begins_by_no_limits}
 use Rattle.gj_top.proofs.OneReport.{told}
 use Rattle.gj_problem_text.proofs.InputParts.{no_fault}
 use Rattle.gj_top.proofs.ProblemCuts.{true_cuts}
@@ -92,19 +97,29 @@ verdict_true f text within (inr v) = inr (v.0, v.4, v.2, violation_denies f v.0 
 pub extreme_sound : (json : Bool) → IsSound (extreme json)
 extreme_sound json = of_proofs json IsTrueExtremality IsExtremality extremality_true
 
+extreme_with_jumps_sound : (json : Bool) → IsSound (extreme_with_jumps json)
+extreme_with_jumps_sound json = of_functions json (IsTrueJumpsExtremality json) (IsJumpsExtremality json) (jumps_extremality_true json)
+
 pub show_sound : (json : Bool) → IsSound (show json)
 show_sound json = of_functions json (IsShownText json) (EndsDone (IsShownText json)) (λ f text within shown. shown)
 
 check_text_sound : RefusesOnlyOthers SpellsCheckable RefusesCheckable
-check_text_sound input text (inl c) spelled (inl (begins, refused)) = proof_begins_otherwise c input spelled.spelled begins
-check_text_sound input text (inl c) spelled (inr (not, refused)) = proof_text_sound input text c spelled refused
-check_text_sound input text (inr t) spelled (inl (begins, refused)) =
+check_text_sound input text (of_claim c) spelled (inl (begins, refused)) = proof_begins_otherwise c input spelled.spelled begins
+check_text_sound input text (of_claim c) spelled (inr (inl (not, limits, refused))) = proof_begins_by_no_limits c input spelled.spelled limits
+check_text_sound input text (of_claim c) spelled (inr (inr (not, none, refused))) = proof_text_sound input text c spelled refused
+check_text_sound input text (of_limit_claim c) spelled (inl (begins, refused)) = limit_begins_otherwise c input spelled.spelled begins
+check_text_sound input text (of_limit_claim c) spelled (inr (inl (not, limits, refused))) =
+    limit_proof_has_no_fault input c refused.at_line refused.reason spelled refused.first
+check_text_sound input text (of_limit_claim c) spelled (inr (inr (not, none, refused))) = none (limit_begins c input spelled.spelled)
+check_text_sound input text (of_steps t) spelled (inl (begins, refused)) =
     no_derivation_fault input t.told refused.at_line refused.reason spelled.1 refused.first
-check_text_sound input text (inr t) spelled (inr (not, refused)) = not (derivation_begins input t.told spelled.1)
+check_text_sound input text (of_steps t) spelled (inr (inl (not, limits, refused))) = not (derivation_begins input t.told spelled.1)
+check_text_sound input text (of_steps t) spelled (inr (inr (not, none, refused))) = not (derivation_begins input t.told spelled.1)
 
 check_true : (thing : Checkable) (text : List ℕ) → IsCheckReply thing Done text → IsTrueCheck thing text
-check_true (inl c) text accepted = (accepted.holds, accepted.spelled)
-check_true (inr t) text (usable, accepted) =
+check_true (of_claim c) text accepted = (accepted.holds, accepted.spelled)
+check_true (of_limit_claim c) text accepted = (accepted.holds, accepted.spelled)
+check_true (of_steps t) text (usable, accepted) =
     (claims_hold t.told.function t.told.problem t.told.steps usable accepted.derivation, accepted.spelled)
 
 pub check_sound : IsSound check
@@ -174,22 +189,24 @@ demo_sound n = record {
 }
 
 -- the task of each request is sound
-sound_with : (c : Command) (json : Bool) → IsSound (task_with c json)
-sound_with Minimal json = of_proofs json IsTrueVerdict (EndsDone IsVerdict) verdict_true
-sound_with Check json = check_sound
-sound_with Extreme json = extreme_sound json
-sound_with Cut json = cut_sound
-sound_with Show json = show_sound json
-sound_with Faces json = of_continuous (λ f text. IsContinuous f) (EndsDone IsFacesText) (λ f text continuous listed. continuous)
-sound_with (Demo n) json = demo_sound n
-sound_with Mixed json = mixed_sound
-sound_with Problem json = problem_sound
-sound_with Derive json = derive_sound
-sound_with Fill json = of_continuous IsFillText IsFillReply (λ f text continuous filled. filled)
-sound_with Group json = of_continuous IsTrueGroupText IsGroupReply group_true
-sound_with (Times n j) json = of_functions false (IsTimesText n j) (IsTimesReply n j) (λ f text within shown. shown)
-sound_with Mirror json = of_functions false IsMirrorText (EndsDone IsMirrorText) (λ f text within shown. shown)
-sound_with (Restrict d) json = of_continuous (IsRestrictionText d) (IsRestrictionReply d) (λ f text continuous shown. shown)
+sound_with : (c : Command) (json jumps : Bool) → IsSound (task_with c json jumps)
+sound_with Minimal json jumps = of_proofs json IsTrueVerdict (EndsDone IsVerdict) verdict_true
+sound_with Check json jumps = check_sound
+sound_with Extreme json false = extreme_sound json
+sound_with Extreme json true = extreme_with_jumps_sound json
+sound_with Cut json jumps = cut_sound
+sound_with Show json jumps = show_sound json
+sound_with Faces json false = of_continuous (λ f text. IsContinuous f) (EndsDone IsFacesText) (λ f text continuous listed. continuous)
+sound_with Faces json true = of_functions false IsJumpsFacesText (EndsDone IsJumpsFacesText) (λ f text within listed. listed)
+sound_with (Demo n) json jumps = demo_sound n
+sound_with Mixed json jumps = mixed_sound
+sound_with Problem json jumps = problem_sound
+sound_with Derive json jumps = derive_sound
+sound_with Fill json jumps = of_continuous IsFillText IsFillReply (λ f text continuous filled. filled)
+sound_with Group json jumps = of_continuous IsTrueGroupText IsGroupReply group_true
+sound_with (Times n j) json jumps = of_functions false (IsTimesText n j) (IsTimesReply n j) (λ f text within shown. shown)
+sound_with Mirror json jumps = of_functions false IsMirrorText (EndsDone IsMirrorText) (λ f text within shown. shown)
+sound_with (Restrict d) json jumps = of_continuous (IsRestrictionText d) (IsRestrictionReply d) (λ f text continuous shown. shown)
 
 pub sound : (r : Request) → IsSound (task_for r)
-sound r = sound_with r.command r.json
+sound r = sound_with r.command r.json r.jumps

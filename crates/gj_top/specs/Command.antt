@@ -1,5 +1,5 @@
 -- The task of each request (own).
-use Rattle.std.specs.Prelude.{Bool, List, map, String, string_bytes, IfSome, IfNone, Option}
+use Rattle.std.specs.Prelude.{Bool, true, false, List, map, String, string_bytes, IfSome, IfNone, Option}
 use Rattle.std.specs.declared.alloc.Global.{Global}
 use Rattle.gj_words.specs.Grammar.{SpellRequest}
 use Rattle.gj_words.specs.declared.requests.Command.{Command}
@@ -9,9 +9,10 @@ use Rattle.gj_top.specs.Promise.{Promise}
 use Rattle.gj_top.specs.Task.{Work, Task}
 use Rattle.gj_top.specs.Minimal.{minimal, minimal_promise}
 use Rattle.gj_top.specs.Extreme.{extreme, extreme_promise}
+use Rattle.gj_top.specs.LimitExtreme.{extreme_with_jumps, extreme_with_jumps_promise}
 use Rattle.gj_top.specs.Show.{show, show_promise}
 use Rattle.gj_top.specs.Check.{check, check_promise}
-use Rattle.gj_top.specs.Faces.{faces, faces_promise}
+use Rattle.gj_top.specs.Faces.{faces, faces_promise, faces_with_jumps, faces_with_jumps_promise}
 use Rattle.gj_top.specs.Cut.{cut, cut_promise}
 use Rattle.gj_top.specs.Demo.{demo, demo_promise}
 use Rattle.gj_top.specs.Mixed.{mixed, mixed_promise}
@@ -21,51 +22,56 @@ use Rattle.gj_top.specs.Fill.{fill, fill_promise}
 use Rattle.gj_top.specs.Group.{group, group_promise}
 use Rattle.gj_top.specs.Transform.{times, times_promise, mirror, mirror_promise, restriction, restriction_promise}
 
--- what a command with the flag or without it promises
-abbrev pub promise_with : Command → Bool → Promise
-promise_with Minimal json = minimal_promise json
-promise_with Extreme json = extreme_promise json
-promise_with Show json = show_promise json
-promise_with Check json = check_promise
-promise_with Faces json = faces_promise
-promise_with Cut json = cut_promise
-promise_with (Demo n) json = demo_promise n
-promise_with Mixed json = mixed_promise
-promise_with Problem json = problem_promise
-promise_with Derive json = derive_promise
-promise_with Fill json = fill_promise
-promise_with Group json = group_promise
-promise_with (Times n j) json = times_promise n j
-promise_with Mirror json = mirror_promise
-promise_with (Restrict d) json = restriction_promise d
+-- what a command promises, with each of the flags `--json` and `--jumps` or without it
+abbrev pub promise_with : Command → Bool → Bool → Promise
+promise_with Minimal json jumps = minimal_promise json
+promise_with Extreme json false = extreme_promise json
+promise_with Extreme json true = extreme_with_jumps_promise json
+promise_with Show json jumps = show_promise json
+promise_with Check json jumps = check_promise
+promise_with Faces json false = faces_promise
+promise_with Faces json true = faces_with_jumps_promise
+promise_with Cut json jumps = cut_promise
+promise_with (Demo n) json jumps = demo_promise n
+promise_with Mixed json jumps = mixed_promise
+promise_with Problem json jumps = problem_promise
+promise_with Derive json jumps = derive_promise
+promise_with Fill json jumps = fill_promise
+promise_with Group json jumps = group_promise
+promise_with (Times n j) json jumps = times_promise n j
+promise_with Mirror json jumps = mirror_promise
+promise_with (Restrict d) json jumps = restriction_promise d
 
 abbrev pub promise_for : Request → Promise
-promise_for request = promise_with request.command request.json
+promise_for request = promise_with request.command request.json request.jumps
 
 -- and how it answers
-abbrev pub work_with : (command : Command) (json : Bool) → Work (promise_with command json)
-work_with Minimal json = (minimal json).work
-work_with Extreme json = (extreme json).work
-work_with Show json = (show json).work
-work_with Check json = check.work
-work_with Faces json = faces.work
-work_with Cut json = cut.work
-work_with (Demo n) json = (demo n).work
-work_with Mixed json = mixed.work
-work_with Problem json = problem.work
-work_with Derive json = derive.work
-work_with Fill json = fill.work
-work_with Group json = group.work
-work_with (Times n j) json = (times n j).work
-work_with Mirror json = mirror.work
-work_with (Restrict d) json = (restriction d).work
+abbrev pub work_with : (command : Command) (json jumps : Bool) → Work (promise_with command json jumps)
+work_with Minimal json jumps = (minimal json).work
+work_with Extreme json false = (extreme json).work
+work_with Extreme json true = (extreme_with_jumps json).work
+work_with Show json jumps = (show json).work
+work_with Check json jumps = check.work
+work_with Faces json false = faces.work
+work_with Faces json true = faces_with_jumps.work
+work_with Cut json jumps = cut.work
+work_with (Demo n) json jumps = (demo n).work
+work_with Mixed json jumps = mixed.work
+work_with Problem json jumps = problem.work
+work_with Derive json jumps = derive.work
+work_with Fill json jumps = fill.work
+work_with Group json jumps = group.work
+work_with (Times n j) json jumps = (times n j).work
+work_with Mirror json jumps = mirror.work
+work_with (Restrict d) json jumps = (restriction d).work
 
 -- both together
-abbrev pub task_with : Command → Bool → Task
-task_with command json = record { promise = promise_with command json; work = work_with command json }
+abbrev pub task_with : Command → Bool → Bool → Task
+task_with command json jumps =
+    record { promise = promise_with command json jumps; work = work_with command json jumps }
 
 abbrev pub task_for : Request → Task
-task_for request = task_with request.command request.json
+task_for request = task_with request.command request.json request.jumps
 
 -- the words name the request
 abbrev pub IsNamed : List (String Global) → Request → Type 0

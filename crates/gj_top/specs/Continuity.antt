@@ -7,6 +7,10 @@ use Rattle.gj_function_lines.specs.FunctionLines.{fraction_line}
 use Rattle.gj_top.specs.declared.reply.End.{End}
 use Rattle.gj_top.specs.declared.reply.End.TheVariants.{NotContinuous}
 
+-- the function jumps
+abbrev pub Jumps : FunctionData → Type 0
+Jumps f = IsContinuous f → ⊥
+
 -- the text names the first jump, at i/q
 pub record NamesFirstJump (f : FunctionData) (text : List ℕ) : Type 0 where
   pub index : ℕ

@@ -10,6 +10,9 @@ use Rattle.gj_function_text.specs.LinesOfFunction.{HasLinesOfFunction, HasLinesO
 use Rattle.gj_proof.specs.ProofText.{IsBounded, IsProofText}
 use Rattle.gj_proof.specs.FirstFault.{IsFirstFaultOfProof}
 use Rattle.gj_proof.specs.declared.claim.Claim.{Claim}
+use Rattle.gj_limit_proof.specs.LimitText.{IsBounded as IsLimitBounded, IsLimitProofText}
+use Rattle.gj_limit_proof.specs.FirstFault.{IsFirstFaultOfLimitProof}
+use Rattle.gj_limit_proof.specs.declared.claim.LimitClaim.{LimitClaim}
 use Rattle.gj_json.specs.JsonFunction.{IsJsonFunction}
 use Rattle.gj_json.specs.FirstReason.{HasFirstReason, reason_word as json_reason_word}
 use Rattle.gj_json.specs.declared.faults.JsonReason.{JsonReason}
@@ -52,6 +55,11 @@ pub record IsProofOf (input : List ℕ) (c : Claim) : Type 0 where
 abbrev pub proof_form : Form Claim
 proof_form = reading IsProofOf
 
+-- the input is the proof text of a claim about a function that jumps and is within the limits
+pub record IsLimitProofOf (input : List ℕ) (c : LimitClaim) : Type 0 where
+  pub bounded : IsLimitBounded c
+  pub spelled : IsLimitProofText c input
+
 -- ---- refusals
 
 -- the text names the line that is the first at fault, and the reason
@@ -68,6 +76,10 @@ RefusesFunctionText input text = NamesFault (IsFirstFaultOfWhole input) text
 -- the input is no proof text
 abbrev pub RefusesProofText : List ℕ → List ℕ → Type 0
 RefusesProofText input text = NamesFault (IsFirstFaultOfProof input) text
+
+-- the input is no proof text about a function that jumps
+abbrev pub RefusesLimitProofText : List ℕ → List ℕ → Type 0
+RefusesLimitProofText input text = NamesFault (IsFirstFaultOfLimitProof input) text
 
 -- the line that refuses a JSON text
 abbrev pub json_refused_line : JsonReason → List ℕ

@@ -10,9 +10,10 @@ use Rattle.gj_top.specs.Command.{IsNamed, NameNone, promise_for, task_for}
 use Rattle.gj_top.specs.Promise.{reads}
 use Rattle.gj_top.specs.InputRead.{input_limit}
 use Rattle.gj_top.specs.Lines.{words_line, fault_line}
-use Rattle.gj_top.specs.Asked.{AskIfExtreme}
+use Rattle.gj_top.specs.Asked.{AskIfExtreme, AskIfExtremeWithJumps}
+use Rattle.gj_top.specs.Continuity.{Jumps}
 use Rattle.gj_top.specs.Narrow.{HasUncoveredInterval, HasAtMostComponents}
-use Rattle.gj_top.specs.Decisive.{IsDecisive, IsCalledExtreme}
+use Rattle.gj_top.specs.Decisive.{IsDecisive, IsCalledExtreme, IsLimitDecisive}
 use Rattle.gj_top.specs.Causes.{IsGoodInput, IsBadInput, IsDoneRun, ReadNothing, IsStatusOf, IsCause, IsStatusOfReply}
 use Rattle.gj_top.specs.Run.{Run, SourceFailed, SinkFailed, IsGiven, OfWritten}
 use Rattle.gj_top.specs.Outcome.{IsOutcome, IsUnsure}
@@ -66,3 +67,7 @@ pub record IsRun (run : Run) : Type 0 where
       IsMinimal f → HasTwoSlopes f → (run.status ≢ Wide) × (run.status ≢ NotContinuous)
   pub called_extreme : run.status ≡ Done → (input : List ℕ) (json : Bool) (f : FunctionData) → IsGiven run input →
       AskIfExtreme json run.words input f → IsMinimal f → HasTwoSlopes f → OfWritten run (IsCalledExtreme json f)
+  -- with `--jumps` it calls a function that jumps extreme exactly if it is minimal and no average of
+  -- two different minimal functions
+  pub by_limits : run.status ≡ Done → (input : List ℕ) (json : Bool) (f : FunctionData) → IsGiven run input →
+      AskIfExtremeWithJumps json run.words input f → Jumps f → OfWritten run (IsLimitDecisive json f)

@@ -9,6 +9,7 @@ pub mod Show
 pub mod Continuity
 pub mod Faces
 pub mod Extreme
+pub mod LimitExtreme
 pub mod Demo
 pub mod Objection
 pub mod Told

@@ -40,9 +40,13 @@ pub(crate) fn reply_to(alloc: Global, request: Request, input: &[u8]) -> Result<
 {
     match request.command {
         Command::Minimal => minimal::reply(alloc, input, request.json),
+        Command::Extreme if request.jumps => {
+            extreme::reply_with_jumps(alloc, input, request.json)
+        }
         Command::Extreme => extreme::reply(alloc, input, request.json),
         Command::Show => show::reply(alloc, input, request.json),
         Command::Check => check::reply(alloc, input),
+        Command::Faces if request.jumps => faces::reply_with_jumps(alloc, input),
         Command::Faces => faces::reply(alloc, input),
         Command::Cut => cut::reply(alloc, input),
         Command::Demo(n) => demo::reply(alloc, n),

@@ -2,15 +2,16 @@
 ghost use Rattle.gj_top.specs.Task.{IsReadingOf, IsRefusedWith};
 ghost use Rattle.gj_json.specs.JsonFunction.{IsJsonFunction};
 ghost use Rattle.gj_top.specs.Lines.{refused_line};
-ghost use Rattle.gj_top.specs.Forms.{IsFunctionInput, SpellsFunction, IsProofOf};
+ghost use Rattle.gj_top.specs.Forms.{IsFunctionInput, SpellsFunction, IsProofOf, IsLimitProofOf};
 ghost use Rattle.gj_top.specs.Forms.{RefusesFunctionText, RefusesJson, RefusesFunction};
-ghost use Rattle.gj_top.specs.Forms.{RefusesProofText};
+ghost use Rattle.gj_top.specs.Forms.{RefusesProofText, RefusesLimitProofText};
 
 use crate::lines::{refusal, worded_line};
 use crate::reply::Unanswered;
 use gj_function_text::{TextFault, read_whole_function};
 use gj_json::{JsonFault, read_json};
 use gj_lex::Reason;
+use gj_limit_proof::{LimitProof, read_limit_proof};
 use gj_proof::{Proof, ProofFault, read_proof};
 use gj_shape::Shape;
 use std::alloc::Global;
@@ -56,6 +57,17 @@ pub(crate) fn proof_of(alloc: Global, input: &[u8]) -> Result<Proof, Unanswered>
     ensures { IsReadingOf IsProofOf RefusesProofText input.now result }
 {
     match read_proof(alloc, input) {
+        Ok(proof) => Ok(proof),
+        Err(ProofFault::Refused(at_line, reason)) => Err(refused(alloc, at_line, reason)),
+        Err(ProofFault::Memory(error)) => Err(Unanswered::Memory(error)),
+    }
+}
+
+/// The proof about a function that jumps that the input spells.
+pub(crate) fn limit_proof_of(alloc: Global, input: &[u8]) -> Result<LimitProof, Unanswered>
+    ensures { IsReadingOf IsLimitProofOf RefusesLimitProofText input.now result }
+{
+    match read_limit_proof(alloc, input) {
         Ok(proof) => Ok(proof),
         Err(ProofFault::Refused(at_line, reason)) => Err(refused(alloc, at_line, reason)),
         Err(ProofFault::Memory(error)) => Err(Unanswered::Memory(error)),

@@ -6,7 +6,10 @@ ghost use Rattle.gj_top.specs.declared.reply.End.{End};
 ghost use Rattle.gj_top.specs.declared.reply.End.TheVariants as end;
 ghost use Rattle.gj_top.specs.declared.status.Status.{Status};
 ghost use Rattle.gj_top.specs.declared.status.Status.TheVariants.{Done, Rejected};
-ghost use Rattle.gj_shape.specs.FunctionData.{FunctionData};
+ghost use Rattle.gj_shape.specs.FunctionData.{FunctionData, IsContinuous};
+ghost use Rattle.gj_limit_averages.specs.Averages.{IsExtremeFunction};
+ghost use Rattle.gj_top.specs.Continuity.{Jumps};
+ghost use Rattle.gj_top.specs.LimitExtreme.{extreme_with_jumps};
 ghost use Rattle.gj_shape.specs.Table.{IsMinimal};
 ghost use Rattle.gj_shape.specs.TwoSlopes.{HasTwoSlopes};
 ghost use Rattle.gj_function_text.specs.FunctionText.{IsWholeFunctionText};
@@ -20,26 +23,25 @@ ghost use Rattle.gj_top.specs.Task.{IsReply};
 ghost use Rattle.gj_top.specs.Forms.{SpellsFunction};
 ghost use Rattle.gj_top.specs.Command.{IsNamed, task_for};
 ghost use Rattle.gj_top.specs.Answerable.{TellsNoSteps};
-ghost use Rattle.gj_top.specs.Minimal.{minimal};
 ghost use Rattle.gj_top.specs.Show.{show};
 ghost use Rattle.gj_top.specs.Check.{check};
 ghost use Rattle.gj_top.specs.Derivation.{IsWideAnswer};
 ghost use Rattle.gj_top.specs.Derive.{derive};
-ghost use Rattle.gj_top.specs.Written.{IsWrittenProof};
-ghost use Rattle.gj_top.specs.Decisive.{CallsExtreme, IsExtremeByOrder4q};
+ghost use Rattle.gj_top.specs.Written.{IsWrittenProof, IsWrittenVerdict};
+ghost use Rattle.gj_top.specs.Decisive.{CallsExtreme, CallsExtremeByLimits, IsExtremeByOrder4q};
 ghost use Rattle.gj_top.specs.Extreme.{extreme};
 ghost use Rattle.gj_top.specs.Answer.{IsAnswerTo};
 
 /// Every proof that `minimal`, `extreme` or `cut` writes is one that `check` accepts, if its text
-/// is within the limit of length of an input. What `minimal` and `extreme` write always is.
+/// is within the limit of length of an input. What `minimal` and `extreme` write always is, with
+/// `--jumps` or without.
 pub fn written_proofs_are_accepted()
     ensures reply { (input text answer : List ℕ) (e : End) → IsWrittenProof input text →
         IsReply check text e answer → e ≡ end.Done }
     ensures answer { (input text answer : List ℕ) (s : Status) → IsWrittenProof input text →
         length text ≤ input_limit →
         IsAnswerTo check text s answer → s ≡ Done }
-    ensures short { (input text : List ℕ) → IsReply (minimal false) input end.Done text ⊎
-        IsReply (extreme false) input end.Done text →
+    ensures short { (input text : List ℕ) → IsWrittenVerdict input text →
         length text ≤ input_limit }
 {}
 
@@ -60,6 +62,23 @@ pub fn extreme_exactly_if_order_4q_is()
         SpellsFunction json input f →
         IsReply (extreme json) input end.Done text → CallsExtreme json f text ↔
         IsExtremeByOrder4q f }
+{}
+
+/// With `--jumps` what `extreme` writes calls a function that jumps extreme exactly if it is
+/// minimal and no average of two different minimal functions; with `--json` the proof text of the
+/// report does.
+pub fn extreme_exactly_if_no_average()
+    ensures { (json : Bool) (f : FunctionData) (input text : List ℕ) →
+        SpellsFunction json input f → Jumps f →
+        IsReply (extreme_with_jumps json) input end.Done text → CallsExtremeByLimits json f text ↔
+        IsExtremeFunction f }
+{}
+
+/// A function that is continuous, or not minimal, is answered with `--jumps` as without it.
+pub fn others_are_answered_alike()
+    ensures { (json : Bool) (f : FunctionData) (input text : List ℕ) (e : End) →
+        SpellsFunction json input f → (IsMinimal f → IsContinuous f) →
+        IsReply (extreme_with_jumps json) input e text ↔ IsReply (extreme json) input e text }
 {}
 
 /// A minimal continuous function with two slopes is always called extreme: `extreme` tells of it

@@ -37,8 +37,9 @@ mod transform;
 use answer::answer_to;
 pub use group::group_reply;
 pub use laws::{
-    derived_texts_are_accepted, extreme_exactly_if_order_4q_is, one_answer, one_proof_in_a_report,
-    shown_text_is_read, two_slopes_are_called_extreme, written_proofs_are_accepted,
+    derived_texts_are_accepted, extreme_exactly_if_no_average, extreme_exactly_if_order_4q_is,
+    one_answer, one_proof_in_a_report, others_are_answered_alike, shown_text_is_read,
+    two_slopes_are_called_extreme, written_proofs_are_accepted,
 };
 pub use mixed::mixed_reply;
 pub use reply::{End, Reply};
@@ -57,8 +58,9 @@ pub use status::Status;
 /// the cuts of its rows. `faces` reads the function text of a continuous function and writes its
 /// maximal additive faces and its covered intervals. With `--json`, `minimal`, `extreme` and `show`
 /// read a function in JSON, and `minimal` and `extreme` write a report of the proof text, `show` the
-/// function in JSON. `demo` reads nothing, and writes the summary of the decision on a function of
-/// its own. `mixed` reads what `cut` reads and writes the cuts of the rows, of which columns with a
+/// function in JSON. With `--jumps`, `extreme` and `faces` answer a function that jumps by the
+/// limits of its slack. `demo` reads nothing, and writes the summary of the decision on a function
+/// of its own. `mixed` reads what `cut` reads and writes the cuts of the rows, of which columns with a
 /// name that begins with `c:` are continuous. `problem` reads a mixed-integer program with
 /// multipliers and a rule, or a function text in front of it, and writes the cuts of the rows that
 /// the multipliers make, in the columns of the program. `derive` reads a derivation whose steps may

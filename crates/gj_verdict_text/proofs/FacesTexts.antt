@@ -115,13 +115,13 @@ with_number (Some n) h e = cc
 -- ---- the whole text
 
 -- what was pushed piece by piece stands there in turn
-in_turn : (a b c d e f first second third fourth whole : List ℕ) → first ≡ a ++ b → second ≡ first ++ c → third ≡ second ++ d →
+pub in_turn : (a b c d e f first second third fourth whole : List ℕ) → first ≡ a ++ b → second ≡ first ++ c → third ≡ second ++ d →
     fourth ≡ third ++ e → whole ≡ fourth ++ f → whole ≡ a ++ b ++ c ++ d ++ e ++ f
 in_turn a b c d e f first second third fourth whole p q r s t =
     t ∙ ap (λ x. x ++ f) (s ∙ ap (λ x. x ++ e) (r ∙ ap (λ x. x ++ d) (q ∙ ap (λ x. x ++ c) p)))
 
 -- two properties that the same elements of a list have pick the same ones
-picked_alike : {X : Type 0} (P Q : X → Type 0) {xs ys : List X} → All (λ x. P x ↔ Q x) xs → ArePicked P xs ys → ArePicked Q xs ys
+pub picked_alike : {X : Type 0} (P Q : X → Type 0) {xs ys : List X} → All (λ x. P x ↔ Q x) xs → ArePicked P xs ys → ArePicked Q xs ys
 picked_alike P Q all none = none
 picked_alike P Q all (kept {x} {xs} h more) =
     kept ((All-head (λ y. P y ↔ Q y) x xs all).0 h) (picked_alike P Q (All-tail (λ y. P y ↔ Q y) x xs all) more)

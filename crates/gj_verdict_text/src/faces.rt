@@ -52,8 +52,9 @@ fn push_maximal_faces(
     Ok(())
 }
 
-/// Appends a line for each interval without a component, ascending, of as many as the order.
-fn push_uncovered_lines(
+/// Appends a line for each interval without a component, ascending, of as many as the order. An error
+/// says that memory ran out; `out` may then have a part of them.
+pub fn push_uncovered_lines(
     out: &mut Vec<u8>,
     component: &[Option<u32>],
     order: u32,

@@ -13,6 +13,6 @@ mod group;
 mod minimality;
 mod piece;
 
-pub use faces::faces_text;
+pub use faces::{faces_text, push_uncovered_lines};
 pub use group::group_text;
 pub use minimality::minimality_proof;

@@ -1,5 +1,5 @@
-pub mod Flags
+pub mod FlagFacts
 pub mod Matches
 pub mod Numbers
+pub mod Parsing
 pub mod Spelling
-pub mod Tokens

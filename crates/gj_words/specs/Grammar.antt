@@ -31,24 +31,40 @@ IsInBounds (Times n j) = (1 ≤ n) × (n ≤ 500) × (j < n)
 IsInBounds (Restrict d) = (2 ≤ d) × (d ≤ greatest_order)
 IsInBounds _ = Unit {0}
 
--- the commands with which the flag may stand
+-- the commands with which the flag `--json` may stand, and those with which `--jumps` may
 abbrev pub takes_json : Command → Bool
 takes_json Minimal = true
 takes_json Extreme = true
 takes_json Show = true
 takes_json _ = false
 
--- the word of the flag
+abbrev pub takes_jumps : Command → Bool
+takes_jumps Extreme = true
+takes_jumps Faces = true
+takes_jumps _ = false
+
+-- the words of the flags
 abbrev pub json_word : List ℕ
 json_word = codes "--json"
 
--- the words are these with the flag once at any place, or if it is not given these alone
-abbrev pub HasFlag : Bool → List (List ℕ) → List (List ℕ) → Type 0
-HasFlag true bare words = (front : List (List ℕ)) × (back : List (List ℕ)) × (bare ≡ front ++ back) × (words ≡ front ++ json_word ∷ back)
-HasFlag false bare words = words ≡ bare
+abbrev pub jumps_word : List ℕ
+jumps_word = codes "--jumps"
+
+-- the words are these with the flag of this word once at any place, or if it is not given these
+-- alone
+abbrev pub HasFlag : List ℕ → Bool → List (List ℕ) → List (List ℕ) → Type 0
+HasFlag flag true bare words = (front : List (List ℕ)) × (back : List (List ℕ)) × (bare ≡ front ++ back) × (words ≡ front ++ flag ∷ back)
+HasFlag flag false bare words = words ≡ bare
+
+-- the words are those of the command with each flag that is given
+abbrev pub HasFlags : Request → List (List ℕ) → Type 0
+HasFlags request words =
+    (some : List (List ℕ)) × HasFlag json_word request.json (command_words request.command) some
+    × HasFlag jumps_word request.jumps some words
 
 -- the words spell the request
 pub record SpellRequest (words : List (List ℕ)) (request : Request) : Type 0 where
   pub in_bounds : IsInBounds request.command
-  pub allowed : request.json ≡ true → takes_json request.command ≡ true
-  pub placed : HasFlag request.json (command_words request.command) words
+  pub json_allowed : request.json ≡ true → takes_json request.command ≡ true
+  pub jumps_allowed : request.jumps ≡ true → takes_jumps request.command ≡ true
+  pub placed : HasFlags request words

@@ -1,32 +1,28 @@
 //! A command line, its words told apart; where there are several, by `clap`.
 
-ghost use Rattle.std.specs.Prelude.{◌≡◌, ◌≢◌, ◌≤◌, ◌↔◌, ◌∷◌, ◌++◌, ℕ, List, true, codes, length};
-ghost use Rattle.std.specs.Prelude.{map, None, option_map, Err, IfOk};
+ghost use Rattle.std.specs.Prelude.{◌≡◌, ◌≢◌, ◌↔◌, ◌++◌, map, not, option_map, None, Err, IfOk};
 ghost use Rattle.std.specs.List.{list_all};
-ghost use Rattle.std.specs.String.{string_bytes};
-ghost use Rattle.gj_words.specs.Bare.{bare_words, flag_count, is_plain};
 ghost use Rattle.std.specs.Option.{option_to_list};
-ghost use Rattle.gj_words.specs.Line.{IsCommandLineOf, words_behind};
+ghost use Rattle.gj_words.specs.Bare.{begins_with_hyphen};
+ghost use Rattle.gj_words.specs.Line.{AreNoLine, words_behind, words_of};
 ghost use Rattle.gj_words.specs.Parser.{our_app};
 ghost use Rattle.clap.specs.Words.{app_of, kind_of};
 
 use crate::requests::WordFault;
+use clap::Arg;
 use clap::error::ErrorKind;
-use clap::{Arg, ArgAction};
 use std::alloc::{AllocError, Global};
 
-/// The words of a command line, told apart.
+/// The words of a command line but for its flags, told apart.
 #[derive(Clone, Copy)]
 pub(crate) struct Line<'a> {
-    /// The first word that is not the flag.
+    /// The first word.
     pub(crate) name: &'a str,
     /// The others.
     pub(crate) operands: Operands<'a>,
-    /// Whether the flag is given.
-    pub(crate) json: bool,
 }
 
-/// The words behind the command word, without the flag.
+/// The words behind the command word.
 #[derive(Clone, Copy)]
 pub(crate) enum Operands<'a> {
     /// There is none.
@@ -37,26 +33,23 @@ pub(crate) enum Operands<'a> {
     Two(&'a str, &'a str),
 }
 
-/// The command line of these words, each of which is the flag or does not begin with `-`.
+/// The command line of these words, among which there are no flags.
 ///
 /// Most lines are one word alone, the command word. That is told without `clap`.
 ///
-/// `Refused` exactly if none or more than three of them are left without the flag.
-pub(crate) fn parse<'a>(alloc: Global, words: &'a [String]) -> Result<Line<'a>, WordFault>
-    requires plain { list_all is_plain (map string_bytes words.now) ≡ true }
-    requires once { flag_count (map string_bytes words.now) ≤ 1 }
-    ensures ok { IfOk result (IsCommandLineOf (map string_bytes words.entry.now)) }
-    ensures refused { result ≡ Err WordFault.Refused → (name : List ℕ)
-        (rest : List (List ℕ)) → length rest ≤ 2 →
-        bare_words (map string_bytes words.entry.now) ≢ name ∷ rest }
+/// `Refused` exactly if one of them begins with `-`, or they are none or more than three.
+pub(crate) fn parse<'a>(alloc: Global, words: &'a [&'a str]) -> Result<Line<'a>, WordFault>
+    ensures ok { IfOk result (λ line. map (λ word. word.now) words.entry.now ≡ words_of line) }
+    ensures refused { result ≡ Err WordFault.Refused →
+        AreNoLine (map (λ word. word.now) words.entry.now) }
 {
-    if let [word] = words
-        && !word.starts_with('-')
-    {
+    if !all_hyphenless(words) {
+        return Err(WordFault::Refused);
+    }
+    if let [word] = words {
         return Ok(Line {
-            name: word.as_str(),
+            name: word,
             operands: Operands::Nothing,
-            json: false,
         });
     }
     let command = our_command(alloc)?;
@@ -68,11 +61,21 @@ pub(crate) fn parse<'a>(alloc: Global, words: &'a [String]) -> Result<Line<'a>, 
         unreachable!()
     };
     let operands = operands_of(matches.get_str("first"), matches.get_str("second"));
-    Ok(Line {
-        name,
-        operands,
-        json: matches.get_flag("json"),
-    })
+    Ok(Line { name, operands })
+}
+
+/// Whether no word begins with `-`.
+fn all_hyphenless(words: &[&str]) -> bool
+    ensures { result ≡ list_all (λ word. not (begins_with_hyphen word.now)) words.now }
+{
+    words.iter().all(|word| !begins_with_hyphen(word))
+}
+
+/// Whether the word begins with `-`.
+fn begins_with_hyphen(word: &str) -> bool
+    ensures { result ≡ begins_with_hyphen word.now }
+{
+    word.starts_with('-')
 }
 
 /// The words behind the command word; there is no second without a first.
@@ -89,8 +92,7 @@ fn operands_of<'a>(first: Option<&'a str>, second: Option<&'a str>) -> Operands<
     }
 }
 
-/// The command line as `clap` is told of it: three positionals, of which the first has to be there,
-/// and one flag.
+/// The command line as `clap` is told of it: three positionals, of which the first has to be there.
 fn our_command<'a>(alloc: Global) -> Result<clap::Command<'a>, AllocError>
     ensures { IfOk result (λ command. app_of command ≡ our_app) }
 {
@@ -100,12 +102,7 @@ fn our_command<'a>(alloc: Global) -> Result<clap::Command<'a>, AllocError>
         .disable_version_flag(true)
         .arg(Arg::new(alloc, "command").required(true))?
         .arg(Arg::new(alloc, "first"))?
-        .arg(Arg::new(alloc, "second"))?
-        .arg(
-            Arg::new(alloc, "json")
-                .long("json")
-                .action(ArgAction::SetTrue),
-        )
+        .arg(Arg::new(alloc, "second"))
 }
 
 /// Why `clap` does not take the words.

@@ -1,22 +1,18 @@
 //! The words read as a request.
 
-ghost use Rattle.std.specs.Prelude.{◌≡◌, ◌≢◌, ◌∷◌, [], codes, map, IfOk, IfSome, MatchResult};
+ghost use Rattle.std.specs.Prelude.{◌≡◌, ◌≢◌, ◌∷◌, [], codes, map, Err, IfOk, IfSome, MatchResult};
 ghost use Rattle.std.specs.String.{string_bytes};
-ghost use Rattle.std.specs.List.{list_all};
-ghost use Rattle.gj_words.specs.Grammar.{SpellRequest, takes_json};
-ghost use Rattle.gj_words.specs.Line.{IsCommandOf, IsRequestOf, words_behind};
-ghost use Rattle.gj_words.specs.Bare.{is_flag, is_plain, flag_count};
+ghost use Rattle.gj_words.specs.Grammar.{SpellRequest, takes_json, takes_jumps};
+ghost use Rattle.gj_words.specs.Line.{IsCommandOf, IsRequestOf, words_behind, words_of};
 ghost use Rattle.gj_words.specs.declared.requests.Command.{Command};
 ghost use Rattle.gj_words.specs.declared.requests.Request.{Request};
 
+use crate::flags::{JSON, JUMPS, bare_words, has_flag};
 use crate::line::{Line, Operands, parse};
 use crate::number::number_of;
 use crate::requests::{Command, Request, WordFault};
 use gj_shape::GREATEST_ORDER;
 use std::alloc::Global;
-
-/// The word of the flag.
-const FLAG: &str = "--json";
 
 /// The greatest number of `demo`.
 const GREATEST_DEMO: u32 = 249;
@@ -31,7 +27,7 @@ const GREATEST_FACTOR: u32 = GREATEST_ORDER / 2;
 /// ```text
 /// let words = [String::from_str(alloc, "--json")?, String::from_str(alloc, "show")?];
 /// let request = read_words(alloc, words.as_slice())?;
-/// // request is Request { command: Command::Show, json: true }
+/// // request is Request { command: Command::Show, json: true, jumps: false }
 /// ```
 pub fn read_words(alloc: Global, words: &[String]) -> Result<Request, WordFault>
     // What is read is spelled by the words.
@@ -43,67 +39,45 @@ pub fn read_words(alloc: Global, words: &[String]) -> Result<Request, WordFault>
     ensures refused { result ≡ Err WordFault.Refused → (request : Request) →
         ¬ SpellRequest (map string_bytes words.now) request }
 {
-    if !has_plain_words(words) || flags_in(words) > 1 {
-        return Err(WordFault::Refused);
-    }
-    let line = parse(alloc, words)?;
-    match request_of(&line) {
+    let json = has_flag(words, JSON)?;
+    let jumps = has_flag(words, JUMPS)?;
+    let bare = bare_words(alloc, words)?;
+    let line = parse(alloc, bare.as_slice())?;
+    match request_of(&line, json, jumps) {
         Some(request) => Ok(request),
         None => Err(WordFault::Refused),
     }
 }
 
-/// Whether each word is the flag or does not begin with `-`.
-fn has_plain_words(words: &[String]) -> bool
-    ensures { result ≡ list_all (λ word. is_plain (string_bytes word)) words.now }
-{
-    words.iter().all(|word| is_plain_word(word.as_str()))
-}
-
-/// Whether the word is the flag or does not begin with `-`.
-fn is_plain_word(word: &str) -> bool
-    ensures { result ≡ is_plain word.now }
-{
-    is_json_flag(word) || !word.starts_with('-')
-}
-
-/// How often the flag stands among the words.
-fn flags_in(words: &[String]) -> usize
-    ensures { result ≡ flag_count (map string_bytes words.now) }
-{
-    words
-        .iter()
-        .filter(|word| is_json_flag(word.as_str()))
-        .count()
-}
-
-/// Whether the word is the flag.
-fn is_json_flag(word: &str) -> bool
-    ensures { result ≡ is_flag word.now }
-{
-    word == FLAG
-}
-
-/// The request of a command line whose words are known apart.
-fn request_of(line: &Line) -> Option<Request>
-    ensures found { IfSome result (λ request. IsRequestOf line.now request) }
-    ensures only { (request : Request) → IsRequestOf line.now request → result ≡ Some request }
+/// The request of a command line whose words are known apart, and of the flags that are given.
+fn request_of(line: &Line, json: bool, jumps: bool) -> Option<Request>
+    ensures found { IfSome result (λ request. IsRequestOf (words_of line.now) json jumps request) }
+    ensures only { (request : Request) → IsRequestOf (words_of line.now) json jumps request →
+        result ≡ Some request }
 {
     let command = command_of(line.name, line.operands)?;
-    if line.json && !may_take_json(command) {
+    if json && !may_take_json(command) || jumps && !may_take_jumps(command) {
         return None;
     }
     Some(Request {
         command,
-        json: line.json,
+        json,
+        jumps,
     })
 }
 
-/// Whether the flag may stand with the command.
+/// Whether the flag `--json` may stand with the command.
 fn may_take_json(command: Command) -> bool
     ensures { result ≡ takes_json command }
 {
     matches!(command, Command::Minimal | Command::Extreme | Command::Show)
+}
+
+/// Whether the flag `--jumps` may stand with the command.
+fn may_take_jumps(command: Command) -> bool
+    ensures { result ≡ takes_jumps command }
+{
+    matches!(command, Command::Extreme | Command::Faces)
 }
 
 /// The command with this word, and these behind it.

@@ -51,6 +51,8 @@ pub struct Request {
     pub command: Command,
     /// Whether functions are read, and answers printed, as JSON.
     pub json: bool,
+    /// Whether functions that jump are answered by their limits.
+    pub jumps: bool,
 }
 
 /// Why words are no request.

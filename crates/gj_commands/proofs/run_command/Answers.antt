@@ -10,6 +10,8 @@ use Rattle.gj_commands.proofs.ByCommand.{check_minimal, check_not_minimal, check
 use Rattle.gj_commands.proofs.ByCommand.{check_printed, check_steps, derived_told, derived_of_input}
 use Rattle.gj_commands.proofs.ByCommand.{cut_told, mixed_told, problem_told, problem_of_printed, cut_of_input, mixed_of_input, of_input, of_text, faces_told, demo_told}
 use Rattle.gj_commands.proofs.ByCommand.{written_with, minimal_json, extreme_json, show_json}
+use Rattle.gj_commands.proofs.ByCommand.{written_jumping, written_jumping_with, jumps_told, jumps_of_input, jumps_shown, jumps_claimed}
+use Rattle.gj_commands.proofs.ByCommand.{jumps_json, jumps_faces_told}
 use Rattle.gj_commands.proofs.run_command.Goals as goal
 
 pub returns-clause-minimal : goal.returns-clause-minimal
@@ -51,6 +53,26 @@ returns-clause-extreme_shown g c = written command.Extreme _ tt extreme_shown _ 
 
 pub returns-clause-extreme_claim : goal.returns-clause-extreme_claim
 returns-clause-extreme_claim g c = written command.Extreme _ tt extreme_claimed _ _ _ _ _ c.run.ensures.is_run.reply
+
+pub returns-clause-extreme_jumps : goal.returns-clause-extreme_jumps
+returns-clause-extreme_jumps g c = written_jumping command.Extreme _ tt refl jumps_told _ _ _ _ _ c.run.ensures.is_run.reply
+
+pub returns-clause-extreme_jumps_of : goal.returns-clause-extreme_jumps_of
+returns-clause-extreme_jumps_of g c =
+    written_jumping command.Extreme _ tt refl (λ input text reply f given. jumps_of_input input text reply f (input_of f input given))
+    _ _ _ _ _ c.run.ensures.is_run.reply
+
+pub returns-clause-extreme_jumps_input : goal.returns-clause-extreme_jumps_input
+returns-clause-extreme_jumps_input g c = written_jumping command.Extreme _ tt refl jumps_of_input _ _ _ _ _ c.run.ensures.is_run.reply
+
+pub returns-clause-extreme_jumps_json : goal.returns-clause-extreme_jumps_json
+returns-clause-extreme_jumps_json g c = written_jumping_with command.Extreme _ tt refl refl jumps_json _ _ _ _ _ c.run.ensures.is_run.reply
+
+pub returns-clause-extreme_jumps_shown : goal.returns-clause-extreme_jumps_shown
+returns-clause-extreme_jumps_shown g c = written_jumping command.Extreme _ tt refl jumps_shown _ _ _ _ _ c.run.ensures.is_run.reply
+
+pub returns-clause-extreme_jumps_claim : goal.returns-clause-extreme_jumps_claim
+returns-clause-extreme_jumps_claim g c = written_jumping command.Extreme _ tt refl jumps_claimed _ _ _ _ _ c.run.ensures.is_run.reply
 
 pub returns-clause-check_minimal : goal.returns-clause-check_minimal
 returns-clause-check_minimal g c = written command.Check _ tt check_minimal _ _ _ _ _ c.run.ensures.is_run.reply
@@ -107,6 +129,9 @@ returns-clause-group g c = written command.Group _ tt (of_text (command.Group) (
 
 pub returns-clause-faces : goal.returns-clause-faces
 returns-clause-faces g c = written command.Faces _ tt faces_told _ _ _ _ _ c.run.ensures.is_run.reply
+
+pub returns-clause-faces_jumps : goal.returns-clause-faces_jumps
+returns-clause-faces_jumps g c = written_jumping command.Faces _ tt refl jumps_faces_told _ _ _ _ _ c.run.ensures.is_run.reply
 
 pub returns-clause-fill : goal.returns-clause-fill
 returns-clause-fill g c = written command.Fill _ tt (of_text (command.Fill) (IsFillText) refl) _ _ _ _ _ c.run.ensures.is_run.reply

@@ -4,7 +4,10 @@ pub returns-in-Minimal : goal.returns-in-Minimal
 returns-in-Minimal c = rw c.in-Minimal.is c.reply.ensures
 
 pub returns-in-Extreme : goal.returns-in-Extreme
-returns-in-Extreme c = rw c.in-Extreme.is c.reply-in-Extreme.ensures
+returns-in-Extreme c = rw (c.in-Extreme.is, c.if-request.true) c.reply_with_jumps.ensures
+
+pub returns-in-Extreme-2 : goal.returns-in-Extreme-2
+returns-in-Extreme-2 c = rw (c.in-Extreme-2.is, c.if-request.false) c.reply-in-Extreme-2.ensures
 
 pub returns-in-Show : goal.returns-in-Show
 returns-in-Show c = rw c.in-Show.is c.reply-in-Show.ensures
@@ -13,7 +16,10 @@ pub returns-in-Check : goal.returns-in-Check
 returns-in-Check c = rw c.in-Check.is c.reply-in-Check.ensures
 
 pub returns-in-Faces : goal.returns-in-Faces
-returns-in-Faces c = rw c.in-Faces.is c.reply-in-Faces.ensures
+returns-in-Faces c = rw (c.in-Faces.is, c.if-request-2.true) c.reply_with_jumps-in-Faces.ensures
+
+pub returns-in-Faces-2 : goal.returns-in-Faces-2
+returns-in-Faces-2 c = rw (c.in-Faces-2.is, c.if-request-2.false) c.reply-in-Faces-2.ensures
 
 pub returns-in-Cut : goal.returns-in-Cut
 returns-in-Cut c = rw c.in-Cut.is c.reply-in-Cut.ensures

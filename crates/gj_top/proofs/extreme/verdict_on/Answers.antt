@@ -25,7 +25,7 @@ returns-in_ok-jump_text-in-Err-NotContinuous c = (
   c.in_ok-jump_text-in-Err-NotContinuous.ensures,
 )
 
-pub returns-in_ok-from_slice-in-Err-Wide : goal.returns-in_ok-from_slice-in-Err-Wide
-returns-in_ok-from_slice-in-Err-Wide c =
+pub returns-in_ok-wide_text-in-Err-Wide : goal.returns-in_ok-wide_text-in-Err-Wide
+returns-in_ok-wide_text-in-Err-Wide c =
     let wide = c.in-Err-Wide.ensures.wide (cc (c.in-Err-Wide.field-0-is)) in
-    (wide.0, wide.1, wide.2, c.in_ok-from_slice-in-Err-Wide.ensures.items)
+    (wide.0, wide.1, wide.2, c.in_ok-wide_text-in-Err-Wide.ensures)

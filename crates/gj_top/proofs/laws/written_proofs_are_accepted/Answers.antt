@@ -1,4 +1,4 @@
-use Rattle.gj_top.proofs.Accepted.{accepted, accepted_reply, written_is_good, verdict_or_decision_is_short}
+use Rattle.gj_top.proofs.Accepted.{accepted, accepted_reply, written_is_good, written_is_short}
 use Rattle.gj_top.proofs.laws.written_proofs_are_accepted.Goals as goal
 
 pub returns-clause-reply : goal.returns-clause-reply
@@ -8,4 +8,4 @@ pub returns-clause-answer : goal.returns-clause-answer
 returns-clause-answer c = λ input text answer s written short. accepted text answer s short (written_is_good input text written)
 
 pub returns-clause-short : goal.returns-clause-short
-returns-clause-short c = verdict_or_decision_is_short
+returns-clause-short c = written_is_short

@@ -1,0 +1,3 @@
+pub mod LimitFacesText
+pub mod AdditiveRows
+pub mod AppendedFaces
