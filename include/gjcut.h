@@ -33,9 +33,11 @@ enum gjcut_status {
                                 * length of all of it. 200 bytes have room for every refusal, as
                                 * reckoned */
     GJCUT_NO_MEMORY = 6,       /* there was no memory: nothing was written, and `*written` is 0 */
-    GJCUT_WIDE = 7,            /* `extreme`, `group`: a number passed its bound */
+    GJCUT_WIDE = 7,            /* `extreme`, `group`: a number passed its bound; `extreme --jumps`:
+                                * that, or the proof would be longer than 12,000,000 bytes */
     GJCUT_NOT_CONTINUOUS = 8,  /* the function jumps; of `extreme`, `mixed`, `problem`, `derive` and
-                                * `check`: and is minimal */
+                                * `check`: and is minimal. With the word `--jumps` `extreme` and
+                                * `faces` never end so */
     GJCUT_NO_FUNCTION = 9,     /* `cut`, `mixed`, `problem`, `derive`, `check`: the function is not
                                 * minimal */
     GJCUT_NOT_SUBADDITIVE = 10, /* `fill`: the function is not subadditive */
@@ -103,8 +105,10 @@ GJCUT_INLINE size_t gjcut_room(const uint8_t *words, size_t words_length, size_t
     if (gjcut_has_word(words, words_length, "extreme"))
         /* In JSON two bytes more for each line. */
         return gjcut_has_word(words, words_length, "--json") ? 15000000 : 12000000;
-    /* Two triangles of 14 bytes in each of 1,000,000 squares. */
-    if (gjcut_has_word(words, words_length, "faces")) return 28100000;
+    /* Two triangles of 14 bytes in each of 1,000,000 squares; of a function that jumps it can be
+     * three edges of at most 19 bytes, without triangles. */
+    if (gjcut_has_word(words, words_length, "faces"))
+        return gjcut_has_word(words, words_length, "--jumps") ? 57100000 : 28100000;
     if (gjcut_has_word(words, words_length, "cut") ||
         gjcut_has_word(words, words_length, "mixed")) {
         /* A row takes 4 bytes of the input or more, and an entry 2. A name has at most 255: with

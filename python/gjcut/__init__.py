@@ -55,6 +55,7 @@ from typing import Iterable, Iterator, List, NamedTuple, Optional, Sequence, Tup
 from . import _build
 from ._arguments import Number, fields as _fields, items as _items, number as _number
 from ._arguments import text as _text, whole as _whole, word as _word, written as _written
+from ._asked import EXTREME as _EXTREME, FACES as _FACES
 from ._asked import done as _done, of_function as _of_function, refused as _refused
 from ._derivations import Derivation, Draft, Rejected, Step
 from ._derivations import judged as _judged
@@ -221,10 +222,11 @@ def minimal(function: Function, violations: int = 1) -> Verdict:
 def extreme(function: Function, violations: int = 1) -> Verdict:
     """Whether the function is extreme: minimal, and no average of two other valid functions. If it
     is minimal and not extreme, with two halves of which it is the average; if it is not minimal, as
-    `minimal` says it. A minimal function that jumps is not decided: that raises `Refused` with the
-    status 8.
+    `minimal` says it. Functions that jump are decided like continuous ones.
 
     >>> extreme(family("gmic", "3/5")).is_extreme
+    True
+    >>> extreme(by_breakpoints("3/5", [(0, "5/6", 0, 0), ("3/5", 1, 1, "1/6")])).is_extreme
     True
     >>> six = by_values("1/2", [0, "2/3", "1/3", 1, "1/3", "2/3"])
     >>> verdict = extreme(six)
@@ -234,7 +236,7 @@ def extreme(function: Function, violations: int = 1) -> Verdict:
     >>> (first + second) / 2 == six, six + verdict.perturbation == first, first == second
     (True, True, False)
     """
-    return _verdict("extreme", function, violations)
+    return _verdict(_EXTREME, function, violations)
 
 
 def check(text: Union[str, bytes]) -> Judgement:
@@ -261,25 +263,27 @@ def check(text: Union[str, bytes]) -> Judgement:
 
 
 def faces(function: Function) -> Faces:
-    """The maximal additive faces of a continuous function, its covered and its uncovered intervals.
+    """The maximal additive faces of a function, its covered and its uncovered intervals. On an
+    additive face the slack is 0, and if the function jumps its limits from the inside of the face
+    are 0 at the corners.
 
     >>> found = faces(family("gmic", "3/5"))
     >>> found.faces[0], len(found.covers), found.uncovered
     (Face(kind='lower', order=5, a=0, b=0), 5, ())
     """
-    return _faces_of(_of_function("faces", function))
+    return _faces_of(_of_function(_FACES, function))
 
 
 def covered(function: Function) -> Covered:
-    """The covered intervals of a continuous function by components, on each of which every function
-    in an average has one slope, and the uncovered ones.
+    """The covered intervals of a function by components, on each of which every function in an
+    average has one slope, and the uncovered ones.
 
     >>> for component in covered(family("gmic", "3/5")).components:
     ...     print(*(f"[{left}, {right}]" for left, right in component))
     [0, 3/5]
     [3/5, 1]
     """
-    return _covered_of(_of_function("faces", function))
+    return _covered_of(_of_function(_FACES, function))
 
 
 def group(function: Function) -> TableVerdict:

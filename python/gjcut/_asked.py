@@ -8,6 +8,9 @@ from ._refusals import WORDS, Place, Places, Refused, no_place, place_of
 from .sentences import told
 
 Text = Union[str, bytes]
+# With the flag `--jumps` these answer functions that jump too. Of a continuous one they say what
+# they say without it, so nobody has to look first.
+EXTREME, FACES = "extreme --jumps", "faces --jumps"
 
 
 def done(words: str, text: Text, places: Places = no_place, asked: Optional[str] = None) -> str:

@@ -6,9 +6,9 @@ Corners of polygons, edges and points are in steps of 1/order.
 import collections
 import re
 from fractions import Fraction
-from typing import Dict, Iterable, Iterator, List, NamedTuple, Optional, Tuple
+from typing import Callable, Dict, Iterable, Iterator, List, NamedTuple, Optional, Tuple
 
-from ._faces import CORNERS
+from ._faces import CORNERS, Face, cover_of, joining_edge, slacks
 from ._functions import Function
 
 Corner = Tuple[int, int]
@@ -28,7 +28,9 @@ class Diagram(NamedTuple):
     them, the points that are in no edge; and the projections of the triangles by x, y and x + y.
 
     A polygon is a loop with the triangles on its left; one around a hole goes the other way. An
-    additive edge at one border of the square stands at the opposite border too.
+    additive edge at one border of the square stands at the opposite border too. The limits are the
+    edges by which cover lines join intervals only because the slack tends to 0 along them from the
+    inside of a triangle, each with that triangle. Only functions that jump have some.
     """
 
     order: int
@@ -36,6 +38,7 @@ class Diagram(NamedTuple):
     edges: Dict[Component, Tuple[Segment, ...]]
     points: Tuple[Corner, ...]
     projections: Tuple[Dict[Component, Tuple[Run, ...]], ...]
+    limits: Dict[Component, Tuple[Tuple[Segment, Loop], ...]]
 
 
 class Piece(NamedTuple):
@@ -84,9 +87,9 @@ def slopes_of(pieces: Iterable[Piece]) -> Dict[Component, Fraction]:
     return found
 
 
-def diagram_of(text: str) -> Diagram:
-    """The faces of a faces text, merged."""
-    components = components_of(text)
+def diagram_of(text: str, function: Function) -> Diagram:
+    """The faces of the faces text of a function, merged."""
+    components, jumps = components_of(text), not function.is_continuous
     order = len(components)
     by_kind = {kind: _squares_of(kind, text) for kind in CORNERS}
     rows: Dict[Component, _Rows] = {}
@@ -97,13 +100,37 @@ def diagram_of(text: str) -> Diagram:
                 rows[component] = _Rows(order)
             getattr(rows[component], kind)[b] |= 1 << a
     shadows = {component: each.projections() for component, each in rows.items()}
+
+    def is_additive(kind: str, a: int, b: int) -> bool:
+        """Whether an edge in the border of an additive triangle is additive itself."""
+        return not (jumps and any(slacks(function, Face(kind, order, a, b))))
+
     return Diagram(
         order,
         {component: tuple(_loops(each.border())) for component, each in rows.items()},
-        _edges(by_kind, components, _union(rows.values(), order)),
+        _edges(by_kind, components, _union(rows.values(), order), is_additive),
         tuple(_with_opposite(by_kind["vertex"], order)),
         tuple({c: tuple(_runs(each[i])) for c, each in shadows.items()} for i in range(3)),
+        _limits(text, function, components) if jumps else {},
     )
+
+
+def _limits(
+    text: str, function: Function, components: List[Component]
+) -> Dict[Component, Tuple[Tuple[Segment, Loop], ...]]:
+    """The edges by which cover lines join intervals from the inside of a triangle that is not
+    additive, and the triangles."""
+    found: Dict[Component, List[Tuple[Segment, Loop]]] = collections.defaultdict(list)
+    order, covers, _, _ = cover_of(text)
+    for cover in covers:
+        if cover.face.kind in TRIANGLES and any(slacks(function, cover.face)):
+            start, end, *loop = (
+                (int(x * order), int(y * order))
+                for x, y in (*joining_edge(function, cover), *cover.face.corners)
+            )
+            component = components[int(cover.interval[0] * order)]
+            found[component].append(((start, end), tuple(loop)))
+    return {component: tuple(sorted(each)) for component, each in found.items()}
 
 
 def _squares_of(kind: str, text: str) -> List[Corner]:
@@ -210,11 +237,15 @@ def _straightened(loop: List[Corner]) -> Loop:
 
 
 def _edges(
-    by_kind: Dict[str, List[Corner]], components: List[Component], triangles: _Rows
+    by_kind: Dict[str, List[Corner]],
+    components: List[Component],
+    triangles: _Rows,
+    is_additive: Callable[[str, int, int], bool],
 ) -> Dict[Component, Tuple[Segment, ...]]:
     """The edges of each component; those on one line that follow each other as one."""
     lines: Dict[Tuple[Component, str, int], List[int]] = collections.defaultdict(list)
-    for direction, line, i in (*_inner_edges(by_kind), *_border_edges(by_kind, triangles)):
+    edges = *_inner_edges(by_kind), *_border_edges(by_kind, triangles, is_additive)
+    for direction, line, i in edges:
         lines[components[i], direction, line].append(i)
     found: Dict[Component, List[Segment]] = collections.defaultdict(list)
     for (component, direction, line), steps in lines.items():
@@ -231,7 +262,9 @@ def _inner_edges(by_kind: Dict[str, List[Corner]]) -> Iterator[Tuple[str, int, i
 
 
 def _border_edges(
-    by_kind: Dict[str, List[Corner]], triangles: _Rows
+    by_kind: Dict[str, List[Corner]],
+    triangles: _Rows,
+    is_additive: Callable[[str, int, int], bool],
 ) -> Iterator[Tuple[str, int, int]]:
     """Those at the borders, each on every side that has no triangle with it."""
     order, low, high = triangles.order, triangles.lower, triangles.upper
@@ -241,7 +274,9 @@ def _border_edges(
     for direction, at in (("horizontal", at_horizontals), ("vertical", at_verticals)):
         for i in range(order):
             is_below, is_above, is_alone = at[0] >> i & 1, at[1] >> i & 1, i in at[2]
-            if is_below or is_above or is_alone:
+            square = (i, 0) if direction == "horizontal" else (0, i)
+            is_edge = (is_below != is_above) and is_additive(direction, *square)
+            if is_edge or is_alone:
                 yield from () if is_below else ((direction, 0, i),)
                 yield from () if is_above else ((direction, order, i),)
 

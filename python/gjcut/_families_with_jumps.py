@@ -57,28 +57,26 @@ def dg_2_step_mir_limit(f: Number = "3/5", d: int = 3):
 
 
 @family(
-    "nb_pieces_left == 1", "0 < f < 1", "1 <= nb_pieces_right", "1 - f <= nb_pieces_right * f",
-    source=DRLM,
+    "0 < f < 1", "1 <= nb_pieces_left", "1 <= nb_pieces_right",
+    "nb_pieces_left * (1 - f) <= nb_pieces_right * f", source=DRLM,
 )  # fmt: skip
 def drlm_2_slope_limit(
-    f: Number = "3/5", nb_pieces_left: int = 1, nb_pieces_right: int = 4
+    f: Number = "3/5", nb_pieces_left: int = 3, nb_pieces_right: int = 4
 ):  # fmt: skip
-    """A limit of functions with two slopes; only the members with one piece to the left of f are
-    here. It is x/f from 0 to f. The rest of the period has n = nb_pieces_right equal pieces of the
-    slope 1/f. At f, at each of their ends and at 1 it falls by 1/(f (n + 1)), and the value at the
-    i-th of their ends is 1 - i/n."""
-    if nb_pieces_left != 1:
-        raise ValueError("nb_pieces_left: only the members with one piece to the left are here")
-    n = nb_pieces_right
-    fall = 1 / (f * (n + 1))
-
-    def piece(i, x):
-        return x / f - i * fall
-
-    points = [(ZERO, piece(n, ONE), ZERO, ZERO), (f, ONE, ONE, piece(1, f))]
-    for i in range(1, n):
-        x = f + (1 - f) * i / n
-        points.append((x, piece(i, x), 1 - Fraction(i, n), piece(i + 1, x)))
+    """A limit of functions with two slopes. From 0 to f there are m = nb_pieces_left pieces of one
+    length, and from f to 1 there are n = nb_pieces_right. Let d = 1/(1 + n f - m (1 - f)). All
+    pieces have the slope (m + n) d, and at the end of each the function falls by d. The value is
+    i/m at the end of the i-th piece on the left, and 1 - i/n at that of the i-th on the right."""
+    m, n = nb_pieces_left, nb_pieces_right
+    whole = 1 + n * f - m * (1 - f)
+    if whole <= 0:
+        raise ValueError("nb_pieces_left: with so many pieces the function would not rise")
+    ends = [(f * i / m, Fraction(i, m)) for i in range(1, m + 1)]
+    ends += [(f + (1 - f) * i / n, 1 - Fraction(i, n)) for i in range(1, n)]
+    points = [(ZERO, 1 / whole, ZERO, ZERO)]
+    for i, (x, value) in enumerate(ends):
+        rise = (m + n) * x
+        points.append((x, (rise - i) / whole, value, (rise - i - 1) / whole))
     return f, points
 
 
@@ -111,7 +109,7 @@ def hildebrand_2_sided_discont_1_slope_1():
     return half, sorted([*points, (ZERO, half, ZERO, half), (half, half, ONE, half)])
 
 
-@family("0 < f < 1", source=OWN, known="minimal")
+@family("0 < f < 1", source=OWN, known="not-extreme")
 def half(f: Number = "1/2"):
     """0 at 0, 1 at f, and 1/2 everywhere else. No interval is covered, so it is not extreme."""
     middle = Fraction(1, 2)

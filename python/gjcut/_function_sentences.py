@@ -33,6 +33,16 @@ FUNCTION_SENTENCES = [
         when="words refused", command=r"[./]",
     ),
     Sentence(
+        see="`words refused`, with `--json` or `--jumps`",
+        means="the word stands twice, or with a command that has no such word",
+        do=(
+            "write `--json` once, with `minimal`, `extreme` or `show`; `--jumps` once, with "
+            "`extreme` or `faces`"
+        ),
+        words="minimal --jumps", input=FIVE, answer="words refused",
+        when="words refused", command=r"--(json|jumps)\b",
+    ),
+    Sentence(
         see="`words refused`",
         means="this is no command, or a number is missing or outside its range",
         do=(

@@ -2,6 +2,8 @@
 from ._function_sentences import CHECK, FIVE, GMIC, LINE, NO_CHECK, PROOF, RECORD, five, proof
 from ._sentence import Sentence
 
+HALF = "gj-function 1\nfamily half 1/2\nend\n"
+
 OTHER_SENTENCES = [
     # ---- the end of a function or a proof
     Sentence(
@@ -221,16 +223,29 @@ OTHER_SENTENCES = [
     ),
     Sentence(
         see="`not continuous X` from `extreme`",
-        means="the function is minimal, and jumps: whether it is extreme is not decided",
-        do="a function that jumps has no verdict of `extreme`; `minimal` has one",
-        words="extreme", input="gj-function 1\nfamily half 1/2\nend\n", answer="not continuous 0",
+        means=(
+            "the function is minimal, and jumps at X: without the word `--jumps` the command "
+            "decides continuous functions"
+        ),
+        do="write `extreme --jumps`, which says whether it is extreme",
+        words="extreme", input=HALF, answer="not continuous 0",
         when="not continuous .*", command="^extreme",
     ),
     Sentence(
-        see="`not continuous X` from `faces`, `fill`, `group`, `mixed`, `problem` or `restrict`",
+        see="`not continuous X` from `faces`",
+        means=(
+            "the function jumps at X: without the word `--jumps` the command reads continuous "
+            "functions"
+        ),
+        do="write `faces --jumps`",
+        words="faces", input=HALF, answer="not continuous 0",
+        when="not continuous .*", command="^faces",
+    ),
+    Sentence(
+        see="`not continuous X` from `fill`, `group`, `mixed`, `problem` or `restrict`",
         means="the function jumps at X, and this command reads continuous functions",
         do="take a continuous function, often by a breakpoint more",
-        words="faces", input="gj-function 1\nfamily half 1/2\nend\n", answer="not continuous 0",
+        words="fill", input=HALF, answer="not continuous 0",
         when="not continuous .*",
     ),
     Sentence(

@@ -11,7 +11,6 @@ from ._verdicts import Verdict, function_of, verdict_of
 # The statuses: nothing is done with such a function; a file cannot be written; a package is
 # missing; the words are not understood.
 NOTHING, NOT_WRITTEN, NO_PACKAGE, NOT_UNDERSTOOD = 8, 5, 15, 2
-MINIMAL_AND_JUMPS = "minimal, and jumps: whether it is extreme is not decided"
 
 
 def add_parsers(commands) -> None:
@@ -92,7 +91,7 @@ def _decided(file: str, command: str) -> Tuple[str, Optional[Verdict], int]:
 
 
 def _answered(asked: command_line.Asked, status: int, said: str) -> command_line.Result:
-    chosen = argparse.Namespace(command=asked.words, violations=1)
+    chosen = argparse.Namespace(command=asked.words.split(" ")[0], violations=1)
     return command_line.answered(chosen, asked, status, said)
 
 
@@ -129,10 +128,6 @@ def _entry_of(file: str) -> Tuple[_report.Entry, int]:
     status, said = call(*asked[1:])
     result = _answered(asked, status, said)
     words = result.said.replace("which --proof shows", "which the proof has")
-    if status == NOTHING:
-        # It is minimal, and jumps. That it is minimal has a proof.
-        status, said = call("minimal", asked.text)
-        words = MINIMAL_AND_JUMPS
     if status:
         return _report.Entry(asked.name, result.said), status
     function = function_of(said)

@@ -13,7 +13,7 @@ from typing import Callable, Dict, Iterable, List, NamedTuple, Optional, Sequenc
 
 from . import _files
 from ._arguments import whole, wrong
-from ._asked import of_function
+from ._asked import FACES, of_function
 from ._diagram import Component, Diagram, Piece, components_of, diagram_of, pieces_of, slopes_of
 from ._functions import Function
 from ._library import LibraryMissing
@@ -105,19 +105,20 @@ def plot(shown: Shown, figure=None, width: float = WIDTH) -> Picture:
 
 
 def plot_faces(shown: Shown, figure=None, width: float = WIDTH) -> Picture:
-    """The diagram of the additive faces of a continuous function, or of that of a verdict.
+    """The diagram of the additive faces of a function, or of that of a verdict.
 
     In the square of all x and y stand the maximal additive triangles, edges and points, with the
     colours of the components; at its borders the projections of the triangles, by x above, by y on
     the left, and by x + y below and on the right; and outside of these the graph, twice. The
-    complex is grey. If the verdict says where a function is not subadditive, a point shows it.
-    Figure and width are as for `plot`.
+    complex is grey. If the function jumps a face is additive on its inside, and dashed edges join
+    intervals only by the limits from a triangle beside them. If the verdict says where a function
+    is not subadditive, a point shows it. Figure and width are as for `plot`.
 
         gjcut.plot_faces(gjcut.family("gmic", "3/5")).save("faces.svg")
     """
     function, verdict = _function_and_verdict(shown)
     _take_figure(figure, width)
-    text = of_function("faces", function)
+    text = of_function(FACES, function)
     with _style():
         return _draw_faces(function, text, verdict, figure, width)
 
@@ -229,10 +230,8 @@ def colour_of(component: Component) -> str:
 
 def _components(function: Function) -> List[Component]:
     """The component of each interval; no list, where the program gives no faces."""
-    if not function.is_continuous:
-        return []
     try:
-        return components_of(of_function("faces", function))
+        return components_of(of_function(FACES, function))
     except Refused:
         return []
 
@@ -331,14 +330,16 @@ def _chosen(
     return sorted(chosen)
 
 
-def _label_places(axis, function: Function, length: float, is_upright: bool = False) -> None:
-    """The breakpoints at an axis that has this length in inches."""
+def _label_places(
+    axis, function: Function, length: float, is_upright: bool = False, more: Iterable[Fraction] = ()
+) -> None:
+    """The breakpoints, and more places, at an axis that has this length in inches."""
 
     def room(x: Fraction) -> float:
         height = 1.4 if x.denominator == 1 else 2.7
         return (height if is_upright else _digits(x) * DIGIT + 0.7) * LABEL / POINTS / length
 
-    places = [point.place for point in function.breakpoints]
+    places = [*(point.place for point in function.breakpoints), *more]
     chosen = _chosen(places, room, [Fraction(0), Fraction(1), function.f])
     axis.set_ticks(list(map(float, chosen)), [_stacked(x) for x in chosen])
     axis.set_tick_params(length=3, pad=13, labelsize=LABEL)
@@ -459,7 +460,7 @@ def _name(what: str, component: Component) -> str:
     return f"{what}-{'uncovered' if component is None else component}"
 
 
-def _add_dots(axes, function: Function) -> None:
+def _add_dots(axes, function: Function, colour: str = INK, of_what: str = "") -> None:
     """Where the function jumps, filled dots at values and open ones at limits."""
     filled, opened = [], []
     for x, left, value, right in function.breakpoints:
@@ -471,11 +472,11 @@ def _add_dots(axes, function: Function) -> None:
             limits = {left, right} if x else {right if end == 0 else left}
             opened += [(float(end), float(limit)) for limit in sorted(limits - {value})]
     size = 4.5 if len(filled) <= 60 else 2.5 if len(filled) <= MANY else 1.2
-    for dots, face, name in ((opened, PAPER, "limits"), (filled, INK, "values")):
+    for dots, face, name in ((opened, PAPER, "limits"), (filled, colour, "values")):
         if dots:
             axes.plot(
-                *zip(*dots), "o", markersize=size, color=INK, markerfacecolor=face,
-                markeredgewidth=min(1, size / 4), zorder=5, clip_on=False, gid=name,
+                *zip(*dots), "o", markersize=size, color=colour, markerfacecolor=face,
+                markeredgewidth=min(1, size / 4), zorder=5, clip_on=False, gid=name + of_what,
             )  # fmt: skip
 
 
@@ -537,17 +538,22 @@ def _draw_halves(function: Function, verdict: Verdict, figure, width: float) -> 
     wide = sheet.width - room - RIGHT
     below = sheet.axes(room, foot, wide, 0.26 * height)
     above = sheet.axes(room, foot + 0.34 * height, wide, 0.66 * height)
+    jumps = [x for x, *sides in difference.breakpoints if len(set(sides)) > 1]
     for axes, heights in ((above, upper), (below, lower)):
         _set_heights(axes, heights)
         _frame(axes, function)
-        _label_places(axes.xaxis, function, wide)
+        _label_places(axes.xaxis, function, wide, more=jumps)
     above.set_xticklabels([])
     _mark_f(above, function)
     _add_line(above, function, SOFT, "-", "function", 4.0)
-    _add_line(above, first, COLOURS[0], "-", "first-half", 1.5)
-    _add_line(above, second, COLOURS[1], DASHES, "second-half", 1.5)
+    for shown, colour, line, name in (
+        (first, COLOURS[0], "-", "first-half"), (second, COLOURS[1], DASHES, "second-half")
+    ):  # fmt: skip
+        _add_line(above, shown, colour, line, name, 1.5)
+        _add_dots(above, shown, colour, f"-of-{name}")
     _add_dots(above, function)
     _add_line(below, difference, COLOURS[2], "-", "difference", 1.5)
+    _add_dots(below, difference, COLOURS[2], "-of-difference")
     _add_legend(sheet, legend)
     return sheet.picture("two halves", function)
 
@@ -573,8 +579,10 @@ GRAPH, BAR, GAP = 0.72, 0.07, 0.05
 def _draw_faces(
     function: Function, text: str, verdict: Optional[Verdict], figure, width: float
 ) -> Picture:
-    pieces, diagram = pieces_of(function, components_of(text)), diagram_of(text)
+    pieces, diagram = pieces_of(function, components_of(text)), diagram_of(text, function)
     entries = _entries_of(pieces)
+    if diagram.limits:
+        entries.append(_Entry("joined by limits from a triangle", INK, line=DASHES))
     violation = None if verdict is None else verdict.violation
     point = violation if violation and violation.kind == "superadditive" else None
     if point:
@@ -663,6 +671,22 @@ def _add_diagram(axes, diagram: Diagram) -> None:
             capstyle="round", zorder=3, clip_on=False, gid=_name("edges", component),
             rasterized=len(lines) > MOST_CORNERS,
         )  # fmt: skip
+        axes.add_collection(drawn, autolim=False)
+    for component, limits in diagram.limits.items():
+        colour = colour_of(component)
+        lines, loops = (
+            [[(x / order, y / order) for x, y in corners] for corners in each]
+            for each in zip(*limits)
+        )
+        beside = collections.PolyCollection(
+            loops, facecolors=[(*_rgb(colour), 0.14)], linewidths=0, zorder=2,
+            gid=_name("triangles-of-limits", component),
+        )  # fmt: skip
+        drawn = collections.LineCollection(
+            lines, colors=colour, linewidths=2.0 if len(lines) <= MANY else 0.7, linestyles=DASHES,
+            zorder=3, clip_on=False, gid=_name("limits", component),
+        )  # fmt: skip
+        axes.add_collection(beside, autolim=False)
         axes.add_collection(drawn, autolim=False)
     if diagram.points:
         count = len(diagram.points)

@@ -75,7 +75,7 @@ summary { cursor: pointer; color: var(--c0); }
 """
 CLAIMS = {
     "minimal": "π is minimal",
-    "extreme": "π is continuous and extreme: minimal, and no average of two other valid functions",
+    "extreme": "π is extreme: minimal, and no average of two other valid functions",
     "not-extreme": "π is minimal, and the average of two other minimal functions, which the text "
     "has",
 }
@@ -157,12 +157,11 @@ def _pictures(i: int, entry: Entry) -> Iterator[str]:
     shown = [("The graph of π", _plot.plot(function, width=PICTURE_WIDTH))]
     if verdict.violation:
         shown = [("The graph of π, and where it fails", _plot.plot(verdict, width=PICTURE_WIDTH))]
-    if function.is_continuous:
-        words = (
-            "Where π(x) + π(y) = π(x + y): the maximal additive faces, and the projections of the "
-            "triangles at the borders"
-        )
-        shown.append((words, _plot.plot_faces(verdict, width=PICTURE_WIDTH)))
+    words = (
+        "Where π(x) + π(y) = π(x + y): the maximal additive faces, and the projections of the "
+        "triangles at the borders"
+    )
+    shown.append((words, _plot.plot_faces(verdict, width=PICTURE_WIDTH)))
     if verdict.halves:
         words = "The two halves, whose average is π, and their difference"
         shown.append((words, _plot.plot(verdict, width=PICTURE_WIDTH)))
@@ -255,6 +254,8 @@ def _for_a_paper(entry: Entry, built: Dict[str, str]) -> Iterator[str]:
         claim = f"π is not minimal: {violation_in_words(entry.function, kind, *places)}"
     else:
         claim = CLAIMS[verdict.claim]
+        if verdict.claim == "extreme" and entry.function.is_continuous:
+            claim = claim.replace("π is", "π is continuous and", 1)
     commit, kit = built["commit"], built["kit"]
     yield "<h3>For a paper</h3>"
     yield (

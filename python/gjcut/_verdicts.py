@@ -6,6 +6,8 @@ from . import _arguments
 from ._functions import Function, Point, pictures, printed
 
 Table = Tuple[Fraction, ...]
+# The limit from the left, the value, and the limit from the right.
+Sides = Tuple[Fraction, Fraction, Fraction]
 UNDECIDED = "this verdict is of `minimal`, which does not ask whether it is extreme: ask `extreme`"
 
 
@@ -53,8 +55,8 @@ class Verdict(NamedTuple):
     halves; and the proof text. `violations` are as many as were asked for.
 
     A verdict is no bool: `is_extreme` and `is_minimal` are. The halves are functions that the
-    function is the average of, by their values at the multiples of 1/N. N is up to 4,000, and
-    commands read orders up to 1,000; `at`, `==`, `+` and the others work on every half.
+    function is the average of, by their values and limits at the multiples of 1/N. N is up to
+    4,000, and commands read orders up to 1,000; `at`, `==`, `+` and the others work on every half.
     """
 
     claim: str
@@ -126,7 +128,8 @@ def verdict_of(text: str, f: Fraction) -> Verdict:
     if claim == "not-minimal":
         violation = violation_of(text.splitlines()[-2])
     if claim == "not-extreme":
-        halves = tuple(_function(f, each) for each in halves_of(text))
+        first, second = halves_of(text)
+        halves = _function(f, first), _function(f, second)
     return Verdict(claim, violation, halves, text, (violation,) if violation else ())
 
 
@@ -135,7 +138,10 @@ def table_verdict_of(text: str) -> TableVerdict:
     lines = text.splitlines()
     order, claim = int(lines[1].split()[1]), lines[3].split()[1]
     violation = violation_of(lines[4]) if claim == "not-minimal" else None
-    halves = halves_of(text) if claim == "not-extreme" else None
+    halves = None
+    if claim == "not-extreme":
+        first, second = ([value for _, value, _ in half] for half in halves_of(text))
+        halves = tuple(first), tuple(second)
     return TableVerdict(order, claim, violation, halves, text)
 
 
@@ -144,18 +150,25 @@ def violation_of(line: str) -> Violation:
     return Violation(kind, *map(printed, at))
 
 
-def halves_of(text: str) -> Tuple[Table, Table]:
-    """The two lists of values behind the line `halves` of a text."""
+def halves_of(text: str) -> Tuple[List[Sides], List[Sides]]:
+    """The values and limits of the two halves behind the line `halves` of a text."""
     lines = [each.split() for each in text[text.index("\nhalves ") + 1 :].splitlines()]
     scale = int(lines[0][2])
-    pairs = [(int(words[1]), int(words[2])) for words in lines if words[0] == "pair"]
-    first, second = (tuple(Fraction(n, scale) for n in each) for each in zip(*pairs))
+    pairs = [words[1:] for words in lines if words[0] == "pair"]
+    first = [_sides(words[: len(words) // 2], scale) for words in pairs]
+    second = [_sides(words[len(words) // 2 :], scale) for words in pairs]
     return first, second
 
 
-def _function(f: Fraction, values: Table) -> Function:
-    places = (Fraction(i, len(values)) for i in range(len(values)))
-    return Function(f=f, points=[Point(x, value, value, value) for x, value in zip(places, values)])
+def _sides(words: List[str], scale: int) -> Sides:
+    """One number is the value and both limits."""
+    numbers = [Fraction(int(word), scale) for word in words]
+    return numbers[0], numbers[len(numbers) // 2], numbers[-1]
+
+
+def _function(f: Fraction, sides: List[Sides]) -> Function:
+    points = (Point(Fraction(i, len(sides)), *each) for i, each in enumerate(sides))
+    return Function(f=f, points=points)
 
 
 def lines_of_function(text: str) -> List[str]:

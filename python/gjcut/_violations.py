@@ -5,19 +5,10 @@ import math
 from fractions import Fraction
 from typing import Dict, Iterator, List, Tuple
 
-from ._faces import CORNERS
+from ._faces import CORNERS, WAYS
 from ._functions import Function
 from ._library import call
 from ._verdicts import Violation, lines_of_proof
-
-# From which sides x, y and x + y come to the corners of a face, from its inside.
-WAYS = {
-    "horizontal": ("+0+", "-0-"),
-    "vertical": ("0++", "0--"),
-    "diagonal": ("-+0", "+-0"),
-    "lower": ("+++", "-+-", "+--"),
-    "upper": ("-++", "+-+", "---"),
-}
 
 
 class _Values:

@@ -16,7 +16,7 @@ from ._verdicts import function_of as function_of_proof, lines_of_function
 from ._violations import violations_of
 from .explain import CLAIMS, explained, function_in_words, function_of, skipped_in_words
 from .explain import sum_skipped_in_words, violation_in_words
-from .sentences import RULES, cause_in_words, is_derivation, line_at_fault, told
+from .sentences import cause_in_words, is_derivation, line_at_fault, rule_in_words, told
 
 # The status of a file that cannot be read, and where there is no library.
 NO_FILE, NO_LIBRARY = 4, 14
@@ -40,6 +40,8 @@ COMMANDS: Dict[str, Tuple[Tuple[str, ...], str]] = {
     "demo": (("N",), "a decision on a function of the program's own"),
 }
 WITH_JSON = ("minimal", "extreme", "show")
+# The program has the flag `--jumps` for these, which changes nothing of a continuous function.
+WITH_JUMPS = ("extreme", "faces")
 WITH_VIOLATIONS = ("minimal", "extreme")
 WITH_PROOF = ("minimal", "extreme", "cut", "mixed", "problem", "derive", "group", "check")
 
@@ -222,6 +224,7 @@ def _asked(chosen: argparse.Namespace, file: str, front: bytes) -> "Asked | Resu
     command = "check" if chosen.command == "explain" else chosen.command
     words = [command, *(getattr(chosen, number) for number in COMMANDS[chosen.command][0])]
     words += ["--json"] * getattr(chosen, "json", False)
+    words += ["--jumps"] * (command in WITH_JUMPS)
     return Asked("standard input" if file == "-" else file, " ".join(words), front + data)
 
 
@@ -281,9 +284,10 @@ def _verdict(text: str, proof: str, violations: int) -> str:
     if claim == "extreme":
         return "extreme: the function is minimal, and no average of two other valid functions"
     order = re.search(r"^halves (\d+)", proof, re.M)[1]
+    numbers = "values" if function.is_continuous else "values and limits"
     return (
         "not extreme: the function is minimal, and the average of two different minimal functions, "
-        f"which --proof shows by their values at the multiples of 1/{order}"
+        f"which --proof shows by their {numbers} at the multiples of 1/{order}"
     )
 
 
@@ -311,7 +315,7 @@ def _judged(text: str, status: int, said: str) -> str:
     if not status:
         return f"accepted: {CLAIMS[words[1]]}{which}"
     _, line, _ = line_at_fault(text, said)
-    why = cause_in_words(words[3:]) if is_of_steps else RULES[words[3]]
+    why = cause_in_words(words[3:]) if is_of_steps else rule_in_words(words[3], text)
     return f"rejected: line {words[2]}, `{line}`: {why}{which}"
 
 

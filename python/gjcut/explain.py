@@ -4,7 +4,7 @@ from typing import Dict, Iterator, List, Tuple
 
 from ._arguments import number, text as text_of
 from ._explain_derivation import DerivationReader, lines_of
-from ._faces import CORNERS, merged
+from ._faces import Cover, Face, joining_edge, merged, slacks
 from ._functions import Function, function as a_function, printed, short
 from ._verdicts import function_of as _function_of
 from .sentences import is_derivation
@@ -72,11 +72,12 @@ class _Reader:
     def __init__(self, text: str):
         self.text, self.claim, self.order, self.f = text, "", 1, Fraction(0)
         self.points, self.pairs, self.halves, self.components = 0, 0, (1, 1), 0
-        self.is_of_jumps = False
+        # Whether it is a text 3, whose unknowns are not slopes alone; and how many of them stand
+        # before the slopes.
+        self.is_of_jumps, self.jumps = False, 0
         # How many rows have ended, and the component that each interval is in.
         self.rows, self.component_of = 0, {}
-        # How many unknowns stand before the slopes, where the function jumps.
-        self.jumps = 0
+        self.function = None
 
     def at(self, i: int) -> str:
         return str(Fraction(i, self.order))
@@ -105,6 +106,7 @@ class _Reader:
 
     def of_order(self, order: str) -> str:
         self.order = int(order)
+        self.jumps = 2 * self.order - 1 if self.is_of_jumps else 0
         return f"the function is affine between the multiples of 1/{order}"
 
     def of_f(self, f: str) -> str:
@@ -115,7 +117,6 @@ class _Reader:
         place, self.points = self.at(self.points), self.points + 1
         if len(values) == 1:
             return f"the value at {place}"
-        self.jumps = 2 * self.order - 1 if self.is_of_jumps else 0
         return f"at {place} the limit from the left, the value, and the limit from the right"
 
     def of_rule(self, _rule: str) -> str:
@@ -137,10 +138,7 @@ class _Reader:
         return violation_in_words(function_of(self.text), "superadditive", printed(x), printed(y))
 
     def of_cover(self, i: str, j: str, kind: str, a: str, b: str) -> str:
-        shown = [f"({self.at(int(a) + x)}, {self.at(int(b) + y)})" for x, y in CORNERS[kind]]
-        corners = ", ".join(shown)
-        shape = "triangle" if kind in ("lower", "upper") else "edge"
-        face = f"on the {shape} with the corners {corners} the values add up to that of the sum"
+        face = self.face_in_words(i, j, Face(kind, self.order, int(a), int(b)))
         interval = self.interval(int(i))
         if i == j:
             component, self.components = self.components, self.components + 1
@@ -151,6 +149,25 @@ class _Reader:
             other = self.interval(int(j))
             so = f"{interval} is covered, with the slope of {other}, in component {component}"
         return f"{face}; so {so}"
+
+    def face_in_words(self, i: str, j: str, face: Face) -> str:
+        """Why the face of a cover line covers the interval i, as j is covered."""
+        corners = _places(face.corners)
+        shape = "triangle" if face.kind in ("lower", "upper") else "edge"
+        if not self.is_of_jumps:
+            return f"on the {shape} with the corners {corners} the values add up to that of the sum"
+        if self.function is None:
+            self.function = function_of(self.text)
+        left, other = Fraction(int(i), self.order), Fraction(int(j), self.order)
+        ends = left + Fraction(1, self.order), other + Fraction(1, self.order)
+        edge = joining_edge(self.function, Cover((left, ends[0]), (other, ends[1]), face))
+        if any(slacks(self.function, face)) and edge:
+            return (
+                f"from the inside of the {shape} with the corners {corners} the slack tends to 0 "
+                f"along its edge with the ends {_places(edge)}"
+            )
+        inside = f"inside of the {shape} with the corners {corners}"
+        return f"{inside} the values add up to that of the sum"
 
     def of_row(self, *said: str) -> str:
         if said == ("period",):
@@ -186,8 +203,9 @@ class _Reader:
 
     def of_halves(self, order: str, scale: str) -> str:
         self.halves = int(order), int(scale)
+        numbers = "values and limits" if self.is_of_jumps else "values"
         return (
-            f"two minimal functions by their values at the multiples of 1/{order}, in parts of "
+            f"two minimal functions by their {numbers} at the multiples of 1/{order}, in parts of "
             f"1/{scale}; they are different, and their average is the function"
             + self.difference_in_words()
         )
@@ -211,11 +229,13 @@ class _Reader:
         for rise, intervals in slopes.items():
             where = ", ".join(f"[{left}, {right}]" for left, right in merged(intervals))
             parts.append(f"{Fraction(rise * self.order, 2 * scale)} on {where}")
-        unknowns = "values and slopes" if self.jumps else "slopes"
+        unknowns = "values, limits and slopes" if self.is_of_jumps else "slopes"
+        jumps = [Fraction(i, order) for i, each in enumerate(differences) if len(set(each)) > 1]
+        more = f", and jumps at {', '.join(map(str, jumps))}" if jumps else ""
         return (
             f"{said}. Their difference bends nowhere between multiples of 1/{self.order}, so that "
             f"the equations for the {unknowns} of a perturbation leave a kernel: half the "
-            f"difference has the slopes {'; '.join(parts)}"
+            f"difference has the slopes {'; '.join(parts)}{more}"
         )
 
     def of_pair(self, *said: str) -> str:
@@ -242,8 +262,8 @@ class _Reader:
 
     def of_end(self) -> str:
         if self.claim == "extreme":
-            unknowns = "unknowns" if self.jumps else "components"
-            each = "value and every slope" if self.jumps else "slope"
+            unknowns = "unknowns" if self.is_of_jumps else "components"
+            each = "value, limit and slope" if self.is_of_jumps else "slope"
             return (
                 f"as many equations as {unknowns}, {self.rows}: every {each} of a perturbation "
                 "is 0, so there is none but 0"
@@ -252,6 +272,11 @@ class _Reader:
 
 
 Interval = Tuple[Fraction, Fraction]
+
+
+def _places(places: Tuple[Tuple[Fraction, Fraction], ...]) -> str:
+    """Points of the plane; a face beyond the square is written beyond it."""
+    return ", ".join(f"({x}, {y})" for x, y in places)
 
 
 def _difference(pair: List[int]) -> Tuple[int, int, int]:

@@ -11,7 +11,7 @@ unless it is called with check_range=False. `FAMILIES` has them all by their nam
     ('0 < f < 1', '0 < lambda_1 <= 1', 'lambda_1 < f / (1 - f)')
 
 What is known of a family is what its source says. What the program says of a member, ask the
-program: `extreme`, and of a function that jumps `minimal`.
+program, by `gjcut.extreme`.
 """
 from ._constructions import (
     automorphism, average, interpolate, multiplicative_homomorphism, two_slope_approximation,

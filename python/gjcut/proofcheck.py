@@ -86,6 +86,12 @@ def within(least, greatest):
     return lambda word: n if (n := count(word)) is not None and least <= n <= greatest else None
 
 
+def is_tripled(words):
+    """Whether each word stands three times where once would do."""
+    threes = [words[i : i + 3] for i in range(0, len(words), 3)]
+    return len(words) > 2 and all(three == three[:1] * 3 for three in threes)
+
+
 class Text:
     """The lines of a text, read one after another; `line` is the number of the last one."""
 
@@ -106,6 +112,8 @@ class Text:
         words = line.split(" ")
         self.line += 1
         if "" in words or "\t" in line or line.endswith("\r") or not has_end:
+            self.refuse("form")
+        if words[0] in ("point", "pair") and is_tripled(words[1:]):
             self.refuse("form")
         for form in forms:
             pairs = list(zip(words, form))
@@ -178,8 +186,6 @@ def read_function(text):
     points, scale = [], 1
     for _ in range(order):
         said = text.read(("point", fraction), ("point", fraction, fraction, fraction))
-        if len(said) == 3 and said[0] == said[1] == said[2]:
-            text.refuse("form")
         for value in said:
             scale = lcm(scale, value.denominator)
             if abs(value) > 2**20:
@@ -223,7 +229,8 @@ def read_cover_and_groups(text, function, version):
     """The cover lines; the lines of the groups, each with its number and what it says; and the
     modulus, or None."""
     q, cover, steps, modulus = function.order, [], [], None
-    kinds, index, rows = "|".join(CORNERS), within(0, function.order - 1), [("row", "period|f")]
+    kinds, index = "|".join(CORNERS), within(0, function.order - 1)
+    rows = [("row", "f" if version == 3 else "period|f")]
     for _ in range(q):
         said = text.read(("cover", index, index, kinds, index, index))
         cover.append((text.line, *said))
@@ -274,13 +281,13 @@ def components_of(function, version, cover):
 
 
 class System:
-    """The equations for a perturbation. Its unknowns have the numbers 0, 1, ..: of a continuous
-    function the slope on each component; of one that jumps first the values and the limits from the
-    right, and then the slopes."""
+    """The equations for a perturbation. Its unknowns have the numbers 0, 1, ..: the slope on each
+    component; in a text about a function that jumps first the values and the limits from the right,
+    and then the slopes."""
 
-    def __init__(self, function, component, components):
+    def __init__(self, function, version, component, components):
         self.function, self.component = function, component
-        self.slopes = 0 if function.is_continuous() else 2 * function.order - 1
+        self.slopes = 2 * function.order - 1 if version == 3 else 0
         self.columns = self.slopes + components
 
     def perturbation(self, i, side):
@@ -304,7 +311,7 @@ class System:
         """The row that a line names, or None if it does not hold of the function."""
         function, q = self.function, self.function.order
         if said == ["period"]:
-            return self.perturbation(q, "0") if self.slopes == 0 else None
+            return self.perturbation(q, "0")
         if said == ["f"]:
             return self.perturbation(function.place, "0")
         a, b, way = [*said, "000"][:3]
@@ -344,7 +351,7 @@ def check_extreme(function, version, shown, end):
     """As many equations as unknowns, each with an unknown of its own: so only 0 solves them all,
     there is no perturbation but 0, and the function is no average of two others."""
     cover, steps, modulus = shown
-    system = System(function, *components_of(function, version, cover))
+    system = System(function, version, *components_of(function, version, cover))
     kept, row = {}, {}
     for line, kind, said in steps:
         if kind == "row":
@@ -378,8 +385,6 @@ def read_halves(text, _function, version):
         forms.append(["pair", *[whole] * 6])
     for _ in range(order):
         said = [int(n) for n in text.read(*forms)]
-        if len(said) == 6 and len(set(said[:3])) == len(set(said[3:])) == 1:
-            text.refuse("form")
         first, second = said[: len(said) // 2], said[len(said) // 2 :]
         pairs.append((first * (3 // len(first)), second * (3 // len(second))))
     return line, scale, pairs

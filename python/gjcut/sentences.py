@@ -19,7 +19,7 @@ from ._sentence import Sentence, line_at_fault
 
 __all__ = [
     "CAUSES", "RULES", "SENTENCES", "Sentence", "cause_in_words", "first_word", "is_derivation",
-    "line_at_fault", "sentence_for", "told",
+    "line_at_fault", "rule_in_words", "sentence_for", "told",
 ]  # fmt: skip
 
 COMMAND_SENTENCES = [*FUNCTION_SENTENCES, *OTHER_SENTENCES]
@@ -69,7 +69,8 @@ def _is_in_function(text: str, answer: str) -> bool:
 STATUSES = {
     6: ("there was no memory", "try again where more is free"),
     7: (
-        "a number passed its bound, and this function is not decided",
+        "a number, or the proof of a function that jumps, passed its bound, and this function is "
+        "not decided",
         "take a function of a smaller order, or with smaller denominators",
     ),
 }
@@ -157,3 +158,22 @@ RULES = {
     "name": "this name stands in the row already",
     "value": "this coefficient is not the value of the function at the entry",
 }
+# The same of a text 3, where it says something else.
+RULES_WITH_JUMPS = {
+    "cover": "this interval has a line before, or the face does not cover it: by a triangle with "
+    "three limits 0 that projects on it, or by an edge with limits 0 at both ends that links it to "
+    "an interval with a line",
+    "row": "the limit of the slack that this row names is not 0",
+    "rank": "there are fewer rows than unknowns, so values, limits and slopes are not determined",
+    "range": "a value or a limit of a half is below 0 or above 1",
+    "average": "two values or limits of the halves have not the average of the function there",
+}
+
+
+def rule_in_words(rule: str, text: str) -> str:
+    """What a rule of the checker asks that fails in a proof text."""
+    name = text_of(rule, "rule")
+    if name not in RULES:
+        raise ValueError(f"rule: there is no rule {name!r}")
+    own = RULES_WITH_JUMPS if text_of(text, "text").startswith("gj-proof 3\n") else RULES
+    return own.get(name, RULES[name])

@@ -200,8 +200,7 @@ class Refusals(unittest.TestCase):
         said = self.refusal(gjcut.by_breakpoints, "3/5", points)
         self.assertTrue(said.startswith("points[2]: refused, break: a jump is written as two"))
         self.assertIn("write one line, with the limit from the left", said)
-        said = self.refusal(gjcut.extreme, HALF)
-        self.assertIn("whether it is extreme is not decided", said)
+        self.assertIn("often by a breakpoint more", self.refusal(gjcut.fill, HALF))
         said = self.refusal(gjcut.check, GMIC.text)
         self.assertIn("let `extreme` or `minimal` write the proof", said)
         self.assertIn("take a smaller N", self.refusal(gjcut.times, SIX, 500))
@@ -213,7 +212,7 @@ class Refusals(unittest.TestCase):
 
     def test_where_it_jumps(self):
         jumps = gjcut.by_breakpoints("1/2", [(0, 0), ("1/4", "1/2", 0, "1/2"), ("1/2", 1)])
-        _, said = terminal("faces", text=jumps.text)
+        _, said = terminal("group", text=jumps.text)
         self.assertIn("The function jumps at 1/4, and", said)
         _, said = terminal("fill", text="gj-function 2\nf 3/5\npoint 0 0\npoint 3/5 -1\nend\n")
         self.assertIn("The values at 1/5 and 3/5 add up to less than that at 1/5 + 3/5", said)

@@ -15,11 +15,6 @@ from gjcut import literature
 from gjcut.literature import FAMILIES, OutOfRange
 
 EXAMPLES = Path(__file__).resolve().parents[2] / "examples/literature"
-# The status of a function that is minimal and jumps, of which nothing more is decided.
-JUMPS = 8
-# What else may be said of a function that jumps, as long as `extreme` does not decide it, or if it
-# does.
-WITHOUT_LIMITS = {"extreme": {"minimal"}, "minimal": {"not-extreme"}}
 # More members in the range, beside the example of each family.
 INSIDE = {
     "gmic": [("1/2",), ("5/7",), ("1/97",)],
@@ -43,7 +38,9 @@ INSIDE = {
     "two_slope": [(2, "++-"), (3, "+++--")],
     "ll_strong_fractional": [("1/2",), ("3/5",), ("9/10",)],
     "dg_2_step_mir_limit": [("1/2", 1), ("2/3", 2), ("4/5", 4)],
-    "drlm_2_slope_limit": [("3/5", 1, 1), ("1/3", 1, 2), ("2/3", 1, 1)],
+    "drlm_2_slope_limit": [
+        ("3/5", 1, 1), ("1/3", 1, 2), ("2/3", 1, 1), ("1/2", 2, 2), ("2/3", 2, 1), ("3/4", 3, 1),
+    ],
     "drlm_3_slope_limit": [("1/10",), ("2/7",)],
     "rlm_dpl1_extreme_3a": [("1/10",), ("3/10",)],
     "half": [("1/3",)],
@@ -63,19 +60,10 @@ OUTSIDE = [
     ("dg_2_step_mir_limit", ("2/3", 1), "not-minimal"),
     ("dg_2_step_mir_limit", ("3/4", 2), "not-minimal"),
     ("drlm_2_slope_limit", ("1/3", 1, 1), "not-minimal"),
-    ("drlm_3_slope_limit", ("2/5",), "minimal"),
-    ("rlm_dpl1_extreme_3a", ("1/3",), "minimal"),
+    ("drlm_2_slope_limit", ("1/2", 2, 1), "not-minimal"),
+    ("drlm_3_slope_limit", ("2/5",), "not-extreme"),
+    ("rlm_dpl1_extreme_3a", ("1/3",), "not-extreme"),
 ]
-
-
-def claim(function):
-    """What `extreme` says; of a function that jumps what `minimal` says, until it decides these."""
-    try:
-        return gjcut.extreme(function).claim
-    except gjcut.Refused as refused:
-        if refused.status != JUMPS:
-            raise
-        return gjcut.minimal(function).claim
 
 
 class Families(unittest.TestCase):
@@ -86,12 +74,10 @@ class Families(unittest.TestCase):
         for name, family in FAMILIES.items():
             for parameters in [(), *INSIDE.get(name, [])]:
                 function = family.make(*parameters)
-                wanted = {family.known}
-                if not function.is_continuous:
-                    jumping += 1
-                    wanted |= WITHOUT_LIMITS.get(family.known, set())
-                self.assertIn(claim(function), wanted, (name, parameters))
-        self.assertGreater(jumping, 15)
+                verdict = gjcut.extreme(function)
+                self.assertEqual(verdict.claim, family.known, (name, parameters))
+                jumping += not function.is_continuous
+        self.assertGreater(jumping, 20)
 
     def test_members_outside(self):
         for name, parameters, said in OUTSIDE:
@@ -104,8 +90,8 @@ class Families(unittest.TestCase):
                     make(*parameters, check_range=False)
                 self.assertIn(f"the breakpoints of {name}[1]", str(raised.exception))
             else:
-                wanted = {said, "not-extreme"} if said == "minimal" else {said}
-                self.assertIn(claim(make(*parameters, check_range=False)), wanted, name)
+                verdict = gjcut.extreme(make(*parameters, check_range=False))
+                self.assertEqual(verdict.claim, said, (name, parameters))
 
     def test_the_examples_of_the_page(self):
         for folder, function in (
@@ -169,6 +155,8 @@ class Families(unittest.TestCase):
             literature.gmic("1/2", check_range=0)
         with self.assertRaises(ValueError):
             literature.dg_2_step_mir("4/5", "2/5", check_range=False)
+        with self.assertRaises(ValueError):
+            literature.drlm_2_slope_limit("1/3", 4, 1, check_range=False)
 
     def test_help_has_range_and_source(self):
         for name, family in FAMILIES.items():

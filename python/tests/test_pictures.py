@@ -25,6 +25,19 @@ EXAMPLES = Path(__file__).resolve().parents[2] / "examples"
 needs_matplotlib = unittest.skipUnless(matplotlib, "there is no matplotlib")
 SIX = ("1/2", [(0, 0), ("1/6", "2/3"), ("1/3", "1/3"), ("1/2", 1), ("2/3", "1/3"), ("5/6", "2/3")])
 JUMPS = ("3/5", [(0, "5/6", 0, 0), ("3/5", 1, 1, "1/6")])
+# It is covered only with an edge by limits.
+LIMITS = (
+    "2/5",
+    [
+        (0, "5/8", 0, "5/8"), ("1/5", "3/16", "1/2", "13/16"), ("2/5", "3/8", 1, "3/8"),
+        ("3/5", "1/4", "1/4", "9/16"), ("4/5", "7/16", "3/4", "3/4"),
+    ],
+)
+# Its halves jump at 1/4, where it does not.
+CONTINUOUS_AT_A_QUARTER = (
+    "1/2",
+    [(0, "1/2", 0, "3/4"), ("1/4", "1/2"), ("1/2", "1/4", 1, "1/2"), ("3/4", "1/4", "1/2", "3/4")],
+)
 BLUE, ORANGE = ((*_plot._rgb(colour), 1) for colour in _plot.COLOURS[:2])
 
 
@@ -39,8 +52,9 @@ def places(line):
 
 class Geometry(unittest.TestCase):
     def diagram(self, *function):
-        text = gjcut.faces(gjcut.by_breakpoints(*function)).text
-        return text, _diagram.diagram_of(text)
+        made = gjcut.by_breakpoints(*function)
+        text = gjcut.faces(made).text
+        return text, _diagram.diagram_of(text, made)
 
     def test_gmic_is_additive_in_two_triangles(self):
         # On x + y <= f, and on x, y >= f with x + y >= 1 + f.
@@ -62,6 +76,25 @@ class Geometry(unittest.TestCase):
         self.assertEqual([piece.component for piece in pieces], [0, None, 0, 1, None, 1])
         self.assertEqual(_diagram.slopes_of(pieces), {0: 4, None: -2, 1: -4})
 
+    def test_edges_that_join_by_limits_from_a_triangle(self):
+        # The interval from 3/5 is joined to that from 2/5 by the right edge of Upper (0, 2): from
+        # its inside x comes to 1/5 from the left, and the limit there is 3/16. With 3/8 from the
+        # right at 2/5 it is 9/16, the limit from the right at 3/5; with 1/4 from the left at 3/5
+        # it is 7/16, that from the left at 4/5.
+        _, found = self.diagram(*LIMITS)
+        triangle = ((1, 2), (0, 3), (1, 3))
+        self.assertEqual(found.limits, {1: ((((1, 2), (1, 3)), triangle),)})
+        self.assertEqual(sorted(found.polygons), [0, 1])
+        self.assertEqual(self.diagram("3/5", [(0, 0), ("3/5", 1)])[1].limits, {})
+
+    def test_an_edge_below_a_triangle_need_not_be_additive(self):
+        # The strong fractional cut is additive inside of the triangle on x = 0 at the top, and not
+        # on the edge at y = 3/5 below it. At the borders x and y are whole, and the values add up.
+        _, found = self.diagram(*JUMPS)
+        self.assertIn(((0, 3), (0, 5), (2, 3)), map(_sorted_loop, found.polygons[0]))
+        self.assertIn(((0, 5), (5, 5)), found.edges[0])
+        self.assertFalse([each for each in found.edges[0] if each[0][1] == each[1][1] == 3])
+
     def test_merged_triangles_are_those_that_were_merged(self):
         chance = random.Random(7)
         for order, _ in itertools.product((1, 2, 5, 9), range(30)):
@@ -80,6 +113,10 @@ class Geometry(unittest.TestCase):
         rows.upper[:] = [0b01, 0b10]
         squares = [((0, 0), (1, 0), (1, 1), (0, 1)), ((1, 1), (2, 1), (2, 2), (1, 2))]
         self.assertEqual(sorted(_diagram._loops(rows.border())), squares)
+
+
+def _sorted_loop(loop):
+    return tuple(sorted(loop))
 
 
 def winding(loop, point):
@@ -139,6 +176,35 @@ class Drawn(unittest.TestCase):
             for x, y in corners:
                 self.assertAlmostEqual(y, float(function.at(Fraction(x).limit_denominator(24))))
 
+    def test_halves_that_jump_have_dots_of_their_colours(self):
+        function = gjcut.by_breakpoints(*CONTINUOUS_AT_A_QUARTER)
+        picture = gjcut.plot(gjcut.extreme(function))
+        quarter = Fraction(1, 4)
+        self.assertNotIn(quarter, [x for x, _ in places(drawn(picture, "values")[0])])
+        first, second = gjcut.extreme(function).halves
+        for i, (half, name) in enumerate(((first, "first"), (second, "second"))):
+            (limits,) = drawn(picture, f"limits-of-{name}-half")
+            (values,) = drawn(picture, f"values-of-{name}-half")
+            _, left, value, right = half.limits(quarter)
+            self.assertEqual(
+                sorted(y for x, y in places(limits) if x == quarter),
+                sorted([float(left), float(right)]),
+            )
+            self.assertIn((0.25, float(value)), places(values))
+            self.assertEqual(limits.get_markerfacecolor(), _plot.PAPER)
+            self.assertEqual(values.get_markerfacecolor(), _plot.COLOURS[i])
+        self.assertEqual(len(drawn(picture, "limits-of-difference")), 1)
+
+    def test_edges_by_limits_are_dashed_and_in_the_key(self):
+        picture = gjcut.plot_faces(gjcut.by_breakpoints(*LIMITS))
+        (edges,) = drawn(picture, "limits-1")
+        self.assertEqual(edges.get_segments()[0].tolist(), [[0.2, 0.4], [0.2, 0.6]])
+        self.assertNotEqual(edges.get_linestyle()[0][1], None)
+        self.assertEqual(len(drawn(picture, "triangles-of-limits-1")), 1)
+        self.assertIn("joined by limits from a triangle", legend(picture))
+        other = gjcut.plot_faces(gjcut.by_breakpoints(*JUMPS))
+        self.assertNotIn("joined by limits from a triangle", legend(other))
+
     def test_the_diagram_has_the_merged_faces_and_the_projections(self):
         picture = gjcut.plot_faces(gjcut.by_breakpoints("3/5", [(0, 0), ("3/5", 1)]))
         (low,), (high,) = drawn(picture, "triangles-0"), drawn(picture, "triangles-1")
@@ -164,6 +230,7 @@ class Drawn(unittest.TestCase):
         near = [(0, 0), ("1/1000", "1/3"), ("498/1000", "2/3"), ("499/1000", 1)]
         long = [(0, 0), ("1/97", "1/100003"), ("2/97", "99999/100003"), ("96/97", "1/7")]
         all_points = ("4/5", three), ("499/1000", fine), ("1/12", steep), ("499/1000", near), SIX
+        all_points = *all_points, LIMITS, CONTINUOUS_AT_A_QUARTER
         for points in (*all_points, ("3/97", long)):
             function = gjcut.by_breakpoints(*points)
             verdict = gjcut.extreme(function)
@@ -220,9 +287,6 @@ class Drawn(unittest.TestCase):
             self.assertIn(said, str(raised.exception))
         with self.assertRaises(ValueError):
             gjcut.plot(gmic).save("gmic.jpg")
-        with self.assertRaises(gjcut.Refused) as refused:
-            gjcut.plot_faces(gjcut.by_breakpoints(*JUMPS))
-        self.assertEqual(refused.exception.status, 8)
 
 
 def legend(picture):
@@ -246,15 +310,17 @@ class Commands(unittest.TestCase):
 
     @needs_matplotlib
     def test_pictures_of_each_kind(self):
+        jumps = EXAMPLES / "extreme/jumps_of_the_halves_alone/input"
         for kind, begin, words in (
             ("svg", b"<?xml", ()),
             ("png", b"\x89PNG", ("--faces",)),
             ("pdf", b"%PDF", ("--halves",)),
         ):
-            name = self.folder / f"six.{kind}"
-            said, status = asked("plot", self.six, "-o", name, *words)
-            self.assertEqual(status, 0, said)
-            self.assertTrue(name.read_bytes().startswith(begin))
+            for file in (self.six, jumps):
+                name = self.folder / f"{file.parent.name}.{kind}"
+                said, status = asked("plot", file, "-o", name, *words)
+                self.assertEqual(status, 0, said)
+                self.assertTrue(name.read_bytes().startswith(begin))
 
     @needs_matplotlib
     def test_a_file_that_is_there_stays_but_for_force(self):
@@ -270,15 +336,14 @@ class Commands(unittest.TestCase):
 
     @needs_matplotlib
     def test_what_cannot_be_drawn_says_why(self):
-        refused, jumps = self.folder / "refused", self.folder / "jumps"
+        refused = self.folder / "refused"
         refused.write_text("gj-function 2\nf = 3/5\npoint 0 0\npoint 3/5 1\nend\n")
-        jumps.write_text("gj-function 1\nfamily half 1/2\nend\n")
+        jumps = EXAMPLES / "literature/ll_strong_fractional/input"
         name = self.folder / "drawn.svg"
         for file, words, status, said in (
             (refused, (), 3, "refused, line 2: refused, form\n    f = 3/5\n"),
             (refused, ("--faces",), 3, "refused, line 2: refused, form\n    f = 3/5\n"),
-            (jumps, ("--faces",), 8, "jumps: not continuous 0"),
-            (jumps, ("--halves",), 8, "jumps: not continuous 0"),
+            (jumps, ("--halves",), 8, "it has no halves"),
             (EXAMPLES / "extreme/five_pieces/input", ("--halves",), 8, "it has no halves"),
             (self.folder / "none", (), 4, "none: it cannot be read"),
         ):
@@ -332,8 +397,8 @@ class Commands(unittest.TestCase):
         files = [str(each) for each in (self.six, jumps, wrong, refused)]
         self.assertEqual(page.heads["h2"], [*files, "What answered"])
         self.assertEqual(page.heads["h3"].count("The proof, line by line"), 3)
-        # Graph, faces and halves; a graph; a graph and faces.
-        self.assertEqual(page.pictures, 6)
+        # Graph, faces and halves; twice a graph and faces.
+        self.assertEqual(page.pictures, 7)
         # Nothing comes from elsewhere, and nothing runs.
         for link in page.links:
             self.assertRegex(link, "^(#|data:text/plain;base64,)")
@@ -343,11 +408,11 @@ class Commands(unittest.TestCase):
         proofs = [base64.b64decode(link[23:]).decode() for link in page.links if link[0] == "d"]
         self.assertEqual(
             [gjcut.check(proof).claim for proof in proofs],
-            ["not-extreme", "minimal", "not-minimal"],
+            ["not-extreme", "extreme", "not-minimal"],
         )
         for words in (
             "accepted not-extreme",
-            "whether it is extreme is not decided",
+            "proves that π is extreme: minimal, and no average of two other valid functions",
             "proves that π is not minimal: it is not subadditive",
             "prefers-color-scheme: dark",
         ):

@@ -1,5 +1,5 @@
-"""The checkers in plain Python, which need no library: on the examples of `check`, on a proof for a
-function that jumps, and on derivations made of the examples of `problem`."""
+"""The checkers in plain Python, which need no library: on the examples of `check`, on what the
+program writes in others, and on derivations made of the examples of `problem`."""
 import math
 import re
 import subprocess
@@ -14,68 +14,6 @@ from gjcut.sentences import is_derivation
 
 TOP = Path(__file__).resolve().parents[2]
 EXAMPLES = TOP / "examples"
-# ll_strong_fractional for f = 3/5 (Letchford and Lodi 2002), which jumps.
-JUMPS = """\
-gj-proof 3
-claim extreme
-order 5
-f 3/5
-point 5/6 0 0
-point 1/3
-point 2/3
-point 1 1 1/6
-point 1/2
-cover 0 0 lower 0 0
-cover 1 0 upper 0 0
-cover 2 0 upper 0 1
-cover 3 0 diagonal 0 3
-cover 4 0 upper 0 3
-row f
-pivot 3
-row 0 0 +++
-pivot 8
-row 0 1 +0+
-pivot 6
-row 0 1 +-0
-pivot 7
-row 0 2 +0+
-pivot 4
-row 0 2 +-0
-pivot 5
-row 0 3 -+0
-pivot 0
-row 0 3 +-0
-reduce 3
-reduce 4
-reduce 5
-reduce 6
-reduce 7
-reduce 8
-pivot 9
-row 0 4 +0+
-reduce 0
-pivot 1
-row 0 4 +-0
-reduce 1
-pivot 2
-end
-"""
-# rlm_dpl1_extreme_3a (Richard, Li and Miller 2009) for f = 1/3, which is out of its range, with two
-# halves.
-HALVES = """\
-gj-proof 3
-claim not-extreme
-order 3
-f 1/3
-point 3/5 0 0
-point 1 1 2/5
-point 4/5 1/2 1/5
-halves 3 60
-pair 42 0 0 30 0 0
-pair 60 60 18 60 60 30
-pair 51 30 9 45 30 15
-end
-"""
 # 2x + y <= 7 and x + 3y - z <= 9: two cuts, and a sum of both, by which 4x + 5y - 2z is at most 19.
 # At x = 2, y = 3, z = 2 it is 19.
 CHAIN = """\
@@ -149,8 +87,7 @@ class Proofs(unittest.TestCase):
             if words == "check":
                 command = ["sed", script, str(EXAMPLES / example / "input")]
                 text = subprocess.run(command, stdout=subprocess.PIPE, check=True).stdout
-                if not text.startswith(b"gj-proof 3"):
-                    self.assertEqual(checked(text, said), (int(status), said), line)
+                self.assertEqual(checked(text, said), (int(status), said), line)
 
     def test_what_the_program_writes_is_accepted(self):
         tried = 0
@@ -162,38 +99,39 @@ class Proofs(unittest.TestCase):
                 tried += 1
         self.assertGreater(tried, 50)
 
-    def test_functions_that_jump(self):
-        self.assertEqual(answer(JUMPS), (0, "accepted extreme"))
+    def test_a_text_3_is_of_two_claims_and_has_columns_of_its_own(self):
+        jumps = (EXAMPLES / "check/jumps_strong_fractional/input").read_text()
         for old, new, said in (
-            # A limit that is not 0, a column that is not the first, a row too few.
-            ("row 0 1 +0+", "row 0 1 -0-", "rejected line 19 row"),
-            ("row f\npivot 3", "row f\npivot 2", "rejected line 16 pivot"),
-            ("row 0 0 +++\npivot 8\n", "", "rejected line 33 reduce"),
+            ("claim extreme", "claim cut", "refused line 2 form"),
+            # The unknowns are the four other values and the five limits from the right, columns
+            # 0 to 8, and one slope.
             ("row 0 4 +-0\nreduce 1\npivot 2\n", "", "rejected line 40 rank"),
-            # An edge whose limits are not 0.
-            ("cover 4 0 upper 0 3", "cover 4 1 horizontal 1 3", "rejected line 14 cover"),
-            ("row 0 0 +++", "row period", "rejected line 17 row"),
-            ("gj-proof 3", "gj-proof 1", "refused line 17 form"),
-            ("row 0 0 +++", "row 0 0 0+0", "refused line 17 form"),
-            ("row 0 0 +++", "row 0 0", "refused line 17 number"),
-            ("claim extreme", "claim minimal", "refused line 2 form"),
+            ("pivot 9", "pivot 10", "rejected line 36 pivot"),
+            ("row 0 0 +++\npivot 8\n", "", "rejected line 33 reduce"),
         ):
-            self.assertIn(old, JUMPS)
-            self.assertEqual(answer(JUMPS.replace(old, new, 1))[1], said, (old, new))
-        self.assertEqual(answer(HALVES), (0, "accepted not-extreme"))
-        for old, new, said in (
-            ("pair 51 30 9", "pair 51 30 8", "rejected line 11 average"),
-            ("halves 3 60", "halves 3 45", "rejected line 8 scale"),
-            ("pair 51 30 9 45", "pair 61 30 9 35", "rejected line 11 range"),
-            ("pair 42 0 0 30 0 0", "pair 1 1 1 2 2 2", "refused line 9 form"),
-            ("42 0 0 30", "37 0 0 35", "rejected line 8 first"),
+            self.assertIn(old, jumps)
+            self.assertEqual(answer(jumps.replace(old, new, 1))[1], said, (old, new))
+        # Two values, two limits from the right and two slopes, less the value at 0.
+        continuous = (EXAMPLES / "check/jumps_text_of_continuous/input").read_text()
+        self.assertEqual(continuous.count("pivot "), 5)
+        self.assertEqual(answer(continuous), (0, "accepted extreme"))
+
+    def test_three_words_that_are_one(self):
+        halves = (EXAMPLES / "check/jumps_not_extreme/input").read_text()
+        for words, said in (
+            ("pair 1 1 1 2 2 2", "refused line 9 form"),
+            ("pair x x x y y y", "refused line 9 form"),
+            ("pair 1 1 1 2 2 3", "rejected line 9 average"),
+            ("pair 1 1 01 2 2 2", "refused line 9 number"),
         ):
-            self.assertEqual(answer(HALVES.replace(old, new, 1))[1], said, (old, new))
+            self.assertEqual(answer(halves.replace("pair 42 0 0 30 0 0", words))[1], said, words)
+        points = halves.replace("point 1 1 2/5", "point 2/4 2/4 2/4")
+        self.assertEqual(answer(points)[1], "refused line 6 form")
 
     def test_the_command(self):
         with tempfile.TemporaryDirectory() as folder:
             file = Path(folder) / "text"
-            file.write_text(HALVES)
+            file.write_bytes((EXAMPLES / "check/jumps_not_extreme/input").read_bytes())
             for words, status, said in (
                 ([file], 0, "accepted not-extreme\n"),
                 ([Path(folder) / "none"], 4, None),
