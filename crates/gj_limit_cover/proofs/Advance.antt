@@ -1,10 +1,10 @@
 -- The search for lines goes on by one line.
-use Rattle.std.proofs.Common.{◌≡◌, ◌≢◌, ℕ, ◌+◌, ◌<◌, ◌≤◌, List, [], ◌∷◌, ◌++◌, length, get_or, ◌↔◌, ◌&&◌, ◌||◌, not, eqb, IsTrue, Option, Some, cond, eq-eqb, sym, ap, ◌∙◌, inl, inr, arith}
+use Rattle.std.proofs.Common.{◌≡◌, ◌≢◌, ℕ, ◌+◌, ◌<◌, ◌≤◌, None, false, List, [], ◌∷◌, ◌++◌, length, get_or, ◌&&◌, ◌||◌, not, eqb, IsTrue, Option, Some, cond, eq-eqb, sym, ap, ◌∙◌, inl, inr, arith}
 use Rattle.std.specs.Option.{unwrap_or}
 use Rattle.std.proofs.Math.ListN.{set, length-set}
 use Rattle.std.specs.Bool.{◌==◌}
 use Rattle.std.proofs.lemmas.List.Sums.{sum_by-append}
-use Rattle.std.proofs.lemmas.Bool.{ne_eqb}
+use Rattle.std.proofs.lemmas.Bool.{ne_eqb, or_left, or_right, cases_Bool}
 use Rattle.gj_shape.specs.declared.faces.FaceKind.{FaceKind}
 use Rattle.gj_shape.specs.Cover.{components_in}
 use Rattle.gj_limit_cover.specs.LimitCover.{AreJoined, IsNextLine}
@@ -26,7 +26,9 @@ pub record HasLineMore (q : ℕ) (T : FaceKind → ℕ → ℕ → ℕ →
   pub component : new.component.items ≡ set old.component.items l.interval (Some m)
   pub free : (k : ℕ) → has new.free k ≡ (has old.free k && not (eqb k l.interval))
   pub joined : IndexSet
-  pub told : (k : ℕ) → k < q → l.interval ≢ k → IsTrue (has joined k) ↔ AreJoined q T l.interval k
+  pub told : (k : ℕ) → k < q → l.interval ≢ k → IsTrue (has joined k) → AreJoined q T l.interval k
+  pub whole : (k : ℕ) → k < q → l.interval ≢ k → number_at old.component.items k ≡ None →
+      AreJoined q T l.interval k → IsTrue (has new.near k)
   pub near : (k : ℕ) → has new.near k ≡ (has old.near k || has joined k)
 
 opened_joining : (lines : List CoverLine) (l : CoverLine) → l.from ≢ l.interval →
@@ -78,7 +80,7 @@ assembled q T old new l m h next more added =
       near = rw (more.lines, more.component)
           (near_more q T old.lines.items old.component.items old.near more.joined new.near l m
           h.component_length
-          h.numbers number to.within to.free h.near more.told more.near);
+          h.numbers number to.within to.free h.near more.told more.whole more.near);
     }
 
 pub fewer : (q : ℕ) (T : FaceKind → ℕ → ℕ → ℕ →
@@ -145,10 +147,12 @@ pub line_more : (q : ℕ) (T : FaceKind → ℕ → ℕ → ℕ →
     m ≡ unwrap_or o old.count → new.lines.items ≡ old.lines.items ++ l ∷ [] →
     new.component.items ≡ set old.component.items l.interval (Some m) →
     ((k : ℕ) → has new.free k ≡ (has old.free k && not (eqb k l.interval))) → (joined : IndexSet) →
-    ((k : ℕ) → k < q → l.interval ≢ k → IsTrue (has joined k) ↔ AreJoined q T l.interval k) →
+    ((k : ℕ) → k < q → l.interval ≢ k → IsTrue (has joined k) → AreJoined q T l.interval k) →
+    ((k : ℕ) → k < q → l.interval ≢ k → IsTrue (has old.free k) → has old.near k ≡ false →
+    AreJoined q T l.interval k → IsTrue (has joined k)) →
     ((k : ℕ) → has new.near k ≡ (has old.near k || has joined k)) →
     HasLineMore q T old new l m
-line_more q T old new l m o h next was number lines component free joined told near =
+line_more q T old new l m o h next was number lines component free joined told whole near =
     let from = from_below q T old.lines.items old.component.items old.count l h.numbers next in
     let within : l.from < length old.component.items = omega (arith, from, h.component_length) in
     record {
@@ -159,5 +163,10 @@ line_more q T old new l m o h next was number lines component free joined told n
       free = free;
       joined = joined;
       told = told;
+      whole = λ k low other none at. near k ∙ elim (cases_Bool (has old.near k)) [
+        | inl yes' ↦ or_left (has old.near k) (has joined k) yes'
+        | inr no' ↦ or_right (has old.near k) (has joined k)
+            (whole k low other ((h.free.each k).1 (low, none)) no' at)
+      ];
       near = near;
     }

@@ -1,5 +1,5 @@
 -- Rows of linked intervals, one after another, and the intervals that are joined to one.
-use Rattle.std.proofs.Common.{◌≡◌, ◌↔◌, ℕ, ◌+◌, ◌<◌, ◌||◌, eqb, cond, Bool, true, false, IsTrue, List, [], ◌∷◌, ◌++◌, inl, inr, sym, ap, subst, ◌∙◌, arith}
+use Rattle.std.proofs.Common.{◌≡◌, ◌↔◌, ℕ, ◌+◌, ◌<◌, ◌||◌, ◌⊎◌, eqb, cond, Bool, true, false, IsTrue, List, [], ◌∷◌, ◌++◌, inl, inr, sym, ap, subst, ◌∙◌, arith}
 use Rattle.std.proofs.lemmas.Bool.{cases_lt, cases_eq, or_cases, or_left, or_right, eq-eqb, ne_eqb}
 use Rattle.std.proofs.lemmas.List.{get_or_append_left, get_or_push, length_push}
 use Rattle.gj_loops.specs.IndexSets.{has, no_set}
@@ -85,3 +85,13 @@ joined_below q T i j x y z is first second yes' = elim (or_cases y z (sym is ∙
   | inl e ↦ (first.0 e).0
   | inr e ↦ (second.0 e).0
 ]
+
+pub joined_of : (q : ℕ) (T : FaceKind → ℕ → ℕ → ℕ → Type 0) (i j : ℕ) →
+    IsLink q T i j ⊎ IsLink q T j i → AreJoined q T i j
+joined_of q T i j (inl (kind, a, b, l)) = (kind, a, b, inl l)
+joined_of q T i j (inr (kind, a, b, l)) = (kind, a, b, inr l)
+
+pub linked_or_linking : (q : ℕ) (T : FaceKind → ℕ → ℕ → ℕ → Type 0) (i j : ℕ) →
+    AreJoined q T i j → IsLink q T i j ⊎ IsLink q T j i
+linked_or_linking q T i j (kind, a, b, inl l) = inl (kind, a, b, l)
+linked_or_linking q T i j (kind, a, b, inr l) = inr (kind, a, b, l)

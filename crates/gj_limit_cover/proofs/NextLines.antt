@@ -1,8 +1,8 @@
 -- What one more cover line changes.
-use Rattle.std.proofs.Common.{◌≡◌, ◌≢◌, ℕ, ◌⊎◌, ◌+◌, ◌%◌, ◌<◌, List, [], ◌∷◌, ◌++◌, length, get_or, ◌↔◌, ◌&&◌, ◌||◌, not, eqb, IsTrue, Option, Some, None, cond, refl, sym, ap, ◌∙◌, subst, inl, inr, arith}
+use Rattle.std.proofs.Common.{◌≡◌, ◌≢◌, ℕ, ◌⊎◌, ◌+◌, ◌%◌, ◌<◌, List, [], ◌∷◌, ◌++◌, length, get_or, ◌&&◌, ◌||◌, not, eqb, IsTrue, Option, Some, None, cond, refl, sym, ap, ◌∙◌, subst, inl, inr, arith}
 use Rattle.std.specs.Option.{unwrap_or, is_none}
 use Rattle.std.proofs.Math.ListN.{set}
-use Rattle.std.proofs.lemmas.Bool.{or_cases, or_left, or_right, and_parts, and_from, not-true, not_from_false, eqb-false, ne_eqb}
+use Rattle.std.proofs.lemmas.Bool.{or_cases, or_left, and_parts, and_from, not-true, not_from_false, eqb-false, ne_eqb}
 use Rattle.std.proofs.lemmas.List.Sums.{sum_by-set}
 use Rattle.gj_shape.specs.declared.faces.FaceKind.{FaceKind}
 use Rattle.gj_shape.specs.Cover.{HasComponent, opened, joined, components_in}
@@ -333,10 +333,12 @@ pub near_more : (q : ℕ) (T : FaceKind → ℕ → ℕ → ℕ →
     (l : CoverLine) (m : ℕ) →
     length c ≡ q → AreNumbered lines c → AreNumbered (lines ++ l ∷ []) (set c l.interval (Some m)) →
     l.interval < q → number_at c l.interval ≡ None → AreNear q T lines c near →
-    ((k : ℕ) → k < q → l.interval ≢ k → IsTrue (has linked k) ↔ AreJoined q T l.interval k) →
+    ((k : ℕ) → k < q → l.interval ≢ k → IsTrue (has linked k) → AreJoined q T l.interval k) →
+    ((k : ℕ) → k < q → l.interval ≢ k → number_at c k ≡ None → AreJoined q T l.interval k →
+    IsTrue (has new k)) →
     ((k : ℕ) → has new k ≡ (has near k || has linked k)) →
     AreNear q T (lines ++ l ∷ []) (set c l.interval (Some m)) new
-near_more q T lines c near linked new l m len h h' in' free before told is = record {
+near_more q T lines c near linked new l m len h h' in' free before told whole is = record {
   each = λ i i_below none.
       let x = l.interval in
       let within : l.interval < length c = omega (arith, in') in
@@ -358,18 +360,19 @@ near_more q T lines c near linked new l m len h h' in' free before told is = rec
               second_within = in';
               free = none;
               number = (m, number_same c x m within);
-              joined = joined_turned q T x i ((told i i_below other).0 yes');
+              joined = joined_turned q T x i (told i i_below other yes');
             }),
           )
         ],
-        λ (j, at). is i ∙ (elim (joins_before q T c x m i j within
+        λ (j, at). elim (joins_before q T c x m i j within
             (joins_numbers q T (lines ++ l ∷ []) (set c x (Some m)) i j h' at)) [
               | inl same ↦
-                  or_right (has near i) (has linked i)
-                  ((told i i_below other).1 (joined_turned q T i x (subst (AreJoined q T i) same
-                  at.joined)))
-              | inr k ↦ or_left (has near i) (has linked i) (was.1 (j, joins_lines q T lines c i j h k))
-            ]),
+                  whole i i_below other old.1
+                  (joined_turned q T i x (subst (AreJoined q T i) same at.joined))
+              | inr k ↦
+                  is i ∙ or_left (has near i) (has linked i)
+                  (was.1 (j, joins_lines q T lines c i j h k))
+            ],
       );
 }
 

@@ -1,5 +1,5 @@
 -- What is read from the lists of numbers, and where the search for lines begins and goes on.
-use Rattle.std.proofs.Common.{◌≡◌, ◌≢◌, ℕ, ◌<◌, ◌≤◌, ◌↔◌, ◌&&◌, ltb, List, [], length, get_or, Bool, true, false, not, IsTrue, Option, Some, None, replicate, refl, sym, ap, ◌∙◌, inl, inr, arith}
+use Rattle.std.proofs.Common.{◌≡◌, ℕ, ◌<◌, ◌≤◌, ◌↔◌, ◌&&◌, ltb, List, [], length, get_or, Bool, true, false, not, IsTrue, Option, Some, None, replicate, refl, sym, ap, ◌∙◌, inl, inr, arith}
 use Rattle.std.specs.Option.{is_some, is_none}
 use Rattle.std.proofs.lemmas.List.Sums.{count_by-le-length}
 use Rattle.gj_shape.specs.declared.faces.FaceKind.{FaceKind}
@@ -138,15 +138,13 @@ none_pending q T lines c free near set h f n is none i j at =
 lines_joined : (q : ℕ) (T : FaceKind → ℕ → ℕ → ℕ →
     Type 0) (lines : List CoverLine) (c : List (Option ℕ)) (free joined : IndexSet) (x j : ℕ) →
     AreNumbered lines c → AreFree q c free → x < q → number_at c x ≡ None →
-    ((k : ℕ) → IsTrue (has joined k) → k < q) → ((k : ℕ) → k < q → x ≢ k → IsTrue (has joined k) ↔
-    AreJoined q T x k) →
+    ((k : ℕ) → IsTrue (has joined k) → k < q) →
+    ((k : ℕ) → IsTrue (has joined k) → AreJoined q T x k) →
     (has joined j && not (has free j)) ≡ true → JoinsLines q T lines x j
 lines_joined q T lines c free joined x j h f below none within told e =
     let both = and_parts (has joined j) (not (has free j)) e in
     let j_below = within j both.0 in
     let taken = not-true (has free j) both.1 in
-    let other : x ≢ j = λ same.
-    let free' = (f.each j).1 (j_below, ap (number_at c) (sym same) ∙ none) in cc (free', taken) in
     elim (number_cases (number_at c j)) [
       | inl free' ↦ let at = (f.each j).1 (j_below, free') in absurd (cc (at, taken))
       | inr (n, number) ↦ record {
@@ -154,52 +152,56 @@ lines_joined q T lines c free joined x j h f below none within told e =
         second_within = j_below;
         no_line = no_line lines c x h none;
         line = number_line lines c j n h number;
-        joined = (told j j_below other).0 both.0;
+        joined = told j both.0;
       }
     ]
 
-joined_lines : (q : ℕ) (T : FaceKind → ℕ → ℕ → ℕ →
+-- with each of them the set has this or an earlier one
+abbrev pub HasLeast : ℕ → (FaceKind → ℕ → ℕ → ℕ → Type 0) → IndexSet → IndexSet → ℕ → Type 0
+HasLeast q T free joined x =
+    (j : ℕ) → j < q → has free j ≡ false → AreJoined q T x j →
+    (k : ℕ) × (k ≤ j) × IsTrue (has joined k) × (has free k ≡ false)
+
+least_lined : (q : ℕ) (T : FaceKind → ℕ → ℕ → ℕ →
     Type 0) (lines : List CoverLine) (c : List (Option ℕ)) (free joined : IndexSet) (x j : ℕ) →
-    AreNumbered lines c → AreFree q c free → number_at c x ≡ None →
-    ((k : ℕ) → k < q → x ≢ k → IsTrue (has joined k) ↔ AreJoined q T x k) →
-    JoinsLines q T lines x j →
-    (has joined j && not (has free j)) ≡ true
-joined_lines q T lines c free joined x j h f none told at =
+    AreNumbered lines c → AreFree q c free → HasLeast q T free joined x → JoinsLines q T lines x j →
+    (k : ℕ) × (k ≤ j) × ((has joined k && not (has free k)) ≡ true)
+least_lined q T lines c free joined x j h f least at =
     let number = line_number lines c j h at.line in
     let is = number.1 in
-    let other : x ≢ j = λ same. let clash = ap (number_at c) same in cc (clash, none, is) in
     let taken : has free j ≡ false = false_from_ne_true (has free j)
     (λ e. let free' = ((f.each j).0 e).1 in cc (free', is)) in
-    and_from (has joined j) (not (has free j)) ((told j at.second_within other).1 at.joined)
-    (not_from_false (has free j) taken)
+    let (k, low, yes', open') = least j at.second_within taken at.joined in
+    (k, low, and_from (has joined k) (not (has free k)) yes' (not_from_false (has free k) open'))
 
 pub next_from : (q : ℕ) (T : FaceKind → ℕ → ℕ → ℕ →
     Type 0) (lines : List CoverLine) (c : List (Option ℕ)) (free joined set : IndexSet) (x j : ℕ) →
     AreNumbered lines c → AreFree q c free → x < q → number_at c x ≡ None →
-    ((k : ℕ) → IsTrue (has joined k) → k < q) → ((k : ℕ) → k < q → x ≢ k → IsTrue (has joined k) ↔
-    AreJoined q T x k) →
+    ((k : ℕ) → IsTrue (has joined k) → k < q) →
+    ((k : ℕ) → IsTrue (has joined k) → AreJoined q T x k) → HasLeast q T free joined x →
     ((k : ℕ) → has set k ≡ (has joined k && not (has free k))) → IsFirst set 0 j →
     IsLeastFrom 0 (JoinsLines q T lines x) j
-next_from q T lines c free joined set x j h f below none within told is first = record {
+next_from q T lines c free joined set x j h f below none within told least is first = record {
   from = omega arith;
   holds = lines_joined q T lines c free joined x j h f below none within told (sym (is j)
       ∙ first.found);
   least = λ k low k_below at.
-      let not = first.before k (omega arith) k_below in
-      let yes' = is k ∙ joined_lines q T lines c free joined x k h f none told at in
-      cc (not, yes');
+      let (i, before, there) = least_lined q T lines c free joined x k h f least at in
+      let not' = first.before i (omega arith) (omega arith) in
+      let yes' = is i ∙ there in
+      cc (not', yes');
 }
 
 pub none_from_it : (q : ℕ) (T : FaceKind → ℕ → ℕ → ℕ →
     Type 0) (lines : List CoverLine) (c : List (Option ℕ)) (free joined set : IndexSet) (x : ℕ) →
-    AreNumbered lines c → AreFree q c free → number_at c x ≡ None →
-    ((k : ℕ) → k < q → x ≢ k → IsTrue (has joined k) ↔ AreJoined q T x k) →
+    AreNumbered lines c → AreFree q c free → HasLeast q T free joined x →
     ((k : ℕ) → has set k ≡ (has joined k && not (has free k))) → ((k : ℕ) → has set k ≡ false) →
     ((j : ℕ) × JoinsLines q T lines x j) → ⊥
-none_from_it q T lines c free joined set x h f none told is empty (j, at) =
-    let not = empty j in
-    let yes' = is j ∙ joined_lines q T lines c free joined x j h f none told at in
-    cc (not, yes')
+none_from_it q T lines c free joined set x h f least is empty (j, at) =
+    let (i, before, there) = least_lined q T lines c free joined x j h f least at in
+    let not' = empty i in
+    let yes' = is i ∙ there in
+    cc (not', yes')
 
 -- ---- the next interval that opens a component
 

@@ -91,7 +91,8 @@ impl Progress {
         ensures found { IfSome result (λ next.
             IsNextLine shape.now.order (IsTightAt shape.now) self.now.lines.items next.line) }
         ensures joined { IfSome result
-            (λ next. IsJoinedSet shape.now next.line.interval next.joined) }
+            (λ next. IsJoinedSet shape.now self.now.free self.now.near next.line.interval
+            next.joined) }
         ensures none { IfNone result (IsComplete shape.now.order
             (IsTightAt shape.now) self.now.lines.items) }
     {
@@ -119,14 +120,15 @@ impl Progress {
             (IsTightAt shape.now) self.now.lines.items i j) p.0) }
         ensures from { IfSome result (λ p. IsLeastFrom 0
             (JoinsLines shape.now.order (IsTightAt shape.now) self.now.lines.items p.0) p.1) }
-        ensures joined { IfSome result (λ p. IsJoinedSet shape.now p.0 p.2) }
+        ensures joined { IfSome result
+            (λ p. IsJoinedSet shape.now self.now.free self.now.near p.0 p.2) }
         ensures none { IfNone result ((i j : ℕ) →
             JoinsLines shape.now.order (IsTightAt shape.now) self.now.lines.items i j → ⊥) }
     {
         let Some(interval) = self.near.and(&self.free).first() else {
             return None;
         };
-        let joined = table.joined(shape, interval as u32);
+        let joined = table.joined_next(shape, interval as u32, &self.free, &self.near);
         let Some(from) = joined.and_not(&self.free).first() else {
             return None;
         };
@@ -167,7 +169,8 @@ impl Progress {
         requires progress { IsProgress shape.now.order (IsTightAt shape.now) self.old }
         requires next { IsNextLine shape.now.order
             (IsTightAt shape.now) self.old.lines.items line }
-        requires joined { IsJoinedSet shape.now line.interval joined.now }
+        requires joined { IsJoinedSet shape.now self.old.free self.old.near line.interval
+            joined.now }
         ensures progress { OnOk result (IsProgress shape.now.order
             (IsTightAt shape.now) self.new) }
         ensures fewer { OnOk result

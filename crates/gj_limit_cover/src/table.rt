@@ -1,6 +1,7 @@
 //! The joins of a function as sets, and the intervals that are joined to one.
-ghost use Rattle.std.specs.Prelude.{ℕ, ◌≡◌, ◌↔◌, ◌<◌, ◌&&◌, ◌==◌, IfOk, IsTrue};
+ghost use Rattle.std.specs.Prelude.{ℕ, ◌≡◌, ◌↔◌, ◌<◌, ◌≤◌, ◌&&◌, ◌==◌, false, IfOk, IsTrue};
 ghost use Rattle.gj_loops.specs.IndexSets.{has};
+ghost use Rattle.gj_loops.specs.declared.index_set.IndexSet.{IndexSet};
 ghost use Rattle.gj_jumps.specs.LimitCover.{IsTightAt};
 ghost use Rattle.gj_limit_faces.specs.Joins.{AreJoinsOf};
 ghost use Rattle.gj_limit_cover.specs.LimitCover.{IsDirectlyCovered};
@@ -23,7 +24,7 @@ pub(crate) struct Table {
 
 impl Table {
     ghost use Rattle.gj_limit_cover.specs.LimitCover.{AreJoined};
-    ghost use Rattle.gj_limit_cover.specs.Table.{IsTableOf};
+    ghost use Rattle.gj_limit_cover.specs.Table.{IsTableOf, IsJoinedSet, HasLeastLined};
 
     /// The table of the function.
     pub(crate) fn of(alloc: Global, shape: &Shape) -> Result<Table, AllocError>
@@ -47,25 +48,64 @@ impl Table {
         ensures within { (j : ℕ) → IsTrue (has result j) → j < shape.now.order }
         ensures joined { (j : ℕ) → j < shape.now.order →
             IsTrue (has result j) ↔ AreJoined shape.now.order (IsTightAt shape.now) i j }
+        ensures set { (free near : IndexSet) → IsJoinedSet shape.now free near i result }
     {
-        let linking = self.linking_to(shape, i);
+        let linking = self.linking_below(shape, i, shape.order());
         self.linked[i as usize].or(&linking)
     }
 
-    /// The intervals that are linked to the interval.
-    fn linking_to(&self, shape: &Shape, i: u32) -> IndexSet
+    /// Of the intervals that are joined to the interval those that are free and not near, the least
+    /// that is not free, and perhaps others.
+    pub(crate) fn joined_next(
+        &self,
+        shape: &Shape,
+        i: u32,
+        free: &IndexSet,
+        near: &IndexSet,
+    ) -> IndexSet
         requires table { IsTableOf shape.now self.now }
         requires within { i < shape.now.order }
+        ensures joined { IsJoinedSet shape.now free.now near.now i result }
+        ensures least { HasLeastLined shape.now free.now i result }
+    {
+        let linked = self.linked[i as usize];
+        let end = needed_end(&linked, free, near, shape.order());
+        let linking = self.linking_below(shape, i, end);
+        linked.or(&linking)
+    }
+
+    /// Of the intervals below the end those that are linked to the interval.
+    fn linking_below(&self, shape: &Shape, i: u32, end: u32) -> IndexSet
+        requires table { IsTableOf shape.now self.now }
+        requires within { i < shape.now.order }
+        requires end { end ≤ shape.now.order }
         ensures { (j : ℕ) → IsTrue (has result j) ↔
-            ((j < shape.now.order) × IsLink shape.now.order (IsTightAt shape.now) j i) }
+            ((j < end) × IsLink shape.now.order (IsTightAt shape.now) j i) }
     {
         let mut set = IndexSet::empty();
-        for j in 0..shape.order() {
+        for j in 0..end {
             let is_linked = self.linked[j as usize].contains(i as usize);
             set.put(j as usize, is_linked);
         }
         set
     }
+}
+
+/// Below which index the intervals that are linked to one are needed: all if some free interval is
+/// not near, and else those before the first that is linked and not free.
+fn needed_end(linked: &IndexSet, free: &IndexSet, near: &IndexSet, order: u32) -> u32
+    requires { order ≤ 1_000 }
+    ensures low { result ≤ order }
+    ensures near { (j : ℕ) → IsTrue (has free.now j) → has near.now j ≡ false → result ≡ order }
+    ensures lined { result < order → IsTrue (has linked.now result) × (has free.now result ≡ false) }
+{
+    if free.and_not(near).first().is_some() {
+        return order;
+    }
+    let Some(first) = linked.and_not(free).first() else {
+        return order;
+    };
+    order.min(first as u32)
 }
 
 /// For each interval those to which an edge links it.

@@ -4,3 +4,5 @@ pub mod SparseSteps
 pub mod KeptEntries
 pub mod Summing
 pub mod EntrySums
+pub mod LeftRows
+pub mod SeenRows

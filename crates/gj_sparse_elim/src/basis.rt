@@ -14,12 +14,16 @@ use crate::entry::Entry;
 use crate::keep::{Origin, keep, no_places};
 use crate::lazy::zeros;
 use crate::reduce::reduce_row;
+use crate::seen::{empty_rows, is_at, place_of};
 use crate::solve::{solve_at, unit_row};
 use gj_elim::{ElimFault, Inserted, LogRow};
 use gj_loops::IndexSet;
 use gj_shape::List;
 use std::alloc::{AllocError, Global};
 use std::marker::Model;
+
+/// How many places for rows there are for each column.
+const PLACES_OF_COLUMN: usize = 4;
 
 /// The least column without a pivot.
 fn free_column(places: &[Option<u32>]) -> Option<u32>
@@ -39,7 +43,8 @@ fn free_column(places: &[Option<u32>]) -> Option<u32>
 /// Rows of whole numbers, given and kept by their entries that are not 0, of which plain
 /// elimination keeps those that are needed. Contracts see how many columns they have, how many rows
 /// were inserted, and the kept rows, as those of `gj_elim::Basis`. It takes some 50 bytes a column,
-/// 80 bytes a kept row, 4 bytes a step of the log, and 32 bytes an entry that is kept.
+/// 80 bytes a kept row, 4 bytes a step of the log, and 32 bytes an entry that is kept. Beside them it
+/// remembers the last rows, up to four a column.
 ///
 /// ```rust
 /// let mut basis = SparseBasis::new(alloc, 3)?;
@@ -68,6 +73,8 @@ pub struct SparseBasis {
     small: Vec<i64>,
     touched: Vec<IndexSet>,
     reduce: Vec<u32>,
+    /// At each place the last inserted row whose code led there: of it nothing is left any more.
+    seen: Vec<List<Entry>>,
 }
 
 impl Model for SparseBasis {
@@ -102,11 +109,12 @@ impl SparseBasis {
             small: zeros(alloc, columns as usize)?,
             touched: no_columns(alloc, columns as usize)?,
             reduce: Vec::new(alloc),
+            seen: empty_rows(alloc, PLACES_OF_COLUMN * columns as usize + 1)?,
         })
     }
 
     /// Inserts the row with these entries: it is reduced by the kept rows, and what is left of it
-    /// is kept. `Wide` exactly if one of the numbers that the elimination marks passes 2^127 - 1 in
+    /// is kept. A row that was inserted shortly before is known again without a step. `Wide` exactly if one of the numbers that the elimination marks passes 2^127 - 1 in
     /// absolute value. After an error the basis is as it was.
     pub fn insert(&mut self, row: &[Entry]) -> Result<Inserted, ElimFault>
         requires sparse { AreSparse self.old.columns row.now }
@@ -125,8 +133,40 @@ impl SparseBasis {
             ↔ (SolvesKept w self.old.kept × Solves w (dense self.old.columns row.now)))) }
         ensures triangular { OnOk result (AreTriangular self.new.columns self.new.kept) }
     {
+        let place = place_of(row, self.seen.len());
+        if is_at(self.seen.as_slice(), place, row) {
+            self.inserted += 1;
+            return Ok(Inserted::Nothing);
+        }
+        let copy = List::of(Vec::from_slice(self.alloc, row)?);
+        let inserted = self.insert_new(row)?;
+        let place = place_of(row, self.seen.len());
+        self.seen[place] = copy;
+        Ok(inserted)
+    }
+
+    /// Inserts a row that is not known to have been inserted. After an error the basis is as it
+    /// was.
+    fn insert_new(&mut self, row: &[Entry]) -> Result<Inserted, ElimFault>
+        requires sparse { AreSparse self.old.columns row.now }
+        requires count { self.old.inserted + 1 < 2 ^ 64 }
+
+        ensures kept { OnOk result (self.new ≡ behind self.old (dense self.old.columns row.now)) }
+        ensures answer { IfOk result (λ a. a ≡ answer_of
+            (inserted self.old.columns self.old.kept (dense self.old.columns row.now)).kept) }
+        ensures narrow { OnOk result (¬ Passes
+            (inserted self.old.columns self.old.kept (dense self.old.columns row.now)).marked) }
+        ensures wide { IsErrOf result ElimFault.Wide → Passes
+            (inserted self.old.columns self.old.kept (dense self.old.columns row.now)).marked }
+        ensures unchanged { OnErr result (self.new ≡ self.old) }
+
+        ensures solutions { OnOk result ((w : List ℤ) → (SolvesKept w self.new.kept
+            ↔ (SolvesKept w self.old.kept × Solves w (dense self.old.columns row.now)))) }
+        ensures triangular { OnOk result (AreTriangular self.new.columns self.new.kept) }
+    {
         self.reduce.clear();
         let left = reduce_row(
+            self.alloc,
             self.log.as_slice(),
             self.rows.as_slice(),
             self.bounds.as_slice(),
@@ -143,7 +183,8 @@ impl SparseBasis {
                 self.inserted += 1;
                 Ok(Inserted::Nothing)
             }
-            Some(column) => {
+            Some(left) => {
+                let column = left.column;
                 keep(
                     self.alloc,
                     &mut self.log,
@@ -155,7 +196,7 @@ impl SparseBasis {
                         reduce: self.reduce.as_slice(),
                         pivot: column,
                     },
-                    self.row.as_mut_slice(),
+                    left.entries,
                 )?;
                 self.inserted += 1;
                 Ok(Inserted::Pivot(column))

@@ -1,16 +1,13 @@
 //! What is left of a row is kept.
 ghost use Rattle.std.specs.Prelude.{◌≡◌, ◌<◌, ◌^◌, [], ◌∷◌, ◌++◌, length, map, All, IfOk, OnOk};
 ghost use Rattle.std.specs.Prelude.{OnErr};
-ghost use Rattle.gj_shape.specs.Elimination.{kept_entries};
-ghost use Rattle.gj_frac.specs.Fraction.{Fits};
 ghost use Rattle.gj_elim.specs.Progress.{IsFreeColumn};
 ghost use Rattle.gj_elim.specs.Tables.{ArePlaces};
 ghost use Rattle.gj_sparse_elim.specs.Sparse.{AreSparse, dense};
 ghost use Rattle.gj_sparse_elim.specs.Rows.{AreBounds};
 
-use crate::entry::{Entry, bound_of, entries_of};
+use crate::entry::{Entry, bound_of};
 use gj_elim::LogRow;
-use gj_loops::make_kept;
 use gj_shape::List;
 use std::alloc::{AllocError, Global};
 
@@ -30,8 +27,8 @@ pub(crate) fn no_places(alloc: Global, columns: usize) -> Result<Vec<Option<u32>
     vec![in alloc; None; columns]
 }
 
-/// Keeps what is left of a row, and writes to the log how it came to be kept. The row is then the
-/// row that is kept. After an error nothing else is changed.
+/// Keeps a row with these entries, and writes to the log how it came to be kept. After an error
+/// nothing is changed.
 pub(crate) fn keep(
     alloc: Global,
     log: &mut Vec<LogRow>,
@@ -39,15 +36,13 @@ pub(crate) fn keep(
     bounds: &mut Vec<u64>,
     places: &mut [Option<u32>],
     origin: Origin<'_>,
-    row: &mut [i128],
+    entries: List<Entry>,
 ) -> Result<(), AllocError>
-    requires within { origin.pivot < length row.old }
-    requires fits { All Fits row.old }
     requires lines { length log.old.items ≡ length rows.old.items }
     requires count { length log.old.items < 2 ^ 32 }
-    requires columns { length row.old < 2 ^ 32 }
-    requires sparse { All (AreSparse (length row.old)) rows.old.items }
-    requires bounds { AreBounds (length row.old) rows.old.items bounds.old.items }
+    requires entries { AreSparse (length places.old) entries }
+    requires sparse { All (AreSparse (length places.old)) rows.old.items }
+    requires bounds { AreBounds (length places.old) rows.old.items bounds.old.items }
     requires places { ArePlaces (length places.old) log.old.items places.old }
     requires free { IsFreeColumn (length places.old) log.old.items origin.pivot }
     ensures line { OnOk result (log.new.items
@@ -57,17 +52,16 @@ pub(crate) fn keep(
           pivot = origin.entry.pivot;
         } ∷ []) }
     ensures entries { OnOk result
-        (map (dense (length row.old)) rows.new.items ≡ map (dense (length row.old)) rows.old.items
-        ++ kept_entries row.old origin.entry.pivot ∷ []) }
-    ensures sparse { All (AreSparse (length row.old)) rows.new.items }
-    ensures bounds { AreBounds (length row.old) rows.new.items bounds.new.items }
+        (map (dense (length places.old)) rows.new.items
+        ≡ map (dense (length places.old)) rows.old.items
+        ++ dense (length places.old) entries ∷ []) }
+    ensures sparse { All (AreSparse (length places.old)) rows.new.items }
+    ensures bounds { AreBounds (length places.old) rows.new.items bounds.new.items }
     ensures places { OnOk result (ArePlaces (length places.old) log.new.items places.new) }
     ensures same_places { OnErr result (places.new ≡ places.old) }
     ensures same_log { OnErr result (log.new.items ≡ log.old.items) }
     ensures same_rows { OnErr result (rows.new.items ≡ rows.old.items) }
 {
-    make_kept(row, origin.pivot as usize);
-    let entries = entries_of(alloc, row)?;
     let bound = bound_of(entries.as_slice());
     let place = log.len() as u32;
     let reduce = Vec::from_slice(alloc, origin.reduce)?;
@@ -79,7 +73,7 @@ pub(crate) fn keep(
         reduce: List::of(reduce),
         pivot: origin.pivot,
     });
-    rows.push_reserved(List::of(entries));
+    rows.push_reserved(entries);
     bounds.push_reserved(bound);
     places[origin.pivot as usize] = Some(place);
     Ok(())

@@ -18,8 +18,10 @@ mod entry;
 mod exact;
 mod keep;
 mod lazy;
+mod left;
 mod progress;
 mod reduce;
+mod seen;
 mod solve;
 mod tighten;
 

@@ -5,10 +5,11 @@ ghost use Rattle.gj_shape.specs.Elimination.{at_column, whole_numbers, inserted,
 ghost use Rattle.gj_theory.specs.TriangularRows.{AreTriangular};
 ghost use Rattle.gj_frac.specs.Fraction.{Fits};
 ghost use Rattle.gj_elim.specs.Lazy.{IsMultipleRow, IsLazyStep, IsExtent, IsExactly};
-ghost use Rattle.gj_elim.specs.Progress.{IsLeft, IsFreeColumn};
+ghost use Rattle.gj_elim.specs.Progress.{IsFreeColumn};
 ghost use Rattle.gj_elim.specs.Tables.{ArePlaces};
 ghost use Rattle.gj_sparse_elim.specs.Sparse.{AreSparse, dense};
 ghost use Rattle.gj_sparse_elim.specs.Columns.{IsSupport};
+ghost use Rattle.gj_sparse_elim.specs.Left.{IsLeftAs};
 ghost use Rattle.gj_sparse_elim.specs.Rows.{kept_sparse, AreBounds};
 ghost use Rattle.gj_sparse_elim.specs.Progress.{IsReached, IsReachedWithin};
 
@@ -16,12 +17,13 @@ use crate::columns::first_from;
 use crate::entry::{Entry, bound_of, spread};
 use crate::exact::reduce_exactly;
 use crate::lazy::{GREATEST_BOUND, load, step_once, store};
+use crate::left::{Left, small_left, wide_left};
 use crate::progress::Reached;
 use crate::tighten::tighten;
 use gj_elim::{ElimFault, LogRow};
 use gj_loops::IndexSet;
 use gj_shape::List;
-use std::alloc::AllocError;
+use std::alloc::{AllocError, Global};
 
 /// A step at the column, if its numbers are small, or are small once the row is divided. Only a row
 /// that comes from a step is divided, since each such row is divided in the definition. If there is
@@ -143,9 +145,9 @@ fn reduce_lazily(
 }
 
 /// Takes a row through all columns, and adds to `reduce` the columns at which it is reduced. The
-/// answer is the column at which something is left of the row, which is then `row`, or a multiple
-/// of it. After an error the rows and the columns are no longer used.
+/// answer is what is left of the row. After an error the rows and the columns are no longer used.
 pub(crate) fn reduce_row(
+    alloc: Global,
     log: &[LogRow],
     rows: &[List<Entry>],
     bounds: &[u64],
@@ -156,7 +158,7 @@ pub(crate) fn reduce_row(
     small: &mut [i64],
     touched: &mut [IndexSet],
     reduce: &mut Vec<u32>,
-) -> Result<Option<u32>, ElimFault>
+) -> Result<Option<Left>, ElimFault>
     requires lines { length log.now ≡ length rows.now }
     requires rows { All (AreSparse (length row.old)) rows.now }
     requires triangular { AreTriangular (length row.old)
@@ -169,11 +171,11 @@ pub(crate) fn reduce_row(
     requires small_columns { length small.old ≡ length row.old }
     requires support { IsSupport touched.old small.old }
     requires empty { reduce.old.items ≡ [] }
-    ensures left { IfOk result (λ left. IsLeft whole_numbers (inserted (length row.old)
-        (kept_sparse (length row.old) log.now rows.now) (dense (length row.old) given.now)) left
-        row.new reduce.new.items) }
-    ensures within { IfOk result (λ left. IfSome left (IsFreeColumn (length row.old) log.now)) }
-    ensures fits { IfOk result (λ left. IfSome left (λ _. All Fits row.new)) }
+    ensures left { IfOk result (IsLeftAs (length row.old) (inserted (length row.old)
+        (kept_sparse (length row.old) log.now rows.now) (dense (length row.old) given.now))
+        reduce.new.items) }
+    ensures within { IfOk result (λ left. IfSome left
+        (λ l. IsFreeColumn (length row.old) log.now l.column)) }
     ensures narrow { OnOk result (¬ Passes (inserted (length row.old)
         (kept_sparse (length row.old) log.now rows.now)
         (dense (length row.old) given.now)).marked) }
@@ -185,19 +187,18 @@ pub(crate) fn reduce_row(
     let bound = bound_of(given);
     if bound >= GREATEST_BOUND {
         spread(given, row);
-        return reduce_exactly(log, rows, places, row, kept_row, 0, reduce);
+        let left = reduce_exactly(log, rows, places, row, kept_row, 0, reduce)?;
+        return Ok(wide_left(alloc, row, left)?);
     }
     load(given, small, touched);
     match reduce_lazily(
         log, rows, bounds, places, small, touched, bound, row, reduce,
     )? {
         Reached::End(None) => Ok(None),
-        Reached::End(Some(column)) => {
-            store(small, row);
-            Ok(Some(column))
-        }
+        Reached::End(Some(column)) => Ok(Some(small_left(alloc, small, touched, column)?)),
         Reached::Column(column) => {
-            reduce_exactly(log, rows, places, row, kept_row, column, reduce)
+            let left = reduce_exactly(log, rows, places, row, kept_row, column, reduce)?;
+            Ok(wide_left(alloc, row, left)?)
         }
     }
 }

@@ -60,7 +60,7 @@ fn divide_by(row: &mut [i64], touched: &[IndexSet], divisor: u64, column: usize)
 
 /// Divides a row that is 0 before the column by the greatest common divisor of its entries, if that
 /// is not 1.
-fn divide(row: &mut [i64], touched: &[IndexSet], column: usize)
+pub(crate) fn divide(row: &mut [i64], touched: &[IndexSet], column: usize)
     requires support { IsSupport touched.now row.old }
     requires zero { IsZeroOutside column (length row.old) row.old }
     requires small { (k : ℕ) → unsigned_abs (at_column row.old k) < 2 ^ 63 }

@@ -27,28 +27,25 @@ returns-clause-line c =
 
 pub returns-clause-entries : goal.returns-clause-entries
 returns-clause-entries c =
-    entries_pushed _ _ c.args.rows.now.items _ c.in_ok-entries.entries.items _
-    (row_pushed _ _ _ _ _ c.push_reserved-2.ensures.items c.in_ok-reserve-2.ensures.items
-    c.of-2.ensures) c.make_kept.auto.row
-    (c.in_ok-entries.ensures.value ∙ c.make_kept.ensures.value)
+    entries_pushed _ _ c.args.rows.now.items _ c.args.entries _
+    (row_pushed _ _ _ _ _ c.push_reserved-2.ensures.items c.in_ok-reserve-2.ensures.items refl)
+    refl refl
 
 pub returns-clause-sparse : goal.returns-clause-sparse
 returns-clause-sparse c =
-    sparse_pushed _ _ c.args.rows.now.items _ c.in_ok-entries.entries.items c.requires.sparse
-    (row_pushed _ _ _ _ _ c.push_reserved-2.ensures.items c.in_ok-reserve-2.ensures.items
-    c.of-2.ensures) c.make_kept.auto.row
-    c.in_ok-entries.ensures.sparse
+    sparse_pushed _ _ c.args.rows.now.items _ c.args.entries c.requires.sparse
+    (row_pushed _ _ _ _ _ c.push_reserved-2.ensures.items c.in_ok-reserve-2.ensures.items refl)
+    refl c.requires.entries
 
 pub returns-clause-bounds : goal.returns-clause-bounds
 returns-clause-bounds c =
-    bounds_more _ c.args.rows.now.items _ c.args.bounds.now.items _ c.in_ok-entries.entries.items
+    bounds_more _ c.args.rows.now.items _ c.args.bounds.now.items _ c.args.entries
     c.bound_of-bound.result c.requires.bounds
-    (row_pushed _ _ _ _ _ c.push_reserved-2.ensures.items c.in_ok-reserve-2.ensures.items
-    c.of-2.ensures)
+    (row_pushed _ _ _ _ _ c.push_reserved-2.ensures.items c.in_ok-reserve-2.ensures.items refl)
     (pushed _ _ _ _ c.push_reserved-3.ensures.items c.in_ok-reserve-3.ensures.items)
-    (subst (λ (xs : List Entry). IsExtent c.bound_of-bound.result (length c.args.row.now)
-    (dense (length c.args.row.now) xs))
-    c.as_slice.ensures.value (c.bound_of-bound.ensures (length c.args.row.now)))
+    (subst (λ (xs : List Entry). IsExtent c.bound_of-bound.result (length c.args.places.now)
+    (dense (length c.args.places.now) xs))
+    c.as_slice.ensures (c.bound_of-bound.ensures (length c.args.places.now)))
 
 pub returns-clause-places : goal.returns-clause-places
 returns-clause-places c =
@@ -57,23 +54,10 @@ returns-clause-places c =
     c.requires.places c.requires.free (c.len-place.ensures ∙ c.args.log.now.ok.0)
     (pushed _ _ _ _ c.push_reserved.ensures.items c.in_ok-reserve.ensures.items)
 
-pub returns-in_err-entries : goal.returns-in_err-entries
-returns-in_err-entries c =
-    let failed = err_from_is_err_and c.from_residual.result c.from_residual.ensures.1 in record {
-      line = rw failed.1 tt;
-      entries = rw failed.1 tt;
-      sparse = same_sparse _ _ _ refl c.requires.sparse;
-      bounds = same_bounds _ _ _ _ _ refl refl c.requires.bounds;
-      places = rw failed.1 tt;
-      same_places = on_err _ _ refl;
-      same_log = on_err _ _ refl;
-      same_rows = on_err _ _ refl;
-    }
-
 pub returns-in_err-reduce : goal.returns-in_err-reduce
 returns-in_err-reduce c =
-    let failed = err_from_is_err_and c.from_residual-in_err-reduce.result
-    c.from_residual-in_err-reduce.ensures.1 in record {
+    let failed = err_from_is_err_and c.from_residual.result
+    c.from_residual.ensures.1 in record {
       line = rw failed.1 tt;
       entries = rw failed.1 tt;
       sparse = same_sparse _ _ _ refl c.requires.sparse;

@@ -48,9 +48,20 @@ returns-in_default-places-clause-within c =
     let next = next_column c.loop-column.touched c.loop-column.row c.loop-column.next
     c.in-Some.column c.loop-column.invariant.support
     c.in-Some.ensures in
-    let inside = next.inside in (
-      lazy_fits c.loop-column.bound _ c.loop-column.row c.loop-column.invariant.reached.extent
-          c.loop-column.invariant.reached.bounded,
+    let inside = next.inside in
+    let small = c.loop-column.invariant.reached.extent.small c.loop-column.invariant.reached.bounded
+    in
+    let bounded = c.loop-column.invariant.reached.bounded in (
+      record {
+        zero_before = (lazy_to (inserted (length c.args.row.now)
+            (kept_sparse (length c.args.row.now) c.args._log.now c.args.rows.now) c.args.row.now)
+            (kept_sparse (length c.args.row.now) c.args._log.now c.args.rows.now)
+            (length c.args.row.now) c.loop-column.next c.in-Some.column c.loop-column.row
+            c.loop-column.reduce.items c.loop-column.is_stepped
+            c.loop-column.bound (length c.args.row.now) c.loop-column.invariant.reached
+            next).zero_before;
+        small = λ k. let low = small k in omega arith;
+      },
       free_at (length c.args.row.now) c.args._log.now c.args.places.now c.in-Some.column
           c.requires.places (omega arith) c.in_default-places.is,
     )

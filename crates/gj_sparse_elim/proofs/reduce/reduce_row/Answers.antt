@@ -2,7 +2,7 @@ use Rattle.std.proofs.Common.{ℤ, List, length, refl, sym, ap, subst, ◌∙◌
 use Rattle.std.specs.Prelude.{All}
 use Rattle.gj_frac.specs.Fraction.{Fits}
 use Rattle.gj_shape.specs.Elimination.{inserted}
-use Rattle.gj_elim.proofs.LazyProgress.{if_ok_more, on_ok_more}
+use Rattle.gj_elim.proofs.Keeping.{same_error}
 use Rattle.gj_sparse_elim.specs.Sparse.{dense}
 use Rattle.gj_sparse_elim.specs.Rows.{kept_sparse}
 use Rattle.gj_sparse_elim.proofs.SparseRows.{dense_fits}
@@ -14,33 +14,34 @@ reduce_exactly-requires-clause-fits c =
     subst (λ (xs : List ℤ). All Fits xs) (sym c.spread.ensures)
     (dense_fits (length c.args.row.now) c.args.given.now c.requires.sparse)
 
-pub returns-then-bound-ge-GREATEST_BOUND-clause-left :
-    goal.returns-then-bound-ge-GREATEST_BOUND-clause-left
+pub returns-then-bound-ge-GREATEST_BOUND-clause-left : goal.returns-then-bound-ge-GREATEST_BOUND-clause-left
 returns-then-bound-ge-GREATEST_BOUND-clause-left c =
-    if_ok_more c.reduce_exactly.result _ _ c.reduce_exactly.ensures.done
-    (λ left h. (h (inserted (length c.args.row.now)
+    let done = c.in_ok-left.ensures.done (inserted (length c.args.row.now)
     (kept_sparse (length c.args.row.now) c.args.log.now c.args.rows.now)
     (dense (length c.args.row.now) c.args.given.now))
     (sparse_start (length c.args.row.now) _ c.args.log.now c.args.rows.now c.args.given.now
     c.spread.new.row c.args.reduce.now.items
-    c.spread.auto.row c.spread.ensures c.requires.empty)).left_is)
+    c.spread.auto.row c.spread.ensures c.requires.empty) in record {
+      row = c.reduce_exactly.new.row;
+      left = c.in_ok-left.left;
+      columns = c.reduce_exactly.auto.row ∙ c.spread.auto.row;
+      left_is = done.left_is;
+      kept = c.in_ok-wide_left.ensures;
+    }
 
-pub returns-then-bound-ge-GREATEST_BOUND-clause-narrow :
-    goal.returns-then-bound-ge-GREATEST_BOUND-clause-narrow
+pub returns-then-bound-ge-GREATEST_BOUND-clause-narrow : goal.returns-then-bound-ge-GREATEST_BOUND-clause-narrow
 returns-then-bound-ge-GREATEST_BOUND-clause-narrow c =
-    on_ok_more c.reduce_exactly.result _ _ c.reduce_exactly.ensures.done
-    (λ left h. (h (inserted (length c.args.row.now)
+    (c.in_ok-left.ensures.done (inserted (length c.args.row.now)
     (kept_sparse (length c.args.row.now) c.args.log.now c.args.rows.now)
     (dense (length c.args.row.now) c.args.given.now))
     (sparse_start (length c.args.row.now) _ c.args.log.now c.args.rows.now c.args.given.now
     c.spread.new.row c.args.reduce.now.items
-    c.spread.auto.row c.spread.ensures c.requires.empty)).narrow)
+    c.spread.auto.row c.spread.ensures c.requires.empty)).narrow
 
-pub returns-then-bound-ge-GREATEST_BOUND-clause-wide :
-    goal.returns-then-bound-ge-GREATEST_BOUND-clause-wide
-returns-then-bound-ge-GREATEST_BOUND-clause-wide c =
-    λ e.
-    c.reduce_exactly.ensures.wide e
+pub returns-in_err-left-clause-wide : goal.returns-in_err-left-clause-wide
+returns-in_err-left-clause-wide c = λ e.
+    c.in_err-left.ensures.wide (same_error c.from_residual.result c.in_err-left.field-0.0 _
+    c.from_residual.ensures.0 c.from_residual.ensures.1 e)
     (inserted (length c.args.row.now)
     (kept_sparse (length c.args.row.now) c.args.log.now c.args.rows.now)
     (dense (length c.args.row.now) c.args.given.now))
@@ -48,10 +49,9 @@ returns-then-bound-ge-GREATEST_BOUND-clause-wide c =
     c.spread.new.row c.args.reduce.now.items
     c.spread.auto.row c.spread.ensures c.requires.empty)
 
-pub returns-in-Column-clause-left : goal.returns-in-Column-clause-left
-returns-in-Column-clause-left c =
-    if_ok_more c.reduce_exactly-in-Column.result _ _ c.reduce_exactly-in-Column.ensures.done
-    (λ left h. (h (inserted (length c.args.row.now)
+pub returns-in_ok-wide_left-in-Column-clause-left : goal.returns-in_ok-wide_left-in-Column-clause-left
+returns-in_ok-wide_left-in-Column-clause-left c =
+    let done = c.in_ok-left-in-Column.ensures.done (inserted (length c.args.row.now)
     (kept_sparse (length c.args.row.now) c.args.log.now c.args.rows.now)
     (dense (length c.args.row.now) c.args.given.now))
     (sparse_reached (length c.args.row.now) (length c.load.new.row)
@@ -61,12 +61,17 @@ returns-in-Column-clause-left c =
     c.reduce_lazily.new.reduce.items (c.load.auto.row ∙ c.requires.small_columns)
     c.reduce_lazily.auto.exact refl
     (c.load.ensures.value ∙ ap (λ n. dense n c.args.given.now) (sym c.load.auto.row)) c.in-Column.is
-    c.in_ok-reduce_lazily.ensures.reached)).left_is)
+    c.in_ok-reduce_lazily.ensures.reached) in record {
+      row = c.reduce_exactly-in-Column.new.row;
+      left = c.in_ok-left-in-Column.left;
+      columns = c.reduce_exactly-in-Column.auto.row ∙ c.reduce_lazily.auto.exact;
+      left_is = done.left_is;
+      kept = c.in_ok-wide_left-in-Column.ensures;
+    }
 
-pub returns-in-Column-clause-narrow : goal.returns-in-Column-clause-narrow
-returns-in-Column-clause-narrow c =
-    on_ok_more c.reduce_exactly-in-Column.result _ _ c.reduce_exactly-in-Column.ensures.done
-    (λ left h. (h (inserted (length c.args.row.now)
+pub returns-in_ok-wide_left-in-Column-clause-narrow : goal.returns-in_ok-wide_left-in-Column-clause-narrow
+returns-in_ok-wide_left-in-Column-clause-narrow c =
+    (c.in_ok-left-in-Column.ensures.done (inserted (length c.args.row.now)
     (kept_sparse (length c.args.row.now) c.args.log.now c.args.rows.now)
     (dense (length c.args.row.now) c.args.given.now))
     (sparse_reached (length c.args.row.now) (length c.load.new.row)
@@ -76,12 +81,13 @@ returns-in-Column-clause-narrow c =
     c.reduce_lazily.new.reduce.items (c.load.auto.row ∙ c.requires.small_columns)
     c.reduce_lazily.auto.exact refl
     (c.load.ensures.value ∙ ap (λ n. dense n c.args.given.now) (sym c.load.auto.row)) c.in-Column.is
-    c.in_ok-reduce_lazily.ensures.reached)).narrow)
+    c.in_ok-reduce_lazily.ensures.reached)).narrow
 
-pub returns-in-Column-clause-wide : goal.returns-in-Column-clause-wide
-returns-in-Column-clause-wide c =
-    λ e.
-    c.reduce_exactly-in-Column.ensures.wide e
+pub returns-in_err-left-in-Column-clause-wide : goal.returns-in_err-left-in-Column-clause-wide
+returns-in_err-left-in-Column-clause-wide c = λ e.
+    c.in_err-left-in-Column.ensures.wide (same_error c.from_residual-in_err-left-in-Column.result
+    c.in_err-left-in-Column.field-0.0 _ c.from_residual-in_err-left-in-Column.ensures.0
+    c.from_residual-in_err-left-in-Column.ensures.1 e)
     (inserted (length c.args.row.now)
     (kept_sparse (length c.args.row.now) c.args.log.now c.args.rows.now)
     (dense (length c.args.row.now) c.args.given.now))

@@ -21,7 +21,8 @@ returns-then-line-clause-progress c =
     c.index.result.now
     c.requires.progress c.requires.next c.index.ensures c.unwrap_or-number.ensures
     c.in_ok-push.ensures.items refl
-    c.remove.ensures c.args.joined.now c.requires.joined c.or-self.ensures in
+    c.remove.ensures c.args.joined.now c.requires.joined.joined c.requires.joined.whole
+    c.or-self.ensures in
     joined_on q T c.args.self.now new c.args.line c.unwrap_or-number.result c.requires.progress
     c.requires.next more
     c.if-line.true refl
@@ -42,7 +43,8 @@ returns-then-line-clause-fewer c =
     c.index.result.now
     c.requires.progress c.requires.next c.index.ensures c.unwrap_or-number.ensures
     c.in_ok-push.ensures.items refl
-    c.remove.ensures c.args.joined.now c.requires.joined c.or-self.ensures in
+    c.remove.ensures c.args.joined.now c.requires.joined.joined c.requires.joined.whole
+    c.or-self.ensures in
     let less = fewer q T c.args.self.now new c.args.line c.unwrap_or-number.result
     c.requires.progress c.requires.next more in
     omega (arith, less)
@@ -63,7 +65,8 @@ returns-clause-progress c =
     c.index.result.now
     c.requires.progress c.requires.next c.index.ensures c.unwrap_or-number.ensures
     c.in_ok-push.ensures.items refl
-    c.remove.ensures c.args.joined.now c.requires.joined c.or-self.ensures in
+    c.remove.ensures c.args.joined.now c.requires.joined.joined c.requires.joined.whole
+    c.or-self.ensures in
     opened_on q T c.args.self.now new c.args.line c.unwrap_or-number.result c.requires.progress
     c.requires.next more
     c.if-line.false refl
@@ -84,7 +87,8 @@ returns-clause-fewer c =
     c.index.result.now
     c.requires.progress c.requires.next c.index.ensures c.unwrap_or-number.ensures
     c.in_ok-push.ensures.items refl
-    c.remove.ensures c.args.joined.now c.requires.joined c.or-self.ensures in
+    c.remove.ensures c.args.joined.now c.requires.joined.joined c.requires.joined.whole
+    c.or-self.ensures in
     let less = fewer q T c.args.self.now new c.args.line c.unwrap_or-number.result
     c.requires.progress c.requires.next more in
     omega (arith, less)

@@ -10,8 +10,8 @@ returns-in_default-clause-none c =
     c.requires.progress.numbers c.requires.progress.free c.requires.progress.near c.and.ensures
     c.in_default.ensures
 
-pub joined-joined-requires-clause-within : goal.joined-joined-requires-clause-within
-joined-joined-requires-clause-within c =
+pub joined_next-joined-requires-clause-within : goal.joined_next-joined-requires-clause-within
+joined_next-joined-requires-clause-within c =
     let p = c.args.self.now in
     (is_open c.args.shape.now.order p.component.items p.free p.near c.and.result c.in-Some.interval
     c.requires.progress.free c.and.ensures c.in-Some.ensures).0
@@ -27,9 +27,9 @@ returns-in_default-first-clause-none c =
     c.requires.progress.numbers c.requires.progress.free c.requires.progress.near c.and.ensures
     c.in-Some.ensures in
     absurd (none_from_it t.order (IsTightAt t) p.lines.items p.component.items p.free
-    c.joined-joined.result c.and_not.result c.in-Some.interval
-    c.requires.progress.numbers c.requires.progress.free open'.1
-    (λ k low other. c.joined-joined.ensures.joined k low) c.and_not.ensures
+    c.joined_next-joined.result c.and_not.result c.in-Some.interval
+    c.requires.progress.numbers c.requires.progress.free
+    c.joined_next-joined.ensures.least.least c.and_not.ensures
     c.in_default-first.ensures joins.holds)
 
 pub returns-clause-interval : goal.returns-clause-interval
@@ -47,11 +47,12 @@ returns-clause-from c =
     let t = c.args.shape.now in
     let open' = is_open t.order p.component.items p.free p.near c.and.result c.in-Some.interval
     c.requires.progress.free c.and.ensures c.in-Some.ensures in
-    next_from t.order (IsTightAt t) p.lines.items p.component.items p.free c.joined-joined.result
+    next_from t.order (IsTightAt t) p.lines.items p.component.items p.free c.joined_next-joined.result
     c.and_not.result c.in-Some.interval c.in-Some-first.from
     c.requires.progress.numbers c.requires.progress.free open'.0 open'.1
-    c.joined-joined.ensures.within (λ k low other. c.joined-joined.ensures.joined k low)
+    c.joined_next-joined.ensures.least.within c.joined_next-joined.ensures.least.joined
+    c.joined_next-joined.ensures.least.least
     c.and_not.ensures c.in-Some-first.ensures
 
 pub returns-clause-joined : goal.returns-clause-joined
-returns-clause-joined c k low other = c.joined-joined.ensures.joined k low
+returns-clause-joined c = c.joined_next-joined.ensures.joined

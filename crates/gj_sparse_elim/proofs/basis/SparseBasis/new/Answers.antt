@@ -8,6 +8,7 @@ use Rattle.gj_elim.specs.Tables.{ArePlaces}
 use Rattle.gj_sparse_elim.specs.Rows.{kept_sparse}
 use Rattle.gj_sparse_elim.specs.Sparse.{AreSparse}
 use Rattle.gj_sparse_elim.proofs.KeptEntries.{no_bounds}
+use Rattle.gj_sparse_elim.proofs.SeenRows.{empty_rows_seen}
 use Rattle.gj_sparse_elim.proofs.basis.SparseBasis.new.Goals as goal
 
 pub invariant_of-result : goal.invariant_of-result
@@ -34,4 +35,7 @@ invariant_of-result c = record {
     zero = λ k none. c.in_ok-zeros.ensures.zero k;
   };
   narrow = c.ranges.columns.fits;
+  seen = empty_rows_seen c.args.columns _ c.in_ok-empty_rows.field-0.items
+      c.in_ok-empty_rows.ensures.empty;
+  some = let count = c.in_ok-empty_rows.ensures.count in omega arith;
 }

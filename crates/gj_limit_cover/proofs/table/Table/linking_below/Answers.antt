@@ -4,7 +4,7 @@ use Rattle.gj_loops.specs.IndexSets.{has, no_set}
 use Rattle.gj_loops.specs.declared.index_set.IndexSet.{IndexSet}
 use Rattle.gj_jumps.specs.LimitCover.{IsTightAt}
 use Rattle.gj_limit_cover.proofs.LinkedRows.{AreLinking, linking_none, linking_more}
-use Rattle.gj_limit_cover.proofs.table.Table.linking_to.Goals as goal
+use Rattle.gj_limit_cover.proofs.table.Table.linking_below.Goals as goal
 
 pub loop-j-init : goal.loop-j-init
 loop-j-init c =
@@ -17,7 +17,7 @@ loop-j-preserved c =
     let j = c.loop-j.j in
     let i = c.args.i in
     let count = c.requires.table.linked.count in
-    let order = c.order-j-end.ensures.value in
+    let most = c.requires.end in
     let low : j < f.order = omega (arith, c.loop-j-test.true) in
     let within : j < length c.args.self.now.linked.items = omega arith in
     let row : c.index.result.now ≡ get_or c.args.self.now.linked.items j no_set =
@@ -32,6 +32,6 @@ loop-j-preserved c =
 pub returns : goal.returns
 returns c =
     let f = c.args.shape.now in
-    let all : c.loop-j.j ≡ f.order = omega (arith, c.order-j-end.ensures.value) in
+    let all : c.loop-j.j ≡ c.args.end = omega arith in
     subst (λ n. AreLinking f.order (IsTightAt f) c.args.i n (has c.loop-j.set)) all
     c.loop-j.invariant
