@@ -1,6 +1,8 @@
 -- Lists at one of whose items something fails, behind those before it.
-use Rattle.std.proofs.Common.{◌≡◌, ◌⊎◌, ⊎_elim, inl, inr, ℕ, ◌+◌, ◌<◌, List, [], ◌∷◌, ◌++◌, length, get_or, take, refl, sym, ap, ap₂, subst, subst₂, ◌∙◌, arith}
+use Rattle.std.proofs.Common.{◌≡◌, ◌⊎◌, ⊎_elim, inl, inr, ℕ, ◌+◌, ◌<◌, List, [], ◌∷◌, ◌++◌, length, get_or, take, All, refl, sym, ap, ap₂, subst, subst₂, ◌∙◌, arith}
 use Rattle.std.proofs.lemmas.List.{length-append, take_more}
+use Rattle.std.proofs.lemmas.List.Elements.{All-head}
+use Rattle.gj_lemmas.proofs.Lists.{All-back}
 
 -- at this item it fails
 pub record Fails {A : Type 0} (P : List A → A → Type 0) (xs : List A) : Type 0 where
@@ -69,6 +71,22 @@ pub none_next : {A : Type 0} (P : List A → A → Type 0) (xs : List A) (i : �
 none_next {A} P xs i x below here none at f =
     none_with P (take i xs) x none at
     (subst (λ (ys : List A). Fails P ys) (take_more xs i x below ∙ ap (λ z. take i xs ++ z ∷ []) (sym here)) f)
+
+-- ---- the first item of its kind
+
+-- what is true of all items is true of this one
+pub true_at : {A : Type 0} (Q : A → Type 0) (xs before after : List A) (y : A) → xs ≡ before ++ y ∷ after → All Q xs → Q y
+true_at Q xs before after y place all = All-head Q y after (All-back Q before (y ∷ after) (subst (All Q) place all))
+
+pub same_first : {A : Type 0} (P : A → Type 0) (front before back after : List A) (x y : A) → front ++ x ∷ back ≡ before ++ y ∷ after →
+    All (λ z. P z → ⊥) front → All (λ z. P z → ⊥) before → P x → P y → x ≡ y
+same_first {A} P front before back after x y e none other here there =
+    ⊎_elim
+    (λ (k : (r : List A) × (front ≡ before ++ y ∷ r)). absurd (true_at (λ (z : A). P z → ⊥) front before k.0 y k.1 none there))
+    (⊎_elim
+    (λ (k : (before ≡ front) × (y ≡ x)). sym k.1)
+    (λ (k : (r : List A) × (before ≡ front ++ x ∷ r)). absurd (true_at (λ (z : A). P z → ⊥) before front k.0 x k.1 other here)))
+    (elsewhere front before back after x y e)
 
 -- ---- two lists in one
 

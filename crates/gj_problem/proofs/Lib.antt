@@ -21,4 +21,10 @@ pub mod OneTerms
 pub mod OnePieces
 pub mod NarrowRows
 pub mod WideRoundings
+pub mod OneRounding
+pub mod NarrowRoundings
 pub mod WideScales
+mod Combinations
+mod Multiples
+mod DoneUpTo
+mod EntriesOver

@@ -1,5 +1,5 @@
 -- What is rounded by the bounds of its columns holds.
-use Rattle.std.proofs.Common.{◌≡◌, ◌≤◌, ◌<◌, ◌⊎◌, ⊎_elim, inl, inr, ℕ, zero, suc, ◌+◌, List, [], ◌∷◌, ◌++◌, length, get_or, take, map, All, Option, Some, None, pos, refl, sym, ap, subst, subst₂, ◌∙◌, arith}
+use Rattle.std.proofs.Common.{◌≡◌, ◌≤◌, ◌<◌, ⊎_elim, inl, inr, ℕ, ◌+◌, List, [], ◌∷◌, ◌++◌, length, get_or, take, All, Option, Some, None, pos, refl, sym, ap, subst, subst₂, ◌∙◌, arith}
 use Rattle.std.proofs.lemmas.List.{take_more}
 use Rattle.std.proofs.lemmas.List.Elements.{All-nil, All-cons}
 use Rattle.gj_frac.specs.declared.Frac.{Frac}
@@ -7,12 +7,11 @@ use Rattle.gj_problem.specs.Rational.{Rational, whole, rational, ◌+ℚ◌, ◌
 use Rattle.gj_problem.proofs.RationalLaws.{add_assoc_q, add_comm_q}
 use Rattle.gj_problem.proofs.RationalOrder.{at_most_turned}
 use Rattle.gj_problem.proofs.RationalRing.{by_ring_q, ring_q}
-use Rattle.gj_problem.specs.declared.problem.Column.{Column}
 use Rattle.gj_problem.specs.declared.problem.Entry.{Entry}
 use Rattle.gj_problem.specs.declared.problem.Inequality.{Inequality}
 use Rattle.gj_problem.specs.declared.problem.Problem.{Problem}
 use Rattle.gj_problem.specs.Problems.{Holds, HasTerms, AreTermsWithin, sum_at, value_at}
-use Rattle.gj_problem.specs.Moves.{IsGridValue, IsBelowOnGrid}
+use Rattle.gj_problem.specs.Moves.{IsBelowOnGrid}
 use Rattle.gj_problem.proofs.AddedSums.{add_zero_q, none_first}
 use Rattle.gj_problem.proofs.HeldInequalities.{rounded_holds}
 use Rattle.gj_problem.specs.declared.rounding.RoundedCut.{RoundedCut}
@@ -103,7 +102,7 @@ one_moved p n es i e f fs gs given now next shift below here made next_is same i
 
 -- ---- none before is free
 
-not_free_at : (p : Problem) (n : ℕ) (e : Entry) (y shift : Rational) (lower upper : Option Frac) → lower_of p e.column ≡ lower →
+pub not_free_at : (p : Problem) (n : ℕ) (e : Entry) (y shift : Rational) (lower upper : Option Frac) → lower_of p e.column ≡ lower →
     upper_of p e.column ≡ upper → IsMoved n lower upper (rational e.value) y shift → IsFreeEntry p n e → ⊥
 not_free_at p n e y shift (Some l) upper l_is u_is h free = let none = sym l_is ∙ free.no_lower in absurd (cc)
 not_free_at p n e y shift None (Some u) l_is u_is h free = let none = sym u_is ∙ free.no_upper in absurd (cc)

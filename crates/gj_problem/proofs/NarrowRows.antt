@@ -1,7 +1,5 @@
 -- Where all numbers of a row fit, none is said not to.
 use Rattle.std.proofs.Common.{◌≡◌, ◌↔◌, ◌⊎◌, ⊎_elim, ℕ, ◌<◌, ◌≤◌, ◌^◌, Bool, IsTrue, List, [], ◌∷◌, ◌++◌, All, sym, ap, subst, subst₂, ◌∙◌, arith}
-use Rattle.std.proofs.lemmas.List.Elements.{All-head}
-use Rattle.gj_lemmas.proofs.Lists.{All-back}
 use Rattle.gj_frac.specs.declared.Frac.{Frac}
 use Rattle.gj_frac.specs.Fits.{FitsProduct, FitsQuotient}
 use Rattle.gj_problem.specs.Rational.{whole, rational, ◌+ℚ◌, neg_ℚ}
@@ -11,7 +9,7 @@ use Rattle.gj_problem.specs.declared.bounds.Held.{Held}
 use Rattle.gj_problem.specs.Aggregates.{pieces_at, Weighted, IsAggregate, HasWholeColumns, IsScale, signed, IsLeftOut, IsTurned, IsFree}
 use Rattle.gj_problem.specs.Steps.{AreTurned, IsWideAt}
 use Rattle.gj_problem.specs.WideRows.{numbers_of, IsWideScale, IsWideMultiple, IsWideScaled, IsWideSlack, IsWideNext, IsWideSum, IsWideTurn, AreWideTurns}
-use Rattle.gj_problem.proofs.Failing.{Fails, none_around, none_with, none_at_first}
+use Rattle.gj_problem.proofs.Failing.{Fails, true_at, none_around, none_with, none_at_first}
 use Rattle.gj_problem.proofs.MadePieces.{made_one}
 use Rattle.gj_problem.proofs.OneRow.{rational_injective, one_sum, one_turned}
 use Rattle.gj_problem.proofs.OnePieces.{one_test, one_scale}
@@ -146,7 +144,5 @@ narrow_turns_to_free hs ks back against h ps right ks_are turned none small free
     none_around (IsWideHere against) ks hs back h ks_are (λ f. none (turns_fail hs against f))
     (narrow_here hs against h ps right turned small (λ k. turned_not_free h k.piece k.turned free))
     (λ before rest after next is place k.
-    let all : All (λ (u : Held). IsFree u → ⊥) (hs ++ h ∷ rest) =
-    subst (All (λ (u : Held). IsFree u → ⊥)) is (none_free before k.0 k.2.made) in
-    All-head (λ (u : Held). IsFree u → ⊥) h rest (All-back (λ (u : Held). IsFree u → ⊥) hs (h ∷ rest) all) free)
+    true_at (λ (u : Held). IsFree u → ⊥) before hs rest h is (none_free before k.0 k.2.made) free)
     (fails_at_turns ks against w)

@@ -1,12 +1,10 @@
 -- A problem and its multipliers have one sum, and either one right side or one first free column.
 use Rattle.std.proofs.Common.{◌≡◌, ℕ, List, [], ◌∷◌, ◌++◌, length, All, Bool, true, false, Option, Some, None, ℤ, pos, negsuc, ◌-ℤ◌, ◌<ℤ◌, refl, sym, ap, ap₂, subst, ◌∙◌, arith}
 use Rattle.std.proofs.lemmas.Int.{ints}
-use Rattle.std.proofs.lemmas.List.Elements.{All-head, All-tail}
 use Rattle.gj_frac.specs.declared.Frac.{Frac}
 use Rattle.gj_frac.specs.SameParts.{same_parts_same}
 use Rattle.gj_frac.proofs.Floors.{same_from_IsFloor}
 use Rattle.gj_lemmas.proofs.Integers.{mul_lt_cancel_right_z}
-use Rattle.gj_lemmas.proofs.Lists.{All-back}
 use Rattle.gj_problem.specs.Rational.{Rational, whole, rational, ◌+ℚ◌, ◌*ℚ◌, neg_ℚ, ◌-ℚ◌}
 use Rattle.gj_problem.proofs.RationalRing.{by_ring_q, ring_q}
 use Rattle.gj_problem.specs.declared.problem.Problem.{Problem}
@@ -15,6 +13,7 @@ use Rattle.gj_problem.specs.declared.problem.Entry.{Entry}
 use Rattle.gj_problem.specs.Rows.{dot, IsOneColumn}
 use Rattle.gj_problem.specs.declared.bounds.Held.{Held}
 use Rattle.gj_problem.specs.Aggregates.{pieces_at, AreMadeOf, Weighted, weighted, IsAggregate, held, IsLeftOut, IsCeiling, IsLowerBound, IsUpperBound, IsFromLower, IsFromUpper, IsTurnedFrom, IsTurned, IsFree, IsRow, IsFirstFree}
+use Rattle.gj_problem.proofs.Failing.{true_at, same_first}
 use Rattle.gj_problem.proofs.MadePieces.{made_one}
 use Rattle.gj_problem.proofs.OneColumn.{put_back}
 use Rattle.gj_problem.proofs.TurnedColumns.{none_free}
@@ -156,22 +155,7 @@ no_free p ms ups ps r j row free =
     let none : All (λ h. IsFree h → ⊥) hs =
     none_free hs row.bounds (subst (λ (cs : List Frac). AreMadeOf IsLeftOut IsTurned (held 0 p.columns cs ups) row.bounds) same.0 row.bounds_are) in
     let first = free.first in
-    All-head (λ h. IsFree h → ⊥) first.column first.after
-    (All-back (λ h. IsFree h → ⊥) first.before (first.column ∷ first.after) (subst (All (λ h. IsFree h → ⊥)) first.place none)) first.free
-
-same_first : (b c : List Held) (h k : Held) (d e : List Held) → b ++ h ∷ d ≡ c ++ k ∷ e → All (λ x. IsFree x → ⊥) b → All (λ x. IsFree x → ⊥) c →
-    IsFree h → IsFree k → h ≡ k
-same_first [] [] h k d e same none other h_free k_free = head_of h d k e same
-  where
-    head_of : {A : Type 0} (x : A) (xs : List A) (y : A) (ys : List A) → x ∷ xs ≡ y ∷ ys → x ≡ y
-    head_of x xs y ys e = cc
-same_first [] (x ∷ c) h k d e same none other h_free k_free =
-    let is : h ≡ x = cc in absurd (All-head (λ x. IsFree x → ⊥) x c other (subst IsFree is h_free))
-same_first (x ∷ b) [] h k d e same none other h_free k_free =
-    let is : x ≡ k = cc in absurd (All-head (λ x. IsFree x → ⊥) x b none (subst IsFree (sym is) k_free))
-same_first (x ∷ b) (y ∷ c) h k d e same none other h_free k_free =
-    let rest : b ++ h ∷ d ≡ c ++ k ∷ e = cc in
-    same_first b c h k d e rest (All-tail (λ x. IsFree x → ⊥) x b none) (All-tail (λ x. IsFree x → ⊥) y c other) h_free k_free
+    true_at (λ h. IsFree h → ⊥) hs first.before first.after first.column first.place none first.free
 
 pub one_free : (p : Problem) (ms : List Frac) (ups : List Bool) (i j : ℕ) → IsFirstFree p ms ups i → IsFirstFree p ms ups j → i ≡ j
 one_free p ms ups i j h k =
@@ -181,5 +165,5 @@ one_free p ms ups i j h k =
     let lists : a.before ++ a.column ∷ a.after ≡ b.before ++ b.column ∷ b.after =
     sym a.place ∙ ap (λ (cs : List Frac). held 0 p.columns cs ups) same.0 ∙ b.place in
     a.index
-    ∙ ap (λ (x : Held). x.index) (same_first a.before b.before a.column b.column a.after b.after lists a.none_before b.none_before a.free b.free)
+    ∙ ap (λ (x : Held). x.index) (same_first IsFree a.before b.before a.after b.after a.column b.column lists a.none_before b.none_before a.free b.free)
     ∙ sym b.index

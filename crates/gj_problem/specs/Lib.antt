@@ -7,3 +7,7 @@ pub mod Made
 pub mod Moves
 pub mod RoundedCuts
 pub mod WideRows
+pub mod OneDenominator
+pub mod Combinations
+pub mod Signs
+pub mod EntriesOver

@@ -126,6 +126,10 @@ IsRoundedOf p n q (Cut rounded) = IsRoundedCut p n q rounded
 IsRoundedOf p n q (Free j) = IsFirstFreeEntry p n q.entries j
 IsRoundedOf p n q Wide = IsWideRounding p n q
 
+-- the answer is `Wide` if a number does not fit
+abbrev pub TellsWideRounding : Problem → ℕ → Inequality → RoundedCut → Type 0
+TellsWideRounding p n q cut = IsWideRounding p n q → cut ≡ Wide
+
 -- what is rounded, if it is, holds at all feasible points
 abbrev pub RoundedHolds : Problem → RoundedCut → Type 0
 RoundedHolds p (Cut rounded) = Holds p rounded

@@ -1,6 +1,6 @@
 -- What one step adds to the pieces of a row, where columns are turned, and when a number does not
 -- fit (own).
-use Rattle.std.specs.Prelude.{◌≡◌, ◌≤◌, ◌⊎◌, List, [], ◌∷◌, ◌++◌, length, slice_index_or}
+use Rattle.std.specs.Prelude.{◌≡◌, ◌≤◌, ◌⊎◌, ℕ, Bool, List, [], ◌∷◌, ◌++◌, length, slice_index_or}
 use Rattle.gj_frac.specs.declared.Frac.{Frac}
 use Rattle.gj_frac.specs.Fraction.{SameValue, fraction_of, product_of}
 use Rattle.gj_frac.specs.Fits.{FitsProduct, FitsSum}
@@ -12,11 +12,16 @@ use Rattle.gj_problem.specs.declared.bounds.Turned.TheVariants.{Bounds, Free}
 use Rattle.gj_problem.specs.Problems.{sum_at}
 use Rattle.gj_problem.specs.Rows.{dot}
 use Rattle.gj_problem.specs.declared.bounds.Held.{Held}
+use Rattle.gj_problem.specs.declared.problem.Column.{Column}
 use Rattle.gj_problem.specs.Aggregates.{pieces_at, AreMadeOf, IsLeftOut, IsTurned, IsFirstFreeOf}
 
 -- the item is passed over, or one more thing is made of it
 abbrev pub IsMadeNext : {B : Type 0} → Type 0 → (B → Type 0) → List B → List B → Type 0
 IsMadeNext {B} Passed Makes old new = (Passed × (new ≡ old)) ⊎ ((Passed → ⊥) × (s : B) × Makes s × (new ≡ old ++ s ∷ []))
+
+-- a column with its coefficient
+abbrev pub held_by : ℕ → Column → Frac → Bool → Held
+held_by index column coefficient up = record { index = index; column = column; coefficient = coefficient; at_upper = up }
 
 -- the columns are turned or left out, and the right side is the sum's with the bounds put in
 pub record AreTurned (hs : List Held) (against : Frac) (pieces : List Piece) (right : Frac) : Type 0 where

@@ -4,7 +4,7 @@ ghost use Rattle.std.specs.Prelude.{IfOk, OnOk, IsTrue, MatchOption};
 ghost use Rattle.gj_problem.specs.Rational.{rational, ◌-ℚ◌};
 ghost use Rattle.gj_problem.specs.Aggregates.{pieces_at, held, IsLeftOut, IsTurned, IsFree};
 ghost use Rattle.gj_problem.specs.Aggregates.{IsLowerBound, IsUpperBound, IsFromLower, IsFromUpper};
-ghost use Rattle.gj_problem.specs.Steps.{IsMadeNext, AreTurnedOrFree};
+ghost use Rattle.gj_problem.specs.Steps.{IsMadeNext, AreTurnedOrFree, held_by};
 ghost use Rattle.gj_problem.specs.WideRows.{IsWideTurn, AreWideTurns};
 
 use crate::faults::Fault;
@@ -58,17 +58,53 @@ pub(crate) fn turned_columns(
         let Ok(index) = u32::try_from(j) else {
             return Err(Fault::Wide);
         };
-        let held = Held {
+        if !turn(
+            alloc,
             index,
-            column: *column,
-            coefficient: coefficients[j],
-            at_upper: at_upper[j],
-        };
-        if !held.turn(alloc, &mut bounds)? {
+            column,
+            coefficients[j],
+            at_upper[j],
+            &mut bounds,
+        )? {
             return Ok(Turned::Free(index));
         }
     }
     Ok(Turned::Bounds(bounds))
+}
+
+/// Turns a column with this coefficient, unless it is left out; false if it is free.
+#[inline(always)]
+fn turn(
+    alloc: Global,
+    index: u32,
+    column: &Column,
+    coefficient: Frac,
+    at_upper: bool,
+    bounds: &mut Bounds,
+) -> Result<bool, Fault>
+    ensures right { IfOk result (λ done. IsTrue done →
+        rational bounds.new.right -ℚ pieces_at [] bounds.new.pieces.items
+        ≡ rational bounds.old.right -ℚ pieces_at [] bounds.old.pieces.items) }
+    ensures next { IfOk result (λ done. IsTrue done → let h = held_by index column.now coefficient
+        at_upper in IsMadeNext (IsLeftOut h) (IsTurned h)
+        bounds.old.pieces.items bounds.new.pieces.items) }
+    ensures free { IfOk result (λ done. done ≡ false →
+        IsFree (held_by index column.now coefficient at_upper)) }
+    ensures wide { result ≡ Err Fault.Wide →
+        IsWideTurn (held_by index column.now coefficient at_upper) bounds.old.right }
+    ensures narrow { OnOk result
+        (¬ IsWideTurn (held_by index column.now coefficient at_upper) bounds.old.right) }
+{
+    if coefficient.num() == 0 {
+        return Ok(true);
+    }
+    let held = Held {
+        index,
+        column: *column,
+        coefficient,
+        at_upper,
+    };
+    held.turn(alloc, bounds)
 }
 
 /// A column with its coefficient in a sum.

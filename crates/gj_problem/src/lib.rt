@@ -8,6 +8,7 @@
 #![tactic(auto)]
 
 mod bounds;
+mod combination;
 mod faults;
 mod pieces;
 mod problem;
@@ -19,6 +20,7 @@ mod sums;
 pub mod theorems;
 
 pub use bounds::{lower_bound, rounded_down, upper_bound};
+pub use combination::Combination;
 pub use faults::Fault;
 pub use pieces::Piece;
 pub use problem::{Column, Constraint, Entry, Inequality, Problem, Sense};

@@ -6,7 +6,8 @@ ghost use Rattle.gj_problem.specs.Moves.{IsGridValue, IsBelowOnGrid};
 ghost use Rattle.gj_problem.specs.RoundedCuts.{lower_of, upper_of};
 ghost use Rattle.gj_problem.specs.RoundedCuts.{IsMoved, IsFreeEntry, IsRoundedOf, RoundedHolds};
 ghost use Rattle.gj_problem.specs.RoundedCuts.{IsWideTimes, IsWideChange, IsWideMove};
-ghost use Rattle.gj_problem.specs.RoundedCuts.{IsWideRounding, RoundedHasTerms};
+ghost use Rattle.gj_problem.specs.RoundedCuts.{IsWideRounding, TellsWideRounding};
+ghost use Rattle.gj_problem.specs.RoundedCuts.{RoundedHasTerms};
 
 use crate::faults::Fault;
 use crate::problem::{Entry, Inequality, Problem};
@@ -31,8 +32,9 @@ pub enum RoundedCut {
 ///
 /// A coefficient goes up where its column has a lower bound, and down where it has only an upper
 /// one, and is left out if it is 0 then; the right side changes by the bound times the change, and
-/// goes down. `Wide` comes only where a number of this does not fit. Else it is `Free` exactly if a
-/// coefficient is off the grid in a column without bounds. The only error is want of memory.
+/// goes down. `Wide` comes exactly where a number of this does not fit, up to the first coefficient
+/// that is off the grid in a column without bounds. Else it is `Free` exactly if there is one. The
+/// only error is want of memory.
 pub fn rounded(
     alloc: Global,
     problem: &Problem,
@@ -41,6 +43,7 @@ pub fn rounded(
 ) -> Result<RoundedCut, AllocError>
     requires { 0 < grid }
     ensures is { IfOk result (IsRoundedOf problem.now grid cut.now) }
+    ensures narrow { IfOk result (TellsWideRounding problem.now grid cut.now) }
     ensures holds { IfOk result (λ r. Holds problem.now cut.now → RoundedHolds problem.now r) }
     ensures terms { IfOk result
         (λ r. HasTerms problem.now cut.now → RoundedHasTerms problem.now r) }
@@ -62,6 +65,7 @@ fn rounded_cut(
     requires { 0 < grid }
     ensures is { IfOk result (IsRoundedOf problem.now grid cut.now) }
     ensures wide { result ≡ Err Fault.Wide → IsWideRounding problem.now grid cut.now }
+    ensures narrow { OnOk result (¬ IsWideRounding problem.now grid cut.now) }
 {
     let mut entries = Vec::new(alloc);
     let mut right = cut.right;
@@ -100,6 +104,8 @@ fn moved_entry(problem: &Problem, entry: Entry, grid: u64) -> Result<Option<Move
         (rational entry.value) (rational m.value) (rational m.shift))) }
     ensures wide { OnErr result (IsWideMove grid (lower_of problem.now entry.column)
         (upper_of problem.now entry.column) entry.value) }
+    ensures narrow { OnOk result (¬ IsWideMove grid (lower_of problem.now entry.column)
+        (upper_of problem.now entry.column) entry.value) }
 {
     let x = entry.value;
     match (
@@ -132,6 +138,7 @@ fn moved_to(x: Frac, value: Frac, bound: Frac) -> Result<Moved, Wide>
     ensures shift { IfOk result (λ m. rational m.shift ≡
         (rational value -ℚ rational x) *ℚ rational bound) }
     ensures wide { OnErr result (IsWideChange x value bound) }
+    ensures narrow { OnOk result (¬ IsWideChange x value bound) }
 {
     let change = value.checked_add(-x)?;
     let shift = change.checked_mul(bound)?;
@@ -144,6 +151,7 @@ fn kept(x: Frac, grid: u64) -> Result<Option<Moved>, Wide>
         (λ m. IsGridValue grid (rational x) × (rational m.value ≡ rational x) ×
         (rational m.shift ≡ whole (pos 0)))) }
     ensures wide { OnErr result (IsWideTimes grid x) }
+    ensures narrow { OnOk result (¬ IsWideTimes grid x) }
 {
     if scaled(x, grid)?.den() == 1 {
         Ok(Some(Moved {

@@ -57,6 +57,9 @@ fn with_denominator(m: u128, x: Frac) -> Result<u128, Wide>
         × (2 ^ 128 ≤ n)) }
 {
     let d = x.den().unsigned_abs();
+    if d == 1 {
+        return Ok(m);
+    }
     let common = gcd(m, d);
     (m / common).checked_mul(d).ok_or(Wide)
 }

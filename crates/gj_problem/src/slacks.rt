@@ -1,16 +1,20 @@
 //! Sums of constraints, and their slacks.
 ghost use Rattle.std.specs.Prelude.{◌≡◌, ◌↔◌, List, IfOk, OnOk, IsTrue, Err, All};
 ghost use Rattle.std.specs.Prelude.{length};
+ghost use Rattle.std.specs.List.{AllZip};
 ghost use Rattle.gj_frac.specs.Fits.{FitsProduct};
 ghost use Rattle.gj_problem.specs.Rational.{Rational, rational, ◌+ℚ◌, ◌*ℚ◌, ◌-ℚ◌};
 ghost use Rattle.gj_problem.specs.Problems.{IsWholeColumn, sum_at};
 ghost use Rattle.gj_problem.specs.Rows.{dot, IsMultiple};
 ghost use Rattle.gj_problem.specs.Aggregates.{AreMadeOf, IsAggregate, Weighted, weighted};
 ghost use Rattle.gj_problem.specs.Aggregates.{HasNoSlack, IsSlack};
+ghost use Rattle.gj_problem.specs.Signs.{IsSign, IsNegated};
 ghost use Rattle.gj_problem.specs.Steps.{IsMadeNext};
+ghost use Rattle.gj_problem.specs.Combinations.{AddsConstraint};
 ghost use Rattle.gj_problem.specs.WideRows.{numbers_of, IsWideMultiple, IsWideSlack, IsWideNext};
 ghost use Rattle.gj_problem.specs.WideRows.{IsWideSum};
 
+use crate::combination::Combination;
 use crate::faults::Fault;
 use crate::pieces::Piece;
 use crate::problem::{Constraint, Entry, Inequality, Problem, Sense};
@@ -18,7 +22,7 @@ use crate::scales::{divided, scale, with_sign};
 use crate::sums::Sum;
 use gj_frac::Frac;
 use gj_shape::List;
-use std::alloc::Global;
+use std::alloc::{AllocError, Global};
 
 /// The sum of the constraints, each times its multiplier, and their slacks.
 #[derive(Drop)]
@@ -31,6 +35,97 @@ pub(crate) struct Aggregate {
 
 /// The sum of the constraints, each times its multiplier, with the slacks of those that are in it.
 pub(crate) fn added_up(
+    alloc: Global,
+    problem: &Problem,
+    constraints: &[Constraint],
+    multipliers: &[Frac],
+) -> Result<Aggregate, Fault>
+    requires { length multipliers.now ≡ length constraints.now }
+    ensures sum { IfOk result (λ made.
+        IsAggregate problem.now (weighted multipliers.now constraints.now)
+        made.sum.coefficients.items made.sum.right) }
+    ensures slacks { IfOk result (λ made.
+        AreMadeOf HasNoSlack (IsSlack problem.now)
+        (weighted multipliers.now constraints.now) made.slacks.items) }
+    ensures wide { result ≡ Err Fault.Wide →
+        IsWideSum problem.now (weighted multipliers.now constraints.now) }
+    ensures narrow { OnOk result
+        (¬ IsWideSum problem.now (weighted multipliers.now constraints.now)) }
+{
+    match added_over_one(alloc, problem, constraints, multipliers) {
+        Ok(made) => Ok(made),
+        Err(Fault::Wide) => added_one_by_one(alloc, problem, constraints, multipliers),
+        Err(Fault::Memory(error)) => Err(Fault::Memory(error)),
+    }
+}
+
+/// The sum over one denominator, and the slacks.
+#[derive(Drop)]
+struct Combined {
+    sum: Combination,
+    slacks: Vec<Piece>,
+}
+
+/// The same over one denominator. Where it is `Wide`, it may still fit in lowest terms.
+fn added_over_one(
+    alloc: Global,
+    problem: &Problem,
+    constraints: &[Constraint],
+    multipliers: &[Frac],
+) -> Result<Aggregate, Fault>
+    requires { length multipliers.now ≡ length constraints.now }
+    ensures sum { IfOk result (λ made.
+        IsAggregate problem.now (weighted multipliers.now constraints.now)
+        made.sum.coefficients.items made.sum.right) }
+    ensures slacks { IfOk result (λ made.
+        AreMadeOf HasNoSlack (IsSlack problem.now)
+        (weighted multipliers.now constraints.now) made.slacks.items) }
+    ensures narrow { OnOk result
+        (¬ IsWideSum problem.now (weighted multipliers.now constraints.now)) }
+{
+    let columns = problem.columns.as_slice().len();
+    let sum = Combination::of_none(alloc, columns, 0, multipliers)?;
+    let mut made = Combined {
+        sum,
+        slacks: Vec::new(alloc),
+    };
+    for (constraint, multiplier) in constraints.iter().zip(multipliers) {
+        add_over_one(alloc, &mut made, problem, constraint, *multiplier)?;
+    }
+    let Combined { sum, slacks } = made;
+    let sum = sum.sum(alloc)?;
+    Ok(Aggregate { sum, slacks })
+}
+
+/// The sum over one denominator with one more constraint and its slack.
+fn add_over_one(
+    alloc: Global,
+    made: &mut Combined,
+    problem: &Problem,
+    constraint: &Constraint,
+    multiplier: Frac,
+) -> Result<(), Fault>
+    ensures sum { IfOk result (λ _. AddsConstraint problem.now made.old.sum
+        (record { multiplier = multiplier; constraint = constraint.now }) made.new.sum) }
+    ensures slack { IfOk result
+        (λ _. let w : Weighted = record { multiplier = multiplier; constraint = constraint.now } in
+        IsMadeNext (HasNoSlack w) (IsSlack problem.now w)
+        made.old.slacks.items made.new.slacks.items) }
+{
+    if multiplier.num() == 0 {
+        return Ok(());
+    }
+    made.sum.add(multiplier, constraint.entries.as_slice(), constraint.right)?;
+    if is_equation(constraint.sense) {
+        return Ok(());
+    }
+    let piece = slack(alloc, problem, constraint, multiplier)?;
+    made.slacks.push(piece)?;
+    Ok(())
+}
+
+/// The same one by one, in lowest terms.
+fn added_one_by_one(
     alloc: Global,
     problem: &Problem,
     constraints: &[Constraint],
@@ -160,7 +255,11 @@ fn times(alloc: Global, factor: Frac, entries: &[Entry], right: Frac) -> Result<
     ensures fits { OnOk result (All (FitsProduct factor) (numbers_of right entries.now)) }
     ensures wide { result ≡ Err Fault.Wide → IsWideMultiple factor right entries.now }
 {
-    let mut scaled = Vec::new(alloc);
+    if is_sign(factor) {
+        let inequality = with_sign_of(alloc, factor, entries, right)?;
+        return Ok(inequality);
+    }
+    let mut scaled = Vec::with_capacity(alloc, entries.len())?;
     for entry in entries {
         let value = factor.checked_mul(entry.value)?;
         scaled.push(Entry {
@@ -173,4 +272,49 @@ fn times(alloc: Global, factor: Frac, entries: &[Entry], right: Frac) -> Result<
         entries: List::of(scaled),
         right,
     })
+}
+
+/// Whether the number is 1 or -1.
+fn is_sign(x: Frac) -> bool
+    ensures { IsTrue result ↔ IsSign x }
+{
+    x.den() == 1 && (x.num() == 1 || x.num() == -1)
+}
+
+/// The inequality of the entries and the right side, each times the factor, which is 1 or -1. No
+/// divisor is sought. The only error is want of memory.
+fn with_sign_of(
+    alloc: Global,
+    factor: Frac,
+    entries: &[Entry],
+    right: Frac,
+) -> Result<Inequality, AllocError>
+    requires { IsSign factor }
+    ensures { IfOk result (IsMultiple (rational factor) entries.now right) }
+{
+    let mut made = Vec::from_slice(alloc, entries)?;
+    if factor.num() < 0 {
+        negate(&mut made);
+        return Ok(Inequality {
+            entries: List::of(made),
+            right: -right,
+        });
+    }
+    Ok(Inequality {
+        entries: List::of(made),
+        right,
+    })
+}
+
+/// Turns the sign of each entry.
+fn negate(entries: &mut Vec<Entry>)
+    ensures { AllZip IsNegated entries.old.items entries.new.items }
+{
+    for i in 0..entries.len() {
+        let entry = entries[i];
+        entries[i] = Entry {
+            column: entry.column,
+            value: -entry.value,
+        };
+    }
 }

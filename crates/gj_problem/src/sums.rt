@@ -130,6 +130,9 @@ pub(crate) fn with_multiple(x: Frac, factor: Frac, value: Frac) -> Result<Frac, 
     ensures wide { OnErr result (IsWideAt x factor value) }
     ensures narrow { OnOk result (¬ IsWideAt x factor value) }
 {
+    if value.num() == 0 {
+        return Ok(x);
+    }
     x.checked_add(factor.checked_mul(value)?)
 }
 

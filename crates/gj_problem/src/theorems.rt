@@ -12,7 +12,8 @@ ghost use Rattle.gj_problem.specs.Problems.{surplus_at};
 ghost use Rattle.gj_problem.specs.Rows.{IsSignFor, IsConstraintTimes, IsWholeInequality};
 ghost use Rattle.gj_problem.specs.Rows.{HasWholeSurplus};
 ghost use Rattle.gj_problem.specs.Moves.{IsBelowOnGrid};
-ghost use Rattle.gj_problem.specs.RoundedCuts.{IsRounded};
+ghost use Rattle.gj_problem.specs.declared.rounding.RoundedCut.{RoundedCut};
+ghost use Rattle.gj_problem.specs.RoundedCuts.{IsRounded, IsRoundedOf, TellsWideRounding};
 ghost use Rattle.gj_problem.specs.Aggregates.{IsRow, IsFirstFree, IsSound, AddsUpAt, IsCutOver};
 ghost use Rattle.gj_problem.specs.Aggregates.{IsTurnedBack};
 
@@ -72,6 +73,13 @@ pub fn one_row()
 pub fn rounded_cut()
     ensures { (p : Problem) (q rounded : Inequality) → Holds p q →
         IsRounded p q rounded → Holds p rounded }
+{}
+
+/// An inequality has one answer on the grid, if it is `Wide` where a number does not fit.
+pub fn one_rounded_cut()
+    ensures { (p : Problem) (grid : ℕ) (q : Inequality) (cut other : RoundedCut) →
+        IsRoundedOf p grid q cut → IsRoundedOf p grid q other →
+        TellsWideRounding p grid q cut → TellsWideRounding p grid q other → cut ≡ other }
 {}
 
 /// A cut over the pieces holds when it is turned back into the columns of the problem.

@@ -29,7 +29,7 @@ abbrev pub IsUsable : RuleKind → Type 0
 IsUsable (Gmic f) = IsInside f
 IsUsable (Table shape) = IsWithinBounds shape
 
-cuts_held : (kind : RuleKind) (up down right : Frac) → IsUsable kind → IsMinimalKind kind → AreSlopesOfKind kind up down → HasPart kind right →
+pub cuts_held : (kind : RuleKind) (up down right : Frac) → IsUsable kind → IsMinimalKind kind → AreSlopesOfKind kind up down → HasPart kind right →
     AreCutsHeld (IsKindValue kind) up down right
 cuts_held (Gmic f) up down right usable minimal slopes part entries columns coefficients weights values are_weights =
     mixed_by_gmic f up down entries columns right coefficients weights usable slopes part values are_weights

@@ -5,7 +5,6 @@ use Rattle.gj_frac.specs.declared.Frac.{Frac}
 use Rattle.gj_problem.specs.Rational.{Rational, whole, rational, ◌+ℚ◌, ◌-ℚ◌}
 use Rattle.gj_problem.proofs.RationalRing.{by_ring_q, ring_q}
 use Rattle.gj_problem.specs.declared.pieces.Piece.{Piece}
-use Rattle.gj_problem.specs.declared.sums.Sum.{Sum}
 use Rattle.gj_problem.specs.Aggregates.{combined_at}
 use Rattle.gj_problem.specs.Rows.{dot}
 use Rattle.gj_problem.specs.Steps.{IsWideAt, IsWideWithin}
@@ -13,7 +12,7 @@ use Rattle.gj_problem.proofs.Failing.{Fails, none_next, none_at_first, in_joined
 use Rattle.gj_problem.proofs.MadePieces.{zip_split}
 use Rattle.gj_problem.proofs.OneRow.{same_sum}
 use Rattle.gj_safe_cut.specs.SafeCuts.{IsCoefficient, HasNoCoefficient, IsWideTerm, IsWideSumOfTerms}
-use Rattle.gj_safe_cut.specs.AddedTerms.{sum_surplus_at, AreAdded, IsWideAdding, HasOneValue}
+use Rattle.gj_safe_cut.specs.AddedTerms.{surplus_of, AreAdded, IsWideAdding, HasOneValue}
 use Rattle.gj_safe_cut.proofs.OneTerms.{one_coefficient, one_list}
 use Rattle.gj_safe_cut.proofs.TermSums.{IsBegun, combined_joined}
 
@@ -36,14 +35,14 @@ module _ (IsValue : Frac → Frac → Type 0) (IsOut : Frac → Type 0) (up down
       (one_coefficient IsValue up down one s w.0 k w.1 given) w.2))
 
   -- the terms of the pieces before it have been added, and then a number does not fit
-  abbrev IsWideNow : Sum → List Piece → Piece → Type 0
-  IsWideNow old before next = (coefficients : List Frac) × AllZip Gives before coefficients × (sum : List Frac) × (right : Frac)
-      × (length sum ≡ length old.coefficients.items)
-      × ((point : List Rational) → dot sum point -ℚ rational right ≡ sum_surplus_at point old +ℚ combined_at point coefficients before)
+  abbrev IsWideNow : ℕ → (List Rational → Rational) → List Piece → Piece → Type 0
+  IsWideNow n old before next = (coefficients : List Frac) × AllZip Gives before coefficients × (sum : List Frac) × (right : Frac)
+      × (length sum ≡ n)
+      × ((point : List Rational) → dot sum point -ℚ rational right ≡ old point +ℚ combined_at point coefficients before)
       × IsWideTerm IsValue IsOut up down sum right next
 
-  fails_adding : (ps : List Piece) (old : Sum) → IsWideAdding IsValue IsOut up down ps old → Fails (IsWideNow old) ps
-  fails_adding ps old w = record {
+  fails_adding : (ps : List Piece) (n : ℕ) (old : List Rational → Rational) → IsWideAdding IsValue IsOut up down ps n old → Fails (IsWideNow n old) ps
+  fails_adding ps n old w = record {
     before = w.before;
     next = w.next;
     after = w.after;
@@ -51,8 +50,8 @@ module _ (IsValue : Frac → Frac → Type 0) (IsOut : Frac → Type 0) (up down
     fails = (w.coefficients, w.given, w.sum, w.right, w.count, w.adds, w.wide);
   }
 
-  adding_fails : (ps : List Piece) (old : Sum) → Fails (IsWideNow old) ps → IsWideAdding IsValue IsOut up down ps old
-  adding_fails ps old f = record {
+  adding_fails : (ps : List Piece) (n : ℕ) (old : List Rational → Rational) → Fails (IsWideNow n old) ps → IsWideAdding IsValue IsOut up down ps n old
+  adding_fails ps n old f = record {
     before = f.before;
     next = f.next;
     after = f.after;
@@ -66,36 +65,34 @@ module _ (IsValue : Frac → Frac → Type 0) (IsOut : Frac → Type 0) (up down
     wide = f.fails.6;
   }
 
-  pub narrow_adding_none : (old : Sum) → IsWideAdding IsValue IsOut up down [] old → ⊥
-  narrow_adding_none old w = none_at_first (IsWideNow old) (fails_adding [] old w)
+  pub narrow_adding_none : (n : ℕ) (old : List Rational → Rational) → IsWideAdding IsValue IsOut up down [] n old → ⊥
+  narrow_adding_none n old w = none_at_first (IsWideNow n old) (fails_adding [] n old w)
 
-  pub narrow_adding_next : (ps : List Piece) (i : ℕ) (s : Piece) (k : Frac) (old now : Sum) → i < length ps → s ≡ get_or ps i s →
-      AreAdded Gives (take i ps) old now → length now.coefficients.items ≡ length old.coefficients.items →
-      (IsWideAdding IsValue IsOut up down (take i ps) old → ⊥) → (HasNoCoefficient IsOut up down s → ⊥) → Gives s k →
-      (IsWideWithin now.coefficients.items k s.inequality.entries ⊎ IsWideAt now.right k s.inequality.right → ⊥) →
-      IsWideAdding IsValue IsOut up down (take (i + 1) ps) old → ⊥
-  narrow_adding_next ps i s k old now below here added count none some given narrow w =
-      none_next (IsWideNow old) ps i s below here (λ f. none (adding_fails (take i ps) old f))
-      (λ (h : IsWideNow old (take i ps) s).
-      let same = same_sum h.2 now.coefficients.items h.3 now.right (h.4 ∙ sym count)
+  pub narrow_adding_next : (ps : List Piece) (i : ℕ) (s : Piece) (k : Frac) (n : ℕ) (old : List Rational → Rational) (cs : List Frac) (r : Frac) →
+      i < length ps → s ≡ get_or ps i s → AreAdded Gives (take i ps) old (surplus_of cs r) → length cs ≡ n →
+      (IsWideAdding IsValue IsOut up down (take i ps) n old → ⊥) → (HasNoCoefficient IsOut up down s → ⊥) → Gives s k →
+      (IsWideWithin cs k s.inequality.entries ⊎ IsWideAt r k s.inequality.right → ⊥) →
+      IsWideAdding IsValue IsOut up down (take (i + 1) ps) n old → ⊥
+  narrow_adding_next ps i s k n old cs r below here added count none some given narrow w =
+      none_next (IsWideNow n old) ps i s below here (λ f. none (adding_fails (take i ps) n old f))
+      (λ (h : IsWideNow n old (take i ps) s).
+      let same = same_sum h.2 cs h.3 r (h.4 ∙ sym count)
       (λ point. h.5 point
-      ∙ ap (λ (ks : List Frac). sum_surplus_at point old +ℚ combined_at point ks (take i ps))
+      ∙ ap (λ (ks : List Frac). old point +ℚ combined_at point ks (take i ps))
       (one_list IsValue up down one (take i ps) h.0 added.coefficients h.1 added.given)
       ∙ sym (added.adds point)) in
-      narrow_term now.coefficients.items now.right s k some given narrow
-      (subst₂ (λ (cs : List Frac) (r : Frac). IsWideTerm IsValue IsOut up down cs r s) same.0 same.1 h.6))
-      (fails_adding (take (i + 1) ps) old w)
+      narrow_term cs r s k some given narrow
+      (subst₂ (λ (xs : List Frac) (x : Frac). IsWideTerm IsValue IsOut up down xs x s) same.0 same.1 h.6))
+      (fails_adding (take (i + 1) ps) n old w)
 
   -- nor is it so in two lists of pieces, one after the other
-  pub narrow_joined : (n : ℕ) (ps qs : List Piece) (none middle : Sum) → IsBegun n none → AreAdded Gives ps none middle →
-      length middle.coefficients.items ≡ length none.coefficients.items → (IsWideAdding IsValue IsOut up down ps none → ⊥) →
-      (IsWideAdding IsValue IsOut up down qs middle → ⊥) → IsWideSumOfTerms IsValue IsOut up down n (ps ++ qs) → ⊥
-  narrow_joined n ps qs none middle begun first count before_narrow after_narrow w =
-      let start : (point : List Rational) → whole (pos 0) -ℚ whole (pos 1) ≡ sum_surplus_at point none =
-      λ point. ap₂ (λ v x. v -ℚ x) (sym (begun.none point)) (sym begun.right) in
-      let reached : (point : List Rational) → dot w.sum point -ℚ rational w.right ≡ sum_surplus_at point none +ℚ combined_at point w.coefficients w.before =
+  pub narrow_joined : (n m : ℕ) (ps qs : List Piece) (start middle : List Rational → Rational) → IsBegun n m start → AreAdded Gives ps start middle →
+      (IsWideAdding IsValue IsOut up down ps m start → ⊥) → (IsWideAdding IsValue IsOut up down qs m middle → ⊥) →
+      IsWideSumOfTerms IsValue IsOut up down n (ps ++ qs) → ⊥
+  narrow_joined n m ps qs start middle begun first before_narrow after_narrow w =
+      let reached : (point : List Rational) → dot w.sum point -ℚ rational w.right ≡ start point +ℚ combined_at point w.coefficients w.before =
       λ point. w.adds point ∙ minus_one (combined_at point w.coefficients w.before)
-      ∙ ap (λ v. v +ℚ combined_at point w.coefficients w.before) (start point) in
+      ∙ ap (λ v. v +ℚ combined_at point w.coefficients w.before) (sym (begun.starts point)) in
       ⊎_elim
       (λ (k : (rest : List Piece) × (ps ≡ w.before ++ w.next ∷ rest)).
       before_narrow (record {
@@ -122,9 +119,9 @@ module _ (IsValue : Frac → Frac → Type 0) (IsOut : Frac → Type 0) (up down
         given = tail;
         sum = w.sum;
         right = w.right;
-        count = w.count ∙ sym begun.count ∙ sym count;
+        count = w.count ∙ sym begun.count;
         adds = λ point.
-            let x = sum_surplus_at point none in
+            let x = start point in
             reached point
             ∙ ap₂ (λ (us : List Frac) (vs : List Piece). x +ℚ combined_at point us vs) are k.1
             ∙ ap (λ v. x +ℚ v) (combined_joined Gives point ps k.0 ks ls head)

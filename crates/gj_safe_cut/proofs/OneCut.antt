@@ -29,11 +29,11 @@ use Rattle.gj_safe_cut.proofs.OneTerms.{one_cut_of_pieces}
 -- ---- rows
 
 -- it is not `Wide`
-abbrev IsNarrow : SafeCut → Type 0
+abbrev pub IsNarrow : SafeCut → Type 0
 IsNarrow cut = cut ≡ Wide → ⊥
 
 -- a row has one answer of those that are not `Wide`
-abbrev IsOneOfRow : (ℕ → List Piece → Frac → SafeCut → Type 0) → Type 0
+abbrev pub IsOneOfRow : (ℕ → List Piece → Frac → SafeCut → Type 0) → Type 0
 IsOneOfRow IsOfRow = (n : ℕ) (pieces : List Piece) (right : Frac) (a b : SafeCut) → IsOfRow n pieces right a → IsOfRow n pieces right b →
     IsNarrow a → IsNarrow b → a ≡ b
 
@@ -42,7 +42,7 @@ one_kind_value (Gmic f) usable x y z h k = one_gmic_value f x y z usable h k
 one_kind_value (Table f) usable x y z h k =
     one_value f (numerator x *ℤ pos f.order) (unsigned_abs (denominator x)) y z usable (denominator_some x) h k
 
-one_of_rule_row : (kind : RuleKind) (up down : Frac) → IsUsable kind → IsOneOfRow (IsCutOfRow kind up down)
+pub one_of_rule_row : (kind : RuleKind) (up down : Frac) → IsUsable kind → IsOneOfRow (IsCutOfRow kind up down)
 one_of_rule_row kind up down usable n ps r (Cut q) (Cut s) h k a b =
     ap (λ (x : Inequality). Cut x) (one_cut_of_pieces (IsKindValue kind) up down (one_kind_value kind usable) n ps q s h.2 k.2)
 one_of_rule_row kind up down usable n ps r (Cut q) Integral h k a b = absurd (h.0 k)
@@ -71,7 +71,7 @@ one_part_and_slopes right f g up other down below not_whole part part' slopes sl
     let there : AreGmicSlopes f other below = subst (λ (x : Frac). AreGmicSlopes x other below) same slopes' in
     (same, one_up f other up below down inside there slopes, one_down f other up below down inside there slopes)
 
-one_of_gmic_row : IsOneOfRow IsGmicCutOfRow
+pub one_of_gmic_row : IsOneOfRow IsGmicCutOfRow
 one_of_gmic_row n ps r (Cut q) (Cut s) (f, up, down, slopes, (not_whole, part, made)) (g, other, below, slopes', (not_whole', part', made')) a b =
     let same = one_part_and_slopes r f g up other down below not_whole part part' slopes slopes' in
     let inside = part_inside r f part not_whole in
@@ -153,7 +153,7 @@ one_of_function f p ms ups a b l (up, down, slopes, h) (other, below, slopes', k
 -- ---- one cut
 
 -- what is a cut unless it is `Wide` is this cut
-same_cut : (q : Inequality) (cut : SafeCut) → (AreAlike (Cut q) cut → Cut q ≡ cut) → IsSameCut q cut
+pub same_cut : (q : Inequality) (cut : SafeCut) → (AreAlike (Cut q) cut → Cut q ≡ cut) → IsSameCut q cut
 same_cut q (Cut r) h = let e : Cut q ≡ Cut r = h (λ e. cc, λ e. cc) in cc
 same_cut q Integral h = let e : Cut q ≡ Integral = h (λ e. cc, λ e. cc) in cc
 same_cut q OtherFraction h = let e : Cut q ≡ OtherFraction = h (λ e. cc, λ e. cc) in cc

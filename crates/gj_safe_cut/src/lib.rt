@@ -15,4 +15,4 @@ mod values;
 
 pub use cut::SafeCut;
 pub use function_cuts::function_safe_cut;
-pub use problem_cuts::{gmic_safe_cut, safe_cut};
+pub use problem_cuts::{gmic_cut_of_row, gmic_safe_cut, rule_cut_of_row, safe_cut};

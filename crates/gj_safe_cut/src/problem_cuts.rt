@@ -99,8 +99,12 @@ fn gmic_cut(
     }
 }
 
-/// The mixed-integer cut of a row.
-fn gmic_cut_of_row(alloc: Global, columns: usize, row: &Row) -> Result<SafeCut, Fault>
+/// The mixed-integer cut of a row, in so many columns.
+///
+/// `Memory` is for want of memory. `Wide` comes exactly where a coefficient, or a number of the cut,
+/// does not fit. Else it is `Integral` exactly if the right side is whole, and never `OtherFraction`
+/// or `Free`.
+pub fn gmic_cut_of_row(alloc: Global, columns: usize, row: &Row) -> Result<SafeCut, Fault>
     ensures cut { IfOk result (IsGmicCutOfRow columns
         (row.now.slacks.items ++ row.now.bounds.items) row.now.right) }
     ensures wide { result ≡ Err Fault.Wide → IsGmicCutOfRow columns
@@ -144,8 +148,12 @@ fn rule_cut<E: Evaluator, G: Evaluator>(
     }
 }
 
-/// The cut of a row by the rule and the slopes.
-fn rule_cut_of_row<E: Evaluator, G: Evaluator>(
+/// The cut of a row by the rule and the slopes, in so many columns.
+///
+/// It is `Wide` also where the rule is asked for its value at an entry whose denominator is 2^31 or
+/// more. Where it is not, it is `OtherFraction` exactly if the right side is not whole and its
+/// fractional part is not the rule's f. For the rest see [`gmic_cut_of_row`].
+pub fn rule_cut_of_row<E: Evaluator, G: Evaluator>(
     alloc: Global,
     rule: &Rule<E>,
     slopes: &Slopes<G>,

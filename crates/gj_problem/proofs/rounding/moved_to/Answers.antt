@@ -3,6 +3,7 @@ use Rattle.gj_frac.proofs.Refusals.{on_err}
 use Rattle.gj_problem.specs.RoundedCuts.{IsWideChange}
 use Rattle.gj_problem.specs.Rational.{rational, ◌+ℚ◌, ◌*ℚ◌}
 use Rattle.gj_problem.proofs.AddedSums.{sum_value, product_value, negation_value}
+use Rattle.gj_problem.proofs.NarrowRoundings.{narrow_change}
 use Rattle.gj_problem.proofs.rounding.moved_to.Goals as goal
 
 pub returns-clause-shift : goal.returns-clause-shift
@@ -30,3 +31,10 @@ returns-in_err-shift-clause-wide c =
         c.in_err-shift.ensures.wide,
       ),
     )
+
+pub returns-clause-narrow : goal.returns-clause-narrow
+returns-clause-narrow c =
+    let change = c.in_ok-change.change in
+    let m_is = negation_value c.args.x c.neg.result c.neg.ensures in
+    narrow_change c.args.x c.args.value c.args.bound c.neg.result change m_is c.in_ok-change.ensures.fits
+    (sum_value c.args.value c.neg.result change c.in_ok-change.ensures.value ∙ ap (λ w. rational c.args.value +ℚ w) m_is) c.in_ok-shift.ensures.fits

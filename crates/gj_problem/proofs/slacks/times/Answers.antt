@@ -8,11 +8,13 @@ use Rattle.gj_problem.specs.declared.problem.Entry.{Entry}
 use Rattle.gj_problem.proofs.AddedSums.{product_value}
 use Rattle.gj_problem.proofs.OneColumn.{IsTimes, multiple_more}
 use Rattle.gj_problem.proofs.WideScales.{value_in}
+use Rattle.gj_problem.specs.WideRows.{numbers_of}
+use Rattle.gj_problem.proofs.Multiples.{signs_fit}
 use Rattle.gj_problem.proofs.slacks.times.Goals as goal
 
 pub loop-entry-init : goal.loop-entry-init
 loop-entry-init c = record {
-  are = subst (λ (made : List Entry). AllZip (IsTimes (rational c.args.factor)) [] made) (sym c.new-scaled.ensures.items) tt;
+  are = subst (λ (made : List Entry). AllZip (IsTimes (rational c.args.factor)) [] made) (sym c.in_ok-scaled.ensures.items) tt;
   fit = All-nil (λ (e : Entry). FitsProduct c.args.factor e.value);
 }
 
@@ -27,6 +29,10 @@ loop-entry-preserved c =
       fit = All-more P c.args.entries.now c.loop-entry.entry-index c.entry-item.result c.loop-entry-test.true c.loop-entry.invariant.fit
           (subst P c.entry-item.is c.in_ok-value.ensures.fits);
     }
+
+pub returns-then-is_sign-clause-fits : goal.returns-then-is_sign-clause-fits
+returns-then-is_sign-clause-fits c =
+    signs_fit c.args.factor (numbers_of c.args.right c.args.entries.now) (c.is_sign.ensures.0 c.if-is_sign.true)
 
 pub returns-clause-is : goal.returns-clause-is
 returns-clause-is c = record {

@@ -11,7 +11,7 @@ use Rattle.gj_problem.proofs.AddedSums.{nothing_minus}
 use Rattle.gj_problem.proofs.Prefixes.{made_next, weighted_next, weighted_split, weighted_all_taken, aggregate_next}
 use Rattle.gj_problem.specs.WideRows.{IsWideSum}
 use Rattle.gj_problem.proofs.NarrowRows.{narrow_sum_of_none, narrow_sum_with}
-use Rattle.gj_problem.proofs.slacks.added_up.Goals as goal
+use Rattle.gj_problem.proofs.slacks.added_one_by_one.Goals as goal
 
 pub loop-constraint-init : goal.loop-constraint-init
 loop-constraint-init c = record {

@@ -3,7 +3,7 @@ use Rattle.gj_problem.specs.Rational.{Rational, rational, ◌-ℚ◌}
 use Rattle.gj_problem.specs.Rows.{dot}
 use Rattle.gj_problem.specs.Aggregates.{AreMadeOf, weighted, aggregate_at, HasNoSlack, IsSlack}
 use Rattle.gj_problem.specs.WideRows.{IsWideSum}
-use Rattle.gj_problem.proofs.slacks.added_up.Given as goal
+use Rattle.gj_problem.proofs.slacks.added_one_by_one.Given as goal
 
 abbrev pub invariant-loop-constraint : goal.invariant-loop-constraint
 invariant-loop-constraint l = record {
