@@ -50,7 +50,7 @@ static size_t write_problem(char *input, glp_prob *p, const double *multipliers,
     WRITE("sum");
     for (int i = 1; i <= ROWS + known; i++)
         WRITE(" %lld/%lld", llround(multipliers[i] * (double)parts), parts);
-    WRITE("\ngrid %d\nend\n", GRID);
+    WRITE("\nround %d\ngrid %d\nend\n", GRID, GRID);
     return (size_t)(end - input);
 }
 

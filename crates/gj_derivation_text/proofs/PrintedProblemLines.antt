@@ -21,7 +21,7 @@ use Rattle.gj_problem_text.specs.PrintedInput.{all_entries, IsRequestOf}
 use Rattle.gj_problem_text.specs.PrintedProblem.{column_told, entry_told, constraint_told}
 use Rattle.gj_problem_text.specs.PrintedProblem.{each_told, problem_told, printed, problem_lines}
 use Rattle.gj_problem_text.specs.ProblemLines.{ProblemLine, column, constraint, entry, upper, sum}
-use Rattle.gj_problem_text.specs.ProblemLines.{grid, problem_fields, problem_form}
+use Rattle.gj_problem_text.specs.ProblemLines.{grid, round, problem_fields, problem_form}
 use Rattle.gj_problem_text.specs.ProblemText.{no_task}
 use Rattle.gj_problem_text.specs.Tasks.{Adds}
 use Rattle.gj_problem_text.specs.declared.task.Request.{Request}
@@ -45,6 +45,7 @@ IsOwn (entry name value) = Unit {0}
 IsOwn (upper name) = ⊥
 IsOwn (sum multipliers) = ⊥
 IsOwn (grid n) = ⊥
+IsOwn (round n) = ⊥
 
 -- and begins with the word for it
 other_first : (l : ProblemLine) (w : List ℕ) → IsOwn l → are_same (codes "column") w ≡ false →
@@ -56,12 +57,15 @@ other_first (entry name value) w own a b c is = apart (codes "entry") w c is
 other_first (upper name) w own a b c is = absurd own
 other_first (sum multipliers) w own a b c is = absurd own
 other_first (grid n) w own a b c is = absurd own
+other_first (round n) w own a b c is = absurd own
 
 no_bar : (drafts : Bool) (l : ProblemLine) → IsOwn l →
     AreBarred drafts (words_of (problem_fields l)) → ⊥
 no_bar drafts l own (inl is) = other_first l (codes "upper") own refl refl refl is
 no_bar drafts l own (inr (inl is)) = other_first l (codes "sum") own refl refl refl is
-no_bar drafts l own (inr (inr (off, is))) = other_first l (codes "grid") own refl refl refl is
+no_bar drafts l own (inr (inr (inl is))) = other_first l (codes "round") own refl refl refl is
+no_bar drafts l own (inr (inr (inr (off, is)))) =
+    other_first l (codes "grid") own refl refl refl is
 
 no_step : (l : ProblemLine) (text rest : List ℕ) → IsOwn l →
     HasLine Lenient text text (words_of (problem_fields l)) rest → StepsGoOn text → ⊥
@@ -211,15 +215,16 @@ task_of columns p = record {
   entries = length (all_entries p);
   requests = [];
   grid = None;
+  round = None;
 }
 
 all_told : (columns constraints : List (List ℕ)) (p : Problem) → IsReadableProblem columns p →
     AreNames constraints → length constraints ≡ length p.constraints →
     AddsAll no_task (problem_told columns constraints p) (task_of columns p)
 all_told columns constraints p h are count =
-    subst (λ (ls : List ProblemLine). AddsAll no_task ls (task_of columns p))
-    (append-nil (problem_told columns constraints p ++ [])
-    ∙ append-nil (problem_told columns constraints p))
+    let ls = problem_told columns constraints p in
+    subst (λ (ms : List ProblemLine). AddsAll no_task ms (task_of columns p))
+    (append-nil (ls ++ [] ++ []) ∙ append-nil (ls ++ []) ∙ append-nil ls)
     (task_is_told constraints (task_of columns p) (record {
       column_names = h.names;
       columns = h.column_count;
@@ -232,6 +237,7 @@ all_told columns constraints p h are count =
       entries_few = h.entries_few;
       requests = All-nil (λ (r : Request). IsRequestOf (length columns) (length constraints) r);
       grid = tt;
+      round = tt;
     }))
 
 pub problem_is_read : (columns constraints : List (List ℕ)) (p : Problem) (text rest : List ℕ) →

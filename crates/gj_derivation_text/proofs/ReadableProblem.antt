@@ -10,7 +10,7 @@ use Rattle.gj_problem.specs.declared.problem.Entry.{Entry}
 use Rattle.gj_problem.specs.declared.problem.Problem.{Problem}
 use Rattle.gj_problem_text.specs.CutText.{AreNames}
 use Rattle.gj_problem_text.specs.PrintedInput.{all_entries}
-use Rattle.gj_problem_text.specs.ProblemLines.{ProblemLine, HasProblemLine, column, constraint, entry, upper, sum, grid}
+use Rattle.gj_problem_text.specs.ProblemLines.{ProblemLine, HasProblemLine, column, constraint, entry, upper, sum, grid, round}
 use Rattle.gj_problem_text.specs.Tasks.{most_columns, most_constraints, most_entries, Adds, AreLonger}
 use Rattle.gj_problem_text.specs.declared.task.Task.{Task}
 use Rattle.gj_derivation_text.specs.DerivationText.{no_drafts, new_name, AddsName, AddsLine, next_of_problem}
@@ -140,6 +140,17 @@ adds_task s (grid n) t has a h =
       entries_few = h.entries_few;
       grid = has.0;
     })
+adds_task s (round n) t has a h =
+    subst IsTask (sym a.added) (record {
+      names = h.names;
+      column_count = h.column_count;
+      columns_few = h.columns_few;
+      constraints_few = h.constraints_few;
+      known = h.known;
+      entries = h.entries;
+      entries_few = h.entries_few;
+      grid = h.grid;
+    })
 
 -- ---- the names of the constraints
 
@@ -184,6 +195,8 @@ is_more s (upper name) t lines new a is names count =
 is_more s (sum multipliers) t lines new a is names count =
     (subst AreNames (sym is) names, omega (arith, ap length is, count, ap (λ (u : Task). length u.problem.constraints) a.added))
 is_more s (grid n) t lines new a is names count =
+    (subst AreNames (sym is) names, omega (arith, ap length is, count, ap (λ (u : Task). length u.problem.constraints) a.added))
+is_more s (round n) t lines new a is names count =
     (subst AreNames (sym is) names, omega (arith, ap length is, count, ap (λ (u : Task). length u.problem.constraints) a.added))
 
 adds_problem : (s : Drafts) (line : ProblemLine) (t : Drafts) → HasProblemLine line → AddsLine s line t → IsProblem s → IsProblem t

@@ -13,7 +13,7 @@ use Rattle.gj_function_text.specs.BreaksText.{end_words}
 use Rattle.gj_derivation.specs.declared.draft.Draft.{Draft}
 use Rattle.gj_derivation.specs.declared.step.StepRule.{StepRule}
 use Rattle.gj_derivation.specs.declared.step.StepRule.TheVariants.{Function}
-use Rattle.gj_problem_text.specs.ProblemLines.{ProblemLine, column, constraint, entry, upper, sum, grid, told_rule}
+use Rattle.gj_problem_text.specs.ProblemLines.{ProblemLine, column, constraint, entry, upper, sum, grid, round, told_rule}
 use Rattle.gj_problem_text.specs.ProblemText.{no_task}
 use Rattle.gj_problem_text.specs.Tasks as problem
 use Rattle.gj_problem_text.specs.Tasks.{Unless, Never}
@@ -41,6 +41,7 @@ new_name (entry name value) = None
 new_name (upper name) = None
 new_name (sum multipliers) = None
 new_name (grid n) = None
+new_name (round n) = None
 
 -- the names of lines with this one, if there is one: no line has it yet
 abbrev pub AddsName : List (List ℕ) → Option (List ℕ) → List (List ℕ) → Type 0
@@ -62,10 +63,10 @@ abbrev pub RefusesLine : Drafts → ProblemLine → Reason → Type 0
 RefusesLine s line e = problem.Refuses s.task line e
     ⊎ ((task : Task) × problem.Adds s.task line task × IsTaken s.lines (new_name line) × (e ≡ reason.Place))
 
--- no rows are asked for, and a grid for drafts alone
+-- no rows are asked for, nor data on a grid, and a grid for drafts alone
 abbrev pub AreBarred : Bool → List (List ℕ) → Type 0
 AreBarred drafts words = (first_of words ≡ codes "upper") ⊎ (first_of words ≡ codes "sum")
-    ⊎ ((drafts ≡ false) × (first_of words ≡ codes "grid"))
+    ⊎ (first_of words ≡ codes "round") ⊎ ((drafts ≡ false) × (first_of words ≡ codes "grid"))
 
 abbrev pub problem_rule : Bool → Drafts → LineRule Drafts
 problem_rule drafts s = barred_rule (AreBarred drafts) (made_rule (AddsLine s) (RefusesLine s) told_rule)

@@ -110,6 +110,7 @@ fn is_barred(drafts: bool, word: &[u8]) -> bool
 {
     word == b"upper".as_slice()
         || word == b"sum".as_slice()
+        || word == b"round".as_slice()
         || (!drafts && word == b"grid".as_slice())
 }
 

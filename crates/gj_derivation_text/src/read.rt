@@ -192,6 +192,7 @@ fn no_drafts(alloc: Global) -> Drafts
             entries: 0,
             requests: List::of(Vec::new(alloc)),
             grid: None,
+            round: None,
         },
         lines: List::of(Vec::new(alloc)),
         steps: List::of(Vec::new(alloc)),

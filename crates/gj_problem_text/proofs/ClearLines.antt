@@ -10,7 +10,7 @@ use Rattle.gj_forms.proofs.PlainWords.{apart}
 use Rattle.gj_forms.proofs.SpelledLaws.{IsClearForm, rule_in_is_exact}
 use Rattle.gj_problem.specs.declared.problem.Sense.{Sense}
 use Rattle.gj_problem.specs.declared.problem.Sense.TheVariants.{AtMost, AtLeast, Equal}
-use Rattle.gj_problem_text.specs.ProblemLines.{ProblemLine, column, constraint, entry, upper, sum, grid, kind_word, sense_word, problem_fields, problem_form, told_rule}
+use Rattle.gj_problem_text.specs.ProblemLines.{ProblemLine, column, constraint, entry, upper, sum, grid, round, kind_word, sense_word, problem_fields, problem_form, told_rule}
 
 -- the first word of a line
 abbrev head : ProblemLine → List ℕ
@@ -20,6 +20,7 @@ head (entry name value) = codes "entry"
 head (upper name) = codes "upper"
 head (sum multipliers) = codes "sum"
 head (grid n) = codes "grid"
+head (round n) = codes "round"
 
 -- ---- words that differ in numbers alone
 
@@ -41,6 +42,7 @@ alike_lines (entry m x) (entry n y) words e = tt
 alike_lines (upper m) (upper n) words e = tt
 alike_lines (sum xs) (sum ys) words e = alike_numbers xs ys (others_of words) (head_and_tail _ _ _ _ e).1
 alike_lines (grid m) (grid n) words e = tt
+alike_lines (round m) (round n) words e = tt
 alike_lines a b words e = absurd (apart (head a) (head b) refl (ap first_of e))
 
 -- ---- fields tell the line
@@ -90,6 +92,7 @@ told_line (entry m x) (entry n y) e =
 told_line (upper m) (upper n) e = let name : m ≡ n = cc in ap upper name
 told_line (sum xs) (sum ys) e = let numbers : map fraction xs ≡ map fraction ys = cc in ap sum (one_list xs ys numbers)
 told_line (grid m) (grid n) e = let same : m ≡ n = cc in ap grid same
+told_line (round m) (round n) e = let same : m ≡ n = cc in ap round same
 told_line a b e = absurd (apart (head a) (head b) refl (ap (λ fields. first_of (words_of fields)) e))
 
 problem_form_is_clear : IsClearForm problem_form

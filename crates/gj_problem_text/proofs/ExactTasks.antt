@@ -9,7 +9,7 @@ use Rattle.gj_lex.proofs.SpelledWords.{one_fraction}
 use Rattle.gj_forms.proofs.SpelledLaws.{made_rule_is_exact}
 use Rattle.gj_problem.specs.declared.problem.Constraint.{Constraint}
 use Rattle.gj_problem.specs.declared.problem.Entry.{Entry}
-use Rattle.gj_problem_text.specs.ProblemLines.{ProblemLine, column, constraint, entry, upper, sum, grid, told_rule}
+use Rattle.gj_problem_text.specs.ProblemLines.{ProblemLine, column, constraint, entry, upper, sum, grid, round, told_rule}
 use Rattle.gj_problem_text.specs.Tasks.{Unless, Never, index_of, IsKnown, SpellsBound, IsBound, AddsColumn, AreLonger, AddsEntry, AddsUpper, Adds, Refuses, task_rule}
 use Rattle.gj_problem_text.specs.declared.task.Request.TheVariants.{Upper}
 use Rattle.gj_problem_text.specs.declared.task.Task.{Task}
@@ -99,6 +99,7 @@ one_task s (entry name value) t u h k = one_entry s name value t u h k
 one_task s (upper name) t u h k = one_upper s name t u h k
 one_task s (sum multipliers) t u h k = h.added ∙ sym k.added
 one_task s (grid n) t u h k = h.added ∙ sym k.added
+one_task s (round n) t u h k = h.added ∙ sym k.added
 
 -- ---- one reason
 
@@ -110,6 +111,7 @@ one_reason s (entry name value) e d = unless _ _ _ (unless _ _ _ (unless _ _ Nev
 one_reason s (upper name) e d = unless _ _ Never never e d
 one_reason s (sum multipliers) e d = unless _ _ Never never e d
 one_reason s (grid n) e d = unless _ _ Never never e d
+one_reason s (round n) e d = unless _ _ Never never e d
 
 -- ---- not both
 
@@ -122,6 +124,7 @@ not_both s (entry name value) t e h r = met _ _ _ h.takes (met _ _ _ h.few (met 
 not_both s (upper name) t e h r = met (IsKnown s name) _ _ (h.index, h.index_is) (λ k. k) r
 not_both s (sum multipliers) t e h r = met _ _ _ h.count (λ k. k) r
 not_both s (grid n) t e h r = met _ _ _ h.none (λ k. k) r
+not_both s (round n) t e h r = met _ _ _ h.none (λ k. k) r
 
 pub task_rule_is_exact : (s : Task) → IsExactRule (task_rule s).Spells (task_rule s).Breaks
 task_rule_is_exact s =

@@ -14,5 +14,6 @@ pub mod AnsweredRequests
 pub mod WholeTexts
 pub mod OneListOfCuts
 pub mod TermsOfCuts
+pub mod OneTextOfCuts
 pub mod PrintedTasks
 pub mod PrintedInputs

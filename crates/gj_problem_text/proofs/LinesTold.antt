@@ -13,7 +13,7 @@ use Rattle.gj_forms.specs.SpelledForms.{SpellFields, Spell}
 use Rattle.gj_forms.proofs.PlainWords.{apart}
 use Rattle.gj_forms.proofs.WholeNumbers.{whole}
 use Rattle.gj_problem.specs.declared.problem.Sense.{Sense}
-use Rattle.gj_problem_text.specs.ProblemLines.{ProblemLine, column, constraint, entry, upper, sum, grid, sense_word, problem_form, told_rule}
+use Rattle.gj_problem_text.specs.ProblemLines.{ProblemLine, column, constraint, entry, upper, sum, grid, round, sense_word, problem_form, told_rule}
 
 -- a number for a word that spells none
 zero : Frac
@@ -31,6 +31,7 @@ no_entry_value name w none = inr (refl, (entry name zero, refl, tt), other)
     other (upper v) h = apart (codes "entry") (codes "upper") refl h.0.0
     other (sum xs) h = apart (codes "entry") (codes "sum") refl h.0.0
     other (grid n) h = apart (codes "entry") (codes "grid") refl h.0.0
+    other (round n) h = apart (codes "entry") (codes "round") refl h.0.0
 
 pub no_right_side : (name w : List ℕ) (sense : Sense) → ((x : Frac) → IsFractionWord Lenient w x → ⊥) →
     told_rule.Breaks (codes "constraint" ∷ name ∷ sense_word sense ∷ w ∷ []) reason.Number
@@ -43,6 +44,7 @@ no_right_side name w sense none = inr (refl, (constraint name sense zero, refl, 
     other (upper v) h = apart (codes "constraint") (codes "upper") refl h.0.0
     other (sum xs) h = apart (codes "constraint") (codes "sum") refl h.0.0
     other (grid n) h = apart (codes "constraint") (codes "grid") refl h.0.0
+    other (round n) h = apart (codes "constraint") (codes "round") refl h.0.0
 
 pub no_grid : (w : List ℕ) → ((n : ℕ) → 0 < n → n < 2 ^ 32 → IsCountWord Lenient w n → ⊥) →
     told_rule.Breaks (codes "grid" ∷ w ∷ []) reason.Number
@@ -55,11 +57,29 @@ no_grid w none = inr (refl, (grid 0, refl, tt), other)
     other (entry v x) h = apart (codes "grid") (codes "entry") refl h.0.0
     other (upper v) h = apart (codes "grid") (codes "upper") refl h.0.0
     other (sum xs) h = apart (codes "grid") (codes "sum") refl h.0.0
+    other (round n) h = apart (codes "grid") (codes "round") refl h.0.0
 
 -- a word that spells 0 is of no grid
 pub zero_is_no_grid : (w : List ℕ) (n : ℕ) → IsCountWord Lenient w n → n ≡ 0 → told_rule.Breaks (codes "grid" ∷ w ∷ []) reason.Number
 zero_is_no_grid w n counted is =
     no_grid w (λ m some below h. let same = one_count Lenient w m n h counted in omega arith)
+
+pub no_round : (w : List ℕ) → ((n : ℕ) → 0 < n → n < 2 ^ 32 → IsCountWord Lenient w n → ⊥) →
+    told_rule.Breaks (codes "round" ∷ w ∷ []) reason.Number
+no_round w none = inr (refl, (round 0, refl, tt), other)
+  where
+    other : (a : ProblemLine) → Spell Lenient problem_form (codes "round" ∷ w ∷ []) a → ⊥
+    other (round n) h = none n h.1.0 h.1.1 h.0.1.0
+    other (column v k l u) h = apart (codes "round") (codes "column") refl h.0.0
+    other (constraint v s x) h = apart (codes "round") (codes "constraint") refl h.0.0
+    other (entry v x) h = apart (codes "round") (codes "entry") refl h.0.0
+    other (upper v) h = apart (codes "round") (codes "upper") refl h.0.0
+    other (sum xs) h = apart (codes "round") (codes "sum") refl h.0.0
+    other (grid n) h = apart (codes "round") (codes "grid") refl h.0.0
+
+pub zero_is_no_round : (w : List ℕ) (n : ℕ) → IsCountWord Lenient w n → n ≡ 0 → told_rule.Breaks (codes "round" ∷ w ∷ []) reason.Number
+zero_is_no_round w n counted is =
+    no_round w (λ m some below h. let same = one_count Lenient w m n h counted in omega arith)
 
 -- ---- sums
 
@@ -85,6 +105,7 @@ no_sum words none = inr (refl, (sum (zeros words), ap (λ ws. codes "sum" ∷ ws
     other (entry v x) h = apart (codes "sum") (codes "entry") refl h.0.0
     other (upper v) h = apart (codes "sum") (codes "upper") refl h.0.0
     other (grid n) h = apart (codes "sum") (codes "grid") refl h.0.0
+    other (round n) h = apart (codes "sum") (codes "round") refl h.0.0
 
 -- of all words these numbers are read, and the others are left
 pub record AreRead (words : List (List ℕ)) (numbers : List Frac) (left : List (List ℕ)) : Type 0 where

@@ -4,7 +4,7 @@ use Rattle.std.proofs.Common.{append-nil, refl, sym, ap, subst, ◌∙◌}
 use Rattle.std.proofs.lemmas.List.{append_assoc}
 use Rattle.gj_lex.specs.declared.spelling.Spelling.TheVariants.{Lenient}
 use Rattle.gj_forms.specs.LineForms.{words_of, first_of, line_of}
-use Rattle.gj_forms.specs.Parts.{words_rule, line_part, BeginsWithWord, ReadsInTurn}
+use Rattle.gj_forms.specs.Parts.{ReadsInTurn}
 use Rattle.gj_forms.specs.Parts.ReadsInTurn.{last, onward}
 use Rattle.gj_forms.specs.TextLines.IsSkippedText.{nothing}
 use Rattle.gj_forms.proofs.CanonicalLines.{words_line}
@@ -18,10 +18,10 @@ use Rattle.gj_function_text.specs.FunctionText.{IsFunctionText, IsCanonicalText}
 use Rattle.gj_function_text.proofs.Canonical.{canonical_text_is_function_text}
 use Rattle.gj_proof.specs.declared.cut.CutRule.{CutRule}
 use Rattle.gj_proof.specs.declared.cut.CutRule.TheVariants.{Gmic, Table}
-use Rattle.gj_problem_text.specs.PrintedInput.{task_told, IsPrintable, HasFront, IsPrintedInput}
+use Rattle.gj_problem_text.specs.PrintedInput.{task_told, HasFront, IsPrintedInput}
 use Rattle.gj_problem_text.specs.PrintedProblem.{printed}
 use Rattle.gj_problem_text.specs.ProblemLines.{ProblemLine, column, constraint, entry, upper, sum}
-use Rattle.gj_problem_text.specs.ProblemLines.{grid, problem_fields, problem_form}
+use Rattle.gj_problem_text.specs.ProblemLines.{grid, round, problem_fields, problem_form}
 use Rattle.gj_problem_text.specs.ProblemText.{no_task, next_line, lines_part}
 use Rattle.gj_problem_text.specs.SafeInputs.{BeginsAsFunction, IsSafeInput}
 use Rattle.gj_problem_text.specs.Tasks.{Adds}
@@ -29,7 +29,7 @@ use Rattle.gj_problem_text.specs.declared.input.SafeInput.{SafeInput}
 use Rattle.gj_problem_text.specs.declared.task.Task.{Task}
 use Rattle.gj_problem_text.proofs.InputParts as parts
 use Rattle.gj_problem_text.proofs.PrintedTasks.{IsPrintedLine, AddsAll, task_is_told}
-use Rattle.gj_problem_text.proofs.TextParts.{title_line, rule_line, whole_text}
+use Rattle.gj_problem_text.proofs.TextParts.{whole_text}
 
 -- ---- a line
 
@@ -41,6 +41,7 @@ no_comment (entry name value) = λ is. omega arith
 no_comment (upper name) = λ is. omega arith
 no_comment (sum multipliers) = λ is. omega arith
 no_comment (grid n) = λ is. omega arith
+no_comment (round n) = λ is. omega arith
 
 -- nor the end
 no_end : (l : ProblemLine) (words : List (List ℕ)) →
@@ -53,6 +54,7 @@ no_end (entry name value) words is = apart (codes "entry") (codes "end") refl (a
 no_end (upper name) words is = apart (codes "upper") (codes "end") refl (ap first_of is)
 no_end (sum multipliers) words is = apart (codes "sum") (codes "end") refl (ap first_of is)
 no_end (grid n) words is = apart (codes "grid") (codes "end") refl (ap first_of is)
+no_end (round n) words is = apart (codes "round") (codes "end") refl (ap first_of is)
 
 line_is_read : (s u : Task) (l : ProblemLine) (text rest : List ℕ) → IsPrintedLine l → Adds s l u →
     text ≡ line_of problem_form l ++ rest → (next_line s).Reads text (inl u) rest

@@ -20,7 +20,7 @@ use Rattle.gj_lex.specs.SpelledNumbers.{IsFractionWord}
 use Rattle.gj_lex.proofs.SpelledWords.{canonical_fraction, fraction_is_plain}
 use Rattle.gj_lex.proofs.WordBytes.{IsPlain}
 use Rattle.gj_forms.specs.LineForms.Field.{word, fraction}
-use Rattle.gj_forms.proofs.FieldWords.{IsGood, AreGood}
+use Rattle.gj_forms.proofs.FieldWords.{AreGood}
 use Rattle.gj_forms.proofs.PlainWords.{known, name_is_plain}
 use Rattle.gj_problem.specs.declared.problem.Column.{Column}
 use Rattle.gj_problem.specs.declared.problem.Constraint.{Constraint}
@@ -28,15 +28,15 @@ use Rattle.gj_problem.specs.declared.problem.Entry.{Entry}
 use Rattle.gj_problem.specs.declared.problem.Sense.{Sense}
 use Rattle.gj_problem.specs.declared.problem.Sense.TheVariants.{AtMost, AtLeast, Equal}
 use Rattle.gj_problem_text.specs.CutText.{AreNames, name_at}
-use Rattle.gj_problem_text.specs.PrintedInput.{grid_told, request_told, task_told, all_entries}
+use Rattle.gj_problem_text.specs.PrintedInput.{grid_told, round_told, request_told, task_told, all_entries}
 use Rattle.gj_problem_text.specs.PrintedInput.{IsRequestOf, IsPrintable}
 use Rattle.gj_problem_text.specs.PrintedProblem.{bound_word, column_told, entry_told}
 use Rattle.gj_problem_text.specs.PrintedProblem.{constraint_told, each_told, problem_told}
-use Rattle.gj_problem_text.specs.ProblemLines.{ProblemLine, column, constraint, entry, upper, sum}
-use Rattle.gj_problem_text.specs.ProblemLines.{grid, kind_word, sense_word, problem_fields}
+use Rattle.gj_problem_text.specs.ProblemLines.{ProblemLine}
+use Rattle.gj_problem_text.specs.ProblemLines.{kind_word, sense_word, problem_fields}
 use Rattle.gj_problem_text.specs.ProblemLines.{IsGrid, HasProblemLine}
 use Rattle.gj_problem_text.specs.ProblemText.{no_task}
-use Rattle.gj_problem_text.specs.Tasks.{most_columns, most_constraints, most_entries, index_of}
+use Rattle.gj_problem_text.specs.Tasks.{most_columns, most_constraints, most_entries}
 use Rattle.gj_problem_text.specs.Tasks.{SpellsBound, Adds}
 use Rattle.gj_problem_text.specs.declared.task.Request.{Request}
 use Rattle.gj_problem_text.specs.declared.task.Request.TheVariants.{Upper, Sum}
@@ -360,7 +360,7 @@ adds_constraints s (name ∷ names) (c ∷ constraints) are before all count few
     (subst (AddsAll next (each_told (constraint_told s.names) names constraints))
     (constraints_joined s c constraints) more)
 
--- ---- the grid, and requests
+-- ---- the grids, and requests
 
 adds_grid : (s : Task) (n : Option ℕ) → s.grid ≡ None → IfSome n IsGrid →
     AddsAll s (grid_told n) (record s { grid = n })
@@ -368,6 +368,16 @@ adds_grid s None none is = λ i. record s { grid = none i }
 adds_grid s (Some n) none is = (
   record s { grid = Some n },
   ((known (codes "grid") refl, (let below = is.1 in omega arith)), is),
+  record { none = none; added = refl },
+  refl,
+)
+
+adds_round : (s : Task) (n : Option ℕ) → s.round ≡ None → IfSome n IsGrid →
+    AddsAll s (round_told n) (record s { round = n })
+adds_round s None none is = λ i. record s { round = none i }
+adds_round s (Some n) none is = (
+  record s { round = Some n },
+  ((known (codes "round") refl, (let below = is.1 in omega arith)), is),
   record { none = none; added = refl },
   refl,
 )
@@ -427,21 +437,24 @@ pub task_is_told : (names : List (List ℕ)) (s : Task) → IsPrintable names s 
 task_is_told names s h =
     let columned = with_columns no_task s.names s.problem.columns in
     let constrained = with_constraints columned s.problem.constraints in
-    let gridded = record constrained { grid = s.grid } in
+    let relaxed = record constrained { round = s.round } in
+    let gridded = record relaxed { grid = s.grid } in
     let columns = adds_columns no_task s.names s.problem.columns h.column_names h.columns h.columns_few in
     let constraints = adds_constraints columned names s.problem.constraints h.column_names refl
     h.are_names h.constraints (omega (arith, h.constraints, h.constraints_few)) h.known
     (omega (arith, h.entries, h.entries_few)) in
-    let grid = adds_grid constrained s.grid refl h.grid in
+    let round = adds_round constrained s.round refl h.round in
+    let grid = adds_grid relaxed s.grid refl h.grid in
     let requests = adds_requests gridded s.requests h.column_names
     (subst (λ (m : ℕ). All (IsRequestOf (length s.names) m) s.requests) h.constraints h.requests) in
     let count : 0 + length (all_entries s.problem) ≡ s.entries = omega (arith, h.entries) in
     let same : with_requests gridded s.requests ≡ s = λ i. record s { entries = count i } in
     let told = each_told (λ name c. column_told name c ∷ []) s.names s.problem.columns in
     let behind = each_told (constraint_told s.names) names s.problem.constraints in
-    adds_behind no_task gridded s (problem_told s.names names s.problem ++ grid_told s.grid)
+    let problem = adds_behind no_task columned constrained told behind columns constraints in
+    let lines = problem_told s.names names s.problem in
+    adds_behind no_task gridded s (lines ++ round_told s.round ++ grid_told s.grid)
     (map (request_told s.names) s.requests)
-    (adds_behind no_task constrained gridded (problem_told s.names names s.problem)
-    (grid_told s.grid) (adds_behind no_task columned constrained told behind columns constraints)
-    grid)
+    (adds_behind no_task relaxed gridded (lines ++ round_told s.round) (grid_told s.grid)
+    (adds_behind no_task constrained relaxed lines (round_told s.round) problem round) grid)
     (subst (AddsAll gridded (map (request_told s.names) s.requests)) same requests)

@@ -1,5 +1,5 @@
 -- The entries of the cuts that are answered are not 0, and stand in the order of the columns.
-use Rattle.std.proofs.Common.{◌≡◌, ℕ, Bool, true, Option, Some, None, List, [], ◌∷◌, All, slice_set, sym, subst}
+use Rattle.std.proofs.Common.{ℕ, Bool, true, Option, Some, None, List, [], ◌∷◌, All, slice_set, sym, subst}
 use Rattle.std.proofs.lemmas.List.Elements.{All-nil, All-cons}
 use Rattle.gj_frac.specs.declared.Frac.{Frac}
 use Rattle.gj_rule.specs.declared.kind.RuleKind.TheVariants as kind
@@ -12,6 +12,7 @@ use Rattle.gj_safe_cut.specs.SafeCuts.{SafeCutHasTerms}
 use Rattle.gj_safe_cut.specs.declared.cut.SafeCut.{SafeCut}
 use Rattle.gj_safe_cut.specs.declared.cut.SafeCut.TheVariants.{Cut, Integral, OtherFraction, Free, Wide}
 use Rattle.gj_safe_cut.proofs.HeldCuts.{gmic_terms, rule_terms}
+use Rattle.gj_relaxed.proofs.RelaxedCuts.{gmic_relaxed_terms, function_relaxed_terms}
 use Rattle.gj_proof.specs.declared.cut.CutRule.{CutRule}
 use Rattle.gj_proof.specs.declared.cut.CutRule.TheVariants.{Gmic, Table}
 use Rattle.gj_problem_text.specs.Cuts.{IsRoundedTo, IsOnGridOf, IsCutBy, AreAnswers}
@@ -19,9 +20,12 @@ use Rattle.gj_problem_text.specs.declared.task.Request.{Request}
 use Rattle.gj_problem_text.specs.declared.task.Request.TheVariants.{Upper, Sum}
 use Rattle.gj_problem_text.specs.declared.task.Task.{Task}
 
-terms_by : (r : CutRule) (p : Problem) (ms : List Frac) (ups : List Bool) (cut : SafeCut) → IsCutBy r p ms ups cut → SafeCutHasTerms p cut
-terms_by Gmic p ms ups cut h = gmic_terms p ms ups cut h
-terms_by (Table f) p ms ups cut (up, down, slopes, h) = rule_terms (kind.Table f) up down p ms ups cut h
+terms_by : (r : CutRule) (round : Option ℕ) (p : Problem) (ms : List Frac) (ups : List Bool) (cut : SafeCut) →
+    IsCutBy r round p ms ups cut → SafeCutHasTerms p cut
+terms_by Gmic None p ms ups cut h = gmic_terms p ms ups cut h
+terms_by Gmic (Some n) p ms ups cut h = gmic_relaxed_terms n p ms ups cut h
+terms_by (Table f) None p ms ups cut (up, down, slopes, h) = rule_terms (kind.Table f) up down p ms ups cut h
+terms_by (Table f) (Some n) p ms ups cut h = function_relaxed_terms f n p ms ups cut h
 
 terms_rounded : (p : Problem) (n : ℕ) (q : Inequality) (answer : SafeCut) → HasTerms p q → IsRoundedTo p n q answer → SafeCutHasTerms p answer
 terms_rounded p n q (Cut rounded) terms h = rounded_terms p n q (rounding.Cut rounded) h terms
@@ -46,5 +50,5 @@ answers_have_terms r s ups (Upper j ∷ requests) cuts h = answers_have_terms r 
 answers_have_terms r s ups (Sum ms ∷ requests) cuts (cut, others, is, answer, rest) =
     subst (All (SafeCutHasTerms s.problem)) (sym is)
     (All-cons (SafeCutHasTerms s.problem) cut others
-    (terms_on_grid s.problem s.grid answer.0 cut (terms_by r s.problem ms ups answer.0 answer.1) answer.2)
+    (terms_on_grid s.problem s.grid answer.0 cut (terms_by r s.round s.problem ms ups answer.0 answer.1) answer.3)
     (answers_have_terms r s ups requests others rest))

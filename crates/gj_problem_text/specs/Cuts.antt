@@ -4,7 +4,8 @@ use Rattle.gj_frac.specs.declared.Frac.{Frac}
 use Rattle.gj_problem.specs.RoundedCuts.{IsRoundedCut, IsFirstFreeEntry, IsWideRounding}
 use Rattle.gj_problem.specs.declared.problem.Inequality.{Inequality}
 use Rattle.gj_problem.specs.declared.problem.Problem.{Problem}
-use Rattle.gj_safe_cut.specs.SafeCuts.{IsGmicSafeCutOf, IsFunctionSafeCutOf}
+use Rattle.gj_relaxed.specs.RelaxedCuts.{IsGmicRelaxedCutOf, IsFunctionRelaxedCutOf}
+use Rattle.gj_safe_cut.specs.SafeCuts.{IsGmicSafeCutOf, IsFunctionSafeCutOf, TellsWide}
 use Rattle.gj_safe_cut.specs.declared.cut.SafeCut.{SafeCut}
 use Rattle.gj_safe_cut.specs.declared.cut.SafeCut.TheVariants.{Cut, Integral, OtherFraction, Free, Wide}
 use Rattle.gj_proof.specs.declared.cut.CutRule.{CutRule}
@@ -27,15 +28,20 @@ IsOnGridOf p (Some n) (Cut q) answer = IsRoundedTo p n q answer
 IsOnGridOf p (Some n) cut answer = answer ≡ cut
 IsOnGridOf p None cut answer = answer ≡ cut
 
--- the cut by the rule: the mixed-integer cut, or that by a function and its slopes at 0
-abbrev pub IsCutBy : CutRule → Problem → List Frac → List Bool → SafeCut → Type 0
-IsCutBy Gmic p multipliers at_upper cut = IsGmicSafeCutOf p multipliers at_upper cut
-IsCutBy (Table f) p multipliers at_upper cut = IsFunctionSafeCutOf f p multipliers at_upper cut
+-- the cut by the rule: the mixed-integer cut, or that by a function and its slopes at 0; of the
+-- problem and its row as they are, or with all data on the grid of all k/n
+abbrev pub IsCutBy : CutRule → Option ℕ → Problem → List Frac → List Bool → SafeCut → Type 0
+IsCutBy Gmic None p multipliers at_upper cut = IsGmicSafeCutOf p multipliers at_upper cut
+IsCutBy Gmic (Some n) p multipliers at_upper cut = IsGmicRelaxedCutOf n p multipliers at_upper cut
+IsCutBy (Table f) None p multipliers at_upper cut = IsFunctionSafeCutOf f p multipliers at_upper cut
+IsCutBy (Table f) (Some n) p multipliers at_upper cut = IsFunctionRelaxedCutOf f n p multipliers at_upper cut
 
--- what is answered to the multipliers, if these columns are turned by their upper bounds
+-- what is answered to the multipliers, if these columns are turned by their upper bounds; it is
+-- `Wide` where a number does not fit, and so is the cut before it is rounded
 abbrev pub IsAnswer : CutRule → Task → List Frac → List Bool → SafeCut → Type 0
 IsAnswer r s multipliers at_upper answer =
-    (cut : SafeCut) × IsCutBy r s.problem multipliers at_upper cut × IsOnGridOf s.problem s.grid cut answer
+    (cut : SafeCut) × IsCutBy r s.round s.problem multipliers at_upper cut × TellsWide (IsCutBy r s.round s.problem multipliers at_upper) cut
+    × IsOnGridOf s.problem s.grid cut answer × TellsWide (IsOnGridOf s.problem s.grid cut) answer
 
 -- what is answered to the requests, in their order
 abbrev pub AreAnswers : CutRule → Task → List Bool → List Request → List SafeCut → Type 0

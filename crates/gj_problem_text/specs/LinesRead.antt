@@ -1,7 +1,7 @@
 -- What the readers of lines find (own).
-use Rattle.gj_problem_text.specs.ProblemLines.{ProblemLine, column, constraint, entry, upper, sum, grid}
+use Rattle.gj_problem_text.specs.ProblemLines.{ProblemLine, column, constraint, entry, upper, sum, grid, round}
 use Rattle.gj_problem_text.specs.declared.lines.Line.{Line}
-use Rattle.gj_problem_text.specs.declared.lines.Line.TheVariants.{Column, Constraint, Entry, Upper, Sum, Grid}
+use Rattle.gj_problem_text.specs.declared.lines.Line.TheVariants.{Column, Constraint, Entry, Upper, Sum, Grid, Round}
 
 -- what the line tells
 abbrev pub line_told : Line → ProblemLine
@@ -11,3 +11,4 @@ line_told (Entry name value) = entry name.now value
 line_told (Upper name) = upper name.now
 line_told (Sum multipliers) = sum multipliers.items
 line_told (Grid n) = grid n
+line_told (Round n) = round n

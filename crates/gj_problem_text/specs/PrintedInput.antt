@@ -11,7 +11,7 @@ use Rattle.gj_proof.specs.declared.cut.CutRule.{CutRule}
 use Rattle.gj_proof.specs.declared.cut.CutRule.TheVariants.{Gmic, Table}
 use Rattle.gj_problem_text.specs.CutText.{AreNames, name_at}
 use Rattle.gj_problem_text.specs.PrintedProblem.{problem_told, printed}
-use Rattle.gj_problem_text.specs.ProblemLines.{ProblemLine, upper, sum, grid, IsGrid}
+use Rattle.gj_problem_text.specs.ProblemLines.{ProblemLine, upper, sum, grid, round, IsGrid}
 use Rattle.gj_problem_text.specs.Tasks.{most_columns, most_constraints, most_entries}
 use Rattle.gj_problem_text.specs.declared.input.SafeInput.{SafeInput}
 use Rattle.gj_problem_text.specs.declared.task.Request.{Request}
@@ -23,15 +23,20 @@ abbrev pub grid_told : Option ℕ → List ProblemLine
 grid_told None = []
 grid_told (Some n) = grid n ∷ []
 
+-- what that of the grid of the data tells
+abbrev pub round_told : Option ℕ → List ProblemLine
+round_told None = []
+round_told (Some n) = round n ∷ []
+
 -- what the line of a request tells; the names are those of the columns
 abbrev pub request_told : List (List ℕ) → Request → ProblemLine
 request_told names (Upper j) = upper (name_at names j)
 request_told names (Sum multipliers) = sum multipliers
 
--- the problem, the grid and the requests, in their order
+-- the problem, the grids and the requests, in their order
 abbrev pub task_told : List (List ℕ) → Task → List ProblemLine
 task_told constraint_names s =
-    problem_told s.names constraint_names s.problem ++ grid_told s.grid
+    problem_told s.names constraint_names s.problem ++ round_told s.round ++ grid_told s.grid
     ++ map (request_told s.names) s.requests
 
 -- the entries of all constraints
@@ -57,6 +62,7 @@ pub record IsPrintable (constraint_names : List (List ℕ)) (s : Task) : Type 0 
   pub entries_few : s.entries ≤ most_entries
   pub requests : All (IsRequestOf (length s.names) (length constraint_names)) s.requests
   pub grid : IfSome s.grid IsGrid
+  pub round : IfSome s.round IsGrid
 
 -- the lines in front of a problem: its title and the line `rule gmic`; or the canonical text of a
 -- function, and the title

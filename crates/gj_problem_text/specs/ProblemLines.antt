@@ -17,6 +17,7 @@ pub data ProblemLine : Type 0 where
   upper : List ℕ → ProblemLine
   sum : List Frac → ProblemLine
   grid : ℕ → ProblemLine
+  round : ℕ → ProblemLine
 
 abbrev pub kind_word : Bool → List ℕ
 kind_word true = codes "whole"
@@ -28,7 +29,7 @@ sense_word AtLeast = codes ">="
 sense_word Equal = codes "="
 
 -- `column NAME whole|continuous LOWER UPPER`, `constraint NAME <=|>=|= RIGHT`, `entry NAME VALUE`,
--- `upper NAME`, `sum MULTIPLIER ..` or `grid N`
+-- `upper NAME`, `sum MULTIPLIER ..`, `grid N` or `round N`
 abbrev pub problem_fields : ProblemLine → List Field
 problem_fields (column name is_whole low high) =
     word (codes "column") ∷ word name ∷ word (kind_word is_whole) ∷ word low ∷ word high ∷ []
@@ -38,6 +39,7 @@ problem_fields (entry name value) = word (codes "entry") ∷ word name ∷ fract
 problem_fields (upper name) = word (codes "upper") ∷ word name ∷ []
 problem_fields (sum multipliers) = word (codes "sum") ∷ map fraction multipliers
 problem_fields (grid n) = word (codes "grid") ∷ count n ∷ []
+problem_fields (round n) = word (codes "round") ∷ count n ∷ []
 
 -- a grid is that of the multiples of 1/n, n from 1 to 2^32 - 1
 abbrev pub IsGrid : ℕ → Type 0
@@ -45,6 +47,7 @@ IsGrid n = (0 < n) × (n < 2 ^ 32)
 
 abbrev pub HasProblemLine : ProblemLine → Type 0
 HasProblemLine (grid n) = IsGrid n
+HasProblemLine (round n) = IsGrid n
 HasProblemLine line = Unit {0}
 
 abbrev pub problem_form : LineForm ProblemLine

@@ -16,7 +16,7 @@ abbrev pub rule_words : List (List ℕ)
 rule_words = codes "rule" ∷ codes "gmic" ∷ []
 
 abbrev pub no_task : Task
-no_task = record { names = []; problem = record { columns = []; constraints = [] }; entries = 0; requests = []; grid = None }
+no_task = record { names = []; problem = record { columns = []; constraints = [] }; entries = 0; requests = []; grid = None; round = None }
 
 -- the next line: `end`, if it begins so, or one more
 abbrev pub next_line : Task → Part (Task ⊎ Task)

@@ -13,7 +13,7 @@ use Rattle.gj_forms.specs.SpelledForms.{made_rule}
 use Rattle.gj_problem.specs.declared.problem.Constraint.{Constraint}
 use Rattle.gj_problem.specs.declared.problem.Entry.{Entry}
 use Rattle.gj_problem.specs.declared.problem.Sense.{Sense}
-use Rattle.gj_problem_text.specs.ProblemLines.{ProblemLine, column, constraint, entry, upper, sum, grid, told_rule}
+use Rattle.gj_problem_text.specs.ProblemLines.{ProblemLine, column, constraint, entry, upper, sum, grid, round, told_rule}
 use Rattle.gj_problem_text.specs.declared.task.Task.{Task}
 use Rattle.gj_problem_text.specs.declared.task.Request.TheVariants.{Upper, Sum}
 
@@ -126,10 +126,14 @@ pub record AddsSum (s : Task) (multipliers : List Frac) (t : Task) : Type 0 wher
   pub count : length multipliers ≡ length s.problem.constraints
   pub added : t ≡ record s { requests = s.requests ++ Sum multipliers ∷ [] }
 
--- once at most
+-- each once at most
 pub record AddsGrid (s : Task) (n : ℕ) (t : Task) : Type 0 where
   pub none : s.grid ≡ None
   pub added : t ≡ record s { grid = Some n }
+
+pub record AddsRound (s : Task) (n : ℕ) (t : Task) : Type 0 where
+  pub none : s.round ≡ None
+  pub added : t ≡ record s { round = Some n }
 
 -- ---- all lines
 
@@ -141,6 +145,7 @@ Adds s (entry name value) t = AddsEntry s name value t
 Adds s (upper name) t = AddsUpper s name t
 Adds s (sum multipliers) t = AddsSum s multipliers t
 Adds s (grid n) t = AddsGrid s n t
+Adds s (round n) t = AddsRound s n t
 
 -- or is refused
 abbrev pub Refuses : Task → ProblemLine → Reason → Type 0
@@ -150,6 +155,7 @@ Refuses s (entry name value) e = RefusesEntry s name e
 Refuses s (upper name) e = Unless (IsKnown s name) reason.Place Never e
 Refuses s (sum multipliers) e = Unless (length multipliers ≡ length s.problem.constraints) reason.Form Never e
 Refuses s (grid n) e = Unless (s.grid ≡ None) reason.Form Never e
+Refuses s (round n) e = Unless (s.round ≡ None) reason.Form Never e
 
 abbrev pub task_rule : Task → LineRule Task
 task_rule s = made_rule (Adds s) (Refuses s) told_rule

@@ -2,7 +2,7 @@
 ghost use Rattle.std.specs.Prelude.{◌≡◌, ◌<◌, ◌++◌, All, List, true, flat_map, length, slice_set};
 ghost use Rattle.std.specs.Prelude.{IfSome, IfOk, OnOk};
 ghost use Rattle.gj_problem.specs.Problems.{Holds};
-ghost use Rattle.gj_safe_cut.specs.SafeCuts.{SafeCutHolds};
+ghost use Rattle.gj_safe_cut.specs.SafeCuts.{SafeCutHolds, TellsWide};
 ghost use Rattle.gj_safe_cut.specs.declared.cut.SafeCut.{SafeCut};
 ghost use Rattle.gj_proof.specs.CutRules.{MakesContinuousCuts};
 ghost use Rattle.gj_problem_text.specs.AnswersMade.{IsRequestStep};
@@ -16,6 +16,7 @@ use crate::task::{Request, Task};
 use gj_frac::Frac;
 use gj_problem::{Inequality, Problem, RoundedCut, rounded};
 use gj_proof::CutRule;
+use gj_relaxed::{function_relaxed_cut, gmic_relaxed_cut};
 use gj_safe_cut::{SafeCut, function_safe_cut, gmic_safe_cut};
 use std::alloc::{AllocError, Global};
 
@@ -62,6 +63,7 @@ fn push_request(
 ) -> Result<(), AllocError>
     requires makes { MakesContinuousCuts rule.now }
     requires grid { IfSome task.now.grid (λ n. 0 < n) }
+    requires round { IfSome task.now.round (λ n. 0 < n) }
     requires multipliers { HasMultipliers (length task.now.problem.constraints) request.now }
     requires at_upper { length at_upper.old.items ≡ length task.now.problem.columns }
     ensures step { OnOk result (IsRequestStep rule.now task.now at_upper.old.items
@@ -109,6 +111,7 @@ fn push_answer(
 ) -> Result<(), AllocError>
     requires makes { MakesContinuousCuts rule.now }
     requires grid { IfSome task.now.grid (λ n. 0 < n) }
+    requires round { IfSome task.now.round (λ n. 0 < n) }
     requires multipliers { length multipliers.now ≡ length task.now.problem.constraints }
     requires at_upper { length at_upper.now ≡ length task.now.problem.columns }
     ensures { OnOk result ((cut : SafeCut)
@@ -131,32 +134,52 @@ fn answer_of(
 ) -> Result<SafeCut, AllocError>
     requires makes { MakesContinuousCuts rule.now }
     requires grid { IfSome task.now.grid (λ n. 0 < n) }
+    requires round { IfSome task.now.round (λ n. 0 < n) }
     requires multipliers { length multipliers.now ≡ length task.now.problem.constraints }
     requires at_upper { length at_upper.now ≡ length task.now.problem.columns }
     ensures is { IfOk result (IsAnswer rule.now task.now multipliers.now at_upper.now) }
     ensures holds { IfOk result (SafeCutHolds task.now.problem) }
 {
-    let cut = unrounded(alloc, rule, &task.problem, multipliers, at_upper)?;
+    let cut = unrounded(
+        alloc,
+        rule,
+        task.round,
+        &task.problem,
+        multipliers,
+        at_upper,
+    )?;
     on_grid(alloc, &task.problem, task.grid, cut)
 }
 
-/// The cut by the rule and the multipliers.
+/// The cut by the rule and the multipliers, of the problem as it is or with its data on a grid.
 fn unrounded(
     alloc: Global,
     rule: &CutRule,
+    round: Option<u32>,
     problem: &Problem,
     multipliers: &[Frac],
     at_upper: &[bool],
 ) -> Result<SafeCut, AllocError>
     requires makes { MakesContinuousCuts rule.now }
+    requires round { IfSome round (λ n. 0 < n) }
     requires multipliers { length multipliers.now ≡ length problem.now.constraints }
     requires at_upper { length at_upper.now ≡ length problem.now.columns }
-    ensures is { IfOk result (IsCutBy rule.now problem.now multipliers.now at_upper.now) }
+    ensures is { IfOk result (IsCutBy rule.now round problem.now multipliers.now at_upper.now) }
+    ensures narrow { IfOk result
+        (TellsWide (IsCutBy rule.now round problem.now multipliers.now at_upper.now)) }
     ensures holds { IfOk result (SafeCutHolds problem.now) }
 {
-    match rule {
-        CutRule::Gmic => gmic_safe_cut(alloc, problem, multipliers, at_upper),
-        CutRule::Table(shape) => function_safe_cut(alloc, shape, problem, multipliers, at_upper),
+    match (rule, round) {
+        (CutRule::Gmic, None) => gmic_safe_cut(alloc, problem, multipliers, at_upper),
+        (CutRule::Gmic, Some(grid)) => {
+            gmic_relaxed_cut(alloc, problem, multipliers, at_upper, grid)
+        }
+        (CutRule::Table(shape), None) => {
+            function_safe_cut(alloc, shape, problem, multipliers, at_upper)
+        }
+        (CutRule::Table(shape), Some(grid)) => {
+            function_relaxed_cut(alloc, shape, problem, multipliers, at_upper, grid)
+        }
     }
 }
 
@@ -169,6 +192,7 @@ fn on_grid(
 ) -> Result<SafeCut, AllocError>
     requires { IfSome grid (λ n. 0 < n) }
     ensures is { IfOk result (IsOnGridOf problem.now grid cut) }
+    ensures narrow { IfOk result (TellsWide (IsOnGridOf problem.now grid cut)) }
     ensures holds { IfOk result (λ answer. SafeCutHolds problem.now cut →
         SafeCutHolds problem.now answer) }
 {
@@ -193,6 +217,7 @@ fn rounded_to(
 ) -> Result<SafeCut, AllocError>
     requires { 0 < grid }
     ensures is { IfOk result (IsRoundedTo problem.now grid cut.now) }
+    ensures narrow { IfOk result (TellsWide (IsRoundedTo problem.now grid cut.now)) }
     ensures holds { IfOk result (λ answer. Holds problem.now cut.now →
         SafeCutHolds problem.now answer) }
 {

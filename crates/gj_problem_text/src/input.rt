@@ -38,7 +38,7 @@ pub fn read_safe_input(alloc: Global, bytes: &[u8]) -> Result<SafeInput, Problem
         MatchResult result (λ a. a ≡ asked) IsMemoryFault }
     // A refusal names the first fault.
     ensures refused { IfErr result (NamesFirstFaultOfInput bytes.now) }
-    // Each row has a multiplier for each constraint, and the grid is not 0.
+    // Each row has a multiplier for each constraint, and no grid is that of 0.
     ensures ready { IfOk result (λ asked. IsReady asked.task) }
 {
     safe_input_of(alloc, bytes)

@@ -3,6 +3,7 @@ ghost use Rattle.std.specs.Prelude.{◌≡◌, ℕ, List, All, flat_map, length}
 ghost use Rattle.gj_lex.specs.declared.reason.Reason.{Reason};
 ghost use Rattle.gj_safe_cut.specs.SafeCuts.{SafeCutHasTerms};
 ghost use Rattle.gj_safe_cut.specs.declared.cut.SafeCut.{SafeCut};
+ghost use Rattle.gj_proof.specs.ProofText.{IsBoundedRule};
 ghost use Rattle.gj_proof.specs.declared.cut.CutRule.{CutRule};
 ghost use Rattle.gj_problem_text.specs.CutText.{cut_lines, AreNames, HasColumnsBelow};
 ghost use Rattle.gj_problem_text.specs.CutText.{IsCutsTextBy};
@@ -38,6 +39,12 @@ pub fn one_list_of_cuts()
     ensures { (names : List (List ℕ)) (cuts others : List SafeCut) → AreNames names →
         All (HasColumnsBelow (length names)) cuts → All (HasColumnsBelow (length names)) others →
         flat_map (cut_lines names) cuts ≡ flat_map (cut_lines names) others → cuts ≡ others }
+{}
+
+/// A problem and a rule within the limits have one text of cuts.
+pub fn one_text_of_cuts()
+    ensures { (r : CutRule) (s : Task) (text other : List ℕ) → IsBoundedRule r →
+        IsCutsTextBy r s text → IsCutsTextBy r s other → text ≡ other }
 {}
 
 /// The coefficients of each cut of a text are not 0, and stand in the order of the columns.

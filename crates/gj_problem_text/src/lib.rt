@@ -19,7 +19,8 @@ mod text;
 pub use faults::ProblemFault;
 pub use input::{SafeInput, read_safe_input};
 pub use laws::{
-    cuts_have_terms, one_list_of_cuts, one_problem_text, one_safe_input, printed_input_is_read,
+    cuts_have_terms, one_list_of_cuts, one_problem_text, one_safe_input, one_text_of_cuts,
+    printed_input_is_read,
 };
 pub use lines::{Line, line_in};
 pub use places::Places;

@@ -28,6 +28,8 @@ pub enum Line<'a> {
     Sum(Vec<Frac>),
     /// The cuts are rounded to multiples of one over this.
     Grid(u32),
+    /// They are made with all data on the grid of one over this.
+    Round(u32),
 }
 
 /// What the line tells, in lenient spelling.
@@ -71,6 +73,9 @@ fn line_with<'a>(word: &[u8], rest: &'a [u8]) -> Result<Line<'a>, Reason>
     }
     if word == b"grid".as_slice() {
         return grid_in(rest);
+    }
+    if word == b"round".as_slice() {
+        return round_in(rest);
     }
     Err(Reason::Form)
 }
@@ -216,6 +221,24 @@ fn grid_in(rest: &[u8]) -> Result<Line<'_>, Reason>
         return Err(Reason::Number);
     }
     Ok(Line::Grid(grid))
+}
+
+/// What `round` tells with these words behind it.
+fn round_in(rest: &[u8]) -> Result<Line<'_>, Reason>
+    ensures told { IfOk result (λ l. told_rule.Spells (codes "round" ∷ word_texts rest.now)
+        (line_told l)) }
+    ensures broken { IfErr result (told_rule.Breaks (codes "round" ∷ word_texts rest.now)) }
+{
+    let Some(word) = only_word(rest) else {
+        return Err(Reason::Form);
+    };
+    let Some(grid) = count_of(Spelling::Lenient, word) else {
+        return Err(Reason::Number);
+    };
+    if grid == 0 {
+        return Err(Reason::Number);
+    }
+    Ok(Line::Round(grid))
 }
 
 /// What `sum` tells with these words behind it.

@@ -34,7 +34,7 @@ pub fn read_problem(alloc: Global, bytes: &[u8]) -> Result<Task, ProblemFault>
         MatchResult result (λ t. t ≡ task) IsMemoryFault }
     // A refusal names the first fault.
     ensures refused { IfErr result (NamesFirstFault bytes.now) }
-    // Each row has a multiplier for each constraint, and the grid is not 0.
+    // Each row has a multiplier for each constraint, and no grid is that of 0.
     ensures ready { IfOk result IsReady }
 {
     match problem_text_at(alloc, bytes) {
@@ -97,6 +97,7 @@ fn no_task(alloc: Global) -> Task
         entries: 0,
         requests: List::of(Vec::new(alloc)),
         grid: None,
+        round: None,
     }
 }
 

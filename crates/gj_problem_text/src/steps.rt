@@ -6,8 +6,8 @@ ghost use Rattle.gj_lex.specs.declared.reason.Reason.TheVariants as reason;
 ghost use Rattle.gj_problem_text.specs.LinesRead.{line_told};
 ghost use Rattle.gj_problem_text.specs.Tasks.{Adds, Refuses, AddsColumn, RefusesColumn};
 ghost use Rattle.gj_problem_text.specs.Tasks.{AddsConstraint, RefusesConstraint, AddsEntry};
-ghost use Rattle.gj_problem_text.specs.Tasks.{RefusesEntry, AddsUpper, AddsSum, AddsGrid, Unless};
-ghost use Rattle.gj_problem_text.specs.Tasks.{Never, IsKnown, TakesEntries, AreLonger, SpellsBound};
+ghost use Rattle.gj_problem_text.specs.Tasks.{RefusesEntry, AddsUpper, AddsSum, AddsGrid, AddsRound};
+ghost use Rattle.gj_problem_text.specs.Tasks.{Unless, Never, IsKnown, TakesEntries, AreLonger, SpellsBound};
 ghost use Rattle.gj_problem_text.specs.Tasks.{IsBound, most_columns};
 
 use crate::lines::Line;
@@ -57,6 +57,7 @@ pub fn with_line<'a>(
         Line::Upper(name) => with_upper(task, places, name),
         Line::Sum(multipliers) => with_sum(task, multipliers),
         Line::Grid(grid) => with_grid(task, grid),
+        Line::Round(grid) => with_round(task, grid),
     }
 }
 
@@ -245,5 +246,18 @@ fn with_grid(task: &mut Task, grid: u32) -> Result<(), LineFault>
         return Err(LineFault::Broken(Reason::Form));
     }
     task.grid = Some(grid);
+    Ok(())
+}
+
+/// Sets the grid of the data, once at most.
+fn with_round(task: &mut Task, grid: u32) -> Result<(), LineFault>
+    ensures added { OnOk result (AddsRound task.old grid task.new) }
+    ensures refused { IfErr result (IsRefusedFor
+        (Unless (task.old.round ≡ None) reason.Form Never)) }
+{
+    if task.round.is_some() {
+        return Err(LineFault::Broken(Reason::Form));
+    }
+    task.round = Some(grid);
     Ok(())
 }

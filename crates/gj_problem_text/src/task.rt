@@ -26,4 +26,6 @@ pub struct Task {
     pub requests: List<Request>,
     /// The cuts are rounded to multiples of one over this. It is not 0 if a text tells the task.
     pub grid: Option<u32>,
+    /// They are made with all data on the grid of one over this. Nor is this 0.
+    pub round: Option<u32>,
 }

@@ -1,14 +1,13 @@
 use Rattle.std.proofs.lemmas.Result.{IfOk-weaker}
 use Rattle.gj_safe_cut.specs.SafeCuts.{SafeCutHolds}
 use Rattle.gj_safe_cut.specs.declared.cut.SafeCut.{SafeCut}
-use Rattle.gj_problem_text.specs.Cuts.{IsOnGridOf, IsAnswer}
+use Rattle.gj_problem_text.proofs.OneTextOfCuts.{answered}
 use Rattle.gj_problem_text.proofs.answers.answer_of.Goals as goal
 
 pub returns-clause-is : goal.returns-clause-is
 returns-clause-is c =
-    IfOk-weaker c.on_grid.result (IsOnGridOf c.args.task.now.problem c.args.task.now.grid c.in_ok-cut.cut)
-    (IsAnswer c.args.rule.now c.args.task.now c.args.multipliers.now c.args.at_upper.now)
-    (λ (answer : SafeCut) h. (c.in_ok-cut.cut, c.in_ok-cut.ensures.is, h)) c.on_grid.ensures.is
+    answered c.args.rule.now c.args.task.now c.args.multipliers.now c.args.at_upper.now c.in_ok-cut.cut c.on_grid.result c.in_ok-cut.ensures.is
+    c.in_ok-cut.ensures.narrow c.on_grid.ensures.is c.on_grid.ensures.narrow
 
 pub returns-clause-holds : goal.returns-clause-holds
 returns-clause-holds c =

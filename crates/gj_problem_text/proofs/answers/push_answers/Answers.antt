@@ -28,6 +28,9 @@ returns c =
 pub push_request-requires-clause-grid : goal.push_request-requires-clause-grid
 push_request-requires-clause-grid c = c.requires.ready.grid
 
+pub push_request-requires-clause-round : goal.push_request-requires-clause-round
+push_request-requires-clause-round c = c.requires.ready.round
+
 pub push_request-requires-clause-multipliers : goal.push_request-requires-clause-multipliers
 push_request-requires-clause-multipliers c =
     let n = length c.args.task.now.problem.constraints in
