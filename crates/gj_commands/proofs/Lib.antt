@@ -1,3 +1,4 @@
 pub mod ByCommand
+pub mod ByCheck
 pub mod NamesOfMixedCuts
 pub mod OneListOfMixedCuts

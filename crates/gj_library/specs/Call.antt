@@ -1,16 +1,12 @@
 -- What a call says: the run of its words over its input (own).
-use Rattle.std.specs.Prelude.{ℕ, ◌≡◌, ◌≢◌, ◌==◌, ◌⊎◌, ◌<◌, true, List, [], length, take, map, Option, Some, String, string_bytes}
+use Rattle.std.specs.Prelude.{ℕ, ◌≡◌, ◌==◌, ◌⊎◌, ◌<◌, true, List, [], length, take, map, Option, Some, String, string_bytes}
 use Rattle.std.specs.List.{slice_split}
 use Rattle.std.specs.Str.{IsUtf8}
 use Rattle.std.specs.declared.alloc.Global.{Global}
-use Rattle.gj_words.specs.declared.requests.Command.TheVariants.{Problem}
-use Rattle.gj_words.specs.declared.requests.Request.{Request}
 use Rattle.gj_top.specs.declared.status.Status.{Status}
-use Rattle.gj_top.specs.declared.status.Status.TheVariants.{Done, WriteFault}
+use Rattle.gj_top.specs.declared.status.Status.TheVariants.{WriteFault}
 use Rattle.gj_top.specs.Answer.{IsAnswer}
-use Rattle.gj_top.specs.Answerable.{TellsNoSteps}
 use Rattle.gj_top.specs.Code.{code_of}
-use Rattle.gj_top.specs.Command.{IsNamed}
 use Rattle.gj_top.specs.IsRun.{IsRun}
 use Rattle.gj_top.specs.Run.{Run}
 
@@ -72,12 +68,3 @@ pub record IsTooSmall (bytes input : List ℕ) (room : ℕ) (front : List ℕ) (
   pub whole_is : whole ≡ length text
   pub longer : room < whole
   pub front_is : front ≡ take room text
-
--- the words ask a command that is told no steps of a derivation by the input
-abbrev pub AskWithoutSteps : List ℕ → List ℕ → Type 0
-AskWithoutSteps bytes input = (words : List (String Global)) (r : Request) → AreWordsOf bytes words → IsNamed words r → TellsNoSteps r.command input
-
--- the words do not name the command `problem`, or the answer with this status has no cuts
-abbrev pub HasOneText : List ℕ → Status → Type 0
-HasOneText bytes status =
-    ((words : List (String Global)) (r : Request) → AreWordsOf bytes words → IsNamed words r → r.command ≢ Problem) ⊎ (status ≢ Done)

@@ -30,8 +30,8 @@ pub use laws::{one_answer_to_a_call, problem_calls};
 ///
 /// What else holds of the run of each call stands clause by clause in `specs/IsRun` of `gj_top`.
 /// That the answer is one, and so that a second call has room, is [`one_answer_to_a_call`]: of each
-/// answer but the cuts of a problem, and what is said of steps of derivations. What the answer to
-/// the word `problem` says is [`problem_calls`].
+/// answer but the cuts of a problem. What the answer to the word `problem` says is
+/// [`problem_calls`].
 #[unsafe(no_mangle)]
 pub extern "C" fn gjcut_answer(
     alloc: Global,

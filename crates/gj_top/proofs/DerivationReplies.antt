@@ -5,7 +5,7 @@ use Rattle.gj_shape.specs.FunctionData.{FunctionData}
 use Rattle.gj_proof.specs.CutRules.{MakesContinuousCuts}
 use Rattle.gj_proof.specs.ProofText.{IsBoundedRule}
 use Rattle.gj_derivation.specs.Derivations.{IsUsable, HasFunctionFor, IsReady, IsReadyStep}
-use Rattle.gj_derivation.specs.Drafts.{IsDerivedBy}
+use Rattle.gj_derivation.specs.Drafts.{begun, IsDerivedBy, TellWide, told_by}
 use Rattle.gj_derivation.specs.StepLists.{IsWideFailure}
 use Rattle.gj_derivation.specs.declared.draft.Derived.{Derived}
 use Rattle.gj_derivation.specs.declared.draft.Derived.TheVariants as derived
@@ -28,9 +28,10 @@ use Rattle.gj_derivation_text.specs.declared.input.DraftInput.{DraftInput}
 use Rattle.gj_top.specs.declared.reply.End.{End}
 use Rattle.gj_top.specs.declared.reply.End.TheVariants.{Done, Rejected}
 use Rattle.gj_top.specs.Derivation.{rule_in_front, function_of, IsDerivationReply}
-use Rattle.gj_top.specs.Derive.{IsDeriveReply, IsDerived}
+use Rattle.gj_top.specs.Derive.{IsDeriveReply, IsDerived, TellsWideDrafts}
 use Rattle.gj_top.specs.Objection.{IsObjection}
 use Rattle.gj_top.specs.Told.{Told}
+use Rattle.gj_top.proofs.OneObjection.{no_objection}
 
 -- ---- the function in front
 
@@ -41,6 +42,18 @@ same_function (Some f) = refl
 pub usable : (f : Option FunctionData) → IsBoundedRule (rule_in_front f) → MakesContinuousCuts (rule_in_front f) → IfSome f IsUsable
 usable None within makes = tt
 usable (Some f) within makes = record { bounds = within; minimal = makes.0; continuous = makes.1 }
+
+bounded_rule : (f : Option FunctionData) → IfSome f IsUsable → IsBoundedRule (rule_in_front f)
+bounded_rule None sure = tt
+bounded_rule (Some f) sure = sure.bounds
+
+makes_cuts : (f : Option FunctionData) → IfSome f IsUsable → MakesContinuousCuts (rule_in_front f)
+makes_cuts None sure = tt
+makes_cuts (Some f) sure = (sure.minimal, sure.continuous)
+
+-- there is no objection to a function by which cuts hold
+pub none_against : (f : Option FunctionData) (e : End) (text : List ℕ) → IfSome f IsUsable → IsObjection (rule_in_front f) e text → ⊥
+none_against f e text sure = no_objection (rule_in_front f) e text (bounded_rule f sure) (makes_cuts f sure)
 
 has_function : (f : Option FunctionData) (r : StepRule) → IfSome f IsUsable → (r ≡ Function → IsSome f) → HasFunctionFor f r
 has_function (Some f) r sure asked = (sure.minimal, sure.continuous)
@@ -94,6 +107,11 @@ pub derived_over : (a : DraftInput) (p : Problem) (steps : List Draft) (d : Deri
     IsDerivedBy a.function a.drafts.task.grid p steps d → IsDerived a d
 derived_over a p steps d problem same h =
     subst₂ (λ (q : Problem) (drafts : List Draft). IsDerivedBy a.function a.drafts.task.grid q drafts d) problem same h
+
+pub told_over : (a : DraftInput) (p : Problem) (steps : List Draft) (d : Derived) → p ≡ a.drafts.task.problem → steps ≡ a.drafts.steps →
+    TellWide a.function a.drafts.task.grid (begun p) steps (told_by d) → TellsWideDrafts a d
+told_over a p steps d problem same h =
+    subst₂ (λ (q : Problem) (drafts : List Draft). TellWide a.function a.drafts.task.grid (begun q) drafts (told_by d)) problem same h
 
 -- ---- places
 

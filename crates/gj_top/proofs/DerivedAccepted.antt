@@ -1,8 +1,6 @@
 -- A derivation that `derive` writes is one that `check` accepts, unless a number does not fit.
-use Rattle.std.proofs.Common.{◌≡◌, ◌⊎◌, inl, inr, ℕ, ◌≤◌, IfSome, List, length, Option, None, Some, refl, sym, ap, subst, subst₂, ◌∙◌, arith}
+use Rattle.std.proofs.Common.{◌≡◌, ◌⊎◌, inl, inr, ℕ, ◌≤◌, IfSome, List, length, Option, refl, sym, ap, subst, subst₂, ◌∙◌, arith}
 use Rattle.gj_shape.specs.FunctionData.{FunctionData}
-use Rattle.gj_proof.specs.CutRules.{MakesContinuousCuts}
-use Rattle.gj_proof.specs.ProofText.{IsBoundedRule}
 use Rattle.gj_derivation.specs.Derivations.{IsUsable, IsDerivation}
 use Rattle.gj_derivation.specs.Drafts.{steps_of}
 use Rattle.gj_derivation.specs.declared.draft.Shown.{Shown}
@@ -22,15 +20,15 @@ use Rattle.gj_top.specs.Answer.{IsAnswerTo}
 use Rattle.gj_top.specs.Answer.IsAnswerTo.{too_long, refused, replied}
 use Rattle.gj_top.specs.Check.Checkable.{of_claim, of_limit_claim, of_steps}
 use Rattle.gj_top.specs.Check.{Checkable, SpellsCheckable, IsCheckReply, check}
-use Rattle.gj_top.specs.Derivation.{rule_in_front, IsDerivationReply, IsWideAnswer}
+use Rattle.gj_top.specs.Derivation.{IsDerivationReply, IsWideAnswer}
 use Rattle.gj_top.specs.Derive.{IsFilledIn, derive}
 use Rattle.gj_top.specs.InputRead.{input_limit}
 use Rattle.gj_top.specs.Reply.{status_of}
 use Rattle.gj_top.specs.Task.{IsReply}
 use Rattle.gj_top.specs.Told.{Told}
 use Rattle.gj_top.proofs.DerivationForms.{one_derivation, proof_begins_otherwise, derivation_begins}
+use Rattle.gj_top.proofs.DerivationReplies.{none_against}
 use Rattle.gj_top.proofs.LimitTexts.{limit_begins_otherwise}
-use Rattle.gj_top.proofs.OneObjection.{no_objection}
 use Rattle.gj_top.proofs.Sound.{check_sound}
 
 -- the text tells a derivation, and cuts by its function hold
@@ -39,14 +37,6 @@ pub record IsGoodDerivation (text : List ℕ) : Type 0 where
   pub is_told : IsDerivationText text told
   pub usable : IfSome told.function IsUsable
   pub derivation : IsDerivation told.function told.problem told.steps
-
-within_bounds : (f : Option FunctionData) → IfSome f IsUsable → IsBoundedRule (rule_in_front f)
-within_bounds None sure = tt
-within_bounds (Some f) sure = sure.bounds
-
-makes_cuts : (f : Option FunctionData) → IfSome f IsUsable → MakesContinuousCuts (rule_in_front f)
-makes_cuts None sure = tt
-makes_cuts (Some f) sure = (sure.minimal, sure.continuous)
 
 abbrev IsEnd : End → List ℕ → Type 0
 IsEnd e answer = (e ≡ end.Done) ⊎ ((e ≡ end.Rejected) × IsWideAnswer answer)
@@ -58,7 +48,7 @@ good_end t end.Done answer sure derivation h = inl refl
 good_end t end.Rejected answer sure derivation (other, h) =
     inr (refl, (h.at_line, h.spelled ∙ ap (λ (v : Verdict). rejected_line t.told.columns t.told.lines h.at_line v) (h.narrow derivation)))
 good_end t e answer sure derivation h =
-    absurd (no_objection (rule_in_front t.told.function) e answer (within_bounds t.told.function sure) (makes_cuts t.told.function sure) h)
+    absurd (none_against t.told.function e answer sure h)
 
 good_reply : (text : List ℕ) (thing : Checkable) (e : End) (answer : List ℕ) → IsGoodDerivation text → SpellsCheckable text thing →
     IsCheckReply thing e answer → IsEnd e answer

@@ -34,57 +34,33 @@ pub record IsDetermined (task : Task) : Type 0 where
   pub refuses : RefusesOne task.work.refuses
   pub replies : RepliesOne task.promise.form task.work.replies
 
--- a known thing that is spelled has one end, and one text if that is not Done or if `Exact`
-abbrev pub EndsOne : {Thing : Type 0} → Form Thing → (Thing → End → List ℕ → Type 0) → (Thing → Type 0) → Type 0 → Type 0
-EndsOne {Thing} form replies Known Exact = (input : List ℕ) (thing : Thing) → Known thing → Spells form input thing → (e d : End) (x y : List ℕ) →
-    replies thing e x → replies thing d y → (e ≡ d) × ((e ≡ end.Done → Exact) → x ≡ y)
-
-pub record IsSettled (task : Task) (Known : task.promise.Thing → Type 0) (Exact : Type 0) : Type 0 where
-  pub spells : SpellsOne task.promise.form
-  pub refuses : RefusesOne task.work.refuses
-  pub replies : EndsOne task.promise.form task.work.replies Known Exact
-
-pub settled : {task : Task} {Known : task.promise.Thing → Type 0} {Exact : Type 0} → IsDetermined task → IsSettled task Known Exact
-settled {task} {Known} {Exact} h = record {
-  spells = h.spells;
-  refuses = h.refuses;
-  replies = λ input thing known spelled e d x y r q.
-      let same = h.replies input thing spelled e d x y r q in
-      (same.0, λ exact. same.1);
-}
-
 -- a function within the limits has one reply
 abbrev pub AnswersOne : (FunctionData → End → List ℕ → Type 0) → Type 0
 AnswersOne replies = (f : FunctionData) → IsWithinBounds f → (e d : End) (x y : List ℕ) → replies f e x → replies f d y → (e ≡ d) × (x ≡ y)
 
-one_reply : (task : Task) (Known : task.promise.Thing → Type 0) (Exact : Type 0) (input : List ℕ) (e d : End) (x y : List ℕ) →
-    IsSettled task Known Exact → ((thing : task.promise.Thing) → Spells task.promise.form input thing → Known thing) → IsReply task input e x →
-    IsReply task input d y → (e ≡ d) × ((e ≡ end.Done → Exact) → x ≡ y)
-one_reply task Known Exact input e d x y h known r q =
+one_reply : (task : Task) (input : List ℕ) (e d : End) (x y : List ℕ) → IsDetermined task → IsReply task input e x →
+    IsReply task input d y → (e ≡ d) × (x ≡ y)
+one_reply task input e d x y h r q =
     let same : q.thing ≡ r.thing = h.spells input q.thing r.thing q.spelled r.spelled in
-    h.replies input r.thing (known r.thing r.spelled) r.spelled e d x y r.replied (subst (λ (t : task.promise.Thing). task.work.replies t d y) same q.replied)
+    h.replies input r.thing r.spelled e d x y r.replied (subst (λ (t : task.promise.Thing). task.work.replies t d y) same q.replied)
 
 not_long : (n m : ℕ) → n < m → m ≤ n → ⊥
 not_long n m a b = omega arith
 
--- to an input that spells known things there is one status, and one text if that is not Done or if
--- `Exact`
-module _ (task : Task) (Known : task.promise.Thing → Type 0) (Exact : Type 0) (input : List ℕ) (s t : Status) (x y : List ℕ) (sound : IsSound task)
-    (h : IsSettled task Known Exact) (known : (thing : task.promise.Thing) → Spells task.promise.form input thing → Known thing) where
-  pub one_answer_of : IsAnswerTo task input s x → IsAnswerTo task input t y → (s ≡ t) × ((s ≡ Done → Exact) → x ≡ y)
-  one_answer_of (too_long a) (too_long b) = (a.status_is ∙ sym b.status_is, λ exact. a.spelled ∙ sym b.spelled)
+-- to an input there is one status, and one text
+module _ (task : Task) (input : List ℕ) (s t : Status) (x y : List ℕ) (sound : IsSound task) (h : IsDetermined task) where
+  pub one_answer_of : IsAnswerTo task input s x → IsAnswerTo task input t y → (s ≡ t) × (x ≡ y)
+  one_answer_of (too_long a) (too_long b) = (a.status_is ∙ sym b.status_is, a.spelled ∙ sym b.spelled)
   one_answer_of (too_long a) (refused b) = absurd (not_long _ _ a.long (b.within a.read))
   one_answer_of (too_long a) (replied b) = absurd (not_long _ _ a.long (b.within a.read))
   one_answer_of (refused a) (too_long b) = absurd (not_long _ _ b.long (a.within b.read))
-  one_answer_of (refused a) (refused b) = (a.status_is ∙ sym b.status_is, λ exact. h.refuses input x y a.refused b.refused)
+  one_answer_of (refused a) (refused b) = (a.status_is ∙ sym b.status_is, h.refuses input x y a.refused b.refused)
   one_answer_of (refused a) (replied b) = absurd (sound.form input x b.reply.thing b.reply.spelled a.refused)
   one_answer_of (replied a) (too_long b) = absurd (not_long _ _ b.long (a.within b.read))
   one_answer_of (replied a) (refused b) = absurd (sound.form input y a.reply.thing a.reply.spelled b.refused)
   one_answer_of (replied a) (replied b) =
-      let same = one_reply task Known Exact input a.end b.end x y h known a.reply b.reply in (
-        a.status_is ∙ ap status_of same.0 ∙ sym b.status_is,
-        λ exact. same.1 (λ done. exact (a.status_is ∙ ap status_of done)),
-      )
+      let same = one_reply task input a.end b.end x y h a.reply b.reply in
+      (a.status_is ∙ ap status_of same.0 ∙ sym b.status_is, same.1)
 
 -- ---- what replies share
 

@@ -30,6 +30,7 @@ pub mod OneObjection
 pub mod OneProblem
 pub mod OneReport
 pub mod OneReported
+pub mod OneSteps
 pub mod OneTable
 pub mod OneVerdict
 pub mod ProblemCuts

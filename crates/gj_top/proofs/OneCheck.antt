@@ -1,29 +1,19 @@
--- The commands `check` and `derive` have one answer, but to steps of derivations.
-use Rattle.std.proofs.Common.{◌≡◌, inl, inr, ℕ, List, ap}
-use Rattle.gj_proof.specs.declared.claim.Claim.{Claim}
+-- The commands `check` and `derive` have one answer.
+use Rattle.std.proofs.Common.{inl, inr, ap}
 use Rattle.gj_proof.proofs.OneText.{one_fault as one_proof_fault}
 use Rattle.gj_derivation_text.specs.DerivationInputs.{IsDerivationText, IsDraftText}
-use Rattle.gj_derivation_text.specs.declared.input.DerivationInput.{DerivationInput}
-use Rattle.gj_derivation_text.specs.declared.input.DraftInput.{DraftInput}
-use Rattle.gj_top.specs.declared.reply.End.{End}
-use Rattle.gj_top.specs.declared.reply.End.TheVariants.{Done}
+use Rattle.gj_derivation_text.proofs.ReadableText.{derivation_is_readable, drafts_are_readable}
 use Rattle.gj_top.specs.Check.Checkable.{of_claim, of_limit_claim, of_steps}
-use Rattle.gj_top.specs.Check.{Checkable, SpellsCheckable, check_form, RefusesCheckable, IsCheckReply, check}
-use Rattle.gj_top.specs.Derive.{draft_form, RefusesDrafts, derive}
-use Rattle.gj_top.specs.Told.{Told}
+use Rattle.gj_top.specs.Check.{check_form, RefusesCheckable, IsCheckReply, check}
+use Rattle.gj_top.specs.Derive.{derive}
 use Rattle.gj_top.proofs.DerivationForms.{one_draft_fault, one_derivation_fault, one_drafts, one_derivation, one_told, proof_begins_otherwise, derivation_begins}
-use Rattle.gj_top.proofs.Determined.{SpellsOne, RefusesOne, EndsOne, IsSettled, one_named_fault}
+use Rattle.gj_top.proofs.Determined.{SpellsOne, RefusesOne, RepliesOne, IsDetermined, one_named_fault}
 use Rattle.gj_limit_proof.proofs.LimitOneText.{one_fault as one_limit_fault}
 use Rattle.gj_top.proofs.LimitTexts.{limit_begins_otherwise, one_limit_proof, texts_differ}
 use Rattle.gj_top.proofs.OneLimitVerdict.{one_limit_judgement}
+use Rattle.gj_top.proofs.OneSteps.{one_check_reply, one_derive_reply}
 use Rattle.gj_top.proofs.OneVerdict.{one_judgement}
 use Rattle.gj_top.proofs.TextLaws.{one_proof}
-
--- it is a claim
-abbrev pub IsClaim : Checkable → Type 0
-IsClaim (of_claim c) = Unit {0}
-IsClaim (of_limit_claim c) = Unit {0}
-IsClaim (of_steps t) = ⊥
 
 pub one_checkable : SpellsOne check_form
 one_checkable input (of_claim c) (of_claim d) h k = ap of_claim (one_proof input c d h k)
@@ -51,21 +41,18 @@ one_refusal input x y (inr (inr (not, none, h))) (inr (inl (not', limits, k))) =
 one_refusal input x y (inr (inr (not, none, h))) (inr (inr (not', none', k))) =
     one_named_fault _ (λ n m e d. one_proof_fault input n m e d) x y h k
 
-one_reply : (Exact : Type 0) → EndsOne check_form IsCheckReply IsClaim Exact
-one_reply Exact input (of_claim c) known spelled e d x y h k = let same = one_judgement c e d x y h k in (same.0, λ exact. same.1)
-one_reply Exact input (of_limit_claim c) known spelled e d x y h k = let same = one_limit_judgement c e d x y h k in (same.0, λ exact. same.1)
-one_reply Exact input (of_steps t) known spelled e d x y h k = absurd known
+one_reply : RepliesOne check_form IsCheckReply
+one_reply input (of_claim c) spelled e d x y h k = one_judgement c e d x y h k
+one_reply input (of_limit_claim c) spelled e d x y h k = one_limit_judgement c e d x y h k
+one_reply input (of_steps t) spelled e d x y h k =
+    one_check_reply t (derivation_is_readable input t.told spelled.1).0.function e d x y h k
 
-pub check_is_settled : (Exact : Type 0) → IsSettled check IsClaim Exact
-check_is_settled Exact = record { spells = one_checkable; refuses = one_refusal; replies = one_reply Exact }
+pub check_is_determined : IsDetermined check
+check_is_determined = record { spells = one_checkable; refuses = one_refusal; replies = one_reply }
 
--- no steps are known
-abbrev pub Never : Told DraftInput → Type 0
-Never t = ⊥
-
-pub derive_is_settled : (Exact : Type 0) → IsSettled derive Never Exact
-derive_is_settled Exact = record {
+pub derive_is_determined : IsDetermined derive
+derive_is_determined = record {
   spells = one_told IsDraftText one_drafts;
   refuses = λ input x y h k. one_named_fault _ (λ n m e d. one_draft_fault input n m e d) x y h k;
-  replies = λ input t known spelled e d x y h k. absurd known;
+  replies = λ input t spelled. one_derive_reply t (drafts_are_readable input t.told spelled.1).function;
 }

@@ -29,6 +29,7 @@ use Rattle.gj_proof.specs.declared.cut.CutRule.{CutRule}
 use Rattle.gj_proof.specs.declared.cut.CutRule.TheVariants.{Gmic, Table}
 use Rattle.gj_proof.specs.declared.cut.CutTerm.{CutTerm}
 use Rattle.gj_proof.specs.declared.cut.SkipReason.TheVariants.{Integral, Other}
+use Rattle.gj_problem_text.proofs.OneTextOfCuts.{one_rule_text}
 use Rattle.gj_top.specs.declared.reply.End.{End}
 use Rattle.gj_top.specs.declared.reply.End.TheVariants as end
 use Rattle.gj_top.specs.Cut.{CutInput, SpellsCutInput}
@@ -156,14 +157,10 @@ one_mixed_line r columns row a b l h k =
     (subst (λ (c : MixedCut). NamesMixedCut columns row c b.line b.weights) cuts k.names) in
     same_line a b same.0 same.1
 
-one_subject : (r : CutRule) (x y : List ℕ) → IsBoundedRule r → AreSubjectLines (subject_of_rule r) x → AreSubjectLines (subject_of_rule r) y → x ≡ y
-one_subject Gmic x y l h k = h ∙ sym k
-one_subject (Table f) x y l h k = one_text_of_lines f x y l h k
-
 one_mixed_text : (r : CutRule) (t : Tableau) (x y : List ℕ) → IsBoundedRule r → AreMixedCutsOf r t x → AreMixedCutsOf r t y → x ≡ y
 one_mixed_text r t x y l h k =
     let lines = one_each (IsMixedLineFor r t.columns) (λ row a b. one_mixed_line r t.columns row a b l) t.rows h.lines k.lines h.lines_are k.lines_are in
-    let subject = one_subject r h.subject k.subject l h.subject_is k.subject_is in
+    let subject = one_rule_text r h.subject k.subject l h.subject_is k.subject_is in
     h.spelled ∙ ap₂ (λ s ls. line (codes "gj-mixed 1") ++ s ++ flat_map mixed_row_text ls ++ line (codes "end")) subject lines ∙ sym k.spelled
 
 -- ---- replies

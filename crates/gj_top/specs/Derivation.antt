@@ -10,8 +10,9 @@ use Rattle.gj_proof.specs.declared.cut.CutRule.TheVariants.{Gmic, Table}
 use Rattle.gj_problem.specs.Problems.{Holds}
 use Rattle.gj_problem_text.specs.SafeInputs.{BeginsAsFunction}
 use Rattle.gj_derivation.specs.Derivations.{IsUsable, IsDerivation}
-use Rattle.gj_derivation.specs.StepLists.{IsFailure}
+use Rattle.gj_derivation.specs.StepLists.{IsFailure, TellsWide}
 use Rattle.gj_derivation.specs.declared.step.Verdict.TheVariants.{Wide}
+use Rattle.gj_derivation.specs.declared.steps.Checked.TheVariants.{Accepted, Failed}
 use Rattle.gj_derivation.specs.declared.steps.Failure.{Failure}
 use Rattle.gj_derivation_text.specs.DerivationInputs.{derivation_input, IsDerivationText, IsLineOfStep}
 use Rattle.gj_derivation_text.specs.VerdictLines.{accepted_line, rejected_line}
@@ -48,17 +49,19 @@ abbrev pub function_of : CutRule → Option FunctionData
 function_of Gmic = None
 function_of (Table f) = Some f
 
--- the steps are a derivation, and the text says that it is accepted
+-- the steps are a derivation in which each number fits, and the text says that it is accepted
 pub record IsAcceptedDerivation (t : Told DerivationInput) (text : List ℕ) : Type 0 where
   pub derivation : IsDerivation t.told.function t.told.problem t.told.steps
+  pub wide : TellsWide t.told.function t.told.problem t.told.steps Accepted
   pub spelled : text ≡ accepted_line
 
--- the text names the line of the first step that fails, and what stands against it; a derivation is
--- rejected only where a number does not fit
+-- the text names the line of the first step that fails, and what stands against it: that is `wide`
+-- where a number does not fit, and a derivation is rejected only there
 pub record IsRejectedDerivation (t : Told DerivationInput) (text : List ℕ) : Type 0 where
   pub failure : Failure
   pub first : IsFailure t.told.function t.told.problem t.told.steps failure
   pub narrow : IsDerivation t.told.function t.told.problem t.told.steps → failure.verdict ≡ Wide
+  pub wide : TellsWide t.told.function t.told.problem t.told.steps (Failed failure)
   pub at_line : ℕ
   pub begins : IsLineOfStep t.text t.told.left failure.step at_line
   pub spelled : text ≡ rejected_line t.told.columns t.told.lines at_line failure.verdict

@@ -8,7 +8,7 @@ use Rattle.gj_forms.specs.Parts.{IsFirstFaultIn}
 use Rattle.gj_problem.specs.Problems.{Holds}
 use Rattle.gj_problem_text.specs.CutText.{name_at}
 use Rattle.gj_derivation.specs.Derivations.{IsUsable, IsDerivation}
-use Rattle.gj_derivation.specs.Drafts.{IsDerivedBy, steps_of}
+use Rattle.gj_derivation.specs.Drafts.{begun, IsDerivedBy, TellWide, told_by, steps_of}
 use Rattle.gj_derivation.specs.declared.draft.Derived.{Derived}
 use Rattle.gj_derivation.specs.declared.draft.Derived.TheVariants as derived
 use Rattle.gj_derivation.specs.declared.draft.Draft.{Draft}
@@ -81,9 +81,15 @@ pub record IsTrueDerivedText (t : Told DraftInput) (text : List ℕ) : Type 0 wh
 abbrev pub IsDerived : DraftInput → Derived → Type 0
 IsDerived a d = IsDerivedBy a.function a.drafts.task.grid a.drafts.task.problem a.drafts.steps d
 
+-- and `wide` is told of each draft where a number does not fit
+abbrev pub TellsWideDrafts : DraftInput → Derived → Type 0
+TellsWideDrafts a d =
+    TellWide a.function a.drafts.task.grid (begun a.drafts.task.problem) a.drafts.steps (told_by d)
+
 -- the text is that of the steps that the drafts show, which are a derivation
 pub record IsDerivedReply (a : DraftInput) (text : List ℕ) : Type 0 where
   pub shown : List Shown
+  pub wide : TellsWideDrafts a (derived.All shown)
   pub derived : IsDerived a (derived.All shown)
   pub derivation : IsDerivation a.function a.drafts.task.problem (steps_of shown)
   pub filled_in : IsFilledIn a shown text
@@ -93,6 +99,7 @@ pub record IsDerivedReply (a : DraftInput) (text : List ℕ) : Type 0 where
 pub record IsFailedReply (t : Told DraftInput) (text : List ℕ) : Type 0 where
   pub failure : Failure
   pub shown : List Shown
+  pub wide : TellsWideDrafts t.told (derived.Failed failure shown)
   pub derived : IsDerived t.told (derived.Failed failure shown)
   pub at_line : ℕ
   pub begins : IsLineOfStep t.text t.told.drafts.left failure.step at_line
@@ -133,6 +140,7 @@ pub record NamesLost (input : List ℕ) (s : Drafts) (step : ℕ) (shown : List 
 pub record IsLostReply (t : Told DraftInput) (text : List ℕ) : Type 0 where
   pub step : ℕ
   pub shown : List Shown
+  pub wide : TellsWideDrafts t.told (derived.Lost step shown)
   pub derived : IsDerived t.told (derived.Lost step shown)
   pub names : NamesLost t.text t.told.drafts step shown text
 

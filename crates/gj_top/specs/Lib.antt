@@ -24,7 +24,6 @@ pub mod Fill
 pub mod Group
 pub mod Transform
 pub mod Command
-pub mod Answerable
 pub mod Reply
 pub mod Answer
 pub mod Causes

@@ -1,6 +1,6 @@
 //! Laws of the replies of commands, of their answers, the limit of length included, and of reports.
 
-ghost use Rattle.std.specs.Prelude.{◌≡◌, ◌≢◌, ◌⊎◌, ◌↔◌, ◌≤◌, ℕ, Bool, false, List, length, String};
+ghost use Rattle.std.specs.Prelude.{◌≡◌, ◌⊎◌, ◌↔◌, ◌≤◌, ℕ, Bool, false, List, length, String};
 ghost use Rattle.std.specs.declared.alloc.Global.{Global};
 ghost use Rattle.gj_top.specs.declared.reply.End.{End};
 ghost use Rattle.gj_top.specs.declared.reply.End.TheVariants as end;
@@ -17,12 +17,10 @@ ghost use Rattle.gj_proof.specs.declared.claim.Claim.{Claim};
 ghost use Rattle.gj_proof.specs.ProofText.{IsBounded, IsProofText};
 ghost use Rattle.gj_json.specs.JsonText.{IsReport};
 ghost use Rattle.gj_top.specs.InputRead.{input_limit};
-ghost use Rattle.gj_words.specs.declared.requests.Command.TheVariants.{Problem};
 ghost use Rattle.gj_words.specs.declared.requests.Request.{Request};
 ghost use Rattle.gj_top.specs.Task.{IsReply};
 ghost use Rattle.gj_top.specs.Forms.{SpellsFunction};
 ghost use Rattle.gj_top.specs.Command.{IsNamed, task_for};
-ghost use Rattle.gj_top.specs.Answerable.{TellsNoSteps};
 ghost use Rattle.gj_top.specs.Show.{show};
 ghost use Rattle.gj_top.specs.Check.{check};
 ghost use Rattle.gj_top.specs.Derivation.{IsWideAnswer};
@@ -120,16 +118,13 @@ pub fn one_proof_in_a_report()
 {}
 
 /// To words and an input there is one status, and one text: words name at most one request, and a
-/// request has one answer to an input. If that ends with Done it is the reply. Of the text of the
-/// cuts of a problem it is not said that there is only one, and of an answer to steps of a
-/// derivation neither.
+/// request has one answer to an input. If that ends with Done it is the reply.
 pub fn one_answer()
     ensures request { (words : List (String Global)) (r q : Request) → IsNamed words r →
         IsNamed words q → r ≡ q }
     ensures status { (r : Request) (input : List ℕ) (s t : Status) (x y : List ℕ) →
-        TellsNoSteps r.command input → IsAnswerTo (task_for r) input s x → IsAnswerTo (task_for r) input t y → s ≡ t }
+        IsAnswerTo (task_for r) input s x → IsAnswerTo (task_for r) input t y → s ≡ t }
     ensures text { (r : Request) (input : List ℕ) (s t : Status) (x y : List ℕ) →
-        TellsNoSteps r.command input → (r.command ≢ Problem) ⊎ (s ≢ Done) →
         IsAnswerTo (task_for r) input s x → IsAnswerTo (task_for r) input t y → x ≡ y }
     ensures done { (r : Request) (input text : List ℕ) → IsAnswerTo (task_for r) input Done text →
         IsReply (task_for r) input end.Done text }

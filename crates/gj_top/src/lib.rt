@@ -60,8 +60,8 @@ pub use status::Status;
 /// read a function in JSON, and `minimal` and `extreme` write a report of the proof text, `show` the
 /// function in JSON. With `--jumps`, `extreme` and `faces` answer a function that jumps by the
 /// limits of its slack. `demo` reads nothing, and writes the summary of the decision on a function
-/// of its own. `mixed` reads what `cut` reads and writes the cuts of the rows, of which columns with a
-/// name that begins with `c:` are continuous. `problem` reads a mixed-integer program with
+/// of its own. `mixed` reads what `cut` reads and writes the cuts of the rows. Columns with a name
+/// that begins with `c:` are continuous there. `problem` reads a mixed-integer program with
 /// multipliers and a rule, or a function text in front of it, and writes the cuts of the rows that
 /// the multipliers make, in the columns of the program. `derive` reads a derivation whose steps may
 /// lack claims, and writes the derivation in which each claim is filled in. `fill` reads the

@@ -6,8 +6,9 @@ use Rattle.gj_top.specs.Show.{IsShownText}
 use Rattle.gj_top.specs.Transform.{IsTimesText, IsMirrorText, IsRestrictionText}
 use Rattle.gj_commands.proofs.ByCommand.{written, input_of, minimal_told, minimal_of_input, minimal_shown, minimal_claimed}
 use Rattle.gj_commands.proofs.ByCommand.{extreme_told, extreme_of_input, extreme_shown, extreme_claimed}
-use Rattle.gj_commands.proofs.ByCommand.{check_minimal, check_not_minimal, check_extreme, check_not_extreme, check_cut, check_claimed}
-use Rattle.gj_commands.proofs.ByCommand.{check_printed, check_steps, derived_told, derived_of_input}
+use Rattle.gj_commands.proofs.ByCheck.{check_minimal, check_not_minimal, check_extreme, check_not_extreme, check_cut, check_claimed}
+use Rattle.gj_commands.proofs.ByCheck.{check_printed, check_steps}
+use Rattle.gj_commands.proofs.ByCommand.{derived_told, derived_of_input}
 use Rattle.gj_commands.proofs.ByCommand.{cut_told, mixed_told, problem_told, problem_of_printed, cut_of_input, mixed_of_input, of_input, of_text, faces_told, demo_told}
 use Rattle.gj_commands.proofs.ByCommand.{written_with, minimal_json, extreme_json, show_json}
 use Rattle.gj_commands.proofs.ByCommand.{written_jumping, written_jumping_with, jumps_told, jumps_of_input, jumps_shown, jumps_claimed}

@@ -2,8 +2,9 @@ use Rattle.std.proofs.Common.{◌≡◌, ◌++◌, ℕ, ◌<◌, IfSome, List, A
 use Rattle.std.specs.Option.{option_copied}
 use Rattle.gj_shape.specs.FunctionData.{FunctionData}
 use Rattle.gj_derivation.specs.Derivations.{IsUsable, IsReadyStep, IsDerivation}
-use Rattle.gj_derivation.specs.StepLists.{IsFailure, IsChecked}
+use Rattle.gj_derivation.specs.StepLists.{IsFailure, IsChecked, TellsWide}
 use Rattle.gj_derivation.specs.declared.step.Step.{Step}
+use Rattle.gj_derivation.specs.declared.steps.Checked.TheVariants.{Accepted, Failed}
 use Rattle.gj_derivation_text.specs.DerivationInputs.{IsLineOfStep}
 use Rattle.gj_derivation_text.specs.VerdictLines.{accepted_line, rejected_line}
 use Rattle.gj_proof.specs.CutRules.{MakesContinuousCuts}
@@ -37,11 +38,15 @@ returns-in-Accepted c =
     let is = c.rule_in_front-rule.ensures in
     let same : option_copied c.function_in.result ≡ f = c.function_in.ensures ∙ ap function_of is ∙ same_function f in
     let checked : IsChecked (option_copied c.function_in.result) c.args.derivation.problem c.as_slice.result.now c.in_ok-check_steps.field-0 =
-    c.in_ok-check_steps.ensures.is in (
+    c.in_ok-check_steps.ensures.is in
+    let told : TellsWide (option_copied c.function_in.result) c.args.derivation.problem c.as_slice.result.now c.in_ok-check_steps.field-0 =
+    c.in_ok-check_steps.ensures.narrow in (
       usable f (subst IsBoundedRule is bounded) (subst MakesContinuousCuts is makes),
       record {
         derivation = subst₂ (λ (g : Option FunctionData) (steps : List Step). IsDerivation g c.args.derivation.problem steps) same c.as_slice.ensures
             (rw c.in-Accepted.is at checked);
+        wide = subst₂ (λ (g : Option FunctionData) (steps : List Step). TellsWide g c.args.derivation.problem steps Accepted) same c.as_slice.ensures
+            (rw c.in-Accepted.is at told);
         spelled = c.in_ok-push_accepted-in-Accepted.ensures ∙ ap (λ (xs : List ℕ). xs ++ accepted_line) c.new-text.ensures.items;
       },
     )
@@ -64,6 +69,8 @@ returns c =
     let same : option_copied c.function_in.result ≡ f = c.function_in.ensures ∙ ap function_of is ∙ same_function f in
     let p = c.args.derivation.problem in
     let checked : IsChecked (option_copied c.function_in.result) p c.as_slice.result.now c.in_ok-check_steps.field-0 = c.in_ok-check_steps.ensures.is in
+    let told : TellsWide (option_copied c.function_in.result) p c.as_slice.result.now c.in_ok-check_steps.field-0 =
+    c.in_ok-check_steps.ensures.narrow in
     let failure = c.in-Failed.failure in (
       usable f (subst IsBoundedRule is bounded) (subst MakesContinuousCuts is makes),
       record {
@@ -72,6 +79,8 @@ returns c =
         narrow = λ derivation. wide_only c.in_ok-check_steps.field-0 failure c.in-Failed.is
             (c.in_ok-check_steps.ensures.exact
             (subst₂ (λ (g : Option FunctionData) (steps : List Step). IsDerivation g p steps) (sym same) (sym c.as_slice.ensures) derivation));
+        wide = subst₂ (λ (g : Option FunctionData) (steps : List Step). TellsWide g p steps (Failed failure)) same c.as_slice.ensures
+            (rw c.in-Failed.is at told);
         at_line = c.line_of_step-at_line.result;
         begins = subst (λ (left : List ℕ). IsLineOfStep c.args.input.now left failure.step c.line_of_step-at_line.result)
             c.as_slice-in-Failed.ensures c.line_of_step-at_line.ensures;

@@ -1,4 +1,4 @@
-use Rattle.std.proofs.Common.{◌≡◌, ℕ, List, All, length, inl, inr, sym, ap, subst, ◌∙◌}
+use Rattle.std.proofs.Common.{List, All, inl, inr, sym, ap, subst, ◌∙◌}
 use Rattle.std.specs.Option.{option_copied}
 use Rattle.gj_derivation.specs.Derivations.{IsReady, IsDerivation}
 use Rattle.gj_derivation.specs.Drafts.{steps_of, DerivedIsDerivation}
@@ -8,8 +8,8 @@ use Rattle.gj_derivation.specs.declared.draft.Shown.{Shown}
 use Rattle.gj_derivation_text.specs.declared.input.DraftInput.{DraftInput}
 use Rattle.gj_problem.specs.declared.problem.Problem.{Problem}
 use Rattle.gj_derivation_text.specs.VerdictLines.{rejected_line}
-use Rattle.gj_top.specs.Derive.{IsDerived, IsFilledIn, NamesLost, shown_names}
-use Rattle.gj_top.proofs.DerivationReplies.{ready_drafts, derived_over, failed_within, lost_within, lost_below, names_enough}
+use Rattle.gj_top.specs.Derive.{IsDerived, TellsWideDrafts, IsFilledIn, NamesLost, shown_names}
+use Rattle.gj_top.proofs.DerivationReplies.{ready_drafts, derived_over, told_over, failed_within, lost_within, lost_below, names_enough}
 use Rattle.gj_top.proofs.derive.derived_reply.Goals as goal
 
 pub derived_steps-requires-clause-ready : goal.derived_steps-requires-clause-ready
@@ -51,12 +51,14 @@ pub returns-in_ok-failed_text-in-Failed : goal.returns-in_ok-failed_text-in-Fail
 returns-in_ok-failed_text-in-Failed c =
     let a : DraftInput = record { function = option_copied c.args.function; drafts = c.args.drafts.now } in
     let all : IsDerived a c.in_ok-shown.field-0 = derived_over a _ _ _ c.in_ok-problem.ensures c.as_slice-steps.ensures c.in_ok-shown.ensures.is in
+    let told : TellsWideDrafts a c.in_ok-shown.field-0 = told_over a _ _ c.in_ok-shown.field-0 c.in_ok-problem.ensures c.as_slice-steps.ensures c.in_ok-shown.ensures.narrow in
     let text = c.in_ok-failed_text-in-Failed.ensures in (
       c.requires.usable,
       inl (record {
         failure = c.in-Failed.failure;
         shown = c.in-Failed.shown;
         derived = rw c.in-Failed.is at all;
+        wide = rw c.in-Failed.is at told;
         at_line = text.0;
         begins = text.1;
         spelled = text.2 ∙ ap (λ (xs : List Shown). rejected_line c.args.drafts.now.task.names (shown_names c.args.drafts.now xs) text.0
@@ -68,12 +70,14 @@ pub returns-in_ok-lost_text-in-Lost : goal.returns-in_ok-lost_text-in-Lost
 returns-in_ok-lost_text-in-Lost c =
     let a : DraftInput = record { function = option_copied c.args.function; drafts = c.args.drafts.now } in
     let all : IsDerived a c.in_ok-shown.field-0 = derived_over a _ _ _ c.in_ok-problem.ensures c.as_slice-steps.ensures c.in_ok-shown.ensures.is in
+    let told : TellsWideDrafts a c.in_ok-shown.field-0 = told_over a _ _ c.in_ok-shown.field-0 c.in_ok-problem.ensures c.as_slice-steps.ensures c.in_ok-shown.ensures.narrow in
     let text = c.in_ok-lost_text-in-Lost.field-0.items in (
       c.requires.usable,
       inr (record {
         step = c.in-Lost.step;
         shown = c.in-Lost.shown;
         derived = rw c.in-Lost.is at all;
+        wide = rw c.in-Lost.is at told;
         names = subst (λ (xs : List Shown). NamesLost c.args.input.now c.args.drafts.now c.in-Lost.step xs text) c.as_slice-in-Lost.ensures
             c.in_ok-lost_text-in-Lost.ensures;
       }),
@@ -85,11 +89,13 @@ returns-in_ok-derived_text-in-All c =
     let p = c.in_ok-problem.problem in
     let all : IsDerived a c.in_ok-shown.field-0 = derived_over a _ _ _ c.in_ok-problem.ensures c.as_slice-steps.ensures c.in_ok-shown.ensures.is in
     let derivation : DerivedIsDerivation (option_copied c.args.function) p c.in_ok-shown.field-0 = c.in_ok-shown.ensures.derivation in
+    let told : TellsWideDrafts a c.in_ok-shown.field-0 = told_over a _ _ c.in_ok-shown.field-0 c.in_ok-problem.ensures c.as_slice-steps.ensures c.in_ok-shown.ensures.narrow in
     let text = c.in_ok-derived_text-in-All.field-0.items in (
       c.requires.usable,
       record {
         shown = c.in-All.shown;
         derived = rw c.in-All.is at all;
+        wide = rw c.in-All.is at told;
         derivation = subst (λ (q : Problem). IsDerivation (option_copied c.args.function) q (steps_of c.in-All.shown)) c.in_ok-problem.ensures
             (rw c.in-All.is at derivation);
         filled_in = subst (λ (xs : List Shown). IsFilledIn a xs text) c.as_slice.ensures c.in_ok-derived_text-in-All.ensures;
