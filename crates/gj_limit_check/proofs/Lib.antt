@@ -4,7 +4,6 @@ pub mod PlainClaims
 pub mod FirstLimitDemand
 pub mod LimitHalvesMeaning
 pub mod LimitHalvesDemands
-pub mod LinearRows
 pub mod LineCovers
 pub mod SolutionNumbers
 pub mod KeptGroups

@@ -34,7 +34,7 @@ use Rattle.gj_limit_proof.specs.LimitRowsKept.{named_row, row_kept_by, rows_behi
 use Rattle.gj_limit_proof.specs.LimitRules.{MeetsLimitRow, group_demands_by, DemandHolds, MeetsLimitRules}
 use Rattle.gj_limit_proof.specs.LimitText.{AreLimitExtremeLines, IsLimitPivotRowBelow}
 use Rattle.gj_limit_check.proofs.KeptGroups.{HavePivots, rows_of, groups_leave_zero}
-use Rattle.gj_limit_check.proofs.LinearRows.{linear_same, row_linear, named_products}
+use Rattle.gj_limit_proof.proofs.LinearRows.{linear_same, row_linear, named_products}
 use Rattle.gj_limit_check.proofs.LineCovers.{covered_by_line}
 use Rattle.gj_limit_check.proofs.PlainRules.{zero_function, MeetLimitCovers, plain_rules}
 use Rattle.gj_limit_check.proofs.SolutionNumbers.{number, row_solved, solution_zero}

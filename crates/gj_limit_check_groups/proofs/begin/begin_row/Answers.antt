@@ -4,7 +4,8 @@ use Rattle.gj_shape.specs.SlopeRows.{component_in}
 use Rattle.gj_proof.specs.PresentRows.{arithmetic_of}
 use Rattle.gj_limit_system.specs.Unknowns.{columns_for}
 use Rattle.gj_limit_check_groups.specs.Changes.{read_entries}
-use Rattle.gj_limit_check_groups.proofs.NamedEntries.{is_read, dense_named}
+use Rattle.gj_limit_proof.proofs.NamedEntries.{dense_named}
+use Rattle.gj_limit_check_groups.proofs.NamedEntries.{is_read}
 use Rattle.gj_limit_check_groups.proofs.begin.begin_row.Goals as goal
 
 pub returns-clause-row : goal.returns-clause-row
