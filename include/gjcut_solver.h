@@ -125,7 +125,7 @@ static inline int gjcut_write_problem(struct gjcut_text *text, const struct gjcu
     for (int i = 0; i < p->rows; i++)
         if (multipliers[i] != 0)
             gjcut_write(text, " %lld/%lld", llround(multipliers[i] * (double)parts), parts);
-    gjcut_write(text, "\ngrid %ld\nend\n", grid);
+    gjcut_write(text, "\nround %ld\ngrid %ld\nend\n", grid, grid);
     return 1;
 }
 
@@ -163,10 +163,11 @@ static inline void gjcut_read_cut(const char *line, struct gjcut_inequality *cut
 }
 
 /* The cut that the mixed-integer rule gives of the sum of the rows, each times its multiplier, with
- * numbers over the grid, a power of two. A row with two sides stands for its upper one if
- * `row_at_upper` has 1 for it, and a column with 1 in `at_upper` is turned by its upper bound. Any
- * multipliers give a cut that holds; those of a row of the inverse of the basis, one that the
- * vertex does not meet. The status is that of the call. */
+ * numbers over the grid, a power of two, as all numbers on the way to it are, so that none grows
+ * long. A row with two sides stands for its upper one if `row_at_upper` has 1 for it, and a column
+ * with 1 in `at_upper` is turned by its upper bound. Any multipliers give a cut that holds; those of
+ * a row of the inverse of the basis, one that the vertex does not meet. The status is that of the
+ * call. */
 static inline int gjcut_cut(const struct gjcut_program *p, const double *multipliers,
                             const char *row_at_upper, const char *at_upper, long grid,
                             struct gjcut_inequality *cut) {

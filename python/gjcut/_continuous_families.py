@@ -40,14 +40,15 @@ LIFTINGS = (
 )
 K_CUTS = (
     "Cornuéjols, Li and Vandenbussche, K-cuts: a variation of Gomory mixed integer cuts from the "
-    "LP tableau (INFORMS Journal on Computing 15, 2003); that a multiple of x keeps extreme "
-    "functions: Gomory and Johnson (1972)"
+    "LP tableau (INFORMS Journal on Computing 15, 2003); that it is extreme: the two-slope theorem "
+    "of Gomory and Johnson (1972)"
 )
 CYCLIC = (
     "Gomory, Some polyhedra related to combinatorial problems (Linear Algebra and its Applications "
     "2, 1969), for the facet; of such functions: " + DRLM
 )
 SEARCH = "Köppe and Zhou, by computer search (in cutgeneratingfunctionology)"
+COMPENDIUM = "formula, range: they are those of the compendium, as we remember it."
 
 
 @family("0 < f < 1", source=GOMORY)
@@ -81,7 +82,11 @@ def gj_forward_3_slope(f: Number = "4/5", lambda_1: Number = "4/9", lambda_2: Nu
     return f, symmetric(f, [(Fraction(0), Fraction(0)), *front])
 
 
-@family("0 < f < bkpt", "4 * bkpt < 1 + f", source=DRLM)
+@family(
+    "0 < f < bkpt", "4 * bkpt < 1 + f", source=DRLM,
+    unsettled="range: whether the source has 4 * bkpt = 1 + f in it. The program calls members "
+    "there extreme.",
+)  # fmt: skip
 def drlm_backward_3_slope(f: Number = "1/12", bkpt: Number = "2/12"):
     """Three slopes. The breakpoints are 0, f, b and 1 + f - b, with b for bkpt, and the values
     there are 0, 1, b/(1 + f) and 1 - b/(1 + f)."""
@@ -108,6 +113,8 @@ def _rests(f: Fraction, a: Sequence[Fraction]) -> List[Fraction]:
 
 def _n_steps(f: Fraction, a: Sequence[Fraction]) -> Points:
     rests = _rests(f, a)
+    if min(rests) <= 0:
+        raise ZeroDivisionError("a rising piece has no length")
     lengths = [rests[-1], a[-1] - rests[-1]]
     for i in range(len(a) - 2, -1, -1):
         # Each rise of the length rests[i] becomes so many shorter ones.
@@ -187,7 +194,7 @@ def _liftings(r0: Fraction, z1: Fraction, first: Fraction, second: Fraction) -> 
     return [(Fraction(0), Fraction(0)), (r0, Fraction(1)), *back]
 
 
-@family("0 < r0", "0 < z1", "3 * r0 + 8 * z1 <= 1", source=LIFTINGS)
+@family("0 < r0", "0 < z1", "3 * r0 + 8 * z1 <= 1", source=LIFTINGS, unsettled=COMPENDIUM)
 def mlr_cpl3_b_3_slope(r0: Number = "3/26", z1: Number = "1/13"):
     """f is r0. From 0 to 2 z1 behind f the slope is (2 z1 - 1)/(2 z1 (1 + r0)), and as far before
     1. Between these it is 1/(1 + r0). It is drlm_backward_3_slope with b = r0 + 2 z1."""
@@ -195,7 +202,7 @@ def mlr_cpl3_b_3_slope(r0: Number = "3/26", z1: Number = "1/13"):
     return r0, _liftings(r0, z1, slope, slope)
 
 
-@family("0 < r0", "0 < z1", "3 * r0 + 4 * z1 <= 1", source=LIFTINGS)
+@family("0 < r0", "0 < z1", "3 * r0 + 4 * z1 <= 1", source=LIFTINGS, unsettled=COMPENDIUM)
 def mlr_cpl3_c_3_slope(r0: Number = "5/24", z1: Number = "1/12"):
     """f is r0. From 0 to z1 behind f the slope is (z1 - 1)/(z1 (1 + r0)), and as far before 1.
     Between these it is 1/(1 + r0). It is drlm_backward_3_slope with b = r0 + z1."""
@@ -203,7 +210,7 @@ def mlr_cpl3_c_3_slope(r0: Number = "5/24", z1: Number = "1/12"):
     return r0, _liftings(r0, z1, slope, 1 / (1 + r0))
 
 
-@family("0 < z1", "r0 == 2 * z1", "r0 + 8 * z1 <= 1", source=LIFTINGS)
+@family("0 < z1", "r0 == 2 * z1", "r0 + 8 * z1 <= 1", source=LIFTINGS, unsettled=COMPENDIUM)
 def mlr_cpl3_d_3_slope(r0: Number = "1/6", z1: Number = "1/12"):
     """f is r0. Behind f come two pieces of the length z1, with the slopes (2 z1 + 1)/(2 z1 (r0 -
     1)) and (1 - 2 z1)/(2 z1 (1 - r0)), before 1 the same in the other order, and between them one
@@ -212,7 +219,10 @@ def mlr_cpl3_d_3_slope(r0: Number = "1/6", z1: Number = "1/12"):
     return r0, _liftings(r0, z1, first, (1 - 2 * z1) / (2 * z1 * (1 - r0)))
 
 
-@family("0 < r0 < z1", "2 * r0 + 4 * z1 == 1", source=LIFTINGS)
+@family(
+    "0 < r0 < z1", "2 * r0 + 4 * z1 == 1", source=LIFTINGS,
+    unsettled=f"{COMPENDIUM} The program calls the member with r0 = z1 extreme too.",
+)  # fmt: skip
 def mlr_cpl3_g_3_slope(r0: Number = "1/12", z1: Number = "5/24"):
     """f is r0. Behind f come two pieces of the length z1, with the slopes 3/(3 r0 - 1) and
     (1 - 3 z1)/(z1 (1 - 3 r0)), before 1 the same in the other order, and between them one of the
@@ -220,14 +230,20 @@ def mlr_cpl3_g_3_slope(r0: Number = "1/12", z1: Number = "5/24"):
     return r0, _liftings(r0, z1, 3 / (3 * r0 - 1), (1 - 3 * z1) / (z1 * (1 - 3 * r0)))
 
 
-@family("r0 == 2 * z1", "6 * z1 <= 1 < 7 * z1", source=LIFTINGS)
+@family(
+    "r0 == 2 * z1", "6 * z1 <= 1 < 7 * z1", source=LIFTINGS,
+    unsettled=f"{COMPENDIUM} The program calls the member with 7 * z1 = 1 extreme too.",
+)  # fmt: skip
 def mlr_cpl3_l_2_slope(r0: Number = "8/25", z1: Number = "4/25"):
     """f is r0. Behind f come two pieces of the length z1, with the slopes 2/(2 r0 - 1) and 1/r0,
     before 1 the same in the other order, and between them one of the slope 2/(2 r0 - 1)."""
     return r0, _liftings(r0, z1, 2 / (2 * r0 - 1), 1 / r0)
 
 
-@family("0 < z1", "r0 > 2 * z1", "r0 + 8 * z1 <= 1", source=LIFTINGS)
+@family(
+    "0 < z1", "r0 > 2 * z1", "r0 + 8 * z1 <= 1", source=LIFTINGS,
+    unsettled=f"{COMPENDIUM} The program calls members with r0 = 2 * z1 extreme too.",
+)  # fmt: skip
 def mlr_cpl3_n_3_slope(r0: Number = "16/25", z1: Number = "1/25"):
     """f is r0. Behind f come two pieces of the length z1, with the slopes (1 + r0)/(r0 (r0 - 1))
     and 1/r0, before 1 the same in the other order, and between them one of the slope
@@ -235,7 +251,11 @@ def mlr_cpl3_n_3_slope(r0: Number = "16/25", z1: Number = "1/25"):
     return r0, _liftings(r0, z1, (1 + r0) / (r0 * (r0 - 1)), 1 / r0)
 
 
-@family("0 < b <= a < f < 1 - b", "f <= a + b", "2 * f <= 1 + a - b", source=SEARCH)
+@family(
+    "0 < a < f < 1 - b", "2 * b - a <= f <= a + b", "2 * f <= 1 + a - b", source=SEARCH,
+    unsettled="range, source: the range is as we remember it, and where it is published we do not "
+    "know. Of members with 2 * f > 1 + a - b the program calls some extreme, and others not.",
+)  # fmt: skip
 def kzh_3_slope_param_extreme_2(f: Number = "5/9", a: Number = "3/9", b: Number = "2/9"):
     """Three slopes. Let v = (f - a)(2 - f - b)/(4 f (1 - f - b)). The breakpoints are 0, (f - a)/4,
     (f - a)/2, (f + a)/2, f - (f - a)/4, f, (1 + f - b)/2 and (1 + f + b)/2. The values there are 0,
@@ -261,6 +281,7 @@ def k_cut(f: Number = "2/5", k: int = 2):
     ("the function is minimal", lambda k, signs: _is_minimal(k, signs)),
     source="Gomory and Johnson, Some continuous functions related to corner polyhedra II "
     "(Mathematical Programming 3, 1972): the two-slope theorem",
+    unsettled="source: in which of the two parts of the article the theorem stands.",
 )
 def two_slope(k: int = 5, signs: str = "++-++---"):
     """It rises on the intervals of one length with the sign + and falls on those with -, by one
@@ -280,7 +301,11 @@ def _is_minimal(k: int, signs: str) -> bool:
     return gjcut.minimal(two_slope(k, signs, check_range=False)).claim == "minimal"
 
 
-@family(source=CYCLIC, known="not-extreme")
+@family(
+    source=CYCLIC, known="not-extreme",
+    unsettled="source: where the function stands first. In the compendium it is, as we remember "
+    "it, drlm_not_extreme_1.",
+)  # fmt: skip
 def extreme_at_order_7():
     """One function, with f = 6/7 and the values 0, 2/5, 4/5, 1/2, 1/5, 3/5 and 1 at the multiples
     of 1/7. Its table of order 7 is extreme, and the function is not."""

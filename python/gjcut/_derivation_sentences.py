@@ -74,12 +74,12 @@ DERIVATION_SENTENCES = [
         when=LINE + "form", line=r"^\s*entry\b",
     ),
     Sentence(
-        see="`form` in a derivation, at `upper` or `sum` before the first step",
+        see="`form` in a derivation, at `upper`, `sum` or `round` before the first step",
         means="a problem text has such lines, and a derivation has steps",
         do="write a step, with a line `by` for each multiplier, and `upper` inside of it",
         words="check", input=derivation(STEP, "sum -1\n" + STEP), answer="refused line 5 form",
-        when=LINE + "form", line=r"^\s*(upper|sum)\b",
-        around=r"\A\s*(gj-derivation|column|constraint|entry|upper|sum|grid)\b",
+        when=LINE + "form", line=r"^\s*(upper|sum|round)\b",
+        around=r"\A\s*(gj-derivation|column|constraint|entry|upper|sum|grid|round)\b",
     ),
     Sentence(
         see="`form` in a derivation, at `grid`",

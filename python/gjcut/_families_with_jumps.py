@@ -11,6 +11,7 @@ STRONG = (
     "Letchford and Lodi, Strengthening Chvátal-Gomory cuts and Gomory fractional cuts (Operations "
     "Research Letters 30, 2002); for the range, the compendium"
 )
+PROVED_BY = "source: who proved first that it is extreme. The range is the compendium's."
 LIFTED = (
     "Richard, Li and Miller, Valid inequalities for MIPs and group polyhedra from approximate "
     "liftings (Mathematical Programming 118, 2009)"
@@ -24,7 +25,7 @@ OWN = "our own; the family `half` of function texts"
 ZERO, ONE = Fraction(0), Fraction(1)
 
 
-@family("0 < f < 1", "2 * f >= 1", source=STRONG)
+@family("0 < f < 1", "2 * f >= 1", source=STRONG, unsettled=PROVED_BY)
 def ll_strong_fractional(f: Number = "2/3"):
     """The strong fractional cut. Let k be the least whole number that is not below 1/f - 1. The
     function is x/f from 0 to f. The rest of the period has k equal pieces, open on the left, and
@@ -80,7 +81,11 @@ def drlm_2_slope_limit(
     return f, points
 
 
-@family("0 < f", "3 * f < 1", source=DRLM)
+@family(
+    "0 < f", "3 * f < 1", source=DRLM,
+    unsettled="range: whether the source has 3 * f = 1 in it. The program calls that member "
+    "extreme.",
+)  # fmt: skip
 def drlm_3_slope_limit(f: Number = "1/5"):
     """What drlm_backward_3_slope tends to for b towards f: x/f from 0 to f, x/(1 + f) between f and
     1, and 0 at 1."""
@@ -99,7 +104,11 @@ def rlm_dpl1_extreme_3a(f: Number = "1/4"):
     ]
 
 
-@family(source=HILDEBRAND)
+@family(
+    source=HILDEBRAND,
+    unsettled="values: which of 1/4 and 3/4 is the value at 1/8, and at 5/8. Here it is 3/4, and "
+    "so 1/4 at 3/8 and at 7/8. The program calls all four functions extreme.",
+)
 def hildebrand_2_sided_discont_1_slope_1():
     """One function, with f = 1/2 and the slope 2 on each piece. It jumps from both sides at 0: the
     limits at 0 are 1/2."""

@@ -17,6 +17,7 @@ Points = List[Tuple[Fraction, ...]]
 # words, and the test that they tell.
 Condition = Union[str, Tuple[str, Callable[..., bool]]]
 NAMES = {"__builtins__": {}, "ceil": ceil}
+NOT_SETTLED = "Not settled:"
 
 
 class OutOfRange(ValueError):
@@ -29,7 +30,8 @@ class Family(NamedTuple):
 
     `make` is the call, which takes the parameters and has an example as its defaults. `known` is
     the verdict that is known in the range: `extreme`, `not-extreme`, `minimal` or `not-minimal`.
-    The `range` has the conditions, all of which must hold.
+    The `range` has the conditions, all of which must hold. `unsettled` says what of formula, range
+    and source is not certain, and is empty if nothing is.
     """
 
     name: str
@@ -38,13 +40,14 @@ class Family(NamedTuple):
     known: str
     range: Tuple[str, ...]
     formula: str
+    unsettled: str = ""
 
 
 # Each family by its name, in the order of the page.
 FAMILIES: Dict[str, Family] = {}
 
 
-def family(*conditions: Condition, source: str, known: str = "extreme"):
+def family(*conditions: Condition, source: str, known: str = "extreme", unsettled: str = ""):
     """Makes a family of a call from exact numbers to f and breakpoints."""
     told = tuple(each if isinstance(each, str) else each[0] for each in conditions)
     range_ = f"{known.replace('-', ' ').capitalize()} if {_joined(told)}." if told else ""
@@ -82,8 +85,9 @@ def family(*conditions: Condition, source: str, known: str = "extreme"):
             parameters=[*parameters.values(), asked], return_annotation=Function
         )
         formula = inspect.getdoc(build) or ""
-        make.__doc__ = "\n\n".join(filter(None, [formula, range_, f"Source: {source}."]))
-        FAMILIES[name] = Family(name, make, source, known, told, formula)
+        doubt = f"{NOT_SETTLED} {unsettled}" if unsettled else ""
+        make.__doc__ = "\n\n".join(filter(None, [formula, range_, f"Source: {source}.", doubt]))
+        FAMILIES[name] = Family(name, make, source, known, told, formula, unsettled)
         return make
 
     return decorated

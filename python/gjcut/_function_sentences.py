@@ -26,6 +26,16 @@ CHECK, NO_CHECK = r"^check$", r"^(?!check$)"
 FUNCTION_SENTENCES = [
     # ---- words
     Sentence(
+        see="`words refused` from `times` or `restrict`, with the name of a file",
+        means="a number is missing before the name of the file",
+        do=(
+            "write `python3 -m gjcut times N J FILE`, with N from 1 to 500 and J below N, or "
+            "`restrict D FILE`, with D from 2 to 1,000"
+        ),
+        words="times 3 five.txt", input=FIVE, answer="words refused",
+        when="words refused", command=r"^(times|restrict)\b.*[./]",
+    ),
+    Sentence(
         see="`words refused`, with the name of a file",
         means="the name of a file is no word of a command",
         do="write `gjcut minimal < FILE`, or `python3 -m gjcut minimal FILE`",

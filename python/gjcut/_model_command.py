@@ -9,6 +9,7 @@ from typing import Mapping
 
 from . import _files, _mps, _progress, model
 from ._optional import PackageMissing
+from ._problems import MOST_ROUND, ROUND
 
 # The statuses: GLPK does not read the file; it is not there; a file cannot be written; there is no
 # bound, or there are no cuts; a package is missing; the time was over; Ctrl-C.
@@ -31,7 +32,7 @@ def add_parsers(commands) -> None:
     seconds = "end the rounds after this time"
     made.add_argument("--seconds", metavar="S", type=_seconds, help=seconds)
     parts = "multipliers, and data of many digits, are taken over this: 2^20, if not given"
-    made.add_argument("--round", metavar="N", type=_count, default=2**20, help=parts)
+    made.add_argument("--round", metavar="N", type=_parts, default=ROUND, help=parts)
     grid = "the numbers of the cuts are taken over this: 2^20, if not given"
     made.add_argument("--grid", metavar="N", type=_count, default=2**20, help=grid)
     only = "take rows of the inverse of the basis alone, and none for mixed-integer rounding"
@@ -46,6 +47,12 @@ def add_parsers(commands) -> None:
 def _count(word: str) -> int:
     if not (word.isascii() and word.isdigit() and len(word) < 20 and int(word)):
         raise argparse.ArgumentTypeError(f"{word} is no whole number from 1 on")
+    return int(word)
+
+
+def _parts(word: str) -> int:
+    if _count(word) > MOST_ROUND:
+        raise argparse.ArgumentTypeError(f"{word} is above {MOST_ROUND}")
     return int(word)
 
 

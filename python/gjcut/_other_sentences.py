@@ -75,6 +75,13 @@ OTHER_SENTENCES = [
     ),
     # ---- tableaux
     Sentence(
+        see="`header`, though no record is wrong",
+        means="there is no tableau after the line `end`",
+        do="write it there, in lines that begin with `basic,rhs,x1,..`",
+        words="cut", input=GMIC, answer="refused record 1 header",
+        when=RECORD + "header", is_past=True,
+    ),
+    Sentence(
         see="`header`",
         means=(
             "the first record is not `basic,rhs,` and the names of the columns; often another "

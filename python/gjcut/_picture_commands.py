@@ -117,7 +117,7 @@ def _report_on(chosen: argparse.Namespace) -> int:
     page = _report.page_of(entries, _build.build(), not _build.RECORD.exists())
     _files.write(chosen.output, page.encode(), chosen.force)
     count = len(entries)
-    print(f"{chosen.output}: a report on {count} function{'s'[: count > 1]}")
+    print(f"{chosen.output}: a report on {count} file{'s'[: count > 1]}")
     return worst
 
 

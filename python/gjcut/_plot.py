@@ -256,7 +256,7 @@ def _entries_of(pieces: Sequence[Piece]) -> List[_Entry]:
     if len(numbers) > MOST_COMPONENTS:
         more = len(numbers) - MOST_COMPONENTS
         entries.append(_Entry(f"{more} more component{'s'[: more > 1]}", INK, line=""))
-    if None in slopes and numbers:
+    if None in slopes:
         entries.append(_Entry("uncovered", INK))
     return entries
 
@@ -395,10 +395,11 @@ FOOT, HEAD, RIGHT = 0.56, 0.3, 0.18
 
 
 def _draw_graph(function: Function, verdict: Optional[Verdict], figure, width: float) -> Picture:
-    pieces = pieces_of(function, _components(function))
+    components = _components(function)
+    pieces = pieces_of(function, components)
     violation = None if verdict is None else verdict.violation
     marks = _marks_of(function, violation) if violation else []
-    entries = _entries_of(pieces)
+    entries = _entries_of(pieces) if components else []
     entries += [_Entry(mark.label, ALERT, line="", mark=mark.mark) for mark in marks]
     sheet = _Sheet(figure, width, 0.52 * width + FOOT + _legend_of(entries, width).height)
     legend = _legend_of(entries, sheet.width)
@@ -480,6 +481,17 @@ def _add_dots(axes, function: Function, colour: str = INK, of_what: str = "") ->
             )  # fmt: skip
 
 
+def _add_common_values(axes, first: Function, second: Function) -> None:
+    """Where both jump and have one value, the dot of neither."""
+    jumps = {x for x, *sides in first.breakpoints if len(set(sides)) > 1}
+    common = [x for x in jumps if x and first.at(x) == second.at(x)]
+    if common:
+        axes.plot(
+            list(map(float, common)), [float(first.at(x)) for x in common], "o", markersize=4.5,
+            color=INK, zorder=5, clip_on=False, gid="values-of-both-halves",
+        )  # fmt: skip
+
+
 class _Mark(NamedTuple):
     """A point of a graph that has a part in a violation."""
 
@@ -552,6 +564,7 @@ def _draw_halves(function: Function, verdict: Verdict, figure, width: float) -> 
         _add_line(above, shown, colour, line, name, 1.5)
         _add_dots(above, shown, colour, f"-of-{name}")
     _add_dots(above, function)
+    _add_common_values(above, first, second)
     _add_line(below, difference, COLOURS[2], "-", "difference", 1.5)
     _add_dots(below, difference, COLOURS[2], "-of-difference")
     _add_legend(sheet, legend)

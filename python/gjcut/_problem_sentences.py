@@ -76,19 +76,19 @@ PROBLEM_SENTENCES = [
     Sentence(
         see="`form` in a problem, at another line",
         means=(
-            "no line of a problem has these words; or it is a second `grid`, or has a word too "
-            "many or too few"
+            "no line of a problem has these words; or it is a second `grid` or `round`, or has a "
+            "word too many or too few"
         ),
         do="look at [Problem text and its cuts](#problem-text-and-its-cuts)",
         words=WORDS, input=problem("end", "grid 4\ngrid 4\nend"), answer="refused line 8 form",
         when=LINE + "form",
     ),
     Sentence(
-        see="`number` in a problem, at `grid`",
+        see="`number` in a problem, at `grid` or `round`",
         means="a grid is a whole number from 1 to 4,294,967,295",
-        do="take 1048576, which is 2^20: all numbers of the cut are then multiples of 1/2^20",
+        do="take 1048576, which is 2^20: all numbers are then multiples of 1/2^20",
         words=WORDS, input=problem("end", "grid 0\nend"), answer="refused line 7 number",
-        when=LINE + "number", line=r"^\s*grid\b",
+        when=LINE + "number", line=r"^\s*(grid|round)\b",
     ),
     Sentence(
         see="`number` in a problem, at a long number",

@@ -16,6 +16,9 @@ from ._refusals import NAME, REFUSED, RIGHT, WIDEST, Place
 
 # A float is taken as a multiple of one over the first of these with which a number is not too wide.
 DENOMINATORS = (2**40, 2**30, 2**20)
+# All numbers on the way to a cut are multiples of one over this, if the caller says nothing else,
+# and he may say this at most.
+ROUND, MOST_ROUND = 2**20, 2**31 - 1
 GMIC = ("gj-problem 1\n", "rule gmic\n")
 WHOLE, CONTINUOUS, SENSES = "whole", "continuous", ("<=", ">=", "=")
 # The bounds of a column, as a refusal names them.
@@ -67,6 +70,7 @@ class Given(NamedTuple):
     constraints: Sequence[Constraint]
     at_upper: Sequence[str]
     grid: Optional[int]
+    round: Optional[int]
 
 
 def safe_cut(
@@ -76,6 +80,7 @@ def safe_cut(
     rule: Rule = "gmic",
     at_upper: Iterable[str] = (),
     grid: Optional[int] = None,
+    round: Optional[int] = ROUND,
 ) -> SafeCut:
     """The cut of a mixed-integer program that the rule gives of the sum of its constraints, each
     times its multiplier.
@@ -88,18 +93,26 @@ def safe_cut(
     the same fields serves as a `Column` or a `Constraint`. A value of another type raises
     `TypeError`, which says where it stands.
 
+    Data, and the entries of the row, are taken over `round`, each in the direction in which the cut
+    holds: so no number grows long, and the cut is weaker by some 1/round. It is None or an int from
+    1 to 2**31 - 1. With None the cut is exact: take that for short numbers, and for a function
+    whose f the sum has only with the exact data.
+
     `skipped` is "integral" (the right side of the sum is whole, and there is no cut), "other" (its
     fractional part is not the f of the function), "free NAME" (this column has no bound, and cannot
-    be left out), "wide" (a number has more than 127 bits), or None. A function that is not minimal,
-    or jumps, raises `Refused`.
+    be left out, or its entry is off the grid of `round`), "wide" (a number has more than 127 bits),
+    or None. A function that is not minimal, or jumps, raises `Refused`.
 
     >>> x, y = Column("x", True, 0, None), Column("y", True, 0, None)
     >>> z = Column("z", False, 0, None)
     >>> first = Constraint("first", {"x": 2, "y": 1}, "<=", 7)
     >>> second = Constraint("second", {"x": 1, "y": 3, "z": -1}, "<=", 9)
-    >>> cut = safe_cut([x, y, z], [first, second], ["3/5", "-1/5"])
+    >>> cut = safe_cut([x, y, z], [first, second], ["3/5", "-1/5"], round=None)
     >>> [f"{value} {name}" for name, value in cut.entries.items()], str(cut.right)
     (['-5/3 x', '-5/3 y', '5/6 z'], '-20/3')
+    >>> cut = safe_cut([x, y, z], [first, second], [0.6, -0.2], grid=2**20)
+    >>> [f"{float(value):.3f} {name}" for name, value in cut.entries.items()]
+    ['-1.667 x', '-1.667 y', '0.833 z']
     """
     given = Given(
         _front(rule),
@@ -107,6 +120,7 @@ def safe_cut(
         constraints_of(constraints),
         names_of(at_upper, "at_upper"),
         None if grid is None else whole(grid, "grid"),
+        round_of(round),
     )
     text, found = "".join(_lines(given)), SafeCut({}, None, "wide", "")
     given_multipliers = items(multipliers, NUMBERS, "multipliers")
@@ -116,6 +130,20 @@ def safe_cut(
         if found.skipped != "wide":
             break
     return found
+
+
+def round_of(given: Optional[int]) -> Optional[int]:
+    """What all numbers are taken over, or None."""
+    if given is None:
+        return None
+    try:
+        parts = whole(given, "round")
+    except TypeError:
+        raise wrong(given, f"an int from 1 to {MOST_ROUND}, or None", "round") from None
+    if not 1 <= parts <= MOST_ROUND:
+        shown = written(parts, "round")
+        raise ValueError(f"round: {shown} is not from 1 to {MOST_ROUND}: write such an int, or None")
+    return parts
 
 
 def _front(rule: Rule) -> Sequence[str]:
@@ -188,6 +216,8 @@ def _lines(given: Given) -> Iterator[str]:
     known = {column.name for column in given.columns}
     for i, constraint in enumerate(given.constraints):
         yield from constraint_lines(i, constraint, known)
+    if given.round is not None:
+        yield line("round", str(given.round))
     if given.grid is not None:
         yield line("grid", written(given.grid, "grid"))
     for i, name in enumerate(given.at_upper):
@@ -200,6 +230,8 @@ def _places(given: Given) -> Iterator[Place]:
     yield from (column_place(i, each) for i, each in enumerate(given.columns))
     for i, constraint in enumerate(given.constraints):
         yield from constraint_places(i, constraint)
+    if given.round is not None:
+        yield Place("round")
     if given.grid is not None:
         yield Place("grid")
     yield from (Place("at_upper", i) for i, _ in enumerate(given.at_upper))

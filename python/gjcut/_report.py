@@ -140,9 +140,10 @@ def _section(i: int, entry: Entry, built: Dict[str, str]) -> Iterator[str]:
     yield f'<section id="function-{i}">'
     yield f"<h2>{escape(entry.name)}</h2>"
     is_refused = entry.function is None or entry.verdict is None
-    kind = "verdict refused" if is_refused else "verdict"
-    yield f'<p class="{kind}">{escape(entry.said)}</p>'
-    if not is_refused:
+    if is_refused:
+        yield f'<p class="verdict refused">{_refusal(entry.said)}</p>'
+    else:
+        yield f'<p class="verdict">{_in_words(entry.said)}</p>'
         yield f'<p class="of">π: {escape(function_in_words(entry.function))}</p>'
         yield from _pictures(i, entry)
         yield from _function(entry.function)
@@ -150,6 +151,20 @@ def _section(i: int, entry: Entry, built: Dict[str, str]) -> Iterator[str]:
         yield from _how_to_check(entry)
         yield from _for_a_paper(entry, built)
     yield "</section>"
+
+
+def _in_words(said: str) -> str:
+    """Words in which code stands between back quotes."""
+    return re.sub("`([^`]*)`", r"<code>\1</code>", escape(said))
+
+
+def _refusal(said: str) -> str:
+    """What a terminal shows of a refusal, without its line breaks: the line at fault is code."""
+    first, *rest = said.split("\n")
+    line = "".join(each.strip() for each in rest if each.startswith("    "))
+    advice = " ".join(each.strip() for each in rest if not each.startswith("    "))
+    shown = [_in_words(first), f"<code>{escape(line)}</code>" if line else "", _in_words(advice)]
+    return "\n".join(filter(None, shown))
 
 
 def _pictures(i: int, entry: Entry) -> Iterator[str]:
@@ -212,7 +227,7 @@ def _proof(entry: Entry) -> Iterator[str]:
     lines = list(explained(entry.verdict.text))
     yield "<h3>The proof, line by line</h3>"
     shown = "\n".join(
-        f"<li><code>{escape(line)}</code> <span>{escape(words)}</span></li>"
+        f"<li><code>{escape(line)}</code> <span>{_in_words(words)}</span></li>"
         for line, words in lines
     )
     listed = f'<ol class="proof">{shown}</ol>'

@@ -22,13 +22,15 @@ FEWER = (1, 2**6, 2**12)
 
 class Way(NamedTuple):
     """How cuts are made: the rule of a step, the parts of a unit for data and multipliers, and for
-    cuts, how many are taken, and whether there are rows for mixed-integer rounding."""
+    cuts, how many are taken, whether there are rows for mixed-integer rounding, and whether data
+    are taken as they come."""
 
     rule: str
     parts: int
     grid: Optional[int]
     limit: int
     has_mir: bool
+    has_own_data: bool = False
 
 
 class Vertex(NamedTuple):
@@ -145,7 +147,9 @@ class RowCuts:
         known = self._known
         given: Dict[str, float] = {}
         for name, value in multipliers.items():
-            line, sign = known.with_few_digits(name, value, parts)
+            line, sign = known.lines[name], 1
+            if not self._way.has_own_data:
+                line, sign = known.with_few_digits(name, value, parts)
             given[line.name] = sign * value
         chosen = fractions_near(given, MOST) if parts == self._way.parts else None
         if chosen is None:

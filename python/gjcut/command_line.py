@@ -257,7 +257,9 @@ def _sentence(chosen: argparse.Namespace, text: str, status: int, said: str) -> 
     if command in ("cut", "mixed"):
         return "\n".join(_cuts(said))
     if command == "problem":
-        return "\n".join(_cuts_of_problem(said))
+        is_exact = not re.search(r"^\s*round\s", text, re.M)
+        hint = ["  Try a line `round 1048576` in the problem, which keeps most numbers short."]
+        return "\n".join(_cuts_of_problem(said) + hint * (is_exact and "\nskip wide\n" in said))
     if command == "derive":
         return _judged(text, status, said) if status else "\n".join(_derived(said))
     return _group(text, said) if command == "group" else said
@@ -393,7 +395,9 @@ def _refused(words: str, text: str, status: int, said: str, name: str) -> Result
     if found:
         _, line, _ = line_at_fault(text, said)
         shown = [f"{name}, {found[1]} {found[2]}: refused, {found[3]}"]
-        shown += [f"    {line[:200]}"] if line.strip() else []
+        # A file of another kind can have signs that a terminal obeys.
+        seen = "".join(sign if sign.isprintable() or sign == "\t" else "\ufffd" for sign in line)
+        shown += [f"    {seen[:200]}"] if line.strip() else []
     else:
         shown = [f"{name}: {said or f'status {status}'}"]
     if parts:

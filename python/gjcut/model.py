@@ -23,7 +23,7 @@ from ._functions import Rule, text_of_rule
 from ._known import Known
 from ._mixed_rounding import MixedRounding
 from ._lines import Entries, Line, range_of
-from ._problems import Column, Constraint
+from ._problems import DENOMINATORS, ROUND, Column, Constraint, round_of
 from ._refusals import Refused
 from ._relaxation import Relaxation, SimplexFailed, TimeOver, Unreadable
 from ._row_cuts import RowCuts, Vertex, Way, in_doubles
@@ -310,7 +310,7 @@ class Model:
         self,
         rounds: int = 10,
         rule: Rule = "gmic",
-        round: int = 2**20,
+        round: Optional[int] = ROUND,
         grid: Optional[int] = 2**20,
         limit: int = 100,
         mir: bool = True,
@@ -320,8 +320,9 @@ class Model:
         """Makes rounds of cuts of the rows of the relaxation, and puts them into it.
 
         Data of many digits, and multipliers, are taken over `round`, or that times a power of two,
-        and the numbers of cuts likewise over `grid`; with `grid` None they are as they come. A
-        round takes at most `limit` cuts, the deepest. With `mir` other sums of constraints are
+        and the numbers of cuts likewise over `grid`; with `grid` None they are as they come. With
+        `round` None data are as they come, and multipliers over 2**40; more rows are too wide then.
+        A round takes at most `limit` cuts, the deepest. With `mir` other sums of constraints are
         tried besides the rows of the basis, for mixed-integer rounding. After each round `callback`
         is called, and if it returns True that is the last. The rounds end too where one finds no
         cut, and after so many seconds; then `ended` says why. All rounds are in `rounds`, also
@@ -352,10 +353,10 @@ class Model:
         return found
 
     def _way(
-        self, rule: Rule, parts: int, grid: Optional[int], limit: int, has_mir: bool
+        self, rule: Rule, parts: Optional[int], grid: Optional[int], limit: int, has_mir: bool
     ) -> Way:
         """The arguments of `cuts`."""
-        numbers = {"round": whole(parts, "round"), "limit": whole(limit, "limit")}
+        parts, numbers = round_of(parts), {"limit": whole(limit, "limit")}
         if grid is not None:
             numbers["grid"] = whole(grid, "grid")
         for name, value in numbers.items():
@@ -368,7 +369,8 @@ class Model:
             if self._known.front not in ("", text):
                 raise ValueError("rule: there were cuts by another function, and a proof has one")
             self._known.front = text
-        return Way("gmic" if text is None else "function", parts, grid, limit, has_mir)
+        rule = "gmic" if text is None else "function"
+        return Way(rule, parts or DENOMINATORS[0], grid, limit, has_mir, parts is None)
 
     def _round(self, way: Way, deadline: Optional[float]) -> Optional[Round]:
         """One round, or None where no row gives a cut."""

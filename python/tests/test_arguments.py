@@ -153,6 +153,14 @@ class Wrong(unittest.TestCase):
             2.0**20, True, False, "4", Fraction(4), Decimal(4), [4],
         )
         self.refuse(
+            TypeError, "round: .* write an int from 1 to 2147483647, or None",
+            lambda x: problem(round=x), 2.0**20, True, False, "4", Fraction(4), Decimal(4), [4],
+        )
+        self.refuse(
+            ValueError, "round: .* is not from 1 to 2147483647", lambda x: problem(round=x),
+            0, -4, 2**31, Short(0),
+        )
+        self.refuse(
             TypeError, "multipliers: .* write a list of numbers",
             lambda x: safe_cut([X], [C], x), "1", b"1", {"1": 1}, {1}, 1, None,
         )
@@ -305,6 +313,7 @@ class Wrong(unittest.TestCase):
             (r"constraints\[0\], 'x'", lambda x: problem(X, C._replace(entries={"x": x}))),
             (r"multipliers\[0\]", lambda x: problem(X, C, x)),
             ("grid", lambda x: problem(grid=x)),
+            ("round", lambda x: problem(round=x)),
         ):
             self.refuse(ValueError, f"{place}: ", call, 10**5000)
 
@@ -386,6 +395,7 @@ class Right(unittest.TestCase):
         self.assertEqual(gjcut.by_breakpoints("3/5", [(Short(0), 0), ("3/5", Short(1))]), gmic)
         self.assertEqual(gjcut.times(gmic, Short(2), Short(1)), gjcut.times(gmic, 2, 1))
         self.assertEqual(problem(grid=Short(4)), problem(grid=4))
+        self.assertEqual(problem(round=Short(4)), problem(round=4))
 
     def test_names_are_their_characters(self):
         x, name = Word("x"), Column(Word("x"), True, 0, None)

@@ -5,6 +5,7 @@ The verdicts in the range are those of the sources. Those outside come from a pl
 definitions, which shares nothing with the library.
 """
 import inspect
+import itertools
 import pickle
 import unittest
 from fractions import Fraction
@@ -49,11 +50,16 @@ INSIDE = {
 # Members outside, and what a plain program says of them. The range need not be all there is.
 OUTSIDE = [
     ("gj_2_slope", ("1/2", "6/5"), "refused"),
+    ("gj_forward_3_slope", ("4/7", 1, "1/2"), "extreme"),
     ("drlm_backward_3_slope", ("1/12", "1/3"), "not-extreme"),
+    ("drlm_backward_3_slope", ("1/7", "2/7"), "extreme"),
     ("dg_2_step_mir", ("9/10", "2/5"), "not-minimal"),
     ("bcdsp_arbitrary_slope", ("3/5", 3), "extreme"),
     ("bcdsp_arbitrary_slope", ("2/3", 3), "extreme"),
     ("psi_n_in_bccz_counterexample_construction", ("23/24", ("5/24", "5/24")), "not-minimal"),
+    ("mlr_cpl3_g_3_slope", ("1/6", "1/6"), "extreme"),
+    ("mlr_cpl3_l_2_slope", ("2/7", "1/7"), "extreme"),
+    ("mlr_cpl3_n_3_slope", ("1/5", "1/10"), "extreme"),
     ("kzh_3_slope_param_extreme_2", ("5/7", "4/7", "3/14"), "extreme"),
     ("two_slope", (1, "++-+"), "not-minimal"),
     ("ll_strong_fractional", ("2/5",), "not-minimal"),
@@ -61,9 +67,52 @@ OUTSIDE = [
     ("dg_2_step_mir_limit", ("3/4", 2), "not-minimal"),
     ("drlm_2_slope_limit", ("1/3", 1, 1), "not-minimal"),
     ("drlm_2_slope_limit", ("1/2", 2, 1), "not-minimal"),
+    ("drlm_3_slope_limit", ("1/3",), "extreme"),
     ("drlm_3_slope_limit", ("2/5",), "not-extreme"),
     ("rlm_dpl1_extreme_3a", ("1/3",), "not-extreme"),
 ]
+
+
+def fractions(most):
+    """The fractions between 0 and 1 with denominators up to this one."""
+    return sorted({Fraction(k, q) for q in range(2, most + 1) for k in range(1, q)})
+
+
+def pairs(most, first=1, second=1):
+    """Pairs of multiples of 1/most that add up, each times its factor, to less than 1."""
+    multiples = range(1, most)
+    for i, j in itertools.product(multiples, repeat=2):
+        if first * i + second * j < most:
+            yield Fraction(i, most), Fraction(j, most)
+
+
+# All members with small numbers of families for which the verdicts outside of the range are known
+# too: there a member is as in the range exactly if its parameters are so.
+GRIDS = {
+    "gj_2_slope": (itertools.product(fractions(6), fractions(5) + [1, 2]), None),
+    "drlm_backward_3_slope": (
+        ((f, b) for f, b in itertools.combinations(fractions(13), 2) if 2 * b < 1 + f),
+        lambda f, bkpt: 4 * bkpt == 1 + f,
+    ),
+    "dg_2_step_mir": (((f, a) for a, f in itertools.combinations(fractions(8), 2)), None),
+    "mlr_cpl3_b_3_slope": (pairs(26, 1, 4), None),
+    "mlr_cpl3_c_3_slope": (pairs(23, 1, 4), None),
+    "mlr_cpl3_d_3_slope": (((2 * z, z) for z in fractions(30) if 6 * z < 1), None),
+    "mlr_cpl3_g_3_slope": (
+        (((1 - 4 * z) / 2, z) for z in fractions(32) if 4 * z < 1), lambda r0, z1: r0 == z1,
+    ),
+    "mlr_cpl3_l_2_slope": (
+        ((2 * z, z) for z in fractions(30) if 6 * z <= 1), lambda r0, z1: 7 * z1 == 1,
+    ),
+    "mlr_cpl3_n_3_slope": (
+        pairs(24, 1, 4), lambda r0, z1: r0 == 2 * z1 and r0 + 8 * z1 <= 1,
+    ),
+    "ll_strong_fractional": (((f,) for f in fractions(12)), None),
+    "dg_2_step_mir_limit": (itertools.product(fractions(7), range(1, 6)), None),
+    "drlm_2_slope_limit": (itertools.product(fractions(5), range(1, 5), range(1, 5)), None),
+    "drlm_3_slope_limit": (((f,) for f in fractions(15)), lambda f: 3 * f == 1),
+    "rlm_dpl1_extreme_3a": (((f,) for f in fractions(15)), None),
+}
 
 
 class Families(unittest.TestCase):
@@ -92,6 +141,24 @@ class Families(unittest.TestCase):
             else:
                 verdict = gjcut.extreme(make(*parameters, check_range=False))
                 self.assertEqual(verdict.claim, said, (name, parameters))
+
+    def test_all_members_with_small_numbers(self):
+        for name, (members, is_at_end) in GRIDS.items():
+            make, found = FAMILIES[name].make, [0, 0]
+            for parameters in members:
+                try:
+                    function, is_inside = make(*parameters), True
+                except OutOfRange:
+                    is_inside = False
+                    try:
+                        function = make(*parameters, check_range=False)
+                    except ValueError:  # there is no such function
+                        continue
+                is_known = is_inside or bool(is_at_end and is_at_end(*parameters))
+                claim = gjcut.extreme(function).claim
+                self.assertEqual(claim == FAMILIES[name].known, is_known, (name, parameters))
+                found[is_inside] += 1
+            self.assertGreaterEqual(min(found), 3, (name, found))
 
     def test_the_examples_of_the_page(self):
         for folder, function in (
@@ -153,8 +220,15 @@ class Families(unittest.TestCase):
             self.assertIn(said, str(raised.exception))
         with self.assertRaises(TypeError):
             literature.gmic("1/2", check_range=0)
-        with self.assertRaises(ValueError):
-            literature.dg_2_step_mir("4/5", "2/5", check_range=False)
+        for make, given in (
+            (literature.dg_2_step_mir, ("4/5", "2/5")),
+            (literature.kf_n_step_mir, ("1/2", (1, "1/2", "1/2"))),
+            (literature.kf_n_step_mir, ("1/2", (1, "1/3", "1/6"))),
+            (literature.psi_n_in_bccz_counterexample_construction, ("1/2", ("1/2", "1/2"))),
+        ):
+            with self.assertRaises(ValueError) as raised:
+                make(*given, check_range=False)
+            self.assertIn("divides by 0 for these parameters", str(raised.exception))
         with self.assertRaises(ValueError):
             literature.drlm_2_slope_limit("1/3", 4, 1, check_range=False)
 
@@ -164,6 +238,9 @@ class Families(unittest.TestCase):
             self.assertIn("Source: ", shown)
             for condition in family.range:
                 self.assertIn(condition, shown, name)
+            said = " ".join(shown.split())
+            self.assertEqual("Not settled: " in said, bool(family.unsettled), name)
+            self.assertIn(family.unsettled, said, name)
             self.assertIn("check_range", str(inspect.signature(family.make)))
         self.assertEqual(pickle.loads(pickle.dumps(literature.gmic)), literature.gmic)
 

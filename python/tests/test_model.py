@@ -181,6 +181,19 @@ class ByHand(Models):
         self.assertEqual((proof.bound, len(made)), (19, 1))
         self.assertAccepted(proof)
 
+    def test_what_round_may_be(self):
+        bounds = []
+        for parts in (1, 2**31 - 1, None):
+            found = self.read(LP)
+            found.cuts(1, round=parts, mir=False)
+            proof = found.proof()
+            self.assertAccepted(proof)
+            bounds.append(proof.bound)
+        self.assertEqual(bounds, [19] * 3)
+        for wrong, kind in ((0, ValueError), (2**31, ValueError), (2.0, TypeError), ("4", TypeError)):
+            with self.assertRaisesRegex(kind, "^round: "):
+                found.cuts(round=wrong)
+
     def test_a_wrong_number_is_found(self):
         found = self.read(LP)
         found.cuts()

@@ -1,4 +1,5 @@
 """Cuts of mixed-integer programs: by hand, and against every feasible point of small ones."""
+import functools
 import itertools
 import pickle
 import random
@@ -8,7 +9,9 @@ from fractions import Fraction
 
 import gjcut
 from gjcut import Column, Constraint, safe_cut
-from gjcut._problems import DENOMINATORS
+from gjcut._problems import DENOMINATORS, MOST_ROUND, ROUND
+
+exact_cut = functools.partial(safe_cut, round=None)
 
 X, Y, Z = Column("x", True, 0, None), Column("y", True, 0, None), Column("z", False, 0, None)
 # The program of docs/solver.md: 2x + y <= 7 and x + 3y - z <= 9.
@@ -32,45 +35,45 @@ class ByHand(unittest.TestCase):
 
     def test_the_cuts_of_the_two_rows(self):
         # 2/3 s1 + 1/3 s2 + 1/2 z >= 1, and 1/4 s1 + 2 s2 + 1/2 z >= 1.
-        cut = safe_cut(*PROGRAM, ["3/5", Decimal("-0.2")])
+        cut = exact_cut(*PROGRAM, ["3/5", Decimal("-0.2")])
         self.assertEqual(numbers_of(cut, *"xyz"), fractions("-5/3", "-5/3", "5/6", "-20/3"))
         self.assertIsNone(cut.skipped)
         self.assertEqual(cut.text.splitlines()[0], "gj-safe 1")
-        cut = safe_cut(*PROGRAM, ["-1/5", Fraction(2, 5)])
+        cut = exact_cut(*PROGRAM, ["-1/5", Fraction(2, 5)])
         self.assertEqual(numbers_of(cut, *"xyz"), fractions("-5/2", "-25/4", "5/2", "-75/4"))
 
     def test_a_rounded_cut(self):
         # All columns have the bound 0 below, so coefficients go up to multiples of 1/4, and the
         # right side, -80/12, goes down to -81/12.
-        cut = safe_cut(*PROGRAM, ["3/5", "-1/5"], grid=4)
+        cut = exact_cut(*PROGRAM, ["3/5", "-1/5"], grid=4)
         self.assertEqual(numbers_of(cut, *"xyz"), fractions("-3/2", "-3/2", 1, "-27/4"))
 
     def test_upper_bounds(self):
         # 3x + 4y <= 16, x <= 3. With x' = 3 - x the row of y is y - 3/4 x' + 1/4 s = 7/4. Its cut
         # is 1/3 x' + 1/3 s >= 1. With x at 0 the right side is 4.
         problem = [X._replace(upper="7/2"), Y], [Constraint("c", {"x": 3, "y": 4}, "<=", 16)]
-        cut = safe_cut(*problem, ["1/4"], at_upper=["x"])
+        cut = exact_cut(*problem, ["1/4"], at_upper=["x"])
         self.assertEqual(numbers_of(cut, *"xy"), fractions("-4/3", "-4/3", "-16/3"))
-        cut = safe_cut(*problem, ["1/4"])
+        cut = exact_cut(*problem, ["1/4"])
         self.assertEqual((cut.entries, cut.right, cut.skipped), ({}, None, "integral"))
 
     def test_a_constraint_with_fractions(self):
         # x <= 7/2: its slack is whole after it is doubled, s = 7 - 2x, and 1/2 s + whole = 7/2; the
         # cut is s >= 1.
-        self.assertEqual(numbers_of(safe_cut(*ONE, [1]), "x"), [-2, -6])
+        self.assertEqual(numbers_of(exact_cut(*ONE, [1]), "x"), [-2, -6])
 
     def test_what_is_skipped(self):
         free = [X, Z._replace(lower=None)], [Constraint("c", {"x": "1/2", "z": 1}, ">=", "1/3")]
-        self.assertEqual(safe_cut(*free, [1]).skipped, "free z")
-        self.assertEqual(safe_cut(*ONE, [2]).skipped, "integral")
-        self.assertEqual(safe_cut(*ONE, [0.0]).skipped, "integral")
+        self.assertEqual(exact_cut(*free, [1]).skipped, "free z")
+        self.assertEqual(exact_cut(*ONE, [2]).skipped, "integral")
+        self.assertEqual(exact_cut(*ONE, [0.0]).skipped, "integral")
         # The two denominators have no common divisor, and their product has 160 bits.
         wide = [X], [Constraint("c", {"x": Fraction(1, 2**80)}, "<=", Fraction(1, 3**51))]
-        self.assertEqual(safe_cut(*wide, [1]).skipped, "wide")
+        self.assertEqual(exact_cut(*wide, [1]).skipped, "wide")
 
     def test_no_point_at_all(self):
         # 2x = 1 has no solution in whole numbers, and the row 1/2 has no column.
-        cut = safe_cut([X], [Constraint("c", {"x": 2}, "=", 1)], ["1/2"])
+        cut = exact_cut([X], [Constraint("c", {"x": 2}, "=", 1)], ["1/2"])
         self.assertEqual((cut.entries, cut.right), ({}, 1))
 
 
@@ -78,15 +81,15 @@ class ByAFunction(unittest.TestCase):
     def test_the_mixed_integer_cut_as_a_function(self):
         # The rows have the fractional parts 2/5 and 1/5.
         gmic = gjcut.by_breakpoints("2/5", [(0, 0), ("2/5", 1)])
-        cut = safe_cut(*PROGRAM, ["3/5", "-1/5"], rule=gmic, grid=4)
-        self.assertEqual(cut[:3], safe_cut(*PROGRAM, ["3/5", "-1/5"], grid=4)[:3])
-        self.assertEqual(safe_cut(*PROGRAM, ["-1/5", "2/5"], rule=gmic).skipped, "other")
+        cut = exact_cut(*PROGRAM, ["3/5", "-1/5"], rule=gmic, grid=4)
+        self.assertEqual(cut[:3], exact_cut(*PROGRAM, ["3/5", "-1/5"], grid=4)[:3])
+        self.assertEqual(exact_cut(*PROGRAM, ["-1/5", "2/5"], rule=gmic).skipped, "other")
 
     def test_functions_that_do_not_serve(self):
         low = gjcut.by_breakpoints("3/5", [(0, 0), ("3/5", "9/10")])
         for function, status in ((low, 9), (gjcut.family("half", "1/2"), 8)):
             with self.assertRaises(gjcut.Refused) as caught:
-                safe_cut(*ONE, [1], rule=function)
+                exact_cut(*ONE, [1], rule=function)
             self.assertEqual(caught.exception.status, status)
             self.assertIn("the function in front", caught.exception.advice)
 
@@ -94,9 +97,10 @@ class ByAFunction(unittest.TestCase):
 class Floats(unittest.TestCase):
     def test_a_float_is_taken_over_a_power_of_two(self):
         exact = [Fraction(round(m * 2**40), 2**40) for m in (0.6, -0.2)]
-        cut = safe_cut(*PROGRAM, [0.6, -0.2])
-        self.assertEqual(cut, safe_cut(*PROGRAM, exact))
-        self.assertNotEqual(cut, safe_cut(*PROGRAM, ["3/5", "-1/5"]))
+        for cut_of in (safe_cut, exact_cut):
+            cut = cut_of(*PROGRAM, [0.6, -0.2])
+            self.assertEqual(cut, cut_of(*PROGRAM, exact))
+            self.assertNotEqual(cut, cut_of(*PROGRAM, ["3/5", "-1/5"]))
 
     def test_and_over_a_lesser_one_where_a_number_is_too_wide(self):
         source, taken = random.Random(3), set()
@@ -109,10 +113,11 @@ class Floats(unittest.TestCase):
                 entries = {column.name: value for column, value in zip(columns, values)}
                 rows.append(Constraint(f"c{i}", entries, "<=", values[5]))
             floats = [source.uniform(-1, 1) for _ in rows]
-            found = safe_cut(columns, rows, floats)
+            found = exact_cut(columns, rows, floats)
+            self.assertNotEqual(safe_cut(columns, rows, floats).skipped, "wide")
             for denominator in DENOMINATORS:
                 exact = [Fraction(round(m * denominator), denominator) for m in floats]
-                cut = safe_cut(columns, rows, exact)
+                cut = exact_cut(columns, rows, exact)
                 if cut.skipped != "wide":
                     taken.add(denominator)
                     break
@@ -141,6 +146,41 @@ class Floats(unittest.TestCase):
                 safe_cut(columns, [constraint], [1])
         with self.assertRaises(TypeError):
             safe_cut(*ONE, [1], grid=4.0)
+
+
+class Rounds(unittest.TestCase):
+    """All numbers on the way are multiples of one over `round`."""
+
+    def test_a_constraint_off_the_grid(self):
+        # Over 4, with x >= 2: in -4/3 x - 5/4 y >= -7/2 the first entry goes up by 1/12, so the
+        # right side by 2/12, to -10/3, and then down to -7/2. The example of docs/solver.md.
+        columns = [X._replace(lower=2), Y]
+        c = Constraint("c", {"x": "4/3", "y": "5/4"}, "<=", "7/2")
+        cut = safe_cut(columns, [c], ["2/3"], round=4)
+        self.assertEqual(numbers_of(cut, "x", "y"), [-3, -3, -8])
+
+    def test_it_is_2_to_the_20_by_default(self):
+        cut = safe_cut(*PROGRAM, [0.6, -0.2], grid=2**20)
+        self.assertEqual(cut, safe_cut(*PROGRAM, [0.6, -0.2], grid=2**20, round=ROUND))
+        self.assertEqual(ROUND, 2**20)
+        exact = exact_cut(*PROGRAM, ["3/5", "-1/5"])
+        for near, value in zip(numbers_of(cut, *"xyz"), numbers_of(exact, *"xyz")):
+            self.assertLess(abs(near - value), Fraction(1, 2**15))
+
+    def test_data_of_many_digits(self):
+        wide = [X], [Constraint("c", {"x": Fraction(1, 2**80)}, "<=", Fraction(1, 3**51))]
+        self.assertEqual(exact_cut(*wide, [1]).skipped, "wide")
+        self.assertNotEqual(safe_cut(*wide, [1]).skipped, "wide")
+
+    def test_what_it_may_be(self):
+        for parts in (1, ROUND, MOST_ROUND, None):
+            self.assertIsInstance(safe_cut(*PROGRAM, ["3/7", "-1/7"], round=parts), gjcut.SafeCut)
+        for wrong in (2.0, "4", True, Fraction(4), [4]):
+            with self.assertRaisesRegex(TypeError, "^round: .* write an int from 1 to 2147483647, "):
+                safe_cut(*ONE, [1], round=wrong)
+        for wrong in (0, -1, 2**31, 10**400):
+            with self.assertRaisesRegex(ValueError, "^round: "):
+                safe_cut(*ONE, [1], round=wrong)
 
 
 class Refusals(unittest.TestCase):
@@ -261,12 +301,15 @@ class Program:
 class BruteForce(unittest.TestCase):
     def test_no_cut_removes_a_feasible_point(self):
         source, cuts, tried = random.Random(50), 0, 0
-        for _ in range(600):
+        for _ in range(1000):
             program = Program(source)
             given = [multiplier(source) for _ in program.constraints]
             upper = [column.name for column in program.columns if source.random() < 0.5]
             grid = source.choice((None, 1, 4, 10, 2**20))
-            cut = safe_cut(program.columns, program.constraints, given, at_upper=upper, grid=grid)
+            parts = source.choice((None, None, None, 3, 10, 2**20, 2**20))
+            cut = safe_cut(
+                program.columns, program.constraints, given, at_upper=upper, grid=grid, round=parts
+            )
             if cut.skipped:
                 self.assertIn(cut.skipped, ("integral", "free z"))
                 continue

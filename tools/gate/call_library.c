@@ -314,6 +314,24 @@ static struct text derivation(int columns, int steps, int claims) {
     return text;
 }
 
+/* A function of order q that jumps: x/f from 0 to f = 1/q, and x/(1 + f) from there to 1. It is extreme. */
+static struct text jumping(int q) {
+    struct text text = {memory(200), 0};
+    text.length = (size_t)sprintf((char *)text.bytes, "gj-function 2\nf 1/%d\npoint 0 %d/%d 0 0\npoint 1/%d 1 1 1/%d\nend\n", q, q, q + 1, q, q + 1);
+    return text;
+}
+
+/* The answer to words and an input, which is given back. */
+static struct text answer_to(const char *words, struct text input) {
+    struct text given = text_of(words), none = {memory(1), 0}, whole;
+    call(given, input, none, &whole.length);
+    whole.bytes = memory(whole.length);
+    if (call(given, input, whole, &whole.length) != GJCUT_DONE) abort();
+    free(input.bytes);
+    free(none.bytes);
+    return whole;
+}
+
 /* Many cuts of columns whose names begin as the line sum: the room that the header says is no multiple of them, and a
  * second call has as much as the first asked for. */
 static int many_cuts(void) {
@@ -343,6 +361,10 @@ static int stack_is_enough(const struct example *examples, int count) {
         {"extreme --json", repeated("", "{\"a\":", 100000, "")},
         {"extreme", repeated("gj-function 1\norder 996\nf 499/996\n", "point 0\npoint 2/3\npoint 1/3\npoint 1\npoint 1/3\npoint 2/3\n", 166, "end\n")},
         {"faces", repeated("gj-function 2\nf 1/1000\npoint 0 0\nend\n", "", 0, "")},
+        {"extreme --jumps", jumping(1000)},
+        {"extreme --jumps", repeated("gj-function 1\nfamily half 499/1000\nend\n", "", 0, "")},
+        {"faces --jumps", jumping(1000)},
+        {"check", answer_to("extreme --jumps", jumping(1000))},
         {"mixed", repeated("gj-rule 1\ngmic\nend\nbasic,rhs,c:z\nx,1/2,", "1", 9, "\n")},
         {"problem", problem(100, 1000, 6, 5, 7)},
         {"problem", problem(10, 10000, 6, 1, 7)},
@@ -451,6 +473,10 @@ static int heap_is_enough(const struct example *examples, int count) {
         {"mixed", tableau(10000, 10, 6)},
         {"mixed", tableau(10, 10000, 250)},
         {"faces", repeated("gj-function 2\nf 1/1000\npoint 0 0\nend\n", "", 0, "")},
+        {"extreme --jumps", jumping(1000)},
+        {"extreme --jumps", repeated("gj-function 1\nfamily half 499/1000\nend\n", "", 0, "")},
+        {"faces --jumps", jumping(1000)},
+        {"check", answer_to("extreme --jumps", jumping(1000))},
         {"extreme", repeated("gj-function 1\nfamily gmic 499/1000\nend\n", "", 0, "")},
         {"group", repeated("gj-function 1\nfamily gmic 59/120\nend\n", "", 0, "")},
         {"minimal", repeated("", "\n", 16777216, "")},
