@@ -191,7 +191,8 @@ class Derivations(unittest.TestCase):
         tried = 0
         for example in sorted(EXAMPLES.glob("problem/*")):
             text, said = (example / "input").read_text(), (example / "output").read_text()
-            if int((example / "status").read_text()) or "\ngrid " in text or "wide" in said:
+            is_exact = "\ngrid " not in text and "\nround " not in text
+            if int((example / "status").read_text()) or not is_exact or "wide" in said:
                 continue
             for chain, wanted in chains(text, said):
                 self.assertEqual(self.check(chain), wanted, f"{example.name}\n{chain}")
