@@ -1,8 +1,9 @@
 """Functions of the literature by their parameters, and constructions.
 
 Each family is a call whose defaults are an example. Its help has the formula, the range of the
-parameters in which a verdict is known, and the source. Outside of the range it raises `OutOfRange`,
-unless it is called with check_range=False. `FAMILIES` has them all by their names:
+parameters in which a verdict is known, the source, and what of these is not settled. Outside of the
+range it raises `OutOfRange`, unless it is called with check_range=False. `FAMILIES` has them all by
+their names:
 
     >>> from gjcut import literature
     >>> literature.gj_2_slope("3/5", "1/3")
