@@ -20,20 +20,25 @@ use Rattle.gj_check.specs.declared.faults.CheckFault.TheVariants.{Rejected, Memo
 
 -- ---- one first failure
 
-pub one_failure : (c : Claim) (n m : ℕ) (rule other : CheckRule) → IsFirstFailure c n rule → IsFirstFailure c m other →
+pub one_failure : (c : Claim) (n m : ℕ) (rule other : CheckRule) → IsFirstFailure c n rule →
+    IsFirstFailure c m other →
     (n ≡ m) × (rule ≡ other)
 one_failure c n m rule other h k =
-    let same = (one_first_failing (All (DemandHolds c)) (All-front (DemandHolds c)) (demands_of c) h.before k.before h.demand k.demand h.first k.first).1 in (
-      one_number c (line_of_demand k.demand) n m (subst (λ d. HasNumber c (line_of_demand d) n) same h.number) k.number,
+    let same = (one_first_failing (All (DemandHolds c)) (All-front (DemandHolds c))
+    (demands_of c) h.before k.before h.demand k.demand h.first k.first).1 in (
+      one_number c (line_of_demand k.demand) n m
+          (subst (λ d. HasNumber c (line_of_demand d) n) same h.number) k.number,
       h.rule_is ∙ ap rule_of same ∙ sym k.rule_is,
     )
 
 -- if every rule holds, none fails
 pub no_failure : (c : Claim) (n : ℕ) (rule : CheckRule) → IsFirstFailure c n rule → MeetsRules c → ⊥
-no_failure c n rule h rules = first_failing_denies_all (DemandHolds c) (demands_of c) h.before h.demand h.first rules
+no_failure c n rule h rules =
+    first_failing_denies_all (DemandHolds c) (demands_of c) h.before h.demand h.first rules
 
 -- if every rule holds, a check that names the first that fails accepts, unless there is no memory
-pub accepted_unless : {X : Type 0} (c : Claim) (r : Result X CheckFault) → IfErr r (IsCheckFaultOf c) → MeetsRules c →
+pub accepted_unless : {X : Type 0} (c : Claim) (r : Result X CheckFault) →
+    IfErr r (IsCheckFaultOf c) → MeetsRules c →
     MatchResult r (λ _. Unit {0}) (IsWantOfMemory c)
 accepted_unless c (Ok x) h rules = tt
 accepted_unless c (Err (Rejected n rule)) h rules = absurd (no_failure c n rule h rules)
@@ -46,7 +51,8 @@ minimal_rules f =
     let P : Demand → Type 0 = DemandHolds (claim.Minimal f) in
     (λ h. All-cons P minimal [] h (All-nil P), λ h. All-head P minimal [] h)
 
-pub minimal_fails : (f : FunctionData) → (PassesAll f → ⊥) → IsFirstFailure (claim.Minimal f) 2 Minimal
+pub minimal_fails : (f : FunctionData) → (PassesAll f → ⊥) →
+    IsFirstFailure (claim.Minimal f) 2 Minimal
 minimal_fails f fails =
     let P : Demand → Type 0 = DemandHolds (claim.Minimal f) in record {
       before = [];
@@ -56,7 +62,8 @@ minimal_fails f fails =
       number = number_of_claim (claim.Minimal f);
     }
 
-pub point_rules : (f : FunctionData) (v : Violation) → MeetsPoint f v ↔ MeetsRules (claim.NotMinimal f v)
+pub point_rules : (f : FunctionData) (v : Violation) →
+    MeetsPoint f v ↔ MeetsRules (claim.NotMinimal f v)
 point_rules f v =
     let P : Demand → Type 0 = DemandHolds (claim.NotMinimal f v) in
     (λ h. All-cons P point [] h (All-nil P), λ h. All-head P point [] h)

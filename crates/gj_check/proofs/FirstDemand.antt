@@ -10,14 +10,16 @@ use Rattle.gj_check.specs.declared.rules.CheckRule.{CheckRule}
 use Rattle.gj_check.specs.FirstFailure.{rule_of, IsFirstFailure}
 
 -- the first demand that fails: its line and its rule
-pub record FirstFails (c : Claim) (demands : List Demand) (l : ProofLine) (r : CheckRule) : Type 0 where
+pub record FirstFails (c : Claim) (demands : List Demand) (l : ProofLine) (r : CheckRule) :
+    Type 0 where
   pub before : List Demand
   pub demand : Demand
   pub first : IsFirstFailing (All (DemandHolds c)) demands before demand
   pub line_is : line_of_demand demand ≡ l
   pub rule_is : r ≡ rule_of demand
 
-pub fails_here : (c : Claim) (d : Demand) (more : List Demand) → (DemandHolds c d → ⊥) → FirstFails c (d ∷ more) (line_of_demand d) (rule_of d)
+pub fails_here : (c : Claim) (d : Demand) (more : List Demand) → (DemandHolds c d → ⊥) →
+    FirstFails c (d ∷ more) (line_of_demand d) (rule_of d)
 fails_here c d more fails = record {
   before = [];
   demand = d;
@@ -26,7 +28,8 @@ fails_here c d more fails = record {
   rule_is = refl;
 }
 
-pub fails_behind : (c : Claim) (xs ys : List Demand) (l : ProofLine) (r : CheckRule) → All (DemandHolds c) xs → FirstFails c ys l r →
+pub fails_behind : (c : Claim) (xs ys : List Demand) (l : ProofLine) (r : CheckRule) →
+    All (DemandHolds c) xs → FirstFails c ys l r →
     FirstFails c (xs ++ ys) l r
 fails_behind c xs ys l r all h = record {
   before = xs ++ h.before;
@@ -36,11 +39,14 @@ fails_behind c xs ys l r all h = record {
   rule_is = h.rule_is;
 }
 
-pub fails_next : (c : Claim) (d : Demand) (ys : List Demand) (l : ProofLine) (r : CheckRule) → DemandHolds c d → FirstFails c ys l r →
+pub fails_next : (c : Claim) (d : Demand) (ys : List Demand) (l : ProofLine) (r : CheckRule) →
+    DemandHolds c d → FirstFails c ys l r →
     FirstFails c (d ∷ ys) l r
-fails_next c d ys l r holds h = fails_behind c (d ∷ []) ys l r (All-cons (DemandHolds c) d [] holds (All-nil (DemandHolds c))) h
+fails_next c d ys l r holds h =
+    fails_behind c (d ∷ []) ys l r (All-cons (DemandHolds c) d [] holds (All-nil (DemandHolds c))) h
 
-pub fails_in_front : (c : Claim) (xs ys : List Demand) (l : ProofLine) (r : CheckRule) → FirstFails c xs l r → FirstFails c (xs ++ ys) l r
+pub fails_in_front : (c : Claim) (xs ys : List Demand) (l : ProofLine) (r : CheckRule) →
+    FirstFails c xs l r → FirstFails c (xs ++ ys) l r
 fails_in_front c xs ys l r h = record {
   before = h.before;
   demand = h.demand;
@@ -49,7 +55,8 @@ fails_in_front c xs ys l r h = record {
   rule_is = h.rule_is;
 }
 
-pub failure_of : (c : Claim) (l : ProofLine) (r : CheckRule) (n : ℕ) → FirstFails c (demands_of c) l r → HasNumber c l n → IsFirstFailure c n r
+pub failure_of : (c : Claim) (l : ProofLine) (r : CheckRule) (n : ℕ) →
+    FirstFails c (demands_of c) l r → HasNumber c l n → IsFirstFailure c n r
 failure_of c l r n h number = record {
   before = h.before;
   demand = h.demand;

@@ -21,7 +21,8 @@ use Rattle.gj_check.proofs.Ratios.{denominator_is}
 -- ---- the fractional part of a number
 
 -- what a division by the denominator leaves lies from 0 to below it
-rest_within : (x : Frac) → (pos 0 ≤ℤ int_rem_euclid x.num x.den) × (int_rem_euclid x.num x.den <ℤ x.den)
+rest_within : (x : Frac) → (pos 0 ≤ℤ int_rem_euclid x.num x.den)
+    × (int_rem_euclid x.num x.den <ℤ x.den)
 rest_within x =
     let low = quotient_at_most x.num x.den x.lowest.positive in
     let high = next_quotient_above x.num x.den x.lowest.positive in
@@ -33,7 +34,8 @@ rest_within x =
 pub rest_is_lowest : (x : Frac) → IsLowest (int_rem_euclid x.num x.den) x.den
 rest_is_lowest x =
     let within = rest_within x in
-    rest_lowest x.num x.den (int_rem_euclid x.num x.den) x.lowest refl within.0 (omega (arith, ints))
+    rest_lowest x.num x.den (int_rem_euclid x.num x.den) x.lowest refl within.0
+    (omega (arith, ints))
 
 -- the fractional part of a number
 abbrev pub part_of : Frac → Frac
@@ -44,14 +46,16 @@ is_part x w floor = ap (λ z. z *ℤ x.den) (sym (rest_from_floor x w floor))
 
 -- a fractional part n/d is that one
 pub part_is : (x : Frac) (n d : ℤ) → HasFractionalPart x n d → IsRatio (part_of x) n d
-part_is x n d part = ap (λ z. z *ℤ d) (rest_is x.num x.den x.lowest.positive) ∙ part _ (quotient_is_floor x)
+part_is x n d part = ap (λ z. z *ℤ d) (rest_is x.num x.den x.lowest.positive)
+    ∙ part _ (quotient_is_floor x)
 
 -- that of a whole number is 0
 pub part_of_whole : (x : Frac) → IsWhole x → numerator (part_of x) ≡ pos 0
 part_of_whole x whole = let within = rest_within x in omega (arith, ints)
 
 -- and that of another number lies between 0 and 1
-pub part_inside : (x f : Frac) → (IsWhole x → ⊥) → HasFractionalPart x (numerator f) (denominator f) → IsInside f
+pub part_inside : (x f : Frac) → (IsWhole x → ⊥) →
+    HasFractionalPart x (numerator f) (denominator f) → IsInside f
 part_inside x f not_whole part =
     let p = part_of x in
     let within = rest_within x in
@@ -61,7 +65,8 @@ part_inside x f not_whole part =
     whole : int_rem_euclid x.num x.den ≡ pos 0 → IsWhole x
     whole none =
         let d = unsigned_abs x.den in
-        let divides : d ∣ unsigned_abs (int_rem_euclid x.num x.den) = subst (λ (z : ℤ). d ∣ unsigned_abs z) (sym none) (dvd-zero d) in
+        let divides : d ∣ unsigned_abs (int_rem_euclid x.num x.den) =
+        subst (λ (z : ℤ). d ∣ unsigned_abs z) (sym none) (dvd-zero d) in
         let one = eq-one_of_dvd-one ((part_of x).lowest.coprime.2 d divides (dvd_refl d)) in
         let positive = x.lowest.positive in
         omega (arith, ints)
@@ -71,21 +76,26 @@ pub part_is_fraction : (x y : Frac) (n d : ℤ) →
     ((w : ℤ) → IsFloor x w → IsRatio y (numerator x -ℤ w *ℤ denominator x) (denominator x)) →
     IsRatio y n d ↔ HasFractionalPart x n d
 part_is_fraction x y n d y_is = (
-  λ is w floor. ratio_along _ x.den y.num y.den n d (positive_some_z y.den y.lowest.positive) (sym (y_is w floor)) is,
+  λ is w floor. ratio_along _ x.den y.num y.den n d (positive_some_z y.den y.lowest.positive)
+      (sym (y_is w floor)) is,
   λ part.
       let floor = quotient_is_floor x in
-      is_along y _ x.den n d (positive_some_z x.den x.lowest.positive) (y_is _ floor) (part _ floor),
+      is_along y _ x.den n d (positive_some_z x.den x.lowest.positive) (y_is _ floor)
+      (part _ floor),
 )
 
 -- ---- the coefficient of a term
 
 -- the value for a fractional part of the right side is it
-pub gmic_coefficient : (right f entry x : Frac) → HasFractionalPart right (numerator f) (denominator f) → IsGmicValue f entry x →
+pub gmic_coefficient : (right f entry x : Frac) →
+    HasFractionalPart right (numerator f) (denominator f) → IsGmicValue f entry x →
     IsGmicCoefficient right entry x
-gmic_coefficient right f entry x part value g other = subst (λ (h : Frac). IsGmicValue h entry x) (one_part right f g part other) value
+gmic_coefficient right f entry x part value g other =
+    subst (λ (h : Frac). IsGmicValue h entry x) (one_part right f g part other) value
 
 -- there is one at most
-pub one_gmic : (right entry x y : Frac) → (IsWhole right → ⊥) → IsGmicCoefficient right entry x → IsGmicCoefficient right entry y → x ≡ y
+pub one_gmic : (right entry x y : Frac) → (IsWhole right → ⊥) → IsGmicCoefficient right entry x →
+    IsGmicCoefficient right entry y → x ≡ y
 one_gmic right entry x y not_whole h k =
     let f = part_of right in
     let part = is_part right in
@@ -104,10 +114,12 @@ pub record AreParts (right entry : Frac) (p q r d : ℕ) : Type 0 where
 abbrev pub IsRestOf : ℕ → Frac → Type 0
 IsRestOf r x = (w : ℤ) → IsFloor x w → pos r ≡ numerator x -ℤ w *ℤ denominator x
 
-pub are_parts : (right entry : Frac) (p q r d : ℕ) → IsRestOf p right → q ≡ unsigned_abs (denominator right) → IsRestOf r entry →
+pub are_parts : (right entry : Frac) (p q r d : ℕ) → IsRestOf p right →
+    q ≡ unsigned_abs (denominator right) → IsRestOf r entry →
     d ≡ unsigned_abs (denominator entry) → AreParts right entry p q r d
 are_parts right entry p q r d p_is q_is r_is d_is = record {
-  place = p_is _ (quotient_is_floor right) ∙ sym (rest_is right.num right.den right.lowest.positive);
+  place = p_is _ (quotient_is_floor right)
+      ∙ sym (rest_is right.num right.den right.lowest.positive);
   right_over = ap pos q_is ∙ sym (denominator_is right);
   index = r_is;
   entry_over = ap pos d_is ∙ sym (denominator_is entry);
@@ -117,7 +129,8 @@ product_z : (a b : ℕ) (n m : ℤ) → pos a ≡ n → pos b ≡ m → pos (a *
 product_z a b n m e f = sym (pos-*ℤ-pos a b) ∙ ap₂ (λ x y. x *ℤ y) e f
 
 -- a part that is not that of a whole number is not 0
-pub place_some : (right entry : Frac) (p q r d : ℕ) → (IsWhole right → ⊥) → AreParts right entry p q r d → 0 < p * d
+pub place_some : (right entry : Frac) (p q r d : ℕ) → (IsWhole right → ⊥) →
+    AreParts right entry p q r d → 0 < p * d
 place_some right entry p q r d not_whole parts =
     let low = (part_inside right (part_of right) not_whole (is_part right)).0 in
     let place = parts.place in
@@ -126,14 +139,17 @@ place_some right entry p q r d not_whole parts =
     mul-pos (omega (arith, ints)) (omega (arith, ints))
 
 -- the parts in the order of their products
-place_z : (right entry : Frac) (p q r d : ℕ) → AreParts right entry p q r d → pos (p * d) ≡ numerator (part_of right) *ℤ denominator entry
+place_z : (right entry : Frac) (p q r d : ℕ) → AreParts right entry p q r d →
+    pos (p * d) ≡ numerator (part_of right) *ℤ denominator entry
 place_z right entry p q r d parts = product_z p d _ _ parts.place parts.entry_over
 
-index_z : (right entry : Frac) (p q r d : ℕ) → AreParts right entry p q r d → (w : ℤ) → IsFloor entry w →
+index_z : (right entry : Frac) (p q r d : ℕ) → AreParts right entry p q r d → (w : ℤ) →
+    IsFloor entry w →
     pos (r * q) ≡ (numerator entry -ℤ w *ℤ denominator entry) *ℤ denominator right
 index_z right entry p q r d parts w floor = product_z r q _ _ (parts.index w floor) parts.right_over
 
-pub gmic_rising : (right entry x : Frac) (p q r d : ℕ) → AreParts right entry p q r d → r * q ≤ p * d →
+pub gmic_rising : (right entry x : Frac) (p q r d : ℕ) → AreParts right entry p q r d →
+    r * q ≤ p * d →
     IsRatio x (pos (r * q)) (pos (p * d)) ↔ IsGmicCoefficient right entry x
 gmic_rising right entry x p q r d parts low =
     let place = place_z right entry p q r d parts in
@@ -160,16 +176,19 @@ bottom_z q d p = by_ring (q ∷ d ∷ p ∷ []) (search ring depth 30) refl
 difference_z : (a b : ℕ) (n m : ℤ) → b ≤ a → pos a ≡ n → pos b ≡ m → pos (a - b) ≡ n -ℤ m
 difference_z a b n m low e f = omega (arith, ints)
 
-pub gmic_falling : (right entry x : Frac) (p q r d : ℕ) → AreParts right entry p q r d → p * d < r * q → r * q ≤ q * d → p * d ≤ q * d →
+pub gmic_falling : (right entry x : Frac) (p q r d : ℕ) → AreParts right entry p q r d →
+    p * d < r * q → r * q ≤ q * d → p * d ≤ q * d →
     IsRatio x (pos (q * d - r * q)) (pos (q * d - p * d)) ↔ IsGmicCoefficient right entry x
 gmic_falling right entry x p q r d parts high index_low place_low =
     let period = product_z q d _ _ parts.right_over parts.entry_over in
     let place = place_z right entry p q r d parts in
     let index = index_z right entry p q r d parts in
     let bottom =
-    difference_z (q * d) (p * d) _ _ place_low period place ∙ bottom_z right.den entry.den (numerator (part_of right)) in
+    difference_z (q * d) (p * d) _ _ place_low period place
+    ∙ bottom_z right.den entry.den (numerator (part_of right)) in
     let top = λ (w : ℤ) (floor : IsFloor entry w).
-    difference_z (q * d) (r * q) _ _ index_low period (index w floor) ∙ top_z right.den entry.den (entry.num -ℤ w *ℤ entry.den) in (
+    difference_z (q * d) (r * q) _ _ index_low period (index w floor)
+    ∙ top_z right.den entry.den (entry.num -ℤ w *ℤ entry.den) in (
       λ is. gmic_coefficient right (part_of right) entry x (is_part right) (record {
         rises = λ w floor low. let same = index w floor in absurd (low (omega (arith, ints)));
         falls = λ w floor h. subst₂ (IsRatio x) (top w floor) bottom is;

@@ -25,7 +25,8 @@ pub extends : (c m : ℕ) (x : Frac) → IsRowNumber x →
     IsLcm c (unsigned_abs (denominator x)) m → m < 2 ^ 31 → ExtendsRowDenominator c x m
 extends c m x within lcm high xs h =
     let some = lcm_positive c (unsigned_abs (denominator x)) m lcm h.some (denominator_some x) in
-    let common = All-push (Divides m) xs x (λ k y l. dvd_trans _ (h.least.common k y l) lcm.0) lcm.1 in (
+    let common = All-push (Divides m) xs x (λ k y l. dvd_trans _ (h.least.common k y l) lcm.0)
+    lcm.1 in (
       record { small = within.small; common = (m, omega arith, high, common) },
       record {
         some = some;
@@ -40,7 +41,8 @@ extends c m x within lcm high xs h =
 
 -- the denominator of a number within the limits divides a common one
 last_divides : (xs : List Frac) (x : Frac) → (h : MeetsLimit xs x) → Divides h.common.0 x
-last_divides xs x h = let d = h.common.0 in All-head (Divides d) x [] (All-back (Divides d) xs (x ∷ []) h.common.3)
+last_divides xs x h = let d = h.common.0 in
+    All-head (Divides d) x [] (All-back (Divides d) xs (x ∷ []) h.common.3)
 
 pub limit_small : (xs : List Frac) (x : Frac) → MeetsLimit xs x → IsRowNumber x
 limit_small xs x h =
@@ -48,10 +50,12 @@ limit_small xs x h =
     let high = h.common.2 in
     record { small = h.small; fine = omega arith }
 
-pub beyond_multiple : (c m : ℕ) (x : Frac) → IsLcm c (unsigned_abs (denominator x)) m → 2 ^ 31 ≤ m → IsBeyond c x
+pub beyond_multiple : (c m : ℕ) (x : Frac) → IsLcm c (unsigned_abs (denominator x)) m → 2 ^ 31 ≤ m →
+    IsBeyond c x
 beyond_multiple c m x lcm high xs h meets =
     let d = meets.common.0 in
-    let divides = lcm.2 d (h.least.least d (All-front (Divides d) xs (x ∷ []) meets.common.3)) (last_divides xs x meets) in
+    let divides = lcm.2 d (h.least.least d (All-front (Divides d) xs (x ∷ []) meets.common.3))
+    (last_divides xs x meets) in
     let most = le_of_dvd meets.common.1 divides in
     let below = meets.common.2 in
     absurd (omega arith)

@@ -12,7 +12,8 @@ use Rattle.gj_proof.specs.Rules.{IsCoordinate}
 use Rattle.gj_check.specs.Coordinates.{HasFineMultiple, AreCoordinates}
 
 -- the least common multiple is the one to test
-pub fine_product : (a b g : ℕ) → 0 < a → 0 < b → IsGcd a b g → (a / g * b ≤ 2 ^ 62) ↔ HasFineMultiple a b
+pub fine_product : (a b g : ℕ) → 0 < a → 0 < b → IsGcd a b g →
+    (a / g * b ≤ 2 ^ 62) ↔ HasFineMultiple a b
 fine_product a b g a_some b_some h =
     let some = gcd_positive a b g h (inl a_some) in
     let lcm = lcm_from_gcd a b g (a / g) h (sym (div-mul_cancel g h.0)) some in (
@@ -30,7 +31,8 @@ fine_product a b g a_some b_some h =
     )
 
 -- one coordinate, whose denominator has a multiple with 1
-pub one_coordinate : (x : Frac) → (IsCoordinate x × HasFineMultiple (unsigned_abs (denominator x)) 1)
+pub one_coordinate : (x : Frac) →
+    (IsCoordinate x × HasFineMultiple (unsigned_abs (denominator x)) 1)
     ↔ AreCoordinates (x ∷ [])
 one_coordinate x = (
   λ h. record {
@@ -54,17 +56,20 @@ one_coordinate x = (
 
 -- two coordinates
 pub two_coordinates : (x y : Frac) →
-    (IsCoordinate x × IsCoordinate y × HasFineMultiple (unsigned_abs (denominator x)) (unsigned_abs (denominator y)))
+    (IsCoordinate x × IsCoordinate y × HasFineMultiple (unsigned_abs (denominator x))
+    (unsigned_abs (denominator y)))
     ↔ AreCoordinates (x ∷ y ∷ [])
 two_coordinates x y = (
   λ h. record {
-    each = All-cons IsCoordinate x (y ∷ []) h.0 (All-cons IsCoordinate y [] h.1 (All-nil IsCoordinate));
+    each = All-cons IsCoordinate x (y ∷ []) h.0
+        (All-cons IsCoordinate y [] h.1 (All-nil IsCoordinate));
     common =
         let d = h.2.multiple in (
           d,
           h.2.some,
           h.2.fine,
-          All-cons (Divides d) x (y ∷ []) h.2.first (All-cons (Divides d) y [] h.2.second (All-nil (Divides d))),
+          All-cons (Divides d) x (y ∷ []) h.2.first
+              (All-cons (Divides d) y [] h.2.second (All-nil (Divides d))),
         );
   },
   λ h.
@@ -86,7 +91,8 @@ pub one_read : (x : Frac) (d : ℕ) → d ≡ unsigned_abs (denominator x) →
     (IsCoordinate x × HasFineMultiple d 1) ↔ AreCoordinates (x ∷ [])
 one_read x d e = rw e (one_coordinate x)
 
-pub two_read : (x y : Frac) (d e : ℕ) → IsCoordinate x → IsCoordinate y → d ≡ unsigned_abs (denominator x) →
+pub two_read : (x y : Frac) (d e : ℕ) → IsCoordinate x → IsCoordinate y →
+    d ≡ unsigned_abs (denominator x) →
     e ≡ unsigned_abs (denominator y) → HasFineMultiple d e ↔ AreCoordinates (x ∷ y ∷ [])
 two_read x y d e x_is y_is d_is e_is =
     let both = two_coordinates x y in

@@ -26,12 +26,15 @@ least_parts x n d some is =
     sym (unsigned_abs-mul x.num (pos d)) ∙ ap unsigned_abs is ∙ unsigned_abs-mul (pos n) x.den in
     let divides : unsigned_abs x.den ∣ d =
     denominator_divides x.num (unsigned_abs x.den) d x.lowest.coprime
-    (subst (λ m. unsigned_abs x.den ∣ m) (sym sizes ∙ mul_comm (unsigned_abs x.num) d) (dvd-mul_left (unsigned_abs x.den) n)) in
+    (subst (λ m. unsigned_abs x.den ∣ m) (sym sizes ∙ mul_comm (unsigned_abs x.num) d)
+    (dvd-mul_left (unsigned_abs x.den) n)) in
     let fine = le_of_dvd some divides in
     let den_some = x.lowest.positive in
     let den_high : x.den ≤ℤ pos d = omega (arith, ints) in
-    let top_low : pos 0 ≤ℤ (pos n *ℤ x.den) = mul_nonnegative_z (pos n) x.den (omega (arith, ints)) (omega (arith, ints)) in
-    let top_high : (pos n *ℤ x.den) ≤ℤ (pos n *ℤ pos d) = mul_le_mul_left_z x.den (pos d) (pos n) (omega (arith, ints)) den_high in
+    let top_low : pos 0 ≤ℤ (pos n *ℤ x.den) = mul_nonnegative_z (pos n) x.den (omega (arith, ints))
+    (omega (arith, ints)) in
+    let top_high : (pos n *ℤ x.den) ≤ℤ (pos n *ℤ pos d) =
+    mul_le_mul_left_z x.den (pos d) (pos n) (omega (arith, ints)) den_high in
     let is_z : x.num *ℤ pos d ≡ pos n *ℤ x.den = is in (
       mul_le_cancel_right_z (pos 0) x.num (pos d) positive (omega (arith, ints)),
       mul_le_cancel_right_z x.num (pos n) (pos d) positive (omega (arith, ints)),
@@ -59,13 +62,16 @@ less_over x y n m w some x_is y_is =
     swap_last_z y.num x.den (pos w) ∙ ap (λ z. z *ℤ x.den) y_is ∙ swap_last_z m y.den x.den
     ∙ mul_assoc_z m x.den y.den in (
       λ h. mul_lt_cancel_right_z n m (x.den *ℤ y.den) both
-          (subst₂ (λ a b. a <ℤ b) left right (mul_lt_mul_right_z (x.num *ℤ y.den) (y.num *ℤ x.den) (pos w) positive h)),
+          (subst₂ (λ a b. a <ℤ b) left right
+          (mul_lt_mul_right_z (x.num *ℤ y.den) (y.num *ℤ x.den) (pos w) positive h)),
       λ h. mul_lt_cancel_right_z (x.num *ℤ y.den) (y.num *ℤ x.den) (pos w) positive
-          (subst₂ (λ a b. a <ℤ b) (sym left) (sym right) (mul_lt_mul_right_z n m (x.den *ℤ y.den) both h)),
+          (subst₂ (λ a b. a <ℤ b) (sym left) (sym right)
+          (mul_lt_mul_right_z n m (x.den *ℤ y.den) both h)),
     )
 
 -- n/w is negative exactly if n is
-pub negative_over : (x : Frac) (n : ℤ) (w : ℕ) → 0 < w → IsRatio x n (pos w) → (numerator x <ℤ pos 0) ↔ (n <ℤ pos 0)
+pub negative_over : (x : Frac) (n : ℤ) (w : ℕ) → 0 < w → IsRatio x n (pos w) →
+    (numerator x <ℤ pos 0) ↔ (n <ℤ pos 0)
 negative_over x n w some x_is =
     let positive : pos 0 <ℤ pos w = omega (arith, ints) in
     let is : x.num *ℤ pos w ≡ n *ℤ x.den = x_is in (
@@ -76,12 +82,15 @@ negative_over x n w some x_is =
     )
 
 -- n/w is 1 exactly if n is w
-pub one_over : (x : Frac) (n : ℤ) (w : ℕ) → 0 < w → IsRatio x n (pos w) → (numerator x ≡ denominator x) ↔ (n ≡ pos w)
+pub one_over : (x : Frac) (n : ℤ) (w : ℕ) → 0 < w → IsRatio x n (pos w) →
+    (numerator x ≡ denominator x) ↔ (n ≡ pos w)
 one_over x n w some x_is =
     let den = denominator_some x in (
-      λ h. mul_cancel_right_z n (pos w) x.den (sym x_is ∙ ap (λ z. z *ℤ pos w) h ∙ mul_comm_z x.den (pos w))
+      λ h. mul_cancel_right_z n (pos w) x.den (sym x_is ∙ ap (λ z. z *ℤ pos w) h
+          ∙ mul_comm_z x.den (pos w))
           (omega arith),
-      λ h. mul_cancel_right_z x.num x.den (pos w) (x_is ∙ ap (λ z. z *ℤ x.den) h ∙ sym (mul_comm_z x.den (pos w)))
+      λ h. mul_cancel_right_z x.num x.den (pos w) (x_is ∙ ap (λ z. z *ℤ x.den) h
+          ∙ sym (mul_comm_z x.den (pos w)))
           (omega (arith, ints)),
     )
 

@@ -20,28 +20,42 @@ abbrev pub numbers : Frac → ℕ → List CutTerm → List Frac
 numbers right n terms = right ∷ map (λ u. u.entry) (take n terms)
 
 -- one more
-pub next_number : (right : Frac) (n : ℕ) (terms : List CutTerm) (t : CutTerm) → n < length terms → t ≡ get_or terms n t →
+pub next_number : (right : Frac) (n : ℕ) (terms : List CutTerm) (t : CutTerm) → n < length terms →
+    t ≡ get_or terms n t →
     numbers right (n + 1) terms ≡ numbers right n terms ++ t.entry ∷ []
 next_number right n terms t below is =
     ap (λ xs. right ∷ map (λ u. u.entry) xs) (with_place terms n t below is)
     ∙ ap (λ xs. right ∷ xs) (map-append (λ u. u.entry) (take n terms) (t ∷ []))
 
 -- the n-th term is the first that fails
-pub fails_at : (rule : CutRule) (basic : List ℕ) (right : Frac) (terms : List CutTerm) (n line : ℕ) (t : CutTerm) (r : CheckRule) →
-    line ≡ 1 + length (term_lines 0 0 (take n terms)) → n < length terms → t ≡ get_or terms n t → ((i : ℕ) → i < n → AtIndex terms i (MeetsTerm rule basic right)) →
-    FailsTerm rule basic right r (take n terms) t → FailTerms rule basic right terms (record { below = line; rule = r })
+pub fails_at : (rule : CutRule) (basic : List ℕ) (right : Frac) (terms : List CutTerm) (n line : ℕ)
+    (t : CutTerm) (r : CheckRule) →
+    line ≡ 1 + length (term_lines 0 0 (take n terms)) → n < length terms → t ≡ get_or terms n t →
+    ((i : ℕ) → i < n → AtIndex terms i (MeetsTerm rule basic right)) →
+    FailsTerm rule basic right r (take n terms) t →
+    FailTerms rule basic right terms (record { below = line; rule = r })
 fails_at rule basic right terms n line t r line_is below is h fails = record {
   index = n;
-  below = let long = length-take-le n terms (omega arith) in let lines = length-terms 0 0 (take n terms) in omega arith;
-  fails = record { within = below; before = h; here = at_place terms (FailsTerm rule basic right r) n t below is fails };
+  below = let long = length-take-le n terms (omega arith) in
+      let lines = length-terms 0 0 (take n terms) in omega arith;
+  fails = record {
+    within = below;
+    before = h;
+    here =
+        at_place terms (FailsTerm rule basic right r) n t below is fails;
+  };
 }
 
 -- a row with a cut whose right side meets its rules
-pub row_outcome : (rule : CutRule) (l : CutLine) (basic : List ℕ) (right : Frac) (terms : List CutTerm) (o : Option RowFailure) →
-    l ≡ cuts.Cut basic right terms → MeetsFraction rule l → MeetsLimit [] right → IsTermsOutcome rule basic right terms o →
+pub row_outcome : (rule : CutRule) (l : CutLine) (basic : List ℕ) (right : Frac)
+    (terms : List CutTerm) (o : Option RowFailure) →
+    l ≡ cuts.Cut basic right terms → MeetsFraction rule l → MeetsLimit [] right →
+    IsTermsOutcome rule basic right terms o →
     IsRowOutcome rule l o
 row_outcome rule l basic right terms None is meets within h = record {
   fraction = meets;
-  cut = subst (λ (m : CutLine). IfCut m (λ name value items. MeetsLimit [] value × MeetTerms rule name value items)) (sym is) (within, h);
+  cut = subst (λ (m : CutLine). IfCut m (λ name value items. MeetsLimit [] value
+      × MeetTerms rule name value items)) (sym is) (within, h);
 }
-row_outcome rule l basic right terms (Some f) is meets within h = at_term basic right terms is meets within h
+row_outcome rule l basic right terms (Some f) is meets within h =
+    at_term basic right terms is meets within h

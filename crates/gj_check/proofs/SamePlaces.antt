@@ -23,27 +23,31 @@ use Rattle.gj_check.proofs.Ratios.{denominator_is}
 
 -- ---- one place on two grids
 
-place_z : (a h : ℤ) (q d e : ℕ) → (a +ℤ h *ℤ pos (q * e)) *ℤ pos d ≡ a *ℤ pos d +ℤ h *ℤ pos (q * (d * e))
+place_z : (a h : ℤ) (q d e : ℕ) →
+    (a +ℤ h *ℤ pos (q * e)) *ℤ pos d ≡ a *ℤ pos d +ℤ h *ℤ pos (q * (d * e))
 place_z a h q d e = by_ring (a ∷ h ∷ pos q ∷ pos d ∷ pos e ∷ []) (search ring depth 30) refl
 
 difference_z : (x h k n : ℤ) → x +ℤ h *ℤ n ≡ (x +ℤ k *ℤ n) +ℤ (h -ℤ k) *ℤ n
 difference_z x h k n = by_ring (x ∷ h ∷ k ∷ n ∷ []) (search ring depth 30) refl
 
 -- a/e and t/d are one number, so their indices on the grid of d e are congruent
-places_congruent : (q i j d e : ℕ) (a t : ℤ) → a *ℤ pos d ≡ t *ℤ pos e → IsCongruent (pos i) a (q * e) →
+places_congruent : (q i j d e : ℕ) (a t : ℤ) → a *ℤ pos d ≡ t *ℤ pos e →
+    IsCongruent (pos i) a (q * e) →
     IsCongruent (pos j) t (q * d) → IsCongruent (pos (i * d)) (pos (j * e)) (q * (d * e))
 places_congruent q i j d e a t same (h, i_is) (k, j_is) = (
   h -ℤ k,
   ap (λ z. z *ℤ pos d) i_is ∙ place_z a h q d e ∙ ap (λ z. z +ℤ h *ℤ pos (q * (d * e))) same
       ∙ difference_z (t *ℤ pos e) h k (pos (q * (d * e)))
-      ∙ ap (λ z. z +ℤ (h -ℤ k) *ℤ pos (q * (d * e))) (sym (ap (λ z. z *ℤ pos e) j_is ∙ moved_index_z t k q d e)),
+      ∙ ap (λ z. z +ℤ (h -ℤ k) *ℤ pos (q * (d * e)))
+      (sym (ap (λ z. z *ℤ pos e) j_is ∙ moved_index_z t k q d e)),
 )
 
 scaled_left_z : (s d : ℕ) (x : ℤ) → x *ℤ pos (s * d) ≡ pos s *ℤ (pos d *ℤ x)
 scaled_left_z s d x = by_ring (pos s ∷ pos d ∷ x ∷ []) (search ring depth 30) refl
 
 -- the value at a/e is the value at t/d if the two are one number
-pub value_over : (f : FunctionData) (a t : ℤ) (e d : ℕ) (y : Frac) → IsWithinBounds f → 0 < e → 0 < d →
+pub value_over : (f : FunctionData) (a t : ℤ) (e d : ℕ) (y : Frac) → IsWithinBounds f → 0 < e →
+    0 < d →
     a *ℤ pos d ≡ t *ℤ pos e → IsValueAt f a e y → IsValueAt f t d y
 value_over f a t e d y l e_some d_some same is j at_t =
     let low = l.order_low in
@@ -54,7 +58,8 @@ value_over f a t e d y l e_some d_some same is j at_t =
     (λ k. table_period f (d * e) k (mul-pos d_some e_some) l) (i * d) (j * e) rests in
     let scaled = same_on_both f d e j i d_some e_some both in
     let scale = mul-pos l.scale_low e_some in
-    is_along y (table f e i) (pos (f.scale * e)) (table f d j) (pos (f.scale * d)) (omega (arith, ints)) (is i at_a)
+    is_along y (table f e i) (pos (f.scale * e)) (table f d j) (pos (f.scale * d))
+    (omega (arith, ints)) (is i at_a)
     (scaled_left_z f.scale d (table f e i) ∙ ap (λ z. pos f.scale *ℤ z) scaled
     ∙ sym (scaled_left_z f.scale e (table f d j)))
 
@@ -62,25 +67,32 @@ point_right_z : (n q : ℕ) (d : ℤ) → (pos n *ℤ d) *ℤ pos q ≡ pos (n *
 point_right_z n q d = by_ring (pos n ∷ pos q ∷ d ∷ []) (search ring depth 30) refl
 
 -- the value at x = n/c, over the scale times c
-pub value_on : (f : FunctionData) (x y : Frac) (n c : ℕ) → IsWithinBounds f → 0 < c → IsRatio x (pos n) (pos c) →
+pub value_on : (f : FunctionData) (x y : Frac) (n c : ℕ) → IsWithinBounds f → 0 < c →
+    IsRatio x (pos n) (pos c) →
     IsValueAt f (numerator x *ℤ pos f.order) (unsigned_abs (denominator x)) y →
     IsRatio y (value_of f n c) (pos (f.scale * c))
 value_on f x y n c l some x_is is =
-    let same = swap_last_z x.num (pos f.order) (pos c) ∙ ap (λ z. z *ℤ pos f.order) x_is ∙ point_right_z n f.order x.den
+    let same = swap_last_z x.num (pos f.order) (pos c) ∙ ap (λ z. z *ℤ pos f.order) x_is
+    ∙ point_right_z n f.order x.den
     ∙ ap (λ z. pos (n * f.order) *ℤ z) (denominator_is x) in
-    value_over f (x.num *ℤ pos f.order) (pos (n * f.order)) (unsigned_abs x.den) c y l (denominator_some x) some same is
+    value_over f (x.num *ℤ pos f.order) (pos (n * f.order)) (unsigned_abs x.den) c y l
+    (denominator_some x) some same is
     (n * f.order) (pos 0, omega (arith, ints))
 
 -- ---- sizes
 
 -- the values at two fractions of one denominator of at most 2^62 can be added
-pub values_fit_sum : (f : FunctionData) (x y : Frac) (i j c : ℕ) → IsWithinBounds f → 0 < c → c ≤ 2 ^ 62 →
-    IsRatio x (table f c i) (pos (f.scale * c)) → IsRatio y (table f c j) (pos (f.scale * c)) → FitsSum x y
+pub values_fit_sum : (f : FunctionData) (x y : Frac) (i j c : ℕ) → IsWithinBounds f → 0 < c →
+    c ≤ 2 ^ 62 →
+    IsRatio x (table f c i) (pos (f.scale * c)) → IsRatio y (table f c j) (pos (f.scale * c)) →
+    FitsSum x y
 values_fit_sum f x y i j c l some fine x_is y_is =
     let high = l.scale_high in
     let scale = mul-pos l.scale_low some in
-    let scale_small : f.scale * c ≤ 2 ^ 31 * 2 ^ 62 = (let s : f.scale ≤ 2 ^ 31 = omega arith in mul-le-mul s fine) in
+    let scale_small : f.scale * c ≤ 2 ^ 31 * 2 ^ 62 =
+    (let s : f.scale ≤ 2 ^ 31 = omega arith in mul-le-mul s fine) in
     let first = table_small f c i some l in
     let second = table_small f c j some l in
-    (over_one_denominator x y (table f c i) (table f c j) (pos (f.scale * c)) x_is y_is (omega (arith, ints))
+    (over_one_denominator x y (table f c i) (table f c j) (pos (f.scale * c)) x_is y_is
+    (omega (arith, ints))
     (omega (arith, ints)) (omega arith) (omega arith)).0

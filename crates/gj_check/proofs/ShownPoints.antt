@@ -33,10 +33,16 @@ pub coordinate_point : (x : Frac) → IsCoordinate x →
     IsPoint x (unsigned_abs (numerator x)) (unsigned_abs (denominator x))
 coordinate_point x h =
     let low = h.not_negative in
-    record { numerator_is = omega (arith, ints); denominator_is = denominator_is x; positive = denominator_some x }
+    record {
+      numerator_is = omega (arith, ints);
+      denominator_is = denominator_is x;
+      positive =
+          denominator_some x;
+    }
 
 -- a coordinate is below 1
-coordinate_below : (x : Frac) → IsCoordinate x → unsigned_abs (numerator x) < unsigned_abs (denominator x)
+coordinate_below : (x : Frac) → IsCoordinate x →
+    unsigned_abs (numerator x) < unsigned_abs (denominator x)
 coordinate_below x h =
     let low = h.not_negative in
     let high = h.below_one in
@@ -50,7 +56,8 @@ point_is x n d p = ap (λ z. z *ℤ pos d) p.numerator_is ∙ sym (ap (λ z. pos
 point_over : (x : Frac) (n d e : ℕ) → IsPoint x n d → IsRatio x (pos (n * e)) (pos (d * e))
 point_over x n d e p =
     let turned : n * (d * e) ≡ n * e * d = omega arith in
-    ap (λ z. z *ℤ pos (d * e)) p.numerator_is ∙ ap pos turned ∙ sym (ap (λ z. pos (n * e) *ℤ z) p.denominator_is)
+    ap (λ z. z *ℤ pos (d * e)) p.numerator_is ∙ ap pos turned
+    ∙ sym (ap (λ z. pos (n * e) *ℤ z) p.denominator_is)
 
 -- x is n/c and below 1
 pub record StandsAt (x : Frac) (n c : ℕ) : Type 0 where
@@ -62,7 +69,8 @@ factor_some d zero c whole some = absurd (omega arith)
 factor_some d (suc e) c whole some = omega arith
 
 -- a coordinate over a multiple of its denominator
-stands_at : (x : Frac) (c : ℕ) → IsCoordinate x → unsigned_abs (denominator x) ∣ c → 0 < c → (n : ℕ) × StandsAt x n c
+stands_at : (x : Frac) (c : ℕ) → IsCoordinate x → unsigned_abs (denominator x) ∣ c → 0 < c →
+    (n : ℕ) × StandsAt x n c
 stands_at x c h divides some =
     let n = unsigned_abs (numerator x) in
     let d = unsigned_abs (denominator x) in
@@ -72,7 +80,8 @@ stands_at x c h divides some =
     let less = mul-lt-mul_of_pos_right (coordinate_below x h) e_some in (
       n * e,
       record {
-        is = subst (λ (k : ℕ). IsRatio x (pos (n * e)) (pos k)) whole (point_over x n d e (coordinate_point x h));
+        is = subst (λ (k : ℕ). IsRatio x (pos (n * e)) (pos k)) whole
+            (point_over x n d e (coordinate_point x h));
         below = omega arith;
       },
     )
@@ -95,20 +104,27 @@ one_small x h =
     let fine = one_fine x h in
     omega arith
 
-pub coordinate_small : (x : Frac) → IsCoordinate x → unsigned_abs (numerator x) ≤ 2 ^ 31 * unsigned_abs (denominator x)
+pub coordinate_small : (x : Frac) → IsCoordinate x →
+    unsigned_abs (numerator x) ≤ 2 ^ 31 * unsigned_abs (denominator x)
 coordinate_small x h = let below = coordinate_below x h in omega arith
 
 -- ---- a negative value
 
-pub negative_shown : (f : FunctionData) (x y : Frac) → IsWithinBounds f → IsCoordinate x → IsValueOf f x y →
+pub negative_shown : (f : FunctionData) (x y : Frac) → IsWithinBounds f → IsCoordinate x →
+    IsValueOf f x y →
     (numerator y <ℤ pos 0) ↔ ShowsViolation f (violation.Negative x)
 negative_shown f x y l x_is is =
-    let at : (n d : ℕ) → IsPoint x n d → (numerator y <ℤ pos 0) ↔ (value_of f n d <ℤ pos 0) = λ n d p.
+    let at : (n d : ℕ) → IsPoint x n d → (numerator y <ℤ pos 0) ↔ (value_of f n d <ℤ pos 0) =
+    λ n d p.
     negative_over y (value_of f n d) (f.scale * d) (mul-pos l.scale_low p.positive)
     (value_on f x y n d l p.positive (point_is x n d p) is) in (
       λ h.
-          let p = coordinate_point x x_is in
-          (unsigned_abs (numerator x), unsigned_abs (denominator x), record { point = p; below = (at _ _ p).0 h }),
+          let p = coordinate_point x x_is in (
+            unsigned_abs (numerator x),
+            unsigned_abs (denominator x),
+            record
+                { point = p; below = (at _ _ p).0 h },
+          ),
       λ (n, d, h). (at n d h.point).1 h.below,
     )
 
@@ -122,38 +138,48 @@ congruent_by j m n a b p e = let parts = sub_mul_z (pos a) (pos b) (pos p) in om
 opposite_value : (f : FunctionData) (x z y : Frac) (n d j : ℕ) → IsWithinBounds f → IsPoint x n d →
     IsScaledOpposite f x z →
     IsValueAt f (numerator z) (unsigned_abs (denominator z)) y →
-    (n * f.order + j) % (f.order * d) ≡ (f.place * d) % (f.order * d) → IsRatio y (table f d j) (pos (f.scale * d))
+    (n * f.order + j) % (f.order * d) ≡ (f.place * d) % (f.order * d) →
+    IsRatio y (table f d j) (pos (f.scale * d))
 opposite_value f x z y n d j l p z_is is opposite =
     let t = pos (f.place * d) -ℤ pos (n * f.order) in
     let read : IsRatio z (pos (d * f.place) -ℤ pos (n * f.order)) (pos d) =
-    subst₂ (λ a b. IsRatio z (b *ℤ pos f.place -ℤ a *ℤ pos f.order) b) p.numerator_is p.denominator_is z_is in
+    subst₂ (λ a b. IsRatio z (b *ℤ pos f.place -ℤ a *ℤ pos f.order) b) p.numerator_is
+    p.denominator_is z_is in
     let over : IsRatio z t (pos d) =
     subst (λ (k : ℕ). IsRatio z (pos k -ℤ pos (n * f.order)) (pos d)) (mul_comm d f.place) read in
     let period = f.order * d in
     let rests = from_same_remainder (n * f.order + j) (f.place * d) period opposite in
-    value_over f (numerator z) t (unsigned_abs (denominator z)) d y l (denominator_some z) p.positive
+    value_over f (numerator z) t (unsigned_abs (denominator z)) d y l
+    (denominator_some z) p.positive
     (over ∙ ap (λ k. t *ℤ k) (denominator_is z)) is j (
       pos ((n * f.order + j) / period) -ℤ pos (f.place * d / period),
-      congruent_by j (n * f.order) (f.place * d) ((n * f.order + j) / period) (f.place * d / period) period rests,
+      congruent_by j (n * f.order) (f.place * d) ((n * f.order + j) / period)
+          (f.place * d / period) period rests,
     )
 
 -- an index that is opposite to a coordinate
 opposite_index : (f : FunctionData) (n d : ℕ) → n < d →
-    (n * f.order + (f.place * d + (d - n) * f.order)) % (f.order * d) ≡ (f.place * d) % (f.order * d)
+    (n * f.order + (f.place * d + (d - n) * f.order)) % (f.order * d)
+    ≡ (f.place * d) % (f.order * d)
 opposite_index f n d below =
     let parts : n + (d - n) ≡ d = omega arith in
     let whole : n * f.order + (d - n) * f.order ≡ f.order * d =
     omega arith ∙ ap (λ k. k * f.order) parts ∙ mul_comm d f.order in
-    let sum : n * f.order + (f.place * d + (d - n) * f.order) ≡ f.place * d + f.order * d = omega arith in
+    let sum : n * f.order + (f.place * d + (d - n) * f.order) ≡ f.place * d + f.order * d =
+    omega arith in
     ap (λ k. k % (f.order * d)) sum ∙ add-mod_right (f.place * d) (f.order * d)
 
-pub asymmetric_shown : (f : FunctionData) (x z first second sum : Frac) → IsWithinBounds f → IsCoordinate x →
-    IsScaledOpposite f x z → IsValueOf f x first → IsValueAt f (numerator z) (unsigned_abs (denominator z)) second →
+pub asymmetric_shown : (f : FunctionData) (x z first second sum : Frac) → IsWithinBounds f →
+    IsCoordinate x →
+    IsScaledOpposite f x z → IsValueOf f x first →
+    IsValueAt f (numerator z) (unsigned_abs (denominator z)) second →
     SameValue (fraction_of sum) (sum_of (fraction_of first) (fraction_of second)) →
     (numerator sum ≢ denominator sum) ↔ ShowsViolation f (violation.Asymmetric x)
 asymmetric_shown f x z first second sum l x_is z_is first_is second_is sum_is =
-    let at : (n d j : ℕ) → IsPoint x n d → (n * f.order + j) % (f.order * d) ≡ (f.place * d) % (f.order * d) →
-    (numerator sum ≡ denominator sum) ↔ (value_of f n d +ℤ table f d j ≡ pos (f.scale * d)) = λ n d j p opposite.
+    let at : (n d j : ℕ) → IsPoint x n d →
+    (n * f.order + j) % (f.order * d) ≡ (f.place * d) % (f.order * d) →
+    (numerator sum ≡ denominator sum) ↔ (value_of f n d +ℤ table f d j ≡ pos (f.scale * d)) =
+    λ n d j p opposite.
     one_over sum (value_of f n d +ℤ table f d j) (f.scale * d) (mul-pos l.scale_low p.positive)
     (sum_over first second sum (value_of f n d) (table f d j) (pos (f.scale * d))
     (value_on f x first n d l p.positive (point_is x n d p) first_is)
@@ -163,13 +189,25 @@ asymmetric_shown f x z first second sum l x_is z_is first_is second_is sum_is =
     let j = f.place * d + (d - n) * f.order in
     let p = coordinate_point x x_is in
     let opposite = opposite_index f n d (coordinate_below x x_is) in (
-      λ h. (n, d, j, record { point = p; opposite = opposite; differs = λ e. h ((at n d j p opposite).1 e) }),
+      λ h. (
+        n,
+        d,
+        j,
+        record {
+          point = p;
+          opposite = opposite;
+          differs =
+              λ e. h ((at n d j p opposite).1 e);
+        },
+      ),
       λ (n', d', j', h) e. h.differs ((at n' d' j' h.point h.opposite).0 e),
     )
 
 -- the two values can be added
-pub asymmetric_fits : (f : FunctionData) (x z first second : Frac) → IsWithinBounds f → AreCoordinates (x ∷ []) →
-    IsScaledOpposite f x z → IsValueOf f x first → IsValueAt f (numerator z) (unsigned_abs (denominator z)) second →
+pub asymmetric_fits : (f : FunctionData) (x z first second : Frac) → IsWithinBounds f →
+    AreCoordinates (x ∷ []) →
+    IsScaledOpposite f x z → IsValueOf f x first →
+    IsValueAt f (numerator z) (unsigned_abs (denominator z)) second →
     FitsSum first second
 asymmetric_fits f x z first second l x_is z_is first_is second_is =
     let n = unsigned_abs (numerator x) in
@@ -179,13 +217,16 @@ asymmetric_fits f x z first second l x_is z_is first_is second_is =
     let p = coordinate_point x within in
     values_fit_sum f first second (n * f.order) j d l p.positive (one_fine x x_is)
     (value_on f x first n d l p.positive (point_is x n d p) first_is)
-    (opposite_value f x z second n d j l p z_is second_is (opposite_index f n d (coordinate_below x within)))
+    (opposite_value f x z second n d j l p z_is second_is
+    (opposite_index f n d (coordinate_below x within)))
 
 -- the denominator of q (f - x) is small enough
-pub opposite_fine : (f : FunctionData) (x z : Frac) → AreCoordinates (x ∷ []) → IsScaledOpposite f x z →
+pub opposite_fine : (f : FunctionData) (x z : Frac) → AreCoordinates (x ∷ []) →
+    IsScaledOpposite f x z →
     unsigned_abs (denominator z) ≤ 2 ^ 62
 opposite_fine f x z x_is z_is =
-    let within = le_of_dvd (denominator_some x) (denominator_divides_each z _ (denominator x) z_is) in
+    let within = le_of_dvd (denominator_some x)
+    (denominator_divides_each z _ (denominator x) z_is) in
     let fine = one_fine x x_is in
     omega arith
 
@@ -204,7 +245,8 @@ stand_at x y h =
     let P : Frac → Type 0 = λ z. unsigned_abs (denominator z) ∣ c in
     let (n, first) = stands_at x c (All-head IsCoordinate x (y ∷ []) h.each)
     (All-head P x (y ∷ []) h.common.3) h.common.1 in
-    let (m, second) = stands_at y c (All-head IsCoordinate y [] (All-tail IsCoordinate x (y ∷ []) h.each))
+    let (m, second) = stands_at y c
+    (All-head IsCoordinate y [] (All-tail IsCoordinate x (y ∷ []) h.each))
     (All-head P y [] (All-tail P x (y ∷ []) h.common.3)) h.common.1 in
     (n, m, c, record { some = h.common.1; fine = h.common.2; first = first; second = second })
 
@@ -214,7 +256,8 @@ first_within x y h = All-head IsCoordinate x (y ∷ []) h.each
 pub second_within : (x y : Frac) → AreCoordinates (x ∷ y ∷ []) → IsCoordinate y
 second_within x y h = All-head IsCoordinate y [] (All-tail IsCoordinate x (y ∷ []) h.each)
 
-fine_over : (x : Frac) (n c : ℕ) → 0 < c → c ≤ 2 ^ 62 → IsRatio x (pos n) (pos c) → unsigned_abs (denominator x) ≤ 2 ^ 62
+fine_over : (x : Frac) (n c : ℕ) → 0 < c → c ≤ 2 ^ 62 → IsRatio x (pos n) (pos c) →
+    unsigned_abs (denominator x) ≤ 2 ^ 62
 fine_over x n c some fine is =
     let within = le_of_dvd some (denominator_divides_each x (pos n) (pos c) is) in
     omega arith
@@ -233,7 +276,8 @@ coordinates_fit_sum x y h =
     let fine = s.fine in
     let first = s.first.below in
     let second = s.second.below in
-    (over_one_denominator x y (pos n) (pos m) (pos c) s.first.is s.second.is (omega arith) (omega arith) (omega arith)
+    (over_one_denominator x y (pos n) (pos m) (pos c) s.first.is s.second.is (omega arith)
+    (omega arith) (omega arith)
     (omega arith)).0
 
 -- what the sum of two coordinates is
@@ -242,7 +286,8 @@ pub sum_fine : (x y z : Frac) → AreCoordinates (x ∷ y ∷ []) →
     unsigned_abs (denominator z) ≤ 2 ^ 62
 sum_fine x y z h z_is =
     let (n, m, c, s) = stand_at x y h in
-    fine_over z (n + m) c s.some s.fine (sum_over x y z (pos n) (pos m) (pos c) s.first.is s.second.is z_is)
+    fine_over z (n + m) c s.some s.fine
+    (sum_over x y z (pos n) (pos m) (pos c) s.first.is s.second.is z_is)
 
 pub sum_small : (x y z : Frac) → AreCoordinates (x ∷ y ∷ []) →
     SameValue (fraction_of z) (sum_of (fraction_of x) (fraction_of y)) →
@@ -257,27 +302,34 @@ sum_small x y z h z_is =
     ∙ unsigned_abs-mul (pos (n + m)) (denominator z) in
     let less : (n + m) * unsigned_abs (denominator z) ≤ (2 * c) * unsigned_abs (denominator z) =
     mul-le-mul_right (unsigned_abs (denominator z)) (let k : n + m ≤ 2 * c = omega arith in k) in
-    let twice : unsigned_abs (numerator z) * c ≤ (2 * unsigned_abs (denominator z)) * c = omega arith in
+    let twice : unsigned_abs (numerator z) * c ≤ (2 * unsigned_abs (denominator z)) * c =
+    omega arith in
     let within = le_of_mul-le-mul_right twice s.some in
     omega arith
 
 -- the two values can be added
-pub values_fit : (f : FunctionData) (x y first second : Frac) → IsWithinBounds f → AreCoordinates (x ∷ y ∷ []) →
+pub values_fit : (f : FunctionData) (x y first second : Frac) → IsWithinBounds f →
+    AreCoordinates (x ∷ y ∷ []) →
     IsValueOf f x first → IsValueOf f y second → FitsSum first second
 values_fit f x y first second l h first_is second_is =
     let (n, m, c, s) = stand_at x y h in
     values_fit_sum f first second (n * f.order) (m * f.order) c l s.some s.fine
-    (value_on f x first n c l s.some s.first.is first_is) (value_on f y second m c l s.some s.second.is second_is)
+    (value_on f x first n c l s.some s.first.is first_is)
+    (value_on f y second m c l s.some s.second.is second_is)
 
-pub superadditive_shown : (f : FunctionData) (x y z first second third sum : Frac) → IsWithinBounds f → IsCoordinate x →
-    IsCoordinate y → SameValue (fraction_of z) (sum_of (fraction_of x) (fraction_of y)) → IsValueOf f x first →
+pub superadditive_shown : (f : FunctionData) (x y z first second third sum : Frac) →
+    IsWithinBounds f → IsCoordinate x →
+    IsCoordinate y → SameValue (fraction_of z) (sum_of (fraction_of x) (fraction_of y)) →
+    IsValueOf f x first →
     IsValueOf f y second → IsValueOf f z third →
     SameValue (fraction_of sum) (sum_of (fraction_of first) (fraction_of second)) →
     LessValue (fraction_of sum) (fraction_of third) ↔ ShowsViolation f (violation.Superadditive x y)
-superadditive_shown f x y z first second third sum l x_is y_is z_is first_is second_is third_is sum_is =
+superadditive_shown f x y z first second third sum l x_is y_is z_is first_is second_is third_is
+    sum_is =
     let at : (n d m e : ℕ) → IsPoint x n d → IsPoint y m e →
     LessValue (fraction_of sum) (fraction_of third)
-    ↔ ((value_of f (n * e) (d * e) +ℤ value_of f (m * d) (d * e)) <ℤ value_of f (n * e + m * d) (d * e)) =
+    ↔ ((value_of f (n * e) (d * e) +ℤ value_of f (m * d) (d * e))
+    <ℤ value_of f (n * e + m * d) (d * e)) =
     λ n d m e p r.
     let c = d * e in
     let some = mul-pos p.positive r.positive in
@@ -286,7 +338,8 @@ superadditive_shown f x y z first second third sum l x_is y_is z_is first_is sec
     subst (λ (k : ℕ). IsRatio y (pos (m * d)) (pos k)) (mul_comm e d) (point_over y m e d r) in
     let z_over : IsRatio z (pos (n * e + m * d)) (pos c) =
     sum_over x y z (pos (n * e)) (pos (m * d)) (pos c) x_over y_over z_is in
-    less_over sum third (value_of f (n * e) c +ℤ value_of f (m * d) c) (value_of f (n * e + m * d) c) (f.scale * c)
+    less_over sum third (value_of f (n * e) c +ℤ value_of f (m * d) c)
+    (value_of f (n * e + m * d) c) (f.scale * c)
     (mul-pos l.scale_low some)
     (sum_over first second sum (value_of f (n * e) c) (value_of f (m * d) c) (pos (f.scale * c))
     (value_on f x first (n * e) c l some x_over first_is)

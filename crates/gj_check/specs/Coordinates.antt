@@ -21,4 +21,5 @@ pub record AreCoordinates (xs : List Frac) : Type 0 where
 
 -- z is q (f - x), q being the order
 abbrev pub IsScaledOpposite : FunctionData → Frac → Frac → Type 0
-IsScaledOpposite f x z = IsRatio z (denominator x *ℤ pos f.place -ℤ numerator x *ℤ pos f.order) (denominator x)
+IsScaledOpposite f x z = IsRatio z (denominator x *ℤ pos f.place -ℤ numerator x *ℤ pos f.order)
+    (denominator x)

@@ -14,14 +14,16 @@ use Rattle.gj_check.specs.declared.cover_lines.Covered.TheVariants.{Whole, Broke
 
 -- the intervals that have one of the lines
 abbrev pub HaveLines : List CoverLine → List Bool → Type 0
-HaveLines lines has_line = (i : ℕ) → i < length has_line → IsTrue (get_or has_line i false) ↔ HasCoverLine lines i
+HaveLines lines has_line = (i : ℕ) → i < length has_line → IsTrue (get_or has_line i false)
+    ↔ HasCoverLine lines i
 
 -- the rule `cover` on the i-th line
 abbrev pub MeetsCover : FunctionData → List CoverLine → ℕ → Type 0
 MeetsCover f lines i = AtIndex lines i (MeetsCoverRule f.order (IsTight f))
 
 -- the numbers of the components of all intervals, below the number of components
-pub record AreComponentsOf (f : FunctionData) (lines : List CoverLine) (c : Components) : Type 0 where
+pub record AreComponentsOf (f : FunctionData) (lines : List CoverLine) (c : Components) :
+    Type 0 where
   pub length : length c.number.items ≡ f.order
   pub below : All (λ n. n < c.count) c.number.items
   pub numbers : AreNumbersOf f lines (λ i. get_or c.number.items i 0)

@@ -14,7 +14,8 @@ pub record IsRowDenominator (xs : List Frac) (c : ℕ) : Type 0 where
 -- behind numbers with the least common denominator c the number x is within the limits, and with it
 -- they have that of m
 abbrev pub ExtendsRowDenominator : ℕ → Frac → ℕ → Type 0
-ExtendsRowDenominator c x m = (xs : List Frac) → IsRowDenominator xs c → MeetsLimit xs x × IsRowDenominator (xs ++ x ∷ []) m
+ExtendsRowDenominator c x m = (xs : List Frac) → IsRowDenominator xs c →
+    MeetsLimit xs x × IsRowDenominator (xs ++ x ∷ []) m
 
 -- behind such numbers it is not within the limits
 abbrev pub IsBeyond : ℕ → Frac → Type 0

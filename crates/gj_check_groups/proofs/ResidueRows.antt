@@ -22,17 +22,20 @@ residue_is x =
     subst IsResidue (sym is) (record { low = omega (arith, ints); below = omega (arith, ints) })
 
 pub all_residues : (row : List ℤ) → All IsResidue (residues modulus row)
-all_residues row = All-map IsResidue (residue modulus) row (λ i d below. residue_is (get_or row i d))
+all_residues row = All-map IsResidue (residue modulus) row
+    (λ i d below. residue_is (get_or row i d))
 
 -- a row after a step
-pub reduced_residues : (kept row : List ℤ) (c : ℕ) → All IsResidue (reduced_modulo modulus kept row c)
+pub reduced_residues : (kept row : List ℤ) (c : ℕ) →
+    All IsResidue (reduced_modulo modulus kept row c)
 unfolding reduced_modulo
 reduced_residues kept row c = all_residues (differences row (scaled (at_column row c) kept))
 
 -- an inverse is one
 pub inverse_is_residue : (x : ℤ) (w : ℕ) → inverse modulus x ≡ Some w → IsResidue (pos w)
 inverse_is_residue x w is =
-    let low = (subst (λ o. IfSome o (λ w. (w < modulus) × IsZeroModulo modulus (pos w *ℤ x -ℤ pos 1))) is
+    let low = (subst (λ o. IfSome o
+    (λ w. (w < modulus) × IsZeroModulo modulus (pos w *ℤ x -ℤ pos 1))) is
     (inverse_found modulus x (lit< tt))).0 in
     record { low = omega (arith, ints); below = omega (arith, ints) }
 
@@ -43,14 +46,17 @@ some_inverse b None x is b_is = (
   λ t. absurd (let no : b ≡ false = b_is in cc),
   λ one. absurd ((inverse_none modulus x (lit< tt)).0 (sym is) one),
 )
-some_inverse b (Some w) x is b_is = (λ t. by_case (cases_eq (gcd_of (unsigned_abs x) modulus) 1), λ one. b_is)
+some_inverse b (Some w) x is b_is =
+    (λ t. by_case (cases_eq (gcd_of (unsigned_abs x) modulus) 1), λ one. b_is)
   where
-    by_case : (gcd_of (unsigned_abs x) modulus ≡ 1) ⊎ (gcd_of (unsigned_abs x) modulus ≡ 1 → ⊥) → gcd_of (unsigned_abs x) modulus ≡ 1
+    by_case : (gcd_of (unsigned_abs x) modulus ≡ 1) ⊎ (gcd_of (unsigned_abs x) modulus ≡ 1 → ⊥) →
+        gcd_of (unsigned_abs x) modulus ≡ 1
     by_case (inl one) = one
     by_case (inr other) = absurd (let none = is ∙ (inverse_none modulus x (lit< tt)).1 other in cc)
 
 -- a row whose entries are each multiplied
-pub multiplied : (u : ℤ) (row : List ℤ) → residues modulus (scaled u row) ≡ map (λ x. residue modulus (u *ℤ x)) row
+pub multiplied : (u : ℤ) (row : List ℤ) →
+    residues modulus (scaled u row) ≡ map (λ x. residue modulus (u *ℤ x)) row
 multiplied u [] = refl
 multiplied u (x ∷ row) = ap (λ xs. residue modulus (u *ℤ x) ∷ xs) (multiplied u row)
 
@@ -61,7 +67,8 @@ pub record AreDone (f : ℕ → ℤ) (old row : List ℤ) (i : ℕ) : Type 0 whe
   pub done : (k : ℕ) → k < i → at_column row k ≡ f k
   pub later : (k : ℕ) → i ≤ k → at_column row k ≡ at_column old k
 
-pub done_more : (f : ℕ → ℤ) (old row : List ℤ) (i : ℕ) (z : ℤ) → AreDone f old row i → i < length row → z ≡ f i →
+pub done_more : (f : ℕ → ℤ) (old row : List ℤ) (i : ℕ) (z : ℤ) → AreDone f old row i →
+    i < length row → z ≡ f i →
     AreDone f old (set row i z) (i + 1)
 done_more f old row i z h inside is = record {
   done = below_more (λ k. at_column (set row i z) k ≡ f k) i
@@ -70,7 +77,8 @@ done_more f old row i z h inside is = record {
   later = λ k from. get_or-set_other row i k z (pos 0) (omega arith) ∙ h.later k (omega arith);
 }
 
-pub done_all : (f : ℕ → ℤ) (old row : List ℤ) (i : ℕ) (target : List ℤ) → AreDone f old row i → length row ≤ i →
+pub done_all : (f : ℕ → ℤ) (old row : List ℤ) (i : ℕ) (target : List ℤ) → AreDone f old row i →
+    length row ≤ i →
     length target ≡ length row → ((k : ℕ) → at_column target k ≡ f k) → row ≡ target
 done_all f old row i target h past len is =
     same_lists row target (sym len)
@@ -80,7 +88,8 @@ done_all f old row i target h past len is =
 
 -- the entries of a row after a step
 unfoldable pub reduced_entry : List ℤ → List ℤ → ℕ → ℕ → ℤ
-reduced_entry kept row c k = residue modulus (at_column row k -ℤ at_column row c *ℤ at_column kept k)
+reduced_entry kept row c k =
+    residue modulus (at_column row k -ℤ at_column row c *ℤ at_column kept k)
 
 pub reduced_at : (kept row : List ℤ) (c k : ℕ) → length kept ≡ length row →
     at_column (reduced_modulo modulus kept row c) k ≡ reduced_entry kept row c k

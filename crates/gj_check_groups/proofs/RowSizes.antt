@@ -13,7 +13,8 @@ use Rattle.gj_frac.specs.Fraction.{Fits}
 use Rattle.gj_theory.proofs.RiseCounts.{rises_at_most}
 use Rattle.gj_proof.specs.ProofText.{IsRowNameBelow}
 
-entry_fits : (f : ℕ → ℕ) (q k c : ℕ) (name : RowName) → k < q → IsRowNameBelow q name → q < 2 ^ 64 → Fits (row_entry f q k name c)
+entry_fits : (f : ℕ → ℕ) (q k c : ℕ) (name : RowName) → k < q → IsRowNameBelow q name → q < 2 ^ 64 →
+    Fits (row_entry f q k name c)
 entry_fits f q k c Period place below small = let most = rises_at_most f q c in omega (arith, ints)
 entry_fits f q k c F place below small = let most = rises_at_most f k c in omega (arith, ints)
 entry_fits f q k c (Pair a b) place below small =
@@ -25,7 +26,9 @@ entry_fits f q k c (Pair a b) place below small =
     let within : b < q = below.2 in
     omega (arith, ints)
 
-pub row_fits : (f : ℕ → ℕ) (n q k : ℕ) (name : RowName) → k < q → IsRowNameBelow q name → q < 2 ^ 64 → All Fits (row_of f n q k name)
+pub row_fits : (f : ℕ → ℕ) (n q k : ℕ) (name : RowName) → k < q → IsRowNameBelow q name →
+    q < 2 ^ 64 → All Fits (row_of f n q k name)
 row_fits f n q k name place below small =
     All-map Fits (row_entry f q k name) (range_with_len 0 n)
-    (All-range (λ c. Fits (row_entry f q k name c)) 0 n (λ c low. entry_fits f q k c name place below small))
+    (All-range (λ c. Fits (row_entry f q k name c)) 0 n
+    (λ c low. entry_fits f q k c name place below small))

@@ -17,7 +17,8 @@ use Rattle.gj_check_groups.specs.declared.failure.GroupFailure.{GroupFailure}
 
 -- no number that the step marks passes; of residues it marks none
 abbrev pub HasSize : Numbers → List KeptRow → List ℤ → ℕ → Type 0
-HasSize numbers kept row c = Passes ((arithmetic_of numbers).marked (entries_of (row_with_pivot kept c)) row c) → ⊥
+HasSize numbers kept row c =
+    Passes ((arithmetic_of numbers).marked (entries_of (row_with_pivot kept c)) row c) → ⊥
 
 -- its rules hold
 pub record MeetsStep (numbers : Numbers) (kept : List KeptRow) (row : List ℤ) (c : ℕ) : Type 0 where
@@ -33,7 +34,8 @@ FailsStep numbers _ kept row c = ⊥
 -- they hold, and the step leaves the row `after`; or this is the first that fails
 abbrev pub IsStepOutcome : Numbers → List KeptRow → List ℤ → ℕ → List ℤ → Option GroupRule → Type 0
 IsStepOutcome numbers kept row c after None =
-    MeetsStep numbers kept row c × (after ≡ (arithmetic_of numbers).step (entries_of (row_with_pivot kept c)) row c)
+    MeetsStep numbers kept row c
+    × (after ≡ (arithmetic_of numbers).step (entries_of (row_with_pivot kept c)) row c)
 IsStepOutcome numbers kept row c after (Some rule) = FailsStep numbers rule kept row c
 
 -- ---- all steps
@@ -44,45 +46,59 @@ stepped numbers kept begun columns = present_row_by (arithmetic_of numbers) kept
 
 -- the rules of the step at the column c hold behind steps at other columns
 abbrev pub MeetsStepBehind : Numbers → List KeptRow → List ℤ → List ℕ → ℕ → Type 0
-MeetsStepBehind numbers kept begun before c = MeetsStep numbers kept (stepped numbers kept begun before) c
+MeetsStepBehind numbers kept begun before c =
+    MeetsStep numbers kept (stepped numbers kept begun before) c
 
 -- those of the steps before the r-th hold, and the first of its rules that fails is this one
-pub record FailAt (numbers : Numbers) (kept : List KeptRow) (begun : List ℤ) (columns : List ℕ) (r : ℕ) (rule : GroupRule) : Type 0 where
+pub record FailAt (numbers : Numbers) (kept : List KeptRow) (begun : List ℤ) (columns : List ℕ)
+    (r : ℕ) (rule : GroupRule) : Type 0 where
   pub within : r < length columns
   pub before : (i : ℕ) → i < r → AtIndex columns i (MeetsStepBehind numbers kept begun)
-  pub here : AtIndex columns r (λ before c. FailsStep numbers rule kept (stepped numbers kept begun before) c)
+  pub here : AtIndex columns r
+      (λ before c. FailsStep numbers rule kept (stepped numbers kept begun before) c)
 
 -- the first failure in the steps, on the line of one of them
-pub record FailSteps (numbers : Numbers) (kept : List KeptRow) (begun : List ℤ) (columns : List ℕ) (failure : GroupFailure) : Type 0 where
+pub record FailSteps (numbers : Numbers) (kept : List KeptRow) (begun : List ℤ) (columns : List ℕ)
+    (failure : GroupFailure) : Type 0 where
   pub index : ℕ
   pub below : failure.below ≡ index + 1
   pub fails : FailAt numbers kept begun columns index failure.rule
 
 -- all hold, and the steps leave the row `after`; or this is the first failure
-abbrev pub IsStepsOutcome : Numbers → List KeptRow → List ℤ → List ℕ → List ℤ → Option GroupFailure → Type 0
+abbrev pub IsStepsOutcome : Numbers → List KeptRow → List ℤ → List ℕ → List ℤ →
+    Option GroupFailure → Type 0
 IsStepsOutcome numbers kept begun columns after None =
-    ((i : ℕ) → AtIndex columns i (MeetsStepBehind numbers kept begun)) × (after ≡ stepped numbers kept begun columns)
-IsStepsOutcome numbers kept begun columns after (Some failure) = FailSteps numbers kept begun columns failure
+    ((i : ℕ) → AtIndex columns i (MeetsStepBehind numbers kept begun))
+    × (after ≡ stepped numbers kept begun columns)
+IsStepsOutcome numbers kept begun columns after (Some failure) =
+    FailSteps numbers kept begun columns failure
 
 -- ---- a group
 
 -- its rules hold, behind kept rows of n columns, for the row with which it begins
-pub record MeetsGroup (numbers : Numbers) (f : FunctionData) (n : ℕ) (kept : List KeptRow) (begun : List ℤ) (one : PivotRow) : Type 0 where
+pub record MeetsGroup (numbers : Numbers) (f : FunctionData) (n : ℕ) (kept : List KeptRow)
+    (begun : List ℤ) (one : PivotRow) : Type 0 where
   pub row : MeetsRow f one.name
   pub steps : (i : ℕ) → AtIndex one.reduce i (MeetsStepBehind numbers kept begun)
   pub pivot : MeetsPivotBy numbers n kept (stepped numbers kept begun one.reduce) one.pivot
 
 -- the first that fails, and how many lines below the first of the group
-pub data FailsGroup (numbers : Numbers) (f : FunctionData) (n : ℕ) (kept : List KeptRow) (begun : List ℤ) (one : PivotRow)
+pub data FailsGroup (numbers : Numbers) (f : FunctionData) (n : ℕ) (kept : List KeptRow)
+    (begun : List ℤ) (one : PivotRow)
     (failure : GroupFailure) : Type 0 where
-  at_row : failure.below ≡ 0 → failure.rule ≡ Row → (MeetsRow f one.name → ⊥) → FailsGroup numbers f n kept begun one failure
-  at_step : MeetsRow f one.name → FailSteps numbers kept begun one.reduce failure → FailsGroup numbers f n kept begun one failure
+  at_row : failure.below ≡ 0 → failure.rule ≡ Row → (MeetsRow f one.name → ⊥) →
+      FailsGroup numbers f n kept begun one failure
+  at_step : MeetsRow f one.name → FailSteps numbers kept begun one.reduce failure →
+      FailsGroup numbers f n kept begun one failure
   at_pivot : failure.below ≡ length one.reduce + 1 → failure.rule ≡ Pivot → MeetsRow f one.name →
       ((i : ℕ) → AtIndex one.reduce i (MeetsStepBehind numbers kept begun)) →
-      (MeetsPivotBy numbers n kept (stepped numbers kept begun one.reduce) one.pivot → ⊥) → FailsGroup numbers f n kept begun one failure
+      (MeetsPivotBy numbers n kept (stepped numbers kept begun one.reduce) one.pivot → ⊥) →
+      FailsGroup numbers f n kept begun one failure
 
 -- all hold, and the steps leave the row `after`; or this is the first failure
-abbrev pub IsGroupOutcome : Numbers → FunctionData → ℕ → List KeptRow → List ℤ → PivotRow → List ℤ → Option GroupFailure → Type 0
+abbrev pub IsGroupOutcome : Numbers → FunctionData → ℕ → List KeptRow → List ℤ → PivotRow → List ℤ →
+    Option GroupFailure → Type 0
 IsGroupOutcome numbers f n kept begun one after None =
     MeetsGroup numbers f n kept begun one × (after ≡ stepped numbers kept begun one.reduce)
-IsGroupOutcome numbers f n kept begun one after (Some failure) = FailsGroup numbers f n kept begun one failure
+IsGroupOutcome numbers f n kept begun one after (Some failure) =
+    FailsGroup numbers f n kept begun one failure

@@ -23,19 +23,22 @@ signs_of_lists f l =
     let right_length = l.right_length in
     let left_length = l.left_length in (
       λ h i below.
-          let lefts = everywhere (λ z. pos 0 ≤ℤ z) f.left f.order left_length (omega arith) (λ j j_below. h.2 j (omega arith)) in
+          let lefts = everywhere (λ z. pos 0 ≤ℤ z) f.left f.order left_length (omega arith)
+          (λ j j_below. h.2 j (omega arith)) in
           (h.0 i (omega arith), h.1 i (omega arith), lefts (i + 1)),
       λ all. (
         λ i below. (all i (omega arith)).0,
         λ i below. (all i (omega arith)).1,
-        λ i below. each_below (λ z. pos 0 ≤ℤ z) f.left f.order left_length (λ j j_below. (all j j_below).2) i (omega arith),
+        λ i below. each_below (λ z. pos 0 ≤ℤ z) f.left f.order left_length
+            (λ j j_below. (all j j_below).2) i (omega arith),
       ),
     )
 
 -- ---- symmetry
 
 -- the sums at opposite indices below the length give those at all indices that add up to the place
-opposite_everywhere : (xs ys : List ℤ) (n k : ℕ) (total : ℤ) → length xs ≡ n → length ys ≡ n → 0 < n →
+opposite_everywhere : (xs ys : List ℤ) (n k : ℕ) (total : ℤ) → length xs ≡ n → length ys ≡ n →
+    0 < n →
     ((i : ℕ) → i < n → at xs i +ℤ at ys (k + (n - i)) ≡ total) →
     (i j : ℕ) → (i + j) % n ≡ k % n → at xs i +ℤ at ys j ≡ total
 opposite_everywhere xs ys n k total xs_len ys_len some h i j e =
@@ -46,19 +49,28 @@ opposite_everywhere xs ys n k total xs_len ys_len some h i j e =
 
 -- the values at x and f - x add up to 1 if those and the limits of the lists do
 pub symmetry_of_lists : (f : FunctionData) → IsWithinBounds f →
-    (AreOpposite f.value f.value f.place (pos f.scale) × AreOpposite f.right f.left f.place (pos f.scale)) ↔ IsSymmetric f
+    (AreOpposite f.value f.value f.place (pos f.scale)
+    × AreOpposite f.right f.left f.place (pos f.scale)) ↔ IsSymmetric f
 symmetry_of_lists f l =
     let n = f.order in
     let low = l.order_low in
-    let Across = λ (xs ys : List ℤ) (m : ℕ). (i : ℕ) → i < m → at xs i +ℤ at ys (f.place + (m - i)) ≡ pos f.scale in (
+    let Across = λ (xs ys : List ℤ) (m : ℕ). (i : ℕ) → i < m →
+    at xs i +ℤ at ys (f.place + (m - i)) ≡ pos f.scale in (
       λ h i below.
           let values = subst (Across f.value f.value) l.value_length h.0 in
           let limits = subst (Across f.right f.left) l.right_length h.1 in
           let j = f.place + (n - (i + 1)) in
           let whole : j + (i + 1) ≡ f.place + n = omega arith in
-          let turned = opposite_everywhere f.right f.left n f.place (pos f.scale) l.right_length l.left_length (omega arith) limits
-          j (i + 1) (ap (λ x. x % n) whole ∙ add-mod_right f.place n) in
-          (values i below, (limits i below, add_turned (at f.right j) (at f.left (i + 1)) (pos f.scale) turned)),
+          let turned = opposite_everywhere f.right f.left n f.place
+          (pos f.scale) l.right_length l.left_length (omega arith) limits
+          j (i + 1) (ap (λ x. x % n) whole ∙ add-mod_right f.place n) in (
+            values i below,
+            (
+              limits i below,
+              add_turned (at f.right j) (at f.left (i + 1))
+                  (pos f.scale) turned,
+            ),
+          ),
       λ all. (
         subst (Across f.value f.value) (sym l.value_length) (λ i below. (all i below).0),
         subst (Across f.right f.left) (sym l.right_length) (λ i below. (all i below).1.0),
@@ -69,24 +81,31 @@ symmetry_of_lists f l =
     add_turned x y s e = omega (arith, ints)
 
 -- up to the place and behind it
-pub opposite_in_parts : (xs ys : List ℤ) (place : ℕ) (total : ℤ) → length ys ≡ length xs → place < length xs →
-    (AreOppositeBetween xs ys 0 (place + 1) place total × AreOppositeBetween xs ys (place + 1) (length xs) (place + length xs) total)
+pub opposite_in_parts : (xs ys : List ℤ) (place : ℕ) (total : ℤ) → length ys ≡ length xs →
+    place < length xs →
+    (AreOppositeBetween xs ys 0 (place + 1) place total
+    × AreOppositeBetween xs ys (place + 1) (length xs) (place + length xs) total)
     ↔ AreOpposite xs ys place total
 opposite_in_parts xs ys place total len place_below = (
   λ h i below. elim (cases_lt place i) [
-    | inl behind ↦ subst (λ k. at xs i +ℤ at ys k ≡ total) (behind_place i below) (h.1 i below (omega arith))
-    | inr upto ↦ subst (λ z. at xs i +ℤ z ≡ total) (upto_place i below upto) (h.0 i (omega arith) (omega arith))
+    | inl behind ↦ subst (λ k. at xs i +ℤ at ys k ≡ total) (behind_place i below)
+        (h.1 i below (omega arith))
+    | inr upto ↦ subst (λ z. at xs i +ℤ z ≡ total) (upto_place i below upto)
+        (h.0 i (omega arith) (omega arith))
   ],
   λ all. (
-    λ i below from. subst (λ z. at xs i +ℤ z ≡ total) (sym (upto_place i (omega arith) (omega arith))) (all i (omega arith)),
-    λ i below from. subst (λ k. at xs i +ℤ at ys k ≡ total) (sym (behind_place i below)) (all i below),
+    λ i below from. subst (λ z. at xs i +ℤ z ≡ total)
+        (sym (upto_place i (omega arith) (omega arith))) (all i (omega arith)),
+    λ i below from. subst (λ k. at xs i +ℤ at ys k ≡ total) (sym (behind_place i below))
+        (all i below),
   ),
 )
   where
     behind_place : (i : ℕ) → i < length xs → place + length xs - i ≡ place + (length xs - i)
     behind_place i below = omega arith
 
-    upto_place : (i : ℕ) → i < length xs → i ≤ place → at ys (place - i) ≡ at ys (place + (length xs - i))
+    upto_place : (i : ℕ) → i < length xs → i ≤ place →
+        at ys (place - i) ≡ at ys (place + (length xs - i))
     upto_place i below upto =
         let whole : place - i + length ys ≡ place + (length xs - i) = omega arith in
         sym (at_plus_length ys (place - i)) ∙ ap (at ys) whole
@@ -106,7 +125,8 @@ lefts_small f xs l e = subst AreSmall (sym e) (λ i. left_below f i l)
 -- a number of 51 bits is read
 abbrev IsRead : List ℤ → ℕ → ℕ → Type 0
 IsRead xs k i =
-    (to_z w64 (of_z w64 (get_or xs k (pos 0))) ≡ at xs i) × IsNumerator (to_z w64 (of_z w64 (get_or xs k (pos 0))))
+    (to_z w64 (of_z w64 (get_or xs k (pos 0))) ≡ at xs i)
+    × IsNumerator (to_z w64 (of_z w64 (get_or xs k (pos 0))))
 
 is_read : (xs : List ℤ) (k i : ℕ) → get_or xs k (pos 0) ≡ at xs i → AreSmall xs → IsRead xs k i
 is_read xs k i here small =
@@ -120,10 +140,12 @@ number_below xs i below = is_read xs i i (sym (at_below xs i below))
 
 -- the same sum of equal numbers
 pub same_sum : (x y t x' y' t' : ℤ) → x ≡ x' → y ≡ y' → t ≡ t' → (x +ℤ y ≡ t) ↔ (x' +ℤ y' ≡ t')
-same_sum x y t x' y' t' x_is y_is t_is = (λ h. rw (x_is, y_is, t_is) at h, λ h. rw (x_is, y_is, t_is) h)
+same_sum x y t x' y' t' x_is y_is t_is =
+    (λ h. rw (x_is, y_is, t_is) at h, λ h. rw (x_is, y_is, t_is) h)
 
 -- the same test of the same lists
-pub opposite_read : (b : Bool) (xs ys : List ℤ) (p : ℕ) (t : ℤ) (xs' ys' : List ℤ) (p' : ℕ) (t' : ℤ) → xs ≡ xs' → ys ≡ ys' → p ≡ p' → t ≡ t' →
+pub opposite_read : (b : Bool) (xs ys : List ℤ) (p : ℕ) (t : ℤ) (xs' ys' : List ℤ) (p' : ℕ)
+    (t' : ℤ) → xs ≡ xs' → ys ≡ ys' → p ≡ p' → t ≡ t' →
     IsTrue b ↔ AreOpposite xs ys p t → IsTrue b ↔ AreOpposite xs' ys' p' t'
 opposite_read b xs ys p t xs' ys' p' t' xs_is ys_is p_is t_is h =
     subst (λ z. IsTrue b ↔ AreOpposite xs' ys' p' z) t_is

@@ -23,8 +23,12 @@ test_passes f h (subadditive_at kind a b c) is = h.1 a b is.0 is.1 kind c is.2
 
 passed_signs : (f : FunctionData) → PassesAll f → HasNonnegativeValues f
 passed_signs f all i below =
-    let has = test_has f (Passes f) all in
-    (has (nonnegative_at i) below, has (nonnegative_after i) below, has (nonnegative_before i) below)
+    let has = test_has f (Passes f) all in (
+      has (nonnegative_at i) below,
+      has (nonnegative_after i) below,
+      has
+          (nonnegative_before i) below,
+    )
 
 passed_symmetry : (f : FunctionData) → PassesAll f → IsSymmetric f
 passed_symmetry f all i below =
@@ -44,14 +48,16 @@ all_tests f = (
 )
 
 -- so if the tests at 0, of signs and of symmetry pass, those of the squares decide
-pub squares_decide : (f : FunctionData) → Passes f zero_at_zero → HasNonnegativeValues f → IsSymmetric f →
+pub squares_decide : (f : FunctionData) → Passes f zero_at_zero → HasNonnegativeValues f →
+    IsSymmetric f →
     IsSubadditive f ↔ PassesAll f
 squares_decide f zero signs symmetry =
     let all = all_tests f in
     (λ h. all.0 (((zero, signs), symmetry), h), λ h. (all.1 h).1)
 
 -- as the theory has these tests
-pub symmetry_passes : (f : FunctionData) → Passes f zero_at_zero → HasNonnegativeValues f → IsSymmetric f → PassesSymmetry f
+pub symmetry_passes : (f : FunctionData) → Passes f zero_at_zero → HasNonnegativeValues f →
+    IsSymmetric f → PassesSymmetry f
 symmetry_passes f zero signs symmetry = record {
   mirrors = record {
     signs = record {

@@ -20,11 +20,15 @@ row_more P a i e x m from m_is h here =
     )
 
 -- lanes from 0 on are naturals
-module _ {L : Type 0} (number : L → ℤ) (natural : L → ℕ) (least : ℤ) (bound : ℕ) (f : FunctionData) (l : Lanes L)
-    (natural_of : (x : L) → number x ≡ pos (natural x)) (limits : IsWithinBounds f) (h : AreLanesOf number least bound f l) where
+module _ {L : Type 0} (number : L → ℤ) (natural : L → ℕ) (least : ℤ) (bound : ℕ) (f : FunctionData)
+    (l : Lanes L)
+    (natural_of : (x : L) → number x ≡ pos (natural x)) (limits : IsWithinBounds f)
+    (h : AreLanesOf number least bound f l) where
   -- those of a function, each with e for those that are not there
   has_lanes : (e : L) →
-      HasLanes f (λ i. natural (get_or l.left.now (i + 1) e)) (λ i. natural (get_or l.value.now i e)) (λ i. natural (get_or l.right.now i e)) (2 * f.order)
+      HasLanes f (λ i. natural (get_or l.left.now (i + 1) e))
+      (λ i. natural (get_or l.value.now i e)) (λ i. natural (get_or l.right.now i e))
+      (2 * f.order)
   has_lanes e =
       let left_length = limits.left_length in
       let value_length = limits.value_length in
@@ -37,7 +41,8 @@ module _ {L : Type 0} (number : L → ℤ) (natural : L → ℕ) (least : ℤ) (
 
   -- the limits in a square, by four pieces
   pub square_read : (a b : ℕ) (e : L) → a < f.order → b < f.order →
-      HasNoExcess natural (part_at l a e) (part_at l b e) (part_at l (a + b) e) (part_at l (a + b + 1) e) ↔ IsSubadditiveAt f a b
+      HasNoExcess natural (part_at l a e) (part_at l b e) (part_at l (a + b) e)
+      (part_at l (a + b + 1) e) ↔ IsSubadditiveAt f a b
   square_read a b e a_below b_below =
       let left = λ (i : ℕ). natural (get_or l.left.now (i + 1) e) in
       let value = λ (i : ℕ). natural (get_or l.value.now i e) in
@@ -54,7 +59,8 @@ module _ {L : Type 0} (number : L → ℤ) (natural : L → ℕ) (least : ℤ) (
               before_last = none.before_last;
             })),
         λ all.
-            let fit = fit_at_sums left value right a b (square_fits f left value right (2 * f.order) a b lanes below all) in
+            let fit = fit_at_sums left value right a b
+            (square_fits f left value right (2 * f.order) a b lanes below all) in
             record {
               at_vertex = vertex.1 (all Vertex 0 (lit< tt));
               at_sum = fit.at_sum;
@@ -71,11 +77,13 @@ module _ {L : Type 0} (number : L → ℤ) (natural : L → ℕ) (least : ℤ) (
 pub from_diagonals : (P : ℕ → ℕ → Type 0) (n : ℕ) → ((a b : ℕ) → P a b → P b a) →
     ((a : ℕ) → a < n → (b : ℕ) → a ≤ b → b < n → P a b) → (a b : ℕ) → a < n → b < n → P a b
 from_diagonals P n mirror h a b a_below b_below =
-    ⊎_elim (λ before. mirror b a (h b b_below a (omega arith) a_below)) (λ after. h a a_below b after b_below)
+    ⊎_elim (λ before. mirror b a (h b b_below a (omega arith) a_below))
+    (λ after. h a a_below b after b_below)
     (cases_lt b a)
 
 -- a continuous function
-pub continuous_read : (f : FunctionData) → IsWithinBounds f → IsContinuous f → IsSubadditiveOnGrid f ↔ IsSubadditive f
+pub continuous_read : (f : FunctionData) → IsWithinBounds f → IsContinuous f →
+    IsSubadditiveOnGrid f ↔ IsSubadditive f
 continuous_read f l continuous = (
   λ h a b a_below b_below. continuous_square f l continuous h a b,
   λ h a b a_below b_below. h a b a_below b_below Vertex 0 (lit< tt),

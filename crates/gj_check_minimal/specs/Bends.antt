@@ -30,7 +30,8 @@ pub record AreBends (values : List ℤ) (b : Bends) : Type 0 where
 -- bend and the length
 abbrev pub PassesAtBends : List ℤ → Bends → ℕ → Type 0
 PassesAtBends values b i =
-    (p : ℕ) → p < b.count → IsSubadditivePair values i (bend b p) × IsSubadditivePair values i (length values + bend b p - i)
+    (p : ℕ) → p < b.count → IsSubadditivePair values i (bend b p)
+    × IsSubadditivePair values i (length values + bend b p - i)
 
 -- those of each bend
 abbrev pub PassAtBends : List ℤ → Bends → Type 0

@@ -21,4 +21,5 @@ AreOpposite xs ys place total = (i : ℕ) → i < length xs → IsOpposite xs ys
 -- each from an index up to another adds up to the total with that of the others whose index makes
 -- up the sum
 abbrev pub AreOppositeBetween : List ℤ → List ℤ → ℕ → ℕ → ℕ → ℤ → Type 0
-AreOppositeBetween xs ys from end sum total = (i : ℕ) → i < end → from ≤ i → at xs i +ℤ at ys (sum - i) ≡ total
+AreOppositeBetween xs ys from end sum total = (i : ℕ) → i < end → from ≤ i →
+    at xs i +ℤ at ys (sum - i) ≡ total

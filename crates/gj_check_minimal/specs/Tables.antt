@@ -17,7 +17,8 @@ abbrev pub IsSymmetricIn : List ℤ → ℕ → ℤ → ℕ → Type 0
 IsSymmetricIn values place scale i = at values i +ℤ at values (place + (length values - i)) ≡ scale
 
 abbrev pub IsSymmetricList : List ℤ → ℕ → ℤ → Type 0
-IsSymmetricList values place scale = (i : ℕ) → i < length values → IsSymmetricIn values place scale i
+IsSymmetricList values place scale = (i : ℕ) → i < length values →
+    IsSymmetricIn values place scale i
 
 -- the values at i and j add up to no less than the value at i + j
 abbrev pub IsSubadditivePair : List ℤ → ℕ → ℕ → Type 0
@@ -40,7 +41,8 @@ HasSubadditiveTotals values place =
 
 -- for all i and j
 abbrev pub IsSubadditiveList : List ℤ → Type 0
-IsSubadditiveList values = (i j : ℕ) → i < length values → j < length values → IsSubadditivePair values i j
+IsSubadditiveList values = (i j : ℕ) → i < length values → j < length values →
+    IsSubadditivePair values i j
 
 -- there are entries of two periods of n numbers, none of them negative
 pub record HaveTwoPeriods {E : Type 0} (number : E → ℤ) (entries : List E) (n : ℕ) : Type 0 where
@@ -48,7 +50,9 @@ pub record HaveTwoPeriods {E : Type 0} (number : E → ℤ) (entries : List E) (
   pub low : (i : ℕ) (e : E) → i < 2 * n → pos 0 ≤ℤ number (slice_index_or entries i e)
 
 -- the first entries are the values of two periods, none of them negative
-pub record AreTwoPeriods {E : Type 0} (number : E → ℤ) (entries : List E) (values : List ℤ) : Type 0 where
+pub record AreTwoPeriods {E : Type 0} (number : E → ℤ) (entries : List E) (values : List ℤ) :
+    Type 0 where
   pub room : 2 * length values ≤ length entries
-  pub same : (i : ℕ) (e : E) → i < 2 * length values → number (slice_index_or entries i e) ≡ at values i
+  pub same : (i : ℕ) (e : E) → i < 2 * length values →
+      number (slice_index_or entries i e) ≡ at values i
   pub low : (i : ℕ) → pos 0 ≤ℤ at values i

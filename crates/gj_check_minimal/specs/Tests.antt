@@ -9,7 +9,8 @@ use Rattle.gj_theory.specs.EarlierTests.{PassesVertex}
 
 -- no value at i/q, and none from there to (i + 1)/q, is negative
 abbrev pub IsNonnegativeAt : FunctionData → ℕ → Type 0
-IsNonnegativeAt f i = Passes f (nonnegative_at i) × Passes f (nonnegative_after i) × Passes f (nonnegative_before i)
+IsNonnegativeAt f i = Passes f (nonnegative_at i) × Passes f (nonnegative_after i)
+    × Passes f (nonnegative_before i)
 
 -- for each i
 abbrev pub HasNonnegativeValues : FunctionData → Type 0
@@ -26,7 +27,8 @@ IsSymmetric f = (i : ℕ) → i < f.order → IsSymmetricAt f i
 -- no limit of the slack at a corner of a face of the square (a, b) is negative
 abbrev pub IsSubadditiveAt : FunctionData → ℕ → ℕ → Type 0
 IsSubadditiveAt f a b =
-    (kind : FaceKind) (c : ℕ) → c < length (corners_of kind a b) → Passes f (subadditive_at kind a b c)
+    (kind : FaceKind) (c : ℕ) → c < length (corners_of kind a b) →
+    Passes f (subadditive_at kind a b c)
 
 -- for each b from a on
 abbrev pub IsSubadditiveRow : FunctionData → ℕ → Type 0

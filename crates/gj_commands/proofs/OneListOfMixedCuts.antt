@@ -73,7 +73,8 @@ good (skip name right r) h = head_is_clear.good (head_of (cuts.Skip name right r
 good (term t) h = term_is_clear.good t h
 good (weight t) h = (known (codes "weight") refl, (name_is_plain t.name h, (tt, tt)))
 
-one : (a b : MixedPart) → HasName a → HasName b → words_of (fields_of a) ≡ words_of (fields_of b) → a ≡ b
+one : (a b : MixedPart) → HasName a → HasName b → words_of (fields_of a) ≡ words_of (fields_of b) →
+    a ≡ b
 one (cut n x) (cut m y) h k e =
     let same = head_is_clear.one (head_of (cuts.Cut n x [])) (head_of (cuts.Cut m y [])) h k e in
     λ i. cut (same i).name (same i).right
@@ -83,7 +84,8 @@ one (skip n x r) (skip m y s) h k e =
     let why : r ≡ s = cc in
     λ i. skip (same i).name (same i).right (why i)
 one (term t) (term u) h k e = ap term (term_is_clear.one t u h k e)
-one (weight t) (weight u) h k e = ap weight (term_is_clear.one t u h k (ap (λ ws. codes "term" ∷ others_of ws) e))
+one (weight t) (weight u) h k e =
+    ap weight (term_is_clear.one t u h k (ap (λ ws. codes "term" ∷ others_of ws) e))
 one a b h k e = absurd (apart (head a) (head b) refl (ap first_of e))
 
 part_is_clear : IsClear part_form
@@ -111,7 +113,8 @@ one_weight t u e = cc
 
 module _ (make : CutTerm → MixedPart) (n : ℕ) (is : (t : CutTerm) → place (make t) ≡ n)
     (one_made : (t u : CutTerm) → make t ≡ make u → t ≡ u) where
-  same_terms : (ts us : List CutTerm) (xs ys : List MixedPart) → next xs ≢ n → next ys ≢ n → map make ts ++ xs ≡ map make us ++ ys →
+  same_terms : (ts us : List CutTerm) (xs ys : List MixedPart) → next xs ≢ n → next ys ≢ n →
+      map make ts ++ xs ≡ map make us ++ ys →
       (ts ≡ us) × (xs ≡ ys)
   same_terms [] [] xs ys start end e = (refl, e)
   same_terms [] (u ∷ us) xs ys start end e = absurd (start (ap next e ∙ is u))
@@ -129,7 +132,8 @@ begins_anew : (ms : List MixedLine) → next (flat_map parts_of ms) ≡ 0
 begins_anew [] = refl
 begins_anew (m ∷ ms) = place_of_first m.line
 
-no_term_first : (ws : List CutTerm) (ms : List MixedLine) → next (map weight ws ++ flat_map parts_of ms) ≢ 1
+no_term_first : (ws : List CutTerm) (ms : List MixedLine) →
+    next (map weight ws ++ flat_map parts_of ms) ≢ 1
 no_term_first [] ms e = omega (arith, begins_anew ms, e)
 no_term_first (w ∷ ws) ms e = omega (arith, e)
 
@@ -156,23 +160,30 @@ same_cuts (m ∷ ms) [] e = absurd cc
 same_cuts (m ∷ ms) (n ∷ ns) e =
     let later = flat_map parts_of ms in
     let others = flat_map parts_of ns in
-    let both = head_and_tail (first_part m.line) (first_part n.line) ((map term (terms_of m.line) ++ map weight m.weights) ++ later)
+    let both = head_and_tail (first_part m.line) (first_part n.line)
+    ((map term (terms_of m.line) ++ map weight m.weights) ++ later)
     ((map term (terms_of n.line) ++ map weight n.weights) ++ others) e in
-    let behind = sym (append_assoc (map term (terms_of m.line)) (map weight m.weights) later) ∙ both.1
+    let behind = sym (append_assoc (map term (terms_of m.line)) (map weight m.weights) later)
+    ∙ both.1
     ∙ append_assoc (map term (terms_of n.line)) (map weight n.weights) others in
-    let terms = same_terms term 1 (λ t. refl) one_term (terms_of m.line) (terms_of n.line) (map weight m.weights ++ later)
-    (map weight n.weights ++ others) (no_term_first m.weights ms) (no_term_first n.weights ns) behind in
+    let terms = same_terms term 1 (λ t. refl) one_term (terms_of m.line) (terms_of n.line)
+    (map weight m.weights ++ later)
+    (map weight n.weights ++ others) (no_term_first m.weights ms)
+    (no_term_first n.weights ns) behind in
     let weights = same_terms weight 2 (λ t. refl) one_weight m.weights n.weights later others
     (no_weight_first ms) (no_weight_first ns) terms.1 in
     let line = one_cut m.line n.line both.0 terms.0 in
-    ap₂ (λ (k : MixedLine) ks. k ∷ ks) (ap₂ (λ l ws. record { line = l; weights = ws }) line weights.0) (same_cuts ms ns weights.1)
+    ap₂ (λ (k : MixedLine) ks. k ∷ ks)
+    (ap₂ (λ l ws. record { line = l; weights = ws }) line weights.0) (same_cuts ms ns weights.1)
 
 -- ---- the text has the bytes of the lines
 
-bytes_are : (line : CutTerm → List ℕ) (make : CutTerm → MixedPart) → ((t : CutTerm) → line t ≡ line_bytes (make t)) → (ts : List CutTerm) →
+bytes_are : (line : CutTerm → List ℕ) (make : CutTerm → MixedPart) →
+    ((t : CutTerm) → line t ≡ line_bytes (make t)) → (ts : List CutTerm) →
     flat_map line ts ≡ flat_map line_bytes (map make ts)
 bytes_are line make same [] = refl
-bytes_are line make same (t ∷ ts) = ap₂ (λ (s u : List ℕ). s ++ u) (same t) (bytes_are line make same ts)
+bytes_are line make same (t ∷ ts) =
+    ap₂ (λ (s u : List ℕ). s ++ u) (same t) (bytes_are line make same ts)
 
 first_is : (l : CutLine) → row_line l ≡ line_bytes (first_part l)
 first_is (cuts.Cut name right terms) = refl
@@ -181,7 +192,8 @@ first_is (cuts.Skip name right r) = refl
 weight_is : (t : CutTerm) → weight_line t ≡ line_bytes (weight t)
 weight_is t =
     sym (append-nil (weight_line t))
-    ∙ sym (weight_lines_are (t.name ∷ []) (record { column = 0; entry = t.entry; cut = t.cut } ∷ []))
+    ∙ sym (weight_lines_are (t.name ∷ [])
+    (record { column = 0; entry = t.entry; cut = t.cut } ∷ []))
     ∙ append-nil (line_bytes (weight t))
 
 cut_is : (m : MixedLine) → mixed_row_text m ≡ flat_map line_bytes (parts_of m)
@@ -189,10 +201,12 @@ cut_is m =
     let terms = terms_of m.line in
     append_assoc (row_line m.line) (flat_map term_line terms) (flat_map weight_line m.weights)
     ∙ ap₂ (λ (s t : List ℕ). s ++ t) (first_is m.line)
-    (ap₂ (λ (s t : List ℕ). s ++ t) (bytes_are term_line term (λ t. refl) terms) (bytes_are weight_line weight weight_is m.weights)
+    (ap₂ (λ (s t : List ℕ). s ++ t) (bytes_are term_line term (λ t. refl) terms)
+    (bytes_are weight_line weight weight_is m.weights)
     ∙ sym (flat_map-append line_bytes (map term terms) (map weight m.weights)))
 
-text_is : (ms : List MixedLine) → flat_map mixed_row_text ms ≡ flat_map line_bytes (flat_map parts_of ms)
+text_is : (ms : List MixedLine) →
+    flat_map mixed_row_text ms ≡ flat_map line_bytes (flat_map parts_of ms)
 text_is [] = refl
 text_is (m ∷ ms) =
     ap₂ (λ (s t : List ℕ). s ++ t) (cut_is m) (text_is ms)
@@ -209,14 +223,17 @@ parts_named [] h = All-nil HasName
 parts_named (m ∷ ms) h =
     let has = All-head HasMixedNames m ms h in
     All-append HasName (parts_of m) (flat_map parts_of ms)
-    (All-cons HasName (first_part m.line) (map term (terms_of m.line) ++ map weight m.weights) (first_named m.line has.0)
+    (All-cons HasName (first_part m.line) (map term (terms_of m.line) ++ map weight m.weights)
+    (first_named m.line has.0)
     (All-append HasName (map term (terms_of m.line)) (map weight m.weights)
-    (All-map HasName term (terms_of m.line) (names_of_terms m.line has.0)) (All-map HasName weight m.weights has.1)))
+    (All-map HasName term (terms_of m.line) (names_of_terms m.line has.0))
+    (All-map HasName weight m.weights has.1)))
     (parts_named ms (All-tail HasMixedNames m ms h))
 
 pub one_list : (ms ns : List MixedLine) → All HasMixedNames ms → All HasMixedNames ns →
     flat_map mixed_row_text ms ≡ flat_map mixed_row_text ns → ms ≡ ns
 one_list ms ns g h e =
     same_cuts ms ns
-    (same_lines part_form part_is_clear (flat_map parts_of ms) (flat_map parts_of ns) (parts_named ms g) (parts_named ns h)
+    (same_lines part_form part_is_clear (flat_map parts_of ms) (flat_map parts_of ns)
+    (parts_named ms g) (parts_named ns h)
     (sym (text_is ms) ∙ e ∙ text_is ns))

@@ -39,7 +39,8 @@ use Rattle.gj_top.specs.declared.status.Status.TheVariants.{Done}
 
 -- if these were the words, the status is Done and the source told the input, then this holds of the
 -- input and of the text that the sink took, if it tells
-abbrev pub HasWritten : List (List ℕ) → (List ℕ → List ℕ → Type 0) → List (String Global) → Status → Option (List ℕ) → Option (List ℕ) →
+abbrev pub HasWritten : List (List ℕ) → (List ℕ → List ℕ → Type 0) → List (String Global) → Status →
+    Option (List ℕ) → Option (List ℕ) →
     Option (List ℕ) → Type 0
 HasWritten spelled P words status left written after =
     map string_bytes words ≡ spelled → status ≡ Done → (input : List ℕ) → left ≡ Some input →
@@ -56,7 +57,8 @@ pub record IsProofWith (word : List ℕ) (f : FunctionData) (own text : List ℕ
   pub numbers : Numbers
   pub function_lines : List ℕ
   pub are_function_lines : AreFunctionLines f function_lines
-  pub spelled : text ≡ bytes_of (title_fields numbers) ++ bytes_of (claim_fields word) ++ function_lines ++ own ++ line (codes "end")
+  pub spelled : text ≡ bytes_of (title_fields numbers) ++ bytes_of (claim_fields word)
+      ++ function_lines ++ own ++ line (codes "end")
 
 -- the text calls f so: it is such a proof text, with any lines behind those of f
 abbrev pub Calls : FunctionData → List ℕ → List ℕ → Type 0
@@ -69,7 +71,8 @@ Reports text verdict = (proof : List ℕ) × IsReport verdict proof text
 -- f is called minimal, and it is; or not minimal, and it is not
 abbrev pub TellsMinimality : FunctionData → (List ℕ → Type 0) → Type 0
 TellsMinimality f IsCalled =
-    (IsCalled (codes "minimal") × IsMinimal f) ⊎ (IsCalled (codes "not-minimal") × (IsMinimal f → ⊥))
+    (IsCalled (codes "minimal") × IsMinimal f)
+    ⊎ (IsCalled (codes "not-minimal") × (IsMinimal f → ⊥))
 
 -- f is called extreme, and it is continuous and extreme; or not extreme, and it is continuous and
 -- minimal, and not extreme; or not minimal, and it is not
@@ -81,11 +84,13 @@ TellsExtremality f IsCalled =
 
 -- the text has the lines of a violation, which shows that f is not minimal
 abbrev pub ShowsNotMinimal : FunctionData → List ℕ → Type 0
-ShowsNotMinimal f text = (v : Violation) × IsProofWith (codes "not-minimal") f (violation_line v) text × ShowsViolation f v
+ShowsNotMinimal f text = (v : Violation)
+    × IsProofWith (codes "not-minimal") f (violation_line v) text × ShowsViolation f v
 
 -- the text has the lines of halves, which show that f is not extreme
 abbrev pub ShowsNotExtreme : FunctionData → List ℕ → Type 0
-ShowsNotExtreme f text = (h : Halves) × IsProofWith (codes "not-extreme") f (halves_text h) text × ShowHalves f h
+ShowsNotExtreme f text = (h : Halves) × IsProofWith (codes "not-extreme") f (halves_text h) text
+    × ShowHalves f h
 
 -- ---- proof texts about functions that jump
 
@@ -93,7 +98,8 @@ ShowsNotExtreme f text = (h : Halves) × IsProofWith (codes "not-extreme") f (ha
 pub record IsLimitProofWith (word : List ℕ) (f : FunctionData) (own text : List ℕ) : Type 0 where
   pub function_lines : List ℕ
   pub are_function_lines : AreFunctionLines f function_lines
-  pub spelled : text ≡ line (codes "gj-proof 3") ++ bytes_of (claim_fields word) ++ function_lines ++ own ++ line (codes "end")
+  pub spelled : text ≡ line (codes "gj-proof 3") ++ bytes_of (claim_fields word) ++ function_lines
+      ++ own ++ line (codes "end")
 
 -- the text calls f so: it is such a proof text, with any lines behind those of f
 abbrev pub CallsByLimits : FunctionData → List ℕ → List ℕ → Type 0
@@ -106,11 +112,13 @@ abbrev pub TellsJumpsExtremality : FunctionData → (List ℕ → Type 0) → (L
 TellsJumpsExtremality f IsCalled IsCalledByLimits =
     TellsExtremality f IsCalled
     ⊎ (IsCalledByLimits (codes "extreme") × (IsContinuous f → ⊥) × IsExtremeFunction f)
-    ⊎ (IsCalledByLimits (codes "not-extreme") × (IsContinuous f → ⊥) × IsMinimal f × (IsExtremeFunction f → ⊥))
+    ⊎ (IsCalledByLimits (codes "not-extreme") × (IsContinuous f → ⊥) × IsMinimal f
+    × (IsExtremeFunction f → ⊥))
 
 -- the text has the lines of halves, which show that f is not extreme
 abbrev pub ShowsNotExtremeByLimits : FunctionData → List ℕ → Type 0
-ShowsNotExtremeByLimits f text = (h : LimitHalves) × IsLimitProofWith (codes "not-extreme") f (limit_halves_text h) text × ShowLimitHalves f h
+ShowsNotExtremeByLimits f text = (h : LimitHalves) × IsLimitProofWith (codes "not-extreme") f
+    (limit_halves_text h) text × ShowLimitHalves f h
 
 -- what is accepted of a text: f is called extreme in it, and it is continuous and extreme; or by
 -- limits, and it is no average of two different minimal functions
@@ -128,7 +136,8 @@ IsCalledNotExtremeIn f text =
 -- the text is the proof text of a claim that holds, or of one about a function that jumps
 abbrev pub ProvesClaim : List ℕ → Type 0
 ProvesClaim text =
-    ((c : Claim) × IsProofOf text c × ClaimHolds c) ⊎ ((c : LimitClaim) × IsLimitProofOf text c × LimitClaimHolds c)
+    ((c : Claim) × IsProofOf text c × ClaimHolds c)
+    ⊎ ((c : LimitClaim) × IsLimitProofOf text c × LimitClaimHolds c)
 
 -- ---- acceptance
 
@@ -142,14 +151,17 @@ accepted word = line (codes "accepted " ++ word)
 pub record IsTextOfCutLines («rule» : CutRule) (lines : List CutLine) (text : List ℕ) : Type 0 where
   pub rule_lines : List ℕ
   pub are_rule_lines : AreSubjectLines (subject_of_rule «rule») rule_lines
-  pub spelled : text ≡ bytes_of (title_fields Whole) ++ bytes_of (claim_fields (codes "cut")) ++ rule_lines
+  pub spelled : text ≡ bytes_of (title_fields Whole) ++ bytes_of (claim_fields (codes "cut"))
+      ++ rule_lines
       ++ flat_map row_text lines ++ line (codes "end")
 
 -- the text is the line `gj-mixed 1`, the lines of the rule, those of the cuts, and `end`
-pub record IsTextOfMixedLines («rule» : CutRule) (lines : List MixedLine) (text : List ℕ) : Type 0 where
+pub record IsTextOfMixedLines («rule» : CutRule) (lines : List MixedLine) (text : List ℕ) :
+    Type 0 where
   pub rule_lines : List ℕ
   pub are_rule_lines : AreSubjectLines (subject_of_rule «rule») rule_lines
-  pub spelled : text ≡ line (codes "gj-mixed 1") ++ rule_lines ++ flat_map mixed_row_text lines ++ line (codes "end")
+  pub spelled : text ≡ line (codes "gj-mixed 1") ++ rule_lines ++ flat_map mixed_row_text lines
+      ++ line (codes "end")
 
 -- ---- derivations
 

@@ -10,14 +10,16 @@ use Rattle.gj_shape.specs.declared.faces.FaceKind.TheVariants.{Vertex, Horizonta
 use Rattle.gj_complex.specs.Walk.{faces_of, faces_of_square, faces_in, IsFaceOf}
 
 -- what holds of the faces of each index below a + n holds of all of them
-all_joined : (P : Face → Type 0) (f : ℕ → List Face) (a n : ℕ) → ((i : ℕ) → i < a + n → All P (f i)) →
+all_joined : (P : Face → Type 0) (f : ℕ → List Face) (a n : ℕ) →
+    ((i : ℕ) → i < a + n → All P (f i)) →
     All P (flat_map f (range_with_len a n))
 all_joined P f a zero h = All-nil P
 all_joined P f a (suc n) h =
     All-append P (f a) (flat_map f (range_with_len (a + 1) n)) (h a (omega arith))
     (all_joined P f (a + 1) n (λ i below. h i (omega arith)))
 
-square_within : (q a b : ℕ) → a < q → b < q → (kinds : List FaceKind) → All (IsFaceOf q) (faces_in kinds a b)
+square_within : (q a b : ℕ) → a < q → b < q → (kinds : List FaceKind) →
+    All (IsFaceOf q) (faces_in kinds a b)
 square_within q a b first second [] = All-nil (IsFaceOf q)
 square_within q a b first second (kind ∷ kinds) =
     All-cons (IsFaceOf q) (record { kind = kind; a = a; b = b }) (faces_in kinds a b)

@@ -12,4 +12,5 @@ projections_of q Horizontal a b = record { x = Some (a % q); y = None; sum = Som
 projections_of q Vertical a b = record { x = None; y = Some (b % q); sum = Some ((a + b) % q) }
 projections_of q Diagonal a b = record { x = Some (a % q); y = Some (b % q); sum = None }
 projections_of q Lower a b = record { x = Some (a % q); y = Some (b % q); sum = Some ((a + b) % q) }
-projections_of q Upper a b = record { x = Some (a % q); y = Some (b % q); sum = Some ((a + b + 1) % q) }
+projections_of q Upper a b =
+    record { x = Some (a % q); y = Some (b % q); sum = Some ((a + b + 1) % q) }

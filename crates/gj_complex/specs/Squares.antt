@@ -10,11 +10,14 @@ use Rattle.gj_complex.specs.declared.square.Square.{Square}
 abbrev pub limits_in : Square → FaceKind → List ℤ
 limits_in s Vertex = slack_from s.value_first s.value_second s.value_sum ∷ []
 limits_in s Horizontal =
-    slack_from s.right_first s.value_second s.right_sum ∷ slack_from s.left_first s.value_second s.left_next ∷ []
+    slack_from s.right_first s.value_second s.right_sum
+    ∷ slack_from s.left_first s.value_second s.left_next ∷ []
 limits_in s Vertical =
-    slack_from s.value_first s.right_second s.right_sum ∷ slack_from s.value_first s.left_second s.left_next ∷ []
+    slack_from s.value_first s.right_second s.right_sum
+    ∷ slack_from s.value_first s.left_second s.left_next ∷ []
 limits_in s Diagonal =
-    slack_from s.left_first s.right_second s.value_next ∷ slack_from s.right_first s.left_second s.value_next ∷ []
+    slack_from s.left_first s.right_second s.value_next
+    ∷ slack_from s.right_first s.left_second s.value_next ∷ []
 limits_in s Lower =
     slack_from s.right_first s.right_second s.right_sum
     ∷ slack_from s.left_first s.right_second s.left_next

@@ -31,7 +31,8 @@ face_rows_from q a = flat_map (λ a. row_from q a 0) (range_with_len a (q - a))
 -- the faces after a face in walk order
 abbrev pub faces_after : ℕ → Face → List Face
 faces_after q face =
-    faces_in (kinds_after face.kind) face.a face.b ++ row_from q face.a (face.b + 1) ++ face_rows_from q (face.a + 1)
+    faces_in (kinds_after face.kind) face.a face.b ++ row_from q face.a (face.b + 1)
+    ++ face_rows_from q (face.a + 1)
 
 -- a face and the faces after it, or none
 abbrev pub faces_from : ℕ → Option Face → List Face

@@ -9,7 +9,8 @@ not_more true false h = omega arith
 not_more false true h = let e : false ≡ true = h refl in cc
 not_more false false h = omega arith
 
-at_most : (p r : ℕ → Bool) (n : ℕ) → ((i : ℕ) → r i ≡ true → p i ≡ true) → count_below r n ≤ count_below p n
+at_most : (p r : ℕ → Bool) (n : ℕ) → ((i : ℕ) → r i ≡ true → p i ≡ true) →
+    count_below r n ≤ count_below p n
 unfolding count_below
 at_most p r zero h = omega arith
 at_most p r (suc n) h =
@@ -18,7 +19,8 @@ at_most p r (suc n) h =
     omega arith
 
 -- a test that passes no more and fails once more
-pub fewer_below : (p r : ℕ → Bool) (n x : ℕ) → x < n → ((i : ℕ) → r i ≡ true → p i ≡ true) → p x ≡ true → r x ≡ false →
+pub fewer_below : (p r : ℕ → Bool) (n x : ℕ) → x < n → ((i : ℕ) → r i ≡ true → p i ≡ true) →
+    p x ≡ true → r x ≡ false →
     count_below r n < count_below p n
 unfolding count_below
 fewer_below p r zero x below h yes' no' = absurd (omega arith)

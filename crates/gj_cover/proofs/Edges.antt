@@ -32,27 +32,33 @@ cancelled q a b i s e g =
 
 -- there is one number below q that leads from i to j
 pub one_step : (q i b s j : ℕ) → b < q → s < q → (i + b) % q ≡ j → (i + s) % q ≡ j → b ≡ s
-one_step q i b s j b_below s_below e g = is_it q b s b_below s_below (cancelled q i b i s refl (e ∙ sym g))
+one_step q i b s j b_below s_below e g =
+    is_it q b s b_below s_below (cancelled q i b i s refl (e ∙ sym g))
 
 -- ---- edges
 
-edge_horizontal : (q : ℕ) (T : ℕ → ℕ → Type 0) → HasPeriod q T → (a b i j : ℕ) → 0 < q → i < q → j < q →
+edge_horizontal : (q : ℕ) (T : ℕ → ℕ → Type 0) → HasPeriod q T → (a b i j : ℕ) → 0 < q → i < q →
+    j < q →
     a % q ≡ i % q → (a + b) % q ≡ j % q → Corners T Horizontal a b → Links q T i j
 edge_horizontal q T p a b i j some i_below j_below e g h =
     horizontal (b % q) (mod-lt b some)
     (same_sum q i (b % q) a b (sym e) (mod-mod b q) ∙ g ∙ mod-eq_of_lt j_below)
-    (additive T Horizontal i (b % q) (corners_same q T p Horizontal a b i (b % q) e (sym (mod-mod b q)) h))
+    (additive T Horizontal i (b % q)
+    (corners_same q T p Horizontal a b i (b % q) e (sym (mod-mod b q)) h))
 
-edge_vertical : (q : ℕ) (T : ℕ → ℕ → Type 0) → HasPeriod q T → (a b i j : ℕ) → 0 < q → i < q → j < q →
+edge_vertical : (q : ℕ) (T : ℕ → ℕ → Type 0) → HasPeriod q T → (a b i j : ℕ) → 0 < q → i < q →
+    j < q →
     b % q ≡ i % q → (a + b) % q ≡ j % q → Corners T Vertical a b → Links q T i j
 edge_vertical q T p a b i j some i_below j_below e g h =
     vertical (a % q) (mod-lt a some)
     (same_sum q (a % q) i a b (mod-mod a q) (sym e) ∙ g ∙ mod-eq_of_lt j_below)
-    (additive T Vertical (a % q) i (corners_same q T p Vertical a b (a % q) i (sym (mod-mod a q)) e h))
+    (additive T Vertical (a % q) i
+    (corners_same q T p Vertical a b (a % q) i (sym (mod-mod a q)) e h))
 
 edge_diagonal : (q : ℕ) (T : ℕ → ℕ → Type 0) → HasPeriod q T → (a b i j : ℕ) →
     a % q ≡ i % q → b % q ≡ j % q → Corners T Diagonal a b → Links q T i j
-edge_diagonal q T p a b i j e g h = diagonal (additive T Diagonal i j (corners_same q T p Diagonal a b i j e g h))
+edge_diagonal q T p a b i j e g h =
+    diagonal (additive T Diagonal i j (corners_same q T p Diagonal a b i j e g h))
 
 -- ---- from joined to linked
 
@@ -66,33 +72,40 @@ record AreTwo (q i j : ℕ) : Type 0 where
 linked_by_horizontal : (q : ℕ) (T : ℕ → ℕ → Type 0) → HasPeriod q T → (a b i j : ℕ) → AreTwo q i j →
     Corners T Horizontal a b → Intervals q Horizontal a b i → Intervals q Horizontal a b j →
     Links q T i j ⊎ Links q T j i
-linked_by_horizontal q T p a b i j t h (inl x) (inl y) = clash q a i j t.first t.second t.different x y
+linked_by_horizontal q T p a b i j t h (inl x) (inl y) =
+    clash q a i j t.first t.second t.different x y
 linked_by_horizontal q T p a b i j t h (inl x) (inr y) =
     inl (edge_horizontal q T p a b i j t.some t.first t.second x y h)
 linked_by_horizontal q T p a b i j t h (inr x) (inl y) =
     inr (edge_horizontal q T p a b j i t.some t.second t.first y x h)
-linked_by_horizontal q T p a b i j t h (inr x) (inr y) = clash q (a + b) i j t.first t.second t.different x y
+linked_by_horizontal q T p a b i j t h (inr x) (inr y) =
+    clash q (a + b) i j t.first t.second t.different x y
 
 linked_by_vertical : (q : ℕ) (T : ℕ → ℕ → Type 0) → HasPeriod q T → (a b i j : ℕ) → AreTwo q i j →
     Corners T Vertical a b → Intervals q Vertical a b i → Intervals q Vertical a b j →
     Links q T i j ⊎ Links q T j i
-linked_by_vertical q T p a b i j t h (inl x) (inl y) = clash q b i j t.first t.second t.different x y
+linked_by_vertical q T p a b i j t h (inl x) (inl y) =
+    clash q b i j t.first t.second t.different x y
 linked_by_vertical q T p a b i j t h (inl x) (inr y) =
     inl (edge_vertical q T p a b i j t.some t.first t.second x y h)
 linked_by_vertical q T p a b i j t h (inr x) (inl y) =
     inr (edge_vertical q T p a b j i t.some t.second t.first y x h)
-linked_by_vertical q T p a b i j t h (inr x) (inr y) = clash q (a + b) i j t.first t.second t.different x y
+linked_by_vertical q T p a b i j t h (inr x) (inr y) =
+    clash q (a + b) i j t.first t.second t.different x y
 
 linked_by_diagonal : (q : ℕ) (T : ℕ → ℕ → Type 0) → HasPeriod q T → (a b i j : ℕ) → AreTwo q i j →
     Corners T Diagonal a b → Intervals q Diagonal a b i → Intervals q Diagonal a b j →
     Links q T i j ⊎ Links q T j i
-linked_by_diagonal q T p a b i j t h (inl x) (inl y) = clash q a i j t.first t.second t.different x y
+linked_by_diagonal q T p a b i j t h (inl x) (inl y) =
+    clash q a i j t.first t.second t.different x y
 linked_by_diagonal q T p a b i j t h (inl x) (inr y) = inl (edge_diagonal q T p a b i j x y h)
 linked_by_diagonal q T p a b i j t h (inr x) (inl y) = inr (edge_diagonal q T p a b j i y x h)
-linked_by_diagonal q T p a b i j t h (inr x) (inr y) = clash q b i j t.first t.second t.different x y
+linked_by_diagonal q T p a b i j t h (inr x) (inr y) =
+    clash q b i j t.first t.second t.different x y
 
 linked_by_lower : (q : ℕ) (T : ℕ → ℕ → Type 0) → HasPeriod q T → (a b i j : ℕ) → AreTwo q i j →
-    Corners T Lower a b → Intervals q Lower a b i → Intervals q Lower a b j → Links q T i j ⊎ Links q T j i
+    Corners T Lower a b → Intervals q Lower a b i → Intervals q Lower a b j →
+    Links q T i j ⊎ Links q T j i
 linked_by_lower q T p a b i j t h (inl x) (inl y) = clash q a i j t.first t.second t.different x y
 linked_by_lower q T p a b i j t h (inl x) (inr (inl y)) =
     linked_by_diagonal q T p a b i j t (h.1, h.2) (inl x) (inr y)
@@ -100,7 +113,8 @@ linked_by_lower q T p a b i j t h (inl x) (inr (inr y)) =
     linked_by_horizontal q T p a b i j t (h.0, h.1) (inl x) (inr y)
 linked_by_lower q T p a b i j t h (inr (inl x)) (inl y) =
     linked_by_diagonal q T p a b i j t (h.1, h.2) (inr x) (inl y)
-linked_by_lower q T p a b i j t h (inr (inl x)) (inr (inl y)) = clash q b i j t.first t.second t.different x y
+linked_by_lower q T p a b i j t h (inr (inl x)) (inr (inl y)) =
+    clash q b i j t.first t.second t.different x y
 linked_by_lower q T p a b i j t h (inr (inl x)) (inr (inr y)) =
     linked_by_vertical q T p a b i j t (h.0, h.2) (inl x) (inr y)
 linked_by_lower q T p a b i j t h (inr (inr x)) (inl y) =
@@ -118,7 +132,8 @@ right : (q a b i : ℕ) → (a + b + 1) % q ≡ i % q → (a + 1 + b) % q ≡ i 
 right q a b i e = let same : a + 1 + b ≡ a + b + 1 = omega arith in ap (λ n. n % q) same ∙ e
 
 linked_by_upper : (q : ℕ) (T : ℕ → ℕ → Type 0) → HasPeriod q T → (a b i j : ℕ) → AreTwo q i j →
-    Corners T Upper a b → Intervals q Upper a b i → Intervals q Upper a b j → Links q T i j ⊎ Links q T j i
+    Corners T Upper a b → Intervals q Upper a b i → Intervals q Upper a b j →
+    Links q T i j ⊎ Links q T j i
 linked_by_upper q T p a b i j t h (inl x) (inl y) = clash q a i j t.first t.second t.different x y
 linked_by_upper q T p a b i j t h (inl x) (inr (inl y)) =
     linked_by_diagonal q T p a b i j t (h.0, h.1) (inl x) (inr y)
@@ -126,7 +141,8 @@ linked_by_upper q T p a b i j t h (inl x) (inr (inr y)) =
     linked_by_horizontal q T p a (b + 1) i j t (h.1, h.2) (inl x) (inr (up q a b j y))
 linked_by_upper q T p a b i j t h (inr (inl x)) (inl y) =
     linked_by_diagonal q T p a b i j t (h.0, h.1) (inr x) (inl y)
-linked_by_upper q T p a b i j t h (inr (inl x)) (inr (inl y)) = clash q b i j t.first t.second t.different x y
+linked_by_upper q T p a b i j t h (inr (inl x)) (inr (inl y)) =
+    clash q b i j t.first t.second t.different x y
 linked_by_upper q T p a b i j t h (inr (inl x)) (inr (inr y)) =
     linked_by_vertical q T p (a + 1) b i j t (h.0, h.2) (inl x) (inr (right q a b j y))
 linked_by_upper q T p a b i j t h (inr (inr x)) (inl y) =
@@ -136,8 +152,10 @@ linked_by_upper q T p a b i j t h (inr (inr x)) (inr (inl y)) =
 linked_by_upper q T p a b i j t h (inr (inr x)) (inr (inr y)) =
     clash q (a + b + 1) i j t.first t.second t.different x y
 
-linked_by : (q : ℕ) (T : ℕ → ℕ → Type 0) → HasPeriod q T → (kind : FaceKind) (a b i j : ℕ) → AreTwo q i j →
-    Corners T kind a b → Intervals q kind a b i → Intervals q kind a b j → Links q T i j ⊎ Links q T j i
+linked_by : (q : ℕ) (T : ℕ → ℕ → Type 0) → HasPeriod q T → (kind : FaceKind) (a b i j : ℕ) →
+    AreTwo q i j →
+    Corners T kind a b → Intervals q kind a b i → Intervals q kind a b j →
+    Links q T i j ⊎ Links q T j i
 linked_by q T p Vertex a b i j t h x y = absurd x
 linked_by q T p Horizontal a b i j t h x y = linked_by_horizontal q T p a b i j t h x y
 linked_by q T p Vertical a b i j t h x y = linked_by_vertical q T p a b i j t h x y
@@ -151,15 +169,18 @@ pub linked : (q : ℕ) (T : ℕ → ℕ → Type 0) → HasPeriod q T → (i j :
 linked q T p i j i_below j_below other (kind, a, b, h) =
     linked_by q T p kind a b i j
     (record { some = omega arith; first = i_below; second = j_below; different = other })
-    (corners T kind a b h.additive) (intervals q kind a b i h.first) (intervals q kind a b j h.second)
+    (corners T kind a b h.additive) (intervals q kind a b i h.first)
+    (intervals q kind a b j h.second)
 
 -- ---- faces that lead from one interval to another
 
 leads_ends : (q i j : ℕ) → j < q → (kind : FaceKind) (a b : ℕ) → LeadsBy q i j kind a b →
     Intervals q kind a b i × Intervals q kind a b j
 leads_ends q i j j_below Vertex a b h = absurd h
-leads_ends q i j j_below Horizontal a b (x, y, z) = (inl (ap (λ n. n % q) x), inr (z ∙ sym (mod-eq_of_lt j_below)))
-leads_ends q i j j_below Vertical a b (x, y, z) = (inl (ap (λ n. n % q) y), inr (z ∙ sym (mod-eq_of_lt j_below)))
+leads_ends q i j j_below Horizontal a b (x, y, z) =
+    (inl (ap (λ n. n % q) x), inr (z ∙ sym (mod-eq_of_lt j_below)))
+leads_ends q i j j_below Vertical a b (x, y, z) =
+    (inl (ap (λ n. n % q) y), inr (z ∙ sym (mod-eq_of_lt j_below)))
 leads_ends q i j j_below Diagonal a b (x, y) = (inl (ap (λ n. n % q) x), inr (ap (λ n. n % q) y))
 leads_ends q i j j_below Lower a b h = absurd h
 leads_ends q i j j_below Upper a b (x, y, inl z, w) =
@@ -168,15 +189,18 @@ leads_ends q i j j_below Upper a b (x, y, inr z, w) =
     (inr (inl (ap (λ n. n % q) z)), inr (inr (w ∙ sym (mod-eq_of_lt j_below))))
 
 -- an additive one joins the two
-pub joins_by : (q : ℕ) (T : ℕ → ℕ → Type 0) (i j : ℕ) → j < q → (kind : FaceKind) (a b : ℕ) → LeadsBy q i j kind a b →
+pub joins_by : (q : ℕ) (T : ℕ → ℕ → Type 0) (i j : ℕ) → j < q → (kind : FaceKind) (a b : ℕ) →
+    LeadsBy q i j kind a b →
     IsAdditive T kind a b → Joins q T kind a b i j
 joins_by q T i j j_below kind a b at h =
     let ends = leads_ends q i j j_below kind a b at in
     record { additive = h; first = one_of q kind a b i ends.0; second = one_of q kind a b j ends.1 }
 
 -- linked intervals are joined
-pub joined_by_links : (q : ℕ) (T : ℕ → ℕ → Type 0) (i j : ℕ) → i < q → j < q → Links q T i j → AreJoined q T i j
-joined_by_links q T i j i_below j_below (diagonal h) = (Diagonal, i, j, joins_by q T i j j_below Diagonal i j (refl, refl) h)
+pub joined_by_links : (q : ℕ) (T : ℕ → ℕ → Type 0) (i j : ℕ) → i < q → j < q → Links q T i j →
+    AreJoined q T i j
+joined_by_links q T i j i_below j_below (diagonal h) =
+    (Diagonal, i, j, joins_by q T i j j_below Diagonal i j (refl, refl) h)
 joined_by_links q T i j i_below j_below (horizontal b b_below e h) =
     (Horizontal, i, b, joins_by q T i j j_below Horizontal i b (refl, b_below, e) h)
 joined_by_links q T i j i_below j_below (vertical a a_below e h) =
@@ -197,9 +221,12 @@ pub record IsLed (q : ℕ) (T : ℕ → ℕ → Type 0) (kind : FaceKind) (a b i
   pub additive : IsAdditive T by a b
   pub low : position_of_kind by ≤ position_of_kind kind
 
-led_horizontal : (q : ℕ) (T : ℕ → ℕ → Type 0) (kind : FaceKind) (a b i j : ℕ) → 1 ≤ position_of_kind kind → AreTwo q i j → IsSquare q a b →
-    Corners T Horizontal a b → Intervals q Horizontal a b i → Intervals q Horizontal a b j → IsLed q T kind a b i j
-led_horizontal q T kind a b i j r t s h (inl x) (inl y) = clash q a i j t.first t.second t.different x y
+led_horizontal : (q : ℕ) (T : ℕ → ℕ → Type 0) (kind : FaceKind) (a b i j : ℕ) →
+    1 ≤ position_of_kind kind → AreTwo q i j → IsSquare q a b →
+    Corners T Horizontal a b → Intervals q Horizontal a b i → Intervals q Horizontal a b j →
+    IsLed q T kind a b i j
+led_horizontal q T kind a b i j r t s h (inl x) (inl y) =
+    clash q a i j t.first t.second t.different x y
 led_horizontal q T kind a b i j r t s h (inl x) (inr y) = record {
   by = Horizontal;
   leads = inl (is_it q a i s.first t.first x, s.second, below_same q (a + b) j t.second y);
@@ -212,11 +239,15 @@ led_horizontal q T kind a b i j r t s h (inr x) (inl y) = record {
   additive = additive T Horizontal a b h;
   low = r;
 }
-led_horizontal q T kind a b i j r t s h (inr x) (inr y) = clash q (a + b) i j t.first t.second t.different x y
+led_horizontal q T kind a b i j r t s h (inr x) (inr y) =
+    clash q (a + b) i j t.first t.second t.different x y
 
-led_vertical : (q : ℕ) (T : ℕ → ℕ → Type 0) (kind : FaceKind) (a b i j : ℕ) → 2 ≤ position_of_kind kind → AreTwo q i j → IsSquare q a b →
-    Corners T Vertical a b → Intervals q Vertical a b i → Intervals q Vertical a b j → IsLed q T kind a b i j
-led_vertical q T kind a b i j r t s h (inl x) (inl y) = clash q b i j t.first t.second t.different x y
+led_vertical : (q : ℕ) (T : ℕ → ℕ → Type 0) (kind : FaceKind) (a b i j : ℕ) →
+    2 ≤ position_of_kind kind → AreTwo q i j → IsSquare q a b →
+    Corners T Vertical a b → Intervals q Vertical a b i → Intervals q Vertical a b j →
+    IsLed q T kind a b i j
+led_vertical q T kind a b i j r t s h (inl x) (inl y) =
+    clash q b i j t.first t.second t.different x y
 led_vertical q T kind a b i j r t s h (inl x) (inr y) = record {
   by = Vertical;
   leads = inl (s.first, is_it q b i s.second t.first x, below_same q (a + b) j t.second y);
@@ -229,11 +260,15 @@ led_vertical q T kind a b i j r t s h (inr x) (inl y) = record {
   additive = additive T Vertical a b h;
   low = r;
 }
-led_vertical q T kind a b i j r t s h (inr x) (inr y) = clash q (a + b) i j t.first t.second t.different x y
+led_vertical q T kind a b i j r t s h (inr x) (inr y) =
+    clash q (a + b) i j t.first t.second t.different x y
 
-led_diagonal : (q : ℕ) (T : ℕ → ℕ → Type 0) (kind : FaceKind) (a b i j : ℕ) → 3 ≤ position_of_kind kind → AreTwo q i j → IsSquare q a b →
-    Corners T Diagonal a b → Intervals q Diagonal a b i → Intervals q Diagonal a b j → IsLed q T kind a b i j
-led_diagonal q T kind a b i j r t s h (inl x) (inl y) = clash q a i j t.first t.second t.different x y
+led_diagonal : (q : ℕ) (T : ℕ → ℕ → Type 0) (kind : FaceKind) (a b i j : ℕ) →
+    3 ≤ position_of_kind kind → AreTwo q i j → IsSquare q a b →
+    Corners T Diagonal a b → Intervals q Diagonal a b i → Intervals q Diagonal a b j →
+    IsLed q T kind a b i j
+led_diagonal q T kind a b i j r t s h (inl x) (inl y) =
+    clash q a i j t.first t.second t.different x y
 led_diagonal q T kind a b i j r t s h (inl x) (inr y) = record {
   by = Diagonal;
   leads = inl (is_it q a i s.first t.first x, is_it q b j s.second t.second y);
@@ -246,9 +281,11 @@ led_diagonal q T kind a b i j r t s h (inr x) (inl y) = record {
   additive = additive T Diagonal a b h;
   low = r;
 }
-led_diagonal q T kind a b i j r t s h (inr x) (inr y) = clash q b i j t.first t.second t.different x y
+led_diagonal q T kind a b i j r t s h (inr x) (inr y) =
+    clash q b i j t.first t.second t.different x y
 
-led_lower : (q : ℕ) (T : ℕ → ℕ → Type 0) (a b i j : ℕ) → AreTwo q i j → IsSquare q a b → Corners T Lower a b →
+led_lower : (q : ℕ) (T : ℕ → ℕ → Type 0) (a b i j : ℕ) → AreTwo q i j → IsSquare q a b →
+    Corners T Lower a b →
     Intervals q Lower a b i → Intervals q Lower a b j → IsLed q T Lower a b i j
 led_lower q T a b i j t s h (inl x) (inl y) = clash q a i j t.first t.second t.different x y
 led_lower q T a b i j t s h (inl x) (inr (inl y)) =
@@ -257,45 +294,75 @@ led_lower q T a b i j t s h (inl x) (inr (inr y)) =
     led_horizontal q T Lower a b i j (omega arith) t s (h.0, h.1) (inl x) (inr y)
 led_lower q T a b i j t s h (inr (inl x)) (inl y) =
     led_diagonal q T Lower a b i j (omega arith) t s (h.1, h.2) (inr x) (inl y)
-led_lower q T a b i j t s h (inr (inl x)) (inr (inl y)) = clash q b i j t.first t.second t.different x y
+led_lower q T a b i j t s h (inr (inl x)) (inr (inl y)) =
+    clash q b i j t.first t.second t.different x y
 led_lower q T a b i j t s h (inr (inl x)) (inr (inr y)) =
     led_vertical q T Lower a b i j (omega arith) t s (h.0, h.2) (inl x) (inr y)
 led_lower q T a b i j t s h (inr (inr x)) (inl y) =
     led_horizontal q T Lower a b i j (omega arith) t s (h.0, h.1) (inr x) (inl y)
 led_lower q T a b i j t s h (inr (inr x)) (inr (inl y)) =
     led_vertical q T Lower a b i j (omega arith) t s (h.0, h.2) (inr x) (inl y)
-led_lower q T a b i j t s h (inr (inr x)) (inr (inr y)) = clash q (a + b) i j t.first t.second t.different x y
+led_lower q T a b i j t s h (inr (inr x)) (inr (inr y)) =
+    clash q (a + b) i j t.first t.second t.different x y
 
 -- an upper triangle that leads itself
-led_itself : (q : ℕ) (T : ℕ → ℕ → Type 0) (a b i j : ℕ) → Corners T Upper a b → LeadsBy q i j Upper a b ⊎ LeadsBy q j i Upper a b →
+led_itself : (q : ℕ) (T : ℕ → ℕ → Type 0) (a b i j : ℕ) → Corners T Upper a b →
+    LeadsBy q i j Upper a b ⊎ LeadsBy q j i Upper a b →
     IsLed q T Upper a b i j
 led_itself q T a b i j h leads =
     record { by = Upper; leads = leads; additive = additive T Upper a b h; low = omega arith }
 
-led_upper : (q : ℕ) (T : ℕ → ℕ → Type 0) (a b i j : ℕ) → AreTwo q i j → IsSquare q a b → Corners T Upper a b →
+led_upper : (q : ℕ) (T : ℕ → ℕ → Type 0) (a b i j : ℕ) → AreTwo q i j → IsSquare q a b →
+    Corners T Upper a b →
     Intervals q Upper a b i → Intervals q Upper a b j → IsLed q T Upper a b i j
 led_upper q T a b i j t s h (inl x) (inl y) = clash q a i j t.first t.second t.different x y
 led_upper q T a b i j t s h (inl x) (inr (inl y)) =
     led_diagonal q T Upper a b i j (omega arith) t s (h.0, h.1) (inl x) (inr y)
 led_upper q T a b i j t s h (inl x) (inr (inr y)) =
     led_itself q T a b i j h
-    (inl (s.first, s.second, inl (is_it q a i s.first t.first x), below_same q (a + b + 1) j t.second y))
+    (inl (
+      s.first,
+      s.second,
+      inl (is_it q a i s.first t.first x),
+      below_same q
+          (a + b + 1) j t.second y,
+    ))
 led_upper q T a b i j t s h (inr (inl x)) (inl y) =
     led_diagonal q T Upper a b i j (omega arith) t s (h.0, h.1) (inr x) (inl y)
-led_upper q T a b i j t s h (inr (inl x)) (inr (inl y)) = clash q b i j t.first t.second t.different x y
+led_upper q T a b i j t s h (inr (inl x)) (inr (inl y)) =
+    clash q b i j t.first t.second t.different x y
 led_upper q T a b i j t s h (inr (inl x)) (inr (inr y)) =
     led_itself q T a b i j h
-    (inl (s.first, s.second, inr (is_it q b i s.second t.first x), below_same q (a + b + 1) j t.second y))
+    (inl (
+      s.first,
+      s.second,
+      inr (is_it q b i s.second t.first x),
+      below_same q
+          (a + b + 1) j t.second y,
+    ))
 led_upper q T a b i j t s h (inr (inr x)) (inl y) =
     led_itself q T a b i j h
-    (inr (s.first, s.second, inl (is_it q a j s.first t.second y), below_same q (a + b + 1) i t.first x))
+    (inr (
+      s.first,
+      s.second,
+      inl (is_it q a j s.first t.second y),
+      below_same q
+          (a + b + 1) i t.first x,
+    ))
 led_upper q T a b i j t s h (inr (inr x)) (inr (inl y)) =
     led_itself q T a b i j h
-    (inr (s.first, s.second, inr (is_it q b j s.second t.second y), below_same q (a + b + 1) i t.first x))
+    (inr (
+      s.first,
+      s.second,
+      inr (is_it q b j s.second t.second y),
+      below_same q
+          (a + b + 1) i t.first x,
+    ))
 led_upper q T a b i j t s h (inr (inr x)) (inr (inr y)) =
     clash q (a + b + 1) i j t.first t.second t.different x y
 
-led : (q : ℕ) (T : ℕ → ℕ → Type 0) (kind : FaceKind) (a b i j : ℕ) → AreTwo q i j → IsSquare q a b → Corners T kind a b →
+led : (q : ℕ) (T : ℕ → ℕ → Type 0) (kind : FaceKind) (a b i j : ℕ) → AreTwo q i j → IsSquare q a b →
+    Corners T kind a b →
     Intervals q kind a b i → Intervals q kind a b j → IsLed q T kind a b i j
 led q T Vertex a b i j t s h x y = absurd x
 led q T Horizontal a b i j t s h x y = led_horizontal q T Horizontal a b i j (omega arith) t s h x y
@@ -305,10 +372,12 @@ led q T Lower a b i j t s h x y = led_lower q T a b i j t s h x y
 led q T Upper a b i j t s h x y = led_upper q T a b i j t s h x y
 
 -- in the square of a face that joins two different intervals
-pub joins_led : (q : ℕ) (T : ℕ → ℕ → Type 0) (kind : FaceKind) (a b i j : ℕ) → i < q → j < q → i ≢ j → a < q → b < q →
+pub joins_led : (q : ℕ) (T : ℕ → ℕ → Type 0) (kind : FaceKind) (a b i j : ℕ) → i < q → j < q →
+    i ≢ j → a < q → b < q →
     Joins q T kind a b i j → IsLed q T kind a b i j
 joins_led q T kind a b i j i_below j_below other a_below b_below h =
     led q T kind a b i j
     (record { some = omega arith; first = i_below; second = j_below; different = other })
     (record { first = a_below; second = b_below })
-    (corners T kind a b h.additive) (intervals q kind a b i h.first) (intervals q kind a b j h.second)
+    (corners T kind a b h.additive) (intervals q kind a b i h.first)
+    (intervals q kind a b j h.second)

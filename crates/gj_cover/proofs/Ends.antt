@@ -12,7 +12,8 @@ use Rattle.gj_cover.proofs.LineLists.{number_cases, no_line, component_number}
 use Rattle.gj_cover.proofs.NextLines.{joins_lines}
 
 -- both intervals as indices below q
-pub joined_rests : (q : ℕ) (T : ℕ → ℕ → Type 0) (i j : ℕ) → AreJoined q T i j → AreJoined q T (i % q) (j % q)
+pub joined_rests : (q : ℕ) (T : ℕ → ℕ → Type 0) (i j : ℕ) → AreJoined q T i j →
+    AreJoined q T (i % q) (j % q)
 joined_rests q T i j h =
     joined_turned q T (j % q) (i % q)
     (joined_same q T j (i % q) (j % q) (sym (mod-mod j q))
@@ -22,7 +23,8 @@ joined_rests q T i j h =
 led_same : (q : ℕ) (T : ℕ → ℕ → Type 0) (p : Progress) (i j n : ℕ) → 0 < q → IsProgress q T p →
     IsComplete q T p.lines.items → LeadsTo q T i j → number_at p.component.items (j % q) ≡ Some n →
     number_at p.component.items (i % q) ≡ Some n
-led_same q T p i j n some h end (here _ e) number = ap (number_at p.component.items) (sym e) ∙ number
+led_same q T p i j n some h end (here _ e) number = ap (number_at p.component.items) (sym e)
+    ∙ number
 led_same q T p i j n some h end (onward _ next joined rest) number =
     let both = joined_rests q T j next joined in
     elim (number_cases (number_at p.component.items (next % q))) [
@@ -41,7 +43,8 @@ led_same q T p i j n some h end (onward _ next joined rest) number =
 
 -- a directly covered interval has a number
 direct_number : (q : ℕ) (T : ℕ → ℕ → Type 0) (p : Progress) (j : ℕ) → 0 < q → IsProgress q T p →
-    IsComplete q T p.lines.items → IsDirectlyCovered q T j → (n : ℕ) × (number_at p.component.items (j % q) ≡ Some n)
+    IsComplete q T p.lines.items → IsDirectlyCovered q T j →
+    (n : ℕ) × (number_at p.component.items (j % q) ≡ Some n)
 direct_number q T p j some h end direct = elim (number_cases (number_at p.component.items (j % q))) [
   | inl free ↦ absurd (end.none_open (j % q) (record {
     within = mod-lt j some;
@@ -52,13 +55,18 @@ direct_number q T p j some h end direct = elim (number_cases (number_at p.compon
 ]
 
 covered_number : (q : ℕ) (T : ℕ → ℕ → Type 0) (p : Progress) (i : ℕ) → i < q → IsProgress q T p →
-    IsComplete q T p.lines.items → IsCovered q T i → (n : ℕ) × (number_at p.component.items i ≡ Some n)
+    IsComplete q T p.lines.items → IsCovered q T i →
+    (n : ℕ) × (number_at p.component.items i ≡ Some n)
 covered_number q T p i below h end (j, direct, list) =
     let some : 0 < q = omega arith in
-    let at = direct_number q T p j some h end direct in
-    (at.0, ap (number_at p.component.items) (sym (mod-eq_of_lt below)) ∙ led_same q T p i j at.0 some h end list at.1)
+    let at = direct_number q T p j some h end direct in (
+      at.0,
+      ap (number_at p.component.items) (sym (mod-eq_of_lt below))
+          ∙ led_same q T p i j at.0 some h end list at.1,
+    )
 
-pub uncovered : (q : ℕ) (T : ℕ → ℕ → Type 0) (p : Progress) → IsProgress q T p → IsComplete q T p.lines.items →
+pub uncovered : (q : ℕ) (T : ℕ → ℕ → Type 0) (p : Progress) → IsProgress q T p →
+    IsComplete q T p.lines.items →
     AreUncovered q T p.free
 uncovered q T p h end = record {
   within = λ i e. ((h.free.each i).0 e).0;
@@ -72,11 +80,13 @@ uncovered q T p h end = record {
   ];
 }
 
-pub components : (q : ℕ) (T : ℕ → ℕ → Type 0) (p : Progress) → IsProgress q T p → IsComplete q T p.lines.items →
+pub components : (q : ℕ) (T : ℕ → ℕ → Type 0) (p : Progress) → IsProgress q T p →
+    IsComplete q T p.lines.items →
     AreComponents q T p.lines.items p.component.items
 components q T p h end = record {
   length = h.component_length;
-  numbers = λ i n below. (h.numbers.shown i n, component_number p.lines.items p.component.items n i h.numbers);
+  numbers = λ i n below.
+      (h.numbers.shown i n, component_number p.lines.items p.component.items n i h.numbers);
   uncovered = λ i below. (
     λ none. (uncovered q T p h end).none i ((h.free.each i).1 (below, none)),
     λ not. elim (number_cases (number_at p.component.items i)) [
@@ -89,13 +99,18 @@ components q T p h end = record {
     λ (first, second, list).
         let some : 0 < q = omega arith in
         let at = covered_number q T p i i_below h end first in
-        let rest = ap (number_at p.component.items) (mod-eq_of_lt i_below) ∙ at.1 in
-        (at.0, at.1, ap (number_at p.component.items) (sym (mod-eq_of_lt j_below)) ∙ led_same q T p j i at.0 some h end list rest),
+        let rest = ap (number_at p.component.items) (mod-eq_of_lt i_below) ∙ at.1 in (
+          at.0,
+          at.1,
+          ap (number_at p.component.items) (sym (mod-eq_of_lt j_below))
+              ∙ led_same q T p j i at.0 some h end list rest,
+        ),
   );
   below = λ i n e. subst (λ m. n < m) h.count (h.classes.below i n e);
 }
 
-pub cover_lines : (q : ℕ) (T : ℕ → ℕ → Type 0) (p : Progress) → IsProgress q T p → IsComplete q T p.lines.items →
+pub cover_lines : (q : ℕ) (T : ℕ → ℕ → Type 0) (p : Progress) → IsProgress q T p →
+    IsComplete q T p.lines.items →
     AreCoverLines q T p.lines.items
 cover_lines q T p h end = record {
   in_turn = h.lines.each;

@@ -34,7 +34,8 @@ pub record AreSteps (q i step short j : ℕ) : Type 0 where
   pub step_leads : (i + step) % q ≡ j
   pub short_leads : (1 + short) % q ≡ step
 
-pub steps_at : (q n i step short j : ℕ) → n ≡ q → i < q → j < q → step < n → short < n → (i + step) % n ≡ j → (1 + short) % n ≡ step →
+pub steps_at : (q n i step short j : ℕ) → n ≡ q → i < q → j < q → step < n → short < n →
+    (i + step) % n ≡ j → (1 + short) % n ≡ step →
     AreSteps q i step short j
 steps_at q n i step short j is start end step_below short_below step_leads short_leads = record {
   start = start;
@@ -49,7 +50,8 @@ pub next_leads : (q i step short j : ℕ) → AreSteps q i step short j → (i +
 next_leads q i step short j s =
     let order : i + short + 1 ≡ i + (1 + short) = omega arith in
     ap (λ n. n % q) order
-    ∙ same_sum q i (1 + short) i step refl (s.short_leads ∙ sym (mod-eq_of_lt s.step_below)) ∙ s.step_leads
+    ∙ same_sum q i (1 + short) i step refl (s.short_leads ∙ sym (mod-eq_of_lt s.step_below))
+    ∙ s.step_leads
 
 -- the sums in another order
 turned : (q a b j : ℕ) → (a + b) % q ≡ j → (b + a) % q ≡ j
@@ -62,7 +64,8 @@ turned_next q a b j e = let order : b + a + 1 ≡ a + b + 1 = omega arith in ap 
 is_step : (q i step short j b : ℕ) → AreSteps q i step short j → b < q → (i + b) % q ≡ j → b ≡ step
 is_step q i step short j b s b_below e = one_step q i b step j b_below s.step_below e s.step_leads
 
-is_short : (q i step short j b : ℕ) → AreSteps q i step short j → b < q → (i + b + 1) % q ≡ j → b ≡ short
+is_short : (q i step short j b : ℕ) → AreSteps q i step short j → b < q → (i + b + 1) % q ≡ j →
+    b ≡ short
 is_short q i step short j b s b_below e =
     let first : i + 1 + b ≡ i + b + 1 = omega arith in
     let second : i + 1 + short ≡ i + short + 1 = omega arith in
@@ -74,68 +77,107 @@ is_short q i step short j b s b_below e =
 -- five of them
 abbrev pub Five : ℕ → ℕ → ℕ → ℕ → FaceKind → ℕ → ℕ → Type 0
 Five i step short j =
-    EitherOf (EitherOf (EitherOf (EitherOf (IsThis Upper i short) (IsThis Horizontal i step)) (IsThis Diagonal i j)) (IsThis Upper short i))
+    EitherOf (EitherOf (EitherOf (EitherOf (IsThis Upper i short) (IsThis Horizontal i step))
+    (IsThis Diagonal i j)) (IsThis Upper short i))
     (IsThis Vertical step i)
 
 -- what holds of one face, of the same face in other words
-here : (P : FaceKind → ℕ → ℕ → Type 0) (kind other : FaceKind) (a b c d : ℕ) → P kind a b → IsThis kind a b other c d → P other c d
+here : (P : FaceKind → ℕ → ℕ → Type 0) (kind other : FaceKind) (a b c d : ℕ) → P kind a b →
+    IsThis kind a b other c d → P other c d
 here P kind other a b c d h (e, x, y) =
-    subst (λ k. P k c d) (sym e) (subst (λ n. P kind n d) (sym x) (subst (λ n. P kind a n) (sym y) h))
+    subst (λ k. P k c d) (sym e)
+    (subst (λ n. P kind n d) (sym x) (subst (λ n. P kind a n) (sym y) h))
 
-pub five_on : (q i step short j : ℕ) → AreSteps q i step short j → (kind : FaceKind) (a b : ℕ) → Five i step short j kind a b →
+pub five_on : (q i step short j : ℕ) → AreSteps q i step short j → (kind : FaceKind) (a b : ℕ) →
+    Five i step short j kind a b →
     LeadsBy q i j kind a b
 five_on q i step short j s kind a b (inl (inl (inl (inl h)))) =
-    here (LeadsBy q i j) Upper kind i short a b (s.start, s.short_below, inl refl, next_leads q i step short j s) h
+    here (LeadsBy q i j) Upper kind i short a b
+    (s.start, s.short_below, inl refl, next_leads q i step short j s) h
 five_on q i step short j s kind a b (inl (inl (inl (inr h)))) =
     here (LeadsBy q i j) Horizontal kind i step a b (refl, s.step_below, s.step_leads) h
-five_on q i step short j s kind a b (inl (inl (inr h))) = here (LeadsBy q i j) Diagonal kind i j a b (refl, refl) h
+five_on q i step short j s kind a b (inl (inl (inr h))) =
+    here (LeadsBy q i j) Diagonal kind i j a b (refl, refl) h
 five_on q i step short j s kind a b (inl (inr h)) =
     here (LeadsBy q i j) Upper kind short i a b
     (s.short_below, s.start, inr refl, turned_next q i short j (next_leads q i step short j s)) h
 five_on q i step short j s kind a b (inr h) =
-    here (LeadsBy q i j) Vertical kind step i a b (s.step_below, refl, turned q i step j s.step_leads) h
+    here (LeadsBy q i j) Vertical kind step i a b
+    (s.step_below, refl, turned q i step j s.step_leads) h
 
-pub five_back : (q i step short j : ℕ) → AreSteps q i step short j → (kind : FaceKind) (a b : ℕ) → LeadsBy q i j kind a b →
+pub five_back : (q i step short j : ℕ) → AreSteps q i step short j → (kind : FaceKind) (a b : ℕ) →
+    LeadsBy q i j kind a b →
     Five i step short j kind a b
 five_back q i step short j s Vertex a b h = absurd h
 five_back q i step short j s Horizontal a b (x, below, e) =
-    inl (inl (inl (inr (refl, x, is_step q i step short j b s below (ap (λ n. (n + b) % q) (sym x) ∙ e)))))
+    inl (inl (inl (inr (
+      refl,
+      x,
+      is_step q i step short j b s below (ap (λ n. (n + b) % q) (sym x)
+          ∙ e),
+    ))))
 five_back q i step short j s Vertical a b (below, x, e) =
-    inr (refl, is_step q i step short j a s below (ap (λ n. (n + a) % q) (sym x) ∙ turned q a b j e), x)
+    inr (
+      refl,
+      is_step q i step short j a s below (ap (λ n. (n + a) % q) (sym x)
+          ∙ turned q a b j e),
+      x,
+    )
 five_back q i step short j s Diagonal a b (x, y) = inl (inl (inr (refl, x, y)))
 five_back q i step short j s Lower a b h = absurd h
 five_back q i step short j s Upper a b (a_below, b_below, inl x, e) =
-    inl (inl (inl (inl (refl, x, is_short q i step short j b s b_below (ap (λ n. (n + b + 1) % q) (sym x) ∙ e)))))
+    inl (inl (inl (inl (
+      refl,
+      x,
+      is_short q i step short j b s b_below
+          (ap (λ n. (n + b + 1) % q) (sym x) ∙ e),
+    ))))
 five_back q i step short j s Upper a b (a_below, b_below, inr x, e) =
-    inl (inr (refl, is_short q i step short j a s a_below (ap (λ n. (n + a + 1) % q) (sym x) ∙ turned_next q a b j e), x))
+    inl (inr (
+      refl,
+      is_short q i step short j a s a_below (ap (λ n. (n + a + 1) % q) (sym x)
+          ∙ turned_next q a b j e),
+      x,
+    ))
 
 -- all of them are behind a face in a row before
-pub all_behind : (found : Option Face) (i step short j : ℕ) → IsInRowBefore found i step short → (kind : FaceKind) (a b : ℕ) →
+pub all_behind : (found : Option Face) (i step short j : ℕ) → IsInRowBefore found i step short →
+    (kind : FaceKind) (a b : ℕ) →
     Five i step short j kind a b → IsFaceReached found kind a b
 all_behind None i step short j h kind a b five = absurd h
-all_behind (Some f) i step short j (x, y, z) kind a b (inl (inl (inl (inl (_, s, _))))) = inl (let lt : f.a < a = omega (arith, x, s) in lt)
-all_behind (Some f) i step short j (x, y, z) kind a b (inl (inl (inl (inr (_, s, _))))) = inl (let lt : f.a < a = omega (arith, x, s) in lt)
-all_behind (Some f) i step short j (x, y, z) kind a b (inl (inl (inr (_, s, _)))) = inl (let lt : f.a < a = omega (arith, x, s) in lt)
-all_behind (Some f) i step short j (x, y, z) kind a b (inl (inr (_, s, _))) = inl (let lt : f.a < a = omega (arith, z, s) in lt)
-all_behind (Some f) i step short j (x, y, z) kind a b (inr (_, s, _)) = inl (let lt : f.a < a = omega (arith, y, s) in lt)
+all_behind (Some f) i step short j (x, y, z) kind a b (inl (inl (inl (inl (_, s, _))))) =
+    inl (let lt : f.a < a = omega (arith, x, s) in lt)
+all_behind (Some f) i step short j (x, y, z) kind a b (inl (inl (inl (inr (_, s, _))))) =
+    inl (let lt : f.a < a = omega (arith, x, s) in lt)
+all_behind (Some f) i step short j (x, y, z) kind a b (inl (inl (inr (_, s, _)))) =
+    inl (let lt : f.a < a = omega (arith, x, s) in lt)
+all_behind (Some f) i step short j (x, y, z) kind a b (inl (inr (_, s, _))) =
+    inl (let lt : f.a < a = omega (arith, z, s) in lt)
+all_behind (Some f) i step short j (x, y, z) kind a b (inr (_, s, _)) =
+    inl (let lt : f.a < a = omega (arith, y, s) in lt)
 
 -- ---- first of all faces
 
-leads_within : (q i j : ℕ) → i < q → j < q → (kind : FaceKind) (a b : ℕ) → LeadsBy q i j kind a b → (a < q) × (b < q)
+leads_within : (q i j : ℕ) → i < q → j < q → (kind : FaceKind) (a b : ℕ) → LeadsBy q i j kind a b →
+    (a < q) × (b < q)
 leads_within q i j i_below j_below Vertex a b h = absurd h
-leads_within q i j i_below j_below Horizontal a b (x, y, z) = (subst (λ n. n < q) (sym x) i_below, y)
+leads_within q i j i_below j_below Horizontal a b (x, y, z) =
+    (subst (λ n. n < q) (sym x) i_below, y)
 leads_within q i j i_below j_below Vertical a b (x, y, z) = (x, subst (λ n. n < q) (sym y) i_below)
 leads_within q i j i_below j_below Diagonal a b (x, y) =
     (subst (λ n. n < q) (sym x) i_below, subst (λ n. n < q) (sym y) j_below)
 leads_within q i j i_below j_below Lower a b h = absurd h
 leads_within q i j i_below j_below Upper a b (x, y, z, w) = (x, y)
 
-pub leads_turned : (q i j : ℕ) (kind : FaceKind) (a b : ℕ) → Leads q i j kind a b → Leads q j i kind a b
+pub leads_turned : (q i j : ℕ) (kind : FaceKind) (a b : ℕ) → Leads q i j kind a b →
+    Leads q j i kind a b
 leads_turned q i j kind a b (inl x) = inr x
 leads_turned q i j kind a b (inr x) = inl x
 
-pub joining_found : (q : ℕ) (T : ℕ → ℕ → Type 0) (i j : ℕ) → i < q → j < q → i ≢ j → (result : Option Face) →
-    AddsFirst (Leads q i j) (IsAdditive T) None result → IfSome result (IsFirstFace q (λ kind a b. Joins q T kind a b i j))
+pub joining_found : (q : ℕ) (T : ℕ → ℕ → Type 0) (i j : ℕ) → i < q → j < q → i ≢ j →
+    (result : Option Face) →
+    AddsFirst (Leads q i j) (IsAdditive T) None result →
+    IfSome result (IsFirstFace q (λ kind a b. Joins q T kind a b i j))
 joining_found q T i j i_below j_below other None h = tt
 joining_found q T i j i_below j_below other (Some f) h = elim h.from [
   | inl e ↦ absurd (cc (e))
@@ -156,13 +198,17 @@ joining_found q T i j i_below j_below other (Some f) h = elim h.from [
       ranked_behind f led.by kind a b led.low (h.first led.by a b led.leads led.additive))
 ]
 
-pub joining_none : (q : ℕ) (T : ℕ → ℕ → Type 0) → HasPeriod q T → (i j : ℕ) → i < q → j < q → i ≢ j →
-    (result : Option Face) → AddsFirst (Leads q i j) (IsAdditive T) None result → IfNone result (AreJoined q T i j → ⊥)
+pub joining_none : (q : ℕ) (T : ℕ → ℕ → Type 0) → HasPeriod q T → (i j : ℕ) → i < q → j < q →
+    i ≢ j →
+    (result : Option Face) → AddsFirst (Leads q i j) (IsAdditive T) None result →
+    IfNone result (AreJoined q T i j → ⊥)
 joining_none q T p i j i_below j_below other (Some f) h = tt
 joining_none q T p i j i_below j_below other None h = λ (kind, a, b, k).
     let some : 0 < q = omega arith in
-    let in' = joins_within q T p kind a b (a % q) (b % q) i j (sym (mod-mod a q)) (sym (mod-mod b q)) k in
-    let led = joins_led q T kind (a % q) (b % q) i j i_below j_below other (mod-lt a some) (mod-lt b some) in' in
+    let in' = joins_within q T p kind a b (a % q) (b % q) i j (sym (mod-mod a q))
+    (sym (mod-mod b q)) k in
+    let led = joins_led q T kind (a % q) (b % q) i j i_below j_below other (mod-lt a some)
+    (mod-lt b some) in' in
     h.first led.by (a % q) (b % q) led.leads led.additive
 
 -- all squares of the complex
@@ -177,25 +223,29 @@ covering_found q T i (Some f) h =
     first_face q (λ kind a b. Covers q T kind a b i) f h.square.0 h.square.1 h.holds
     (λ kind a b a_below b_below p. h.first kind a b (a_below, b_below) p)
 
-pub covering_none : (q : ℕ) (T : ℕ → ℕ → Type 0) → HasPeriod q T → (i : ℕ) → i < q → (result : Option Face) →
+pub covering_none : (q : ℕ) (T : ℕ → ℕ → Type 0) → HasPeriod q T → (i : ℕ) → i < q →
+    (result : Option Face) →
     FindsFirst (IsSquare q) (λ kind a b. Covers q T kind a b i) result →
     IfNone result (IsDirectlyCovered q T i → ⊥)
 covering_none q T p i i_below (Some f) h = tt
 covering_none q T p i i_below None h = λ (kind, a, b, k).
     let some : 0 < q = omega arith in
-    let in' = covers_within q T p kind a b (a % q) (b % q) i (sym (mod-mod a q)) (sym (mod-mod b q)) k in
+    let in' = covers_within q T p kind a b (a % q) (b % q) i (sym (mod-mod a q))
+    (sym (mod-mod b q)) k in
     h kind (a % q) (b % q) (mod-lt a some, mod-lt b some) in'
 
 -- ---- the squares of row i, and of the other rows
 
-pub in_row_none : (q : ℕ) (T : ℕ → ℕ → Type 0) (i : ℕ) (set : IndexSet) → ((b : ℕ) → has set b ≡ false) →
+pub in_row_none : (q : ℕ) (T : ℕ → ℕ → Type 0) (i : ℕ) (set : IndexSet) →
+    ((b : ℕ) → has set b ≡ false) →
     ((b : ℕ) → b < q → IsTrue (has set b) ↔ ((kind : FaceKind) × Covers q T kind i b i)) →
     FindsFirst (IsPairInRow q i) (λ kind a b. Covers q T kind a b i) None
 in_row_none q T i set none told kind a b (same, below) p =
     let yes' = (told b below).1 (kind, subst (λ n. Covers q T kind n b i) same p) in
     let not = none b in cc (yes', not)
 
-pub in_row_found : (q : ℕ) (T : ℕ → ℕ → Type 0) (i k : ℕ) (set : IndexSet) (found : Option Face) → IsFirst set 0 k →
+pub in_row_found : (q : ℕ) (T : ℕ → ℕ → Type 0) (i k : ℕ) (set : IndexSet) (found : Option Face) →
+    IsFirst set 0 k →
     ((b : ℕ) → IsTrue (has set b) → b < q) →
     ((b : ℕ) → b < q → IsTrue (has set b) ↔ ((kind : FaceKind) × Covers q T kind i b i)) →
     FindsFirst (Square i k) (λ kind a b. Covers q T kind a b i) found →
@@ -211,13 +261,19 @@ in_row_found q T i k set (Some f) first within told h = record {
       | inl before ↦
           let yes' = (told b below).1 (kind, subst (λ n. Covers q T kind n b i) same p) in
           let not = first.before b (omega arith) before in absurd (cc (yes', not))
-      | inr behind ↦ inr (h.square.0 ∙ sym same, inl (let lt : f.b < b = omega (arith, h.square.1) in lt))
+      | inr behind ↦ inr (
+        h.square.0
+            ∙ sym same,
+        inl (let lt : f.b < b = omega (arith, h.square.1) in lt),
+      )
     ]
   ];
 }
 
-pub across_none : (q : ℕ) (T : ℕ → ℕ → Type 0) (i : ℕ) (set : IndexSet) → ((a : ℕ) → has set a ≡ false) →
-    ((a : ℕ) → a < q → a ≢ i → IsTrue (has set a) ↔ ((kind : FaceKind) × (b : ℕ) × (b < q) × Covers q T kind a b i)) →
+pub across_none : (q : ℕ) (T : ℕ → ℕ → Type 0) (i : ℕ) (set : IndexSet) →
+    ((a : ℕ) → has set a ≡ false) →
+    ((a : ℕ) → a < q → a ≢ i →
+    IsTrue (has set a) ↔ ((kind : FaceKind) × (b : ℕ) × (b < q) × Covers q T kind a b i)) →
     FindsFirst (IsAcross q i) (λ kind a b. Covers q T kind a b i) None
 across_none q T i set none told kind a b (a_below, other, b_below) p =
     let yes' = (told a a_below other).1 (kind, b, b_below, p) in
@@ -227,12 +283,14 @@ across_none q T i set none told kind a b (a_below, other, b_below) p =
 abbrev pub Three : ℕ → ℕ → ℕ → ℕ → ℕ → ℕ → Type 0
 Three k i step short = Either (Either (Square k i) (Square k step)) (Square k short)
 
-three_below : (q k i step short a b : ℕ) → AreSteps q k step short i → Three k i step short a b → (a ≡ k) × (b < q)
+three_below : (q k i step short a b : ℕ) → AreSteps q k step short i → Three k i step short a b →
+    (a ≡ k) × (b < q)
 three_below q k i step short a b s (inl (inl (x, y))) = (x, subst (λ n. n < q) (sym y) s.end)
 three_below q k i step short a b s (inl (inr (x, y))) = (x, subst (λ n. n < q) (sym y) s.step_below)
 three_below q k i step short a b s (inr (x, y)) = (x, subst (λ n. n < q) (sym y) s.short_below)
 
-three_by : (q k i step short b : ℕ) (kind : FaceKind) → AreSteps q k step short i → k ≢ i → b < q → IsTriangle kind →
+three_by : (q k i step short b : ℕ) (kind : FaceKind) → AreSteps q k step short i → k ≢ i → b < q →
+    IsTriangle kind →
     Intervals q kind k b i → Three k i step short k b
 three_by q k i step short b Vertex s other below t h = absurd t
 three_by q k i step short b Horizontal s other below t h = absurd t
@@ -251,14 +309,18 @@ three_by q k i step short b Upper s other below t (inr (inl x)) =
 three_by q k i step short b Upper s other below t (inr (inr x)) =
     inr (refl, is_short q k step short i b s below (x ∙ mod-eq_of_lt s.end))
 
-three_of : (q : ℕ) (T : ℕ → ℕ → Type 0) (k i step short b : ℕ) (kind : FaceKind) → AreSteps q k step short i → k ≢ i → b < q →
+three_of : (q : ℕ) (T : ℕ → ℕ → Type 0) (k i step short b : ℕ) (kind : FaceKind) →
+    AreSteps q k step short i → k ≢ i → b < q →
     Covers q T kind k b i → Three k i step short k b
 three_of q T k i step short b kind s other below h =
-    let at = covered_one q kind k b i h.projection in three_by q k i step short b kind s other below at.0 at.1
+    let at = covered_one q kind k b i h.projection in
+    three_by q k i step short b kind s other below at.0 at.1
 
-pub across_found : (q : ℕ) (T : ℕ → ℕ → Type 0) (i k step short : ℕ) (set : IndexSet) (found : Option Face) →
+pub across_found : (q : ℕ) (T : ℕ → ℕ → Type 0) (i k step short : ℕ) (set : IndexSet)
+    (found : Option Face) →
     AreSteps q k step short i → k ≢ i → IsFirst set 0 k →
-    ((a : ℕ) → a < q → a ≢ i → IsTrue (has set a) ↔ ((kind : FaceKind) × (b : ℕ) × (b < q) × Covers q T kind a b i)) →
+    ((a : ℕ) → a < q → a ≢ i →
+    IsTrue (has set a) ↔ ((kind : FaceKind) × (b : ℕ) × (b < q) × Covers q T kind a b i)) →
     FindsFirst (Three k i step short) (λ kind a b. Covers q T kind a b i) found →
     FindsFirst (IsAcross q i) (λ kind a b. Covers q T kind a b i) found
 across_found q T i k step short set None s other first told h =
@@ -272,7 +334,8 @@ across_found q T i k step short set (Some f) s other first told h =
       first = λ kind a b (a_below, not_it, b_below) p. elim (cases_order a k) [
         | inl same ↦
             let p' = subst (λ n. Covers q T kind n b i) same p in
-            h.first kind a b (subst (λ n. Three k i step short n b) (sym same) (three_of q T k i step short b kind s other b_below p')) p
+            h.first kind a b (subst (λ n. Three k i step short n b) (sym same)
+            (three_of q T k i step short b kind s other b_below p')) p
         | inr d ↦ elim d [
           | inl before ↦
               let yes' = (told a a_below not_it).1 (kind, b, b_below, p) in
@@ -288,4 +351,5 @@ all_on q i a b below (inl (x, y)) = (subst (λ n. n < q) (sym x) below, y)
 all_on q i a b below (inr (x, y, z)) = (x, z)
 
 pub all_back : (q i a b : ℕ) → IsSquare q a b → Either (IsPairInRow q i) (IsAcross q i) a b
-all_back q i a b (x, y) = elim (cases_eq a i) [ inl same ↦ inl (same, y) | inr other ↦ inr (x, other, y) ]
+all_back q i a b (x, y) =
+    elim (cases_eq a i) [ inl same ↦ inl (same, y) | inr other ↦ inr (x, other, y) ]

@@ -20,7 +20,8 @@ no_end (b ∷ before) l after e = cc
 
 -- a line of a list with one more is that one, or one of the list
 pub split_end : {X : Type 0} (xs : List X) (x : X) (before : List X) (l : X) (after : List X) →
-    xs ++ x ∷ [] ≡ before ++ l ∷ after → ((before ≡ xs) × (l ≡ x)) ⊎ ((rest : List X) × (xs ≡ before ++ l ∷ rest))
+    xs ++ x ∷ [] ≡ before ++ l ∷ after →
+    ((before ≡ xs) × (l ≡ x)) ⊎ ((rest : List X) × (xs ≡ before ++ l ∷ rest))
 split_end [] x [] l after e = let same : l ≡ x = cc in inl (refl, same)
 split_end [] x (b ∷ before) l after e =
     let none : [] ≡ before ++ l ∷ after = cc in absurd (no_end before l after none)
@@ -34,9 +35,11 @@ split_end (y ∷ xs) x (b ∷ before) l after e =
     ]
 
 -- the list behind some lines, with one more
-pub one_more : {X : Type 0} (xs before : List X) (l : X) (after : List X) (x : X) → xs ≡ before ++ l ∷ after →
+pub one_more : {X : Type 0} (xs before : List X) (l : X) (after : List X) (x : X) →
+    xs ≡ before ++ l ∷ after →
     xs ++ x ∷ [] ≡ before ++ l ∷ (after ++ x ∷ [])
-one_more xs before l after x e = ap (λ ys. ys ++ x ∷ []) e ∙ append_assoc before (l ∷ after) (x ∷ [])
+one_more xs before l after x e = ap (λ ys. ys ++ x ∷ []) e
+    ∙ append_assoc before (l ∷ after) (x ∷ [])
 
 -- ---- intervals with a line
 
@@ -47,7 +50,8 @@ line_here (b ∷ before) l after =
     any_there (λ m. m.interval ≡ l.interval) b (before ++ l ∷ after) (line_here before l after)
 
 pub line_place : (lines : List CoverLine) (i : ℕ) → HasCoverLine lines i →
-    (before : List CoverLine) × (l : CoverLine) × (after : List CoverLine) × (lines ≡ before ++ l ∷ after)
+    (before : List CoverLine) × (l : CoverLine) × (after : List CoverLine)
+    × (lines ≡ before ++ l ∷ after)
     × (l.interval ≡ i)
 line_place [] i h = absurd (any_none (λ m. m.interval ≡ i) h)
 line_place (l ∷ lines) i h = elim (any_cases (λ m. m.interval ≡ i) l lines h) [
@@ -64,14 +68,16 @@ pub component_stays : (lines : List CoverLine) (l : CoverLine) (n i : ℕ) → H
 component_stays lines l n i (opened before m after e f g) =
     opened before m (after ++ l ∷ []) (one_more lines before m after l e) f g
 component_stays lines l n i (joined before m after e f h) =
-    joined before m (after ++ l ∷ []) (one_more lines before m after l e) f (component_stays lines l n m.from h)
+    joined before m (after ++ l ∷ []) (one_more lines before m after l e) f
+    (component_stays lines l n m.from h)
 
 -- a number or none
 pub number_cases : (o : Option ℕ) → (o ≡ None) ⊎ ((n : ℕ) × (o ≡ Some n))
 number_cases None = inl refl
 number_cases (Some n) = inr (n, refl)
 
-pub line_number : (lines : List CoverLine) (component : List (Option ℕ)) (i : ℕ) → AreNumbered lines component →
+pub line_number : (lines : List CoverLine) (component : List (Option ℕ)) (i : ℕ) →
+    AreNumbered lines component →
     HasCoverLine lines i → (n : ℕ) × (number_at component i ≡ Some n)
 line_number lines component i h line =
     let at = line_place lines i line in
@@ -81,23 +87,28 @@ line_number lines component i h line =
       | inr (t, e) ↦ let from = h.joined at.0 at.1 at.2 at.3 e in (from.0, same ∙ from.1)
     ]
 
-pub number_line : (lines : List CoverLine) (component : List (Option ℕ)) (i n : ℕ) → AreNumbered lines component →
+pub number_line : (lines : List CoverLine) (component : List (Option ℕ)) (i n : ℕ) →
+    AreNumbered lines component →
     number_at component i ≡ Some n → HasCoverLine lines i
 number_line lines component i n h e = line_of_component lines n i (h.shown i n e)
 
-pub no_number : (lines : List CoverLine) (component : List (Option ℕ)) (i : ℕ) → AreNumbered lines component →
+pub no_number : (lines : List CoverLine) (component : List (Option ℕ)) (i : ℕ) →
+    AreNumbered lines component →
     (HasCoverLine lines i → ⊥) → number_at component i ≡ None
 no_number lines component i h none = elim (number_cases (number_at component i)) [
   | inl e ↦ e
   | inr (n, e) ↦ absurd (none (number_line lines component i n h e))
 ]
 
-pub no_line : (lines : List CoverLine) (component : List (Option ℕ)) (i : ℕ) → AreNumbered lines component →
+pub no_line : (lines : List CoverLine) (component : List (Option ℕ)) (i : ℕ) →
+    AreNumbered lines component →
     number_at component i ≡ None → HasCoverLine lines i → ⊥
-no_line lines component i h e line = let at = line_number lines component i h line in let is = at.1 in cc (e, is)
+no_line lines component i h e line = let at = line_number lines component i h line in
+    let is = at.1 in cc (e, is)
 
 -- the component of the lines is the number
-pub component_number : (lines : List CoverLine) (component : List (Option ℕ)) (n i : ℕ) → AreNumbered lines component →
+pub component_number : (lines : List CoverLine) (component : List (Option ℕ)) (n i : ℕ) →
+    AreNumbered lines component →
     HasComponent lines n i → number_at component i ≡ Some n
 component_number lines component n i h (opened before m after e f g) =
     h.opened before m after e f ∙ ap Some (sym g)
@@ -108,14 +119,17 @@ component_number lines component n i h (joined before m after e f k) =
 
 -- ---- one more number
 
-pub number_same : (c : List (Option ℕ)) (x m : ℕ) → x < length c → number_at (set c x (Some m)) x ≡ Some m
+pub number_same : (c : List (Option ℕ)) (x m : ℕ) → x < length c →
+    number_at (set c x (Some m)) x ≡ Some m
 number_same c x m within = get_or-set_same c x (Some m) None within
 
-pub number_other : (c : List (Option ℕ)) (x m i : ℕ) → i ≢ x → number_at (set c x (Some m)) i ≡ number_at c i
+pub number_other : (c : List (Option ℕ)) (x m i : ℕ) → i ≢ x →
+    number_at (set c x (Some m)) i ≡ number_at c i
 number_other c x m i other = get_or-set_other c x i (Some m) None other
 
 -- a number of the list with one more is that one, or one of the list
-pub number_from : (c : List (Option ℕ)) (x m i n : ℕ) → x < length c → number_at (set c x (Some m)) i ≡ Some n →
+pub number_from : (c : List (Option ℕ)) (x m i n : ℕ) → x < length c →
+    number_at (set c x (Some m)) i ≡ Some n →
     ((i ≡ x) × (n ≡ m)) ⊎ (number_at c i ≡ Some n)
 number_from c x m i n within e = elim (eqb_tells i x) [
   | inl (t, same) ↦
@@ -126,7 +140,8 @@ number_from c x m i n within e = elim (eqb_tells i x) [
   | inr (t, other) ↦ inr (sym (number_other c x m i other) ∙ e)
 ]
 
-pub none_from : (c : List (Option ℕ)) (x m i : ℕ) → x < length c → number_at (set c x (Some m)) i ≡ None →
+pub none_from : (c : List (Option ℕ)) (x m i : ℕ) → x < length c →
+    number_at (set c x (Some m)) i ≡ None →
     (i ≢ x) × (number_at c i ≡ None)
 none_from c x m i within e = elim (eqb_tells i x) [
   | inl (t, same) ↦
@@ -137,15 +152,19 @@ none_from c x m i within e = elim (eqb_tells i x) [
 ]
 
 -- a number stays if another gets one
-pub number_stays : (c : List (Option ℕ)) (x m i n : ℕ) → number_at c x ≡ None → number_at c i ≡ Some n →
+pub number_stays : (c : List (Option ℕ)) (x m i n : ℕ) → number_at c x ≡ None →
+    number_at c i ≡ Some n →
     number_at (set c x (Some m)) i ≡ Some n
 number_stays c x m i n free e =
-    let other : i ≢ x = λ same. let here : Some n ≡ None = sym e ∙ ap (number_at c) same ∙ free in absurd (cc) in
+    let other : i ≢ x = λ same. let here : Some n ≡ None = sym e ∙ ap (number_at c) same ∙ free in
+    absurd (cc) in
     number_other c x m i other ∙ e
 
 -- an interval with a number is one of the complex
-pub number_within : (q : ℕ) (c : List (Option ℕ)) (i n : ℕ) → length c ≡ q → number_at c i ≡ Some n → i < q
+pub number_within : (q : ℕ) (c : List (Option ℕ)) (i n : ℕ) → length c ≡ q →
+    number_at c i ≡ Some n → i < q
 number_within q c i n len e = elim (cases_lt i q) [
   | inl below ↦ below
-  | inr past ↦ let none = get_or_past c i None (let le : length c ≤ i = omega arith in le) in absurd (cc (e, none))
+  | inr past ↦ let none = get_or_past c i None (let le : length c ≤ i = omega arith in le) in
+      absurd (cc (e, none))
 ]

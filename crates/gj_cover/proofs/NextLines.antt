@@ -24,7 +24,8 @@ pub record JoinsNumbers (q : ℕ) (T : ℕ → ℕ → Type 0) (c : List (Option
   pub number : (n : ℕ) × (number_at c j ≡ Some n)
   pub joined : AreJoined q T i j
 
-pub joins_numbers : (q : ℕ) (T : ℕ → ℕ → Type 0) (lines : List CoverLine) (c : List (Option ℕ)) (i j : ℕ) →
+pub joins_numbers : (q : ℕ) (T : ℕ → ℕ → Type 0) (lines : List CoverLine) (c : List (Option ℕ))
+    (i j : ℕ) →
     AreNumbered lines c → JoinsLines q T lines i j → JoinsNumbers q T c i j
 joins_numbers q T lines c i j h k = record {
   first_within = k.first_within;
@@ -34,7 +35,8 @@ joins_numbers q T lines c i j h k = record {
   joined = k.joined;
 }
 
-pub joins_lines : (q : ℕ) (T : ℕ → ℕ → Type 0) (lines : List CoverLine) (c : List (Option ℕ)) (i j : ℕ) →
+pub joins_lines : (q : ℕ) (T : ℕ → ℕ → Type 0) (lines : List CoverLine) (c : List (Option ℕ))
+    (i j : ℕ) →
     AreNumbered lines c → JoinsNumbers q T c i j → JoinsLines q T lines i j
 joins_lines q T lines c i j h k = record {
   first_within = k.first_within;
@@ -45,13 +47,15 @@ joins_lines q T lines c i j h k = record {
 }
 
 -- the line joins its interval to one with the number m
-pub record IsJoiningTo (q : ℕ) (T : ℕ → ℕ → Type 0) (c : List (Option ℕ)) (l : CoverLine) (m : ℕ) : Type 0 where
+pub record IsJoiningTo (q : ℕ) (T : ℕ → ℕ → Type 0) (c : List (Option ℕ)) (l : CoverLine) (m : ℕ) :
+    Type 0 where
   pub other : l.from ≢ l.interval
   pub number : number_at c l.from ≡ Some m
   pub joined : AreJoined q T l.interval l.from
 
 -- the line opens the component m
-pub record IsOpeningOf (q : ℕ) (T : ℕ → ℕ → Type 0) (c : List (Option ℕ)) (count : ℕ) (l : CoverLine) (m : ℕ) : Type 0 where
+pub record IsOpeningOf (q : ℕ) (T : ℕ → ℕ → Type 0) (c : List (Option ℕ)) (count : ℕ)
+    (l : CoverLine) (m : ℕ) : Type 0 where
   pub same : l.from ≡ l.interval
   pub number : m ≡ count
   pub none : (i j : ℕ) → JoinsNumbers q T c i j → ⊥
@@ -59,20 +63,24 @@ pub record IsOpeningOf (q : ℕ) (T : ℕ → ℕ → Type 0) (c : List (Option 
   pub least : (i : ℕ) → i < l.interval → number_at c i ≡ None → IsDirectlyCovered q T i → ⊥
 
 -- the line is the next, and m is the number of its interval's component
-pub record IsNextTo (q : ℕ) (T : ℕ → ℕ → Type 0) (c : List (Option ℕ)) (count : ℕ) (l : CoverLine) (m : ℕ) : Type 0 where
+pub record IsNextTo (q : ℕ) (T : ℕ → ℕ → Type 0) (c : List (Option ℕ)) (count : ℕ) (l : CoverLine)
+    (m : ℕ) : Type 0 where
   pub within : l.interval < q
   pub from_within : l.from < q
   pub free : number_at c l.interval ≡ None
   pub kind : IsJoiningTo q T c l m ⊎ IsOpeningOf q T c count l m
 
-pub next_to : (q : ℕ) (T : ℕ → ℕ → Type 0) (lines : List CoverLine) (c : List (Option ℕ)) (count : ℕ) (l : CoverLine) (m : ℕ) →
-    AreNumbered lines c → m ≡ unwrap_or (number_at c l.from) count → IsNextLine q T lines l → IsNextTo q T c count l m
+pub next_to : (q : ℕ) (T : ℕ → ℕ → Type 0) (lines : List CoverLine) (c : List (Option ℕ))
+    (count : ℕ) (l : CoverLine) (m : ℕ) →
+    AreNumbered lines c → m ≡ unwrap_or (number_at c l.from) count → IsNextLine q T lines l →
+    IsNextTo q T c count l m
 next_to q T lines c count l m h e (inl k) =
     let at = joins_numbers q T lines c l.interval l.from h k.from.holds in
     let number = at.number.1 in
     let is : m ≡ at.number.0 = e ∙ ap (λ o. unwrap_or o count) number in
     let other : l.from ≢ l.interval = λ same.
-    let free : number_at c l.from ≡ None = ap (number_at c) same ∙ at.free in absurd (cc (number, free)) in
+    let free : number_at c l.from ≡ None = ap (number_at c) same ∙ at.free in
+    absurd (cc (number, free)) in
     record {
       within = at.first_within;
       from_within = at.second_within;
@@ -100,16 +108,19 @@ next_to q T lines c count l m h e (inr k) =
 
 -- ---- the lines and their numbers
 
-pub in_turn : (q : ℕ) (T : ℕ → ℕ → Type 0) (lines : List CoverLine) (l : CoverLine) → AreInTurn q T lines →
+pub in_turn : (q : ℕ) (T : ℕ → ℕ → Type 0) (lines : List CoverLine) (l : CoverLine) →
+    AreInTurn q T lines →
     IsNextLine q T lines l → AreInTurn q T (lines ++ l ∷ [])
 in_turn q T lines l h next = record {
   each = λ before m after e. elim (split_end lines l before m after e) [
-    | inl (same, is) ↦ subst (λ b. IsNextLine q T b m) (sym same) (subst (IsNextLine q T lines) (sym is) next)
+    | inl (same, is) ↦ subst (λ b. IsNextLine q T b m) (sym same)
+        (subst (IsNextLine q T lines) (sym is) next)
     | inr (rest, is) ↦ h.each before m rest is
   ];
 }
 
-pub numbers : (q : ℕ) (T : ℕ → ℕ → Type 0) (lines : List CoverLine) (c : List (Option ℕ)) (count : ℕ) (l : CoverLine) (m : ℕ) →
+pub numbers : (q : ℕ) (T : ℕ → ℕ → Type 0) (lines : List CoverLine) (c : List (Option ℕ))
+    (count : ℕ) (l : CoverLine) (m : ℕ) →
     length c ≡ q → AreNumbered lines c → count ≡ components_in lines → IsNextTo q T c count l m →
     AreNumbered (lines ++ l ∷ []) (set c l.interval (Some m))
 numbers q T lines c count l m len h is next =
@@ -119,14 +130,16 @@ numbers q T lines c count l m len h is next =
       opened = λ before k after e same. elim (split_end lines l before k after e) [
         | inl (front, last) ↦ elim next.kind [
           | inl j ↦
-              let back : l.from ≡ l.interval = ap (λ x. x.from) (sym last) ∙ same ∙ ap (λ x. x.interval) last in
+              let back : l.from ≡ l.interval = ap (λ x. x.from) (sym last) ∙ same
+              ∙ ap (λ x. x.interval) last in
               absurd (j.other back)
           | inr o ↦
               ap (λ x. number_at (set c l.interval (Some m)) x.interval) last ∙ at
               ∙ ap Some (o.number ∙ is ∙ ap components_in (sym front))
         ]
         | inr (rest, place) ↦
-            number_stays c l.interval m k.interval (components_in before) next.free (h.opened before k rest place same)
+            number_stays c l.interval m k.interval (components_in before) next.free
+            (h.opened before k rest place same)
       ];
       joined = λ before k after e other. elim (split_end lines l before k after e) [
         | inl (front, last) ↦ elim next.kind [
@@ -137,7 +150,8 @@ numbers q T lines c count l m len h is next =
                 ∙ number_stays c l.interval m l.from m next.free j.number,
           )
           | inr o ↦
-              let back : k.from ≡ k.interval = ap (λ x. x.from) last ∙ o.same ∙ ap (λ x. x.interval) (sym last) in
+              let back : k.from ≡ k.interval = ap (λ x. x.from) last ∙ o.same
+              ∙ ap (λ x. x.interval) (sym last) in
               absurd (other back)
         ]
         | inr (rest, place) ↦
@@ -162,13 +176,16 @@ numbers q T lines c count l m len h is next =
 
 -- ---- the classes
 
-pub joined_classes : (q : ℕ) (T : ℕ → ℕ → Type 0) (c : List (Option ℕ)) (count : ℕ) (l : CoverLine) (m : ℕ) →
-    length c ≡ q → AreClasses q T c count → l.interval < q → number_at c l.interval ≡ None → IsJoiningTo q T c l m →
+pub joined_classes : (q : ℕ) (T : ℕ → ℕ → Type 0) (c : List (Option ℕ)) (count : ℕ) (l : CoverLine)
+    (m : ℕ) →
+    length c ≡ q → AreClasses q T c count → l.interval < q → number_at c l.interval ≡ None →
+    IsJoiningTo q T c l m →
     AreClasses q T (set c l.interval (Some m)) count
 joined_classes q T c count l m len h in' free j =
     let x = l.interval in
     let within : l.interval < length c = omega (arith, in') in
-    let top : m + 1 ≡ count = h.last l.from x m in' (joined_turned q T x l.from j.joined) j.number free in
+    let top : m + 1 ≡ count =
+    h.last l.from x m in' (joined_turned q T x l.from j.joined) j.number free in
     let led : (k : ℕ) → number_at c k ≡ Some m → LeadsTo q T k x = λ k e.
     onward x l.from j.joined (h.linked l.from k m j.number e) in
     record {
@@ -176,11 +193,13 @@ joined_classes q T c count l m len h in' free j =
         | inl (i_is, u_is) ↦ elim (number_from c x m k v within f) [
           | inl (k_is, v_is) ↦ u_is ∙ sym v_is
           | inr f' ↦
-              let up = h.last k x v in' (joined_turned q T x k (subst (λ y. AreJoined q T y k) i_is a)) f' free in
+              let up = h.last k x v in'
+              (joined_turned q T x k (subst (λ y. AreJoined q T y k) i_is a)) f' free in
               omega arith
         ]
         | inr e' ↦ elim (number_from c x m k v within f) [
-          | inl (k_is, v_is) ↦ let up = h.last i x u in' (subst (λ y. AreJoined q T i y) k_is a) e' free in omega arith
+          | inl (k_is, v_is) ↦ let up =
+              h.last i x u in' (subst (λ y. AreJoined q T i y) k_is a) e' free in omega arith
           | inr f' ↦ h.one i k u v a e' f'
         ]
       ];
@@ -197,19 +216,23 @@ joined_classes q T c count l m len h in' free j =
         ]
         | inr e' ↦ elim (number_from c x m k n within f) [
           | inl (k_is, n_is) ↦
-              subst (λ y. LeadsTo q T y i) (sym k_is) (leads_turned q T i x (led i (e' ∙ ap Some n_is)))
+              subst (λ y. LeadsTo q T y i) (sym k_is)
+              (leads_turned q T i x (led i (e' ∙ ap Some n_is)))
           | inr f' ↦ h.linked i k n e' f'
         ]
       ];
-      below = λ i n e. elim (number_from c x m i n within e) [ inl (i_is, n_is) ↦ omega arith | inr e' ↦ h.below i n e' ];
+      below = λ i n e. elim (number_from c x m i n within e)
+          [ inl (i_is, n_is) ↦ omega arith | inr e' ↦ h.below i n e' ];
       covered = λ i n e. elim (number_from c x m i n within e) [
         | inl (i_is, n_is) ↦
-            subst (IsCovered q T) (sym i_is) (covered_on q T x l.from j.joined (h.covered l.from m j.number))
+            subst (IsCovered q T) (sym i_is)
+            (covered_on q T x l.from j.joined (h.covered l.from m j.number))
         | inr e' ↦ h.covered i n e'
       ];
     }
 
-pub opened_classes : (q : ℕ) (T : ℕ → ℕ → Type 0) (c : List (Option ℕ)) (count : ℕ) (l : CoverLine) (m : ℕ) →
+pub opened_classes : (q : ℕ) (T : ℕ → ℕ → Type 0) (c : List (Option ℕ)) (count : ℕ) (l : CoverLine)
+    (m : ℕ) →
     length c ≡ q → AreClasses q T c count → l.interval < q → number_at c l.interval ≡ None →
     IsOpeningOf q T c count l m → AreClasses q T (set c l.interval (Some m)) (count + 1)
 opened_classes q T c count l m len h in' free o =
@@ -218,7 +241,14 @@ opened_classes q T c count l m len h in' free o =
     let top = o.number in
     let size : (i n : ℕ) → number_at c i ≡ Some n → i < q = λ i n e. number_within q c i n len e in
     let alone : (k n : ℕ) → number_at c k ≡ Some n → AreJoined q T x k → ⊥ = λ k n e a.
-    o.none x k (record { first_within = in'; second_within = size k n e; free = free; number = (n, e); joined = a }) in
+    o.none x k (record {
+      first_within = in';
+      second_within = size k n e;
+      free = free;
+      number =
+          (n, e);
+      joined = a;
+    }) in
     record {
       one = λ i k u v a e f. elim (number_from c x m i u within e) [
         | inl (i_is, u_is) ↦ elim (number_from c x m k v within f) [
@@ -226,7 +256,8 @@ opened_classes q T c count l m len h in' free o =
           | inr f' ↦ absurd (alone k v f' (subst (λ y. AreJoined q T y k) i_is a))
         ]
         | inr e' ↦ elim (number_from c x m k v within f) [
-          | inl (k_is, v_is) ↦ absurd (alone i u e' (joined_turned q T i x (subst (λ y. AreJoined q T i y) k_is a)))
+          | inl (k_is, v_is) ↦ absurd
+              (alone i u e' (joined_turned q T i x (subst (λ y. AreJoined q T i y) k_is a)))
           | inr f' ↦ h.one i k u v a e' f'
         ]
       ];
@@ -278,8 +309,10 @@ joins_before q T c x m i j within h = elim (number_from c x m j h.number.0 withi
   })
 ]
 
-joins_after : (q : ℕ) (T : ℕ → ℕ → Type 0) (c : List (Option ℕ)) (x m i j : ℕ) → number_at c x ≡ None →
-    number_at (set c x (Some m)) i ≡ None → JoinsNumbers q T c i j → JoinsNumbers q T (set c x (Some m)) i j
+joins_after : (q : ℕ) (T : ℕ → ℕ → Type 0) (c : List (Option ℕ)) (x m i j : ℕ) →
+    number_at c x ≡ None →
+    number_at (set c x (Some m)) i ≡ None → JoinsNumbers q T c i j →
+    JoinsNumbers q T (set c x (Some m)) i j
 joins_after q T c x m i j free none h = record {
   first_within = h.first_within;
   second_within = h.second_within;
@@ -288,11 +321,13 @@ joins_after q T c x m i j free none h = record {
   joined = h.joined;
 }
 
-pub near_more : (q : ℕ) (T : ℕ → ℕ → Type 0) (lines : List CoverLine) (c : List (Option ℕ)) (near linked new : IndexSet) (l : CoverLine) (m : ℕ) →
+pub near_more : (q : ℕ) (T : ℕ → ℕ → Type 0) (lines : List CoverLine) (c : List (Option ℕ))
+    (near linked new : IndexSet) (l : CoverLine) (m : ℕ) →
     length c ≡ q → AreNumbered lines c → AreNumbered (lines ++ l ∷ []) (set c l.interval (Some m)) →
     l.interval < q → number_at c l.interval ≡ None → AreNear q T lines c near →
     ((k : ℕ) → k < q → l.interval ≢ k → IsTrue (has linked k) ↔ AreJoined q T l.interval k) →
-    ((k : ℕ) → has new k ≡ (has near k || has linked k)) → AreNear q T (lines ++ l ∷ []) (set c l.interval (Some m)) new
+    ((k : ℕ) → has new k ≡ (has near k || has linked k)) →
+    AreNear q T (lines ++ l ∷ []) (set c l.interval (Some m)) new
 near_more q T lines c near linked new l m len h h' in' free before told is = record {
   each = λ i i_below none.
       let x = l.interval in
@@ -305,7 +340,8 @@ near_more q T lines c near linked new l m len h h' in' free before told is = rec
               let at = was.0 yes' in (
                 at.0,
                 joins_lines q T (lines ++ l ∷ []) (set c x (Some m)) i at.0 h'
-                    (joins_after q T c x m i at.0 free none (joins_numbers q T lines c i at.0 h at.1)),
+                    (joins_after q T c x m i at.0 free none
+                    (joins_numbers q T lines c i at.0 h at.1)),
               )
           | inr yes' ↦ (
             x,
@@ -318,16 +354,21 @@ near_more q T lines c near linked new l m len h h' in' free before told is = rec
             }),
           )
         ],
-        λ (j, at). is i ∙ (elim (joins_before q T c x m i j within (joins_numbers q T (lines ++ l ∷ []) (set c x (Some m)) i j h' at)) [
-          | inl same ↦
-              or_right (has near i) (has linked i)
-              ((told i i_below other).1 (joined_turned q T i x (subst (AreJoined q T i) same at.joined)))
-          | inr k ↦ or_left (has near i) (has linked i) (was.1 (j, joins_lines q T lines c i j h k))
-        ]),
+        λ (j, at). is i ∙ (elim
+            (joins_before q T c x m i j within
+            (joins_numbers q T (lines ++ l ∷ []) (set c x (Some m)) i j h' at)) [
+              | inl same ↦
+                  or_right (has near i) (has linked i)
+                  ((told i i_below other).1
+                  (joined_turned q T i x (subst (AreJoined q T i) same at.joined)))
+              | inr k ↦ or_left (has near i) (has linked i)
+                  (was.1 (j, joins_lines q T lines c i j h k))
+            ]),
       );
 }
 
-pub free_more : (q : ℕ) (c : List (Option ℕ)) (old new : IndexSet) (x m : ℕ) → x < length c → AreFree q c old →
+pub free_more : (q : ℕ) (c : List (Option ℕ)) (old new : IndexSet) (x m : ℕ) → x < length c →
+    AreFree q c old →
     ((k : ℕ) → has new k ≡ (has old k && not (eqb k x))) → AreFree q (set c x (Some m)) new
 free_more q c old new x m within h is = record {
   each = λ i. (
@@ -338,7 +379,8 @@ free_more q c old new x m within h is = record {
         (at.0, number_other c x m i other ∙ at.1),
     λ (below, none).
         let at = none_from c x m i within none in
-        is i ∙ and_from (has old i) (not (eqb i x)) ((h.each i).1 (below, at.1)) (not_from_false (eqb i x) (ne_eqb i x at.0)),
+        is i ∙ and_from (has old i) (not (eqb i x)) ((h.each i).1 (below, at.1))
+        (not_from_false (eqb i x) (ne_eqb i x at.0)),
   );
 }
 
@@ -350,8 +392,10 @@ searched_on q T c x m n within h = record {
   each = λ i below none. h.each i below (none_from c x m i within none).1;
 }
 
-pub searched_to : (q : ℕ) (T : ℕ → ℕ → Type 0) (c : List (Option ℕ)) (count : ℕ) (l : CoverLine) (m : ℕ) →
-    l.interval < length c → IsOpeningOf q T c count l m → AreSearched q T (set c l.interval (Some m)) l.interval
+pub searched_to : (q : ℕ) (T : ℕ → ℕ → Type 0) (c : List (Option ℕ)) (count : ℕ) (l : CoverLine)
+    (m : ℕ) →
+    l.interval < length c → IsOpeningOf q T c count l m →
+    AreSearched q T (set c l.interval (Some m)) l.interval
 searched_to q T c count l m within o = record {
   each = λ i below none. o.least i below (none_from c l.interval m i within none).1;
 }
@@ -362,12 +406,14 @@ pub one_less : (c : List (Option ℕ)) (x m : ℕ) → x < length c → number_a
     unnumbered (set c x (Some m)) + 1 ≡ unnumbered c
 one_less c x m within free =
     let sums = sum_by-set (λ o. cond (is_none o) 1 0) c x (Some m) None within in
-    let was : ◌≡◌ {A = ℕ} (cond (is_none (get_or c x None)) 1 0) 1 = ap (λ o. cond (is_none o) 1 0) free in
+    let was : ◌≡◌ {A = ℕ} (cond (is_none (get_or c x None)) 1 0) 1 =
+    ap (λ o. cond (is_none o) 1 0) free in
     omega (arith, sums, was)
 
 -- ---- the interval from which a line joins
 
-pub from_below : (q : ℕ) (T : ℕ → ℕ → Type 0) (lines : List CoverLine) (c : List (Option ℕ)) (count : ℕ) (l : CoverLine) →
+pub from_below : (q : ℕ) (T : ℕ → ℕ → Type 0) (lines : List CoverLine) (c : List (Option ℕ))
+    (count : ℕ) (l : CoverLine) →
     AreNumbered lines c → IsNextLine q T lines l → l.from < q
 from_below q T lines c count l h next =
     (next_to q T lines c count l (unwrap_or (number_at c l.from) count) h refl next).from_within

@@ -14,7 +14,8 @@ unwrap q c i below e = let same : c % q ≡ i = cc in same ∙ sym (mod-eq_of_lt
 wrap : (q c i : ℕ) → i < q → c % q ≡ i % q → Some (c % q) ≡ Some i
 wrap q c i below e = ap Some (e ∙ mod-eq_of_lt below)
 
-onto_second : (q : ℕ) (kind : FaceKind) (a b i : ℕ) → i < q → (projections_of q kind a b).y ≡ Some i →
+onto_second : (q : ℕ) (kind : FaceKind) (a b i : ℕ) → i < q →
+    (projections_of q kind a b).y ≡ Some i →
     Intervals q kind a b i
 onto_second q Vertex a b i below e = cc
 onto_second q Horizontal a b i below e = absurd (cc)
@@ -23,7 +24,8 @@ onto_second q Diagonal a b i below e = inr (unwrap q b i below e)
 onto_second q Lower a b i below e = inr (inl (unwrap q b i below e))
 onto_second q Upper a b i below e = inr (inl (unwrap q b i below e))
 
-onto_sum : (q : ℕ) (kind : FaceKind) (a b i : ℕ) → i < q → (projections_of q kind a b).sum ≡ Some i →
+onto_sum : (q : ℕ) (kind : FaceKind) (a b i : ℕ) → i < q →
+    (projections_of q kind a b).sum ≡ Some i →
     Intervals q kind a b i
 onto_sum q Vertex a b i below e = cc
 onto_sum q Horizontal a b i below e = inr (unwrap q (a + b) i below e)
@@ -55,22 +57,27 @@ onto q Upper a b i below (inr (inr x)) = inr (inr (wrap q (a + b + 1) i below x)
 abbrev pub IsOneOfAll : ℕ → FaceKind → ℕ → ℕ → ℕ → Type 0
 IsOneOfAll q kind a b i = IsOneOf q (links_of kind a b ++ triangle_projections kind a b) i
 
-pub one_by_second : (q : ℕ) (kind : FaceKind) (a b i : ℕ) → i < q → (projections_of q kind a b).y ≡ Some i → IsOneOfAll q kind a b i
+pub one_by_second : (q : ℕ) (kind : FaceKind) (a b i : ℕ) → i < q →
+    (projections_of q kind a b).y ≡ Some i → IsOneOfAll q kind a b i
 one_by_second q kind a b i below e = one_of q kind a b i (onto_second q kind a b i below e)
 
-pub one_by_sum : (q : ℕ) (kind : FaceKind) (a b i : ℕ) → i < q → (projections_of q kind a b).sum ≡ Some i → IsOneOfAll q kind a b i
+pub one_by_sum : (q : ℕ) (kind : FaceKind) (a b i : ℕ) → i < q →
+    (projections_of q kind a b).sum ≡ Some i → IsOneOfAll q kind a b i
 one_by_sum q kind a b i below e = one_of q kind a b i (onto_sum q kind a b i below e)
 
-pub onto_one : (q : ℕ) (kind : FaceKind) (a b i : ℕ) → i < q → IsOneOfAll q kind a b i → IsOnto q kind a b i
+pub onto_one : (q : ℕ) (kind : FaceKind) (a b i : ℕ) → i < q → IsOneOfAll q kind a b i →
+    IsOnto q kind a b i
 onto_one q kind a b i below h = onto q kind a b i below (intervals q kind a b i h)
 
 -- ---- tests
 
 -- a test for a number
-pub tested : (r : Bool) (x : Option ℕ) (i : ℕ) → r ≡ option_eq eqb x (Some i) → r ≡ true → x ≡ Some i
+pub tested : (r : Bool) (x : Option ℕ) (i : ℕ) → r ≡ option_eq eqb x (Some i) → r ≡ true →
+    x ≡ Some i
 tested r None i e h = cc
 tested r (Some y) i e h = ap Some (eqb-true y i (sym e ∙ h))
 
-pub passed : (r : Bool) (x : Option ℕ) (i : ℕ) → r ≡ option_eq eqb x (Some i) → x ≡ Some i → r ≡ true
+pub passed : (r : Bool) (x : Option ℕ) (i : ℕ) → r ≡ option_eq eqb x (Some i) → x ≡ Some i →
+    r ≡ true
 passed r None i e h = cc
 passed r (Some y) i e h = let same : y ≡ i = cc in e ∙ eq-eqb y i same

@@ -20,15 +20,19 @@ Corners T Diagonal a b = T (a + 1) b × T a (b + 1)
 Corners T Lower a b = T a b × T (a + 1) b × T a (b + 1)
 Corners T Upper a b = T (a + 1) b × T a (b + 1) × T (a + 1) (b + 1)
 
-pub corners : (T : ℕ → ℕ → Type 0) (kind : FaceKind) (a b : ℕ) → IsAdditive T kind a b → Corners T kind a b
+pub corners : (T : ℕ → ℕ → Type 0) (kind : FaceKind) (a b : ℕ) → IsAdditive T kind a b →
+    Corners T kind a b
 corners T Vertex a b h = h 0 (0, 0) (omega arith)
 corners T Horizontal a b h = (h 0 (0, 0) (omega arith), h 1 (0, 0) (omega arith))
 corners T Vertical a b h = (h 0 (0, 0) (omega arith), h 1 (0, 0) (omega arith))
 corners T Diagonal a b h = (h 0 (0, 0) (omega arith), h 1 (0, 0) (omega arith))
-corners T Lower a b h = (h 0 (0, 0) (omega arith), h 1 (0, 0) (omega arith), h 2 (0, 0) (omega arith))
-corners T Upper a b h = (h 0 (0, 0) (omega arith), h 1 (0, 0) (omega arith), h 2 (0, 0) (omega arith))
+corners T Lower a b h =
+    (h 0 (0, 0) (omega arith), h 1 (0, 0) (omega arith), h 2 (0, 0) (omega arith))
+corners T Upper a b h =
+    (h 0 (0, 0) (omega arith), h 1 (0, 0) (omega arith), h 2 (0, 0) (omega arith))
 
-pub additive : (T : ℕ → ℕ → Type 0) (kind : FaceKind) (a b : ℕ) → Corners T kind a b → IsAdditive T kind a b
+pub additive : (T : ℕ → ℕ → Type 0) (kind : FaceKind) (a b : ℕ) → Corners T kind a b →
+    IsAdditive T kind a b
 additive T Vertex a b h = All-one (λ c. T c.0 c.1) (a, b) h
 additive T Horizontal a b h = All-two (λ c. T c.0 c.1) (a, b) (a + 1, b) h.0 h.1
 additive T Vertical a b h = All-two (λ c. T c.0 c.1) (a, b) (a, b + 1) h.0 h.1
@@ -53,8 +57,11 @@ corners_same q T p Horizontal a b c d e g h =
     (p a b c d e g h.0, p (a + 1) b (c + 1) d (add_same q 1 a c e) g h.1)
 corners_same q T p Vertical a b c d e g h =
     (p a b c d e g h.0, p a (b + 1) c (d + 1) e (add_same q 1 b d g) h.1)
-corners_same q T p Diagonal a b c d e g h =
-    (p (a + 1) b (c + 1) d (add_same q 1 a c e) g h.0, p a (b + 1) c (d + 1) e (add_same q 1 b d g) h.1)
+corners_same q T p Diagonal a b c d e g h = (
+  p (a + 1) b (c + 1) d (add_same q 1 a c e) g h.0,
+  p a (b + 1) c (d + 1) e
+      (add_same q 1 b d g) h.1,
+)
 corners_same q T p Lower a b c d e g h = (
   p a b c d e g h.0,
   p (a + 1) b (c + 1) d (add_same q 1 a c e) g h.1,
@@ -80,7 +87,8 @@ pub any_none : {X : Type 0} (P : X → Type 0) → Any P [] → ⊥
 any_none P (k, x, below, is, h) = omega arith
 
 -- what holds of some element of a list holds of its head or of some element behind
-pub any_cases : {X : Type 0} (P : X → Type 0) (x : X) (xs : List X) → Any P (x ∷ xs) → P x ⊎ Any P xs
+pub any_cases : {X : Type 0} (P : X → Type 0) (x : X) (xs : List X) → Any P (x ∷ xs) →
+    P x ⊎ Any P xs
 any_cases P x xs (zero, y, below, is, h) = inl (subst P (sym is) h)
 any_cases P x xs (suc k, y, below, is, h) = inr (k, y, omega arith, is, h)
 
@@ -97,7 +105,8 @@ pairs P x y h = elim (any_cases P x (y ∷ []) h) [
 ]
 
 triples : {X : Type 0} (P : X → Type 0) (x y z : X) → Any P (x ∷ y ∷ z ∷ []) → P x ⊎ (P y ⊎ P z)
-triples P x y z h = elim (any_cases P x (y ∷ z ∷ []) h) [ inl k ↦ inl k | inr k ↦ inr (pairs P y z k) ]
+triples P x y z h = elim (any_cases P x (y ∷ z ∷ []) h)
+    [ inl k ↦ inl k | inr k ↦ inr (pairs P y z k) ]
 
 of_pair : {X : Type 0} (P : X → Type 0) (x y : X) → P x ⊎ P y → Any P (x ∷ y ∷ [])
 of_pair P x y (inl h) = any_here P x (y ∷ []) h
@@ -131,7 +140,8 @@ IsTriangle Lower = Unit {0}
 IsTriangle Upper = Unit {0}
 IsTriangle kind = ⊥
 
-pub covered_one : (q : ℕ) (kind : FaceKind) (a b i : ℕ) → IsOneOf q (triangle_projections kind a b) i →
+pub covered_one : (q : ℕ) (kind : FaceKind) (a b i : ℕ) →
+    IsOneOf q (triangle_projections kind a b) i →
     IsTriangle kind × Intervals q kind a b i
 covered_one q Vertex a b i h = absurd (any_none (λ c. c % q ≡ i % q) h)
 covered_one q Horizontal a b i h = absurd (any_none (λ c. c % q ≡ i % q) h)
@@ -157,14 +167,17 @@ either f g (inr x) = inr (g x)
 pub intervals_same : (q : ℕ) (kind : FaceKind) (a b c d i : ℕ) → a % q ≡ c % q → b % q ≡ d % q →
     Intervals q kind a b i → Intervals q kind c d i
 intervals_same q Vertex a b c d i e g h = h
-intervals_same q Horizontal a b c d i e g h = either (λ x. sym e ∙ x) (λ x. sym (same_sum q a b c d e g) ∙ x) h
-intervals_same q Vertical a b c d i e g h = either (λ x. sym g ∙ x) (λ x. sym (same_sum q a b c d e g) ∙ x) h
+intervals_same q Horizontal a b c d i e g h =
+    either (λ x. sym e ∙ x) (λ x. sym (same_sum q a b c d e g) ∙ x) h
+intervals_same q Vertical a b c d i e g h =
+    either (λ x. sym g ∙ x) (λ x. sym (same_sum q a b c d e g) ∙ x) h
 intervals_same q Diagonal a b c d i e g h = either (λ x. sym e ∙ x) (λ x. sym g ∙ x) h
 intervals_same q Lower a b c d i e g h =
     either (λ x. sym e ∙ x) (either (λ x. sym g ∙ x) (λ x. sym (same_sum q a b c d e g) ∙ x)) h
 intervals_same q Upper a b c d i e g h =
     either (λ x. sym e ∙ x)
-    (either (λ x. sym g ∙ x) (λ x. sym (add_same q 1 (a + b) (c + d) (same_sum q a b c d e g)) ∙ x)) h
+    (either (λ x. sym g ∙ x) (λ x. sym (add_same q 1 (a + b) (c + d) (same_sum q a b c d e g)) ∙ x))
+    h
 
 -- the same of an interval with an equal rest
 pub interval_same : (q : ℕ) (kind : FaceKind) (a b i j : ℕ) → i % q ≡ j % q →

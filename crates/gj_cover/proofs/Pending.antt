@@ -18,7 +18,8 @@ use Rattle.gj_cover.proofs.LineLists.{no_end, no_number, no_line, number_cases, 
 
 -- ---- reads
 
-pub read : (xs : List (Option ℕ)) (i : ℕ) (o : Option ℕ) → i < length xs → o ≡ get_or xs i o → number_at xs i ≡ o
+pub read : (xs : List (Option ℕ)) (i : ℕ) (o : Option ℕ) → i < length xs → o ≡ get_or xs i o →
+    number_at xs i ≡ o
 read xs i o within e = sym (e ∙ get_or_default xs i o None within)
 
 pub is_free : (o : Option ℕ) (b : Bool) → is_some o ≡ not b → b ≡ true → o ≡ None
@@ -32,7 +33,8 @@ all_none n i = elim (cases_lt i n) [
   | inl below ↦ get_or-replicate n i None None below
   | inr past ↦
       let long = length-replicate {A = Option ℕ} n None in
-      get_or_past (replicate n None) i None (let le : length (replicate {A = Option ℕ} n None) ≤ i = omega arith in le)
+      get_or_past (replicate n None) i None (let le : length (replicate {A = Option ℕ} n None) ≤ i =
+      omega arith in le)
 ]
 
 pub numbered_none : (c : List (Option ℕ)) → ((i : ℕ) → number_at c i ≡ None) → AreNumbered [] c
@@ -45,7 +47,8 @@ numbered_none c none = record {
 pub turn_none : (q : ℕ) (T : ℕ → ℕ → Type 0) → AreInTurn q T []
 turn_none q T = record { each = λ before l after e. absurd (no_end before l after e) }
 
-pub classes_none : (q : ℕ) (T : ℕ → ℕ → Type 0) (c : List (Option ℕ)) → ((i : ℕ) → number_at c i ≡ None) →
+pub classes_none : (q : ℕ) (T : ℕ → ℕ → Type 0) (c : List (Option ℕ)) →
+    ((i : ℕ) → number_at c i ≡ None) →
     AreClasses q T c 0
 classes_none q T c none = record {
   one = λ i j m n a e f. let free = none i in absurd (cc (e, free));
@@ -55,7 +58,9 @@ classes_none q T c none = record {
   covered = λ i n e. let free = none i in absurd (cc (e, free));
 }
 
-no_lines : (i : ℕ) → ((k : ℕ) × (x : CoverLine) × (k < length {A = CoverLine} []) × (get_or [] k x ≡ x) × (x.interval ≡ i)) → ⊥
+no_lines : (i : ℕ) →
+    ((k : ℕ) × (x : CoverLine) × (k < length {A = CoverLine} []) × (get_or [] k x ≡ x)
+    × (x.interval ≡ i)) → ⊥
 no_lines i (k, x, below, is, e) = omega arith
 
 pub free_none : (q : ℕ) (c : List (Option ℕ)) (free : IndexSet) → ((i : ℕ) → number_at c i ≡ None) →
@@ -64,49 +69,64 @@ free_none q c free none is = record {
   each = λ i. (λ e. (ltb-true i q (sym (is i) ∙ e), none i), λ (below, _). is i ∙ lt-ltb i q below);
 }
 
-pub near_none : (q : ℕ) (T : ℕ → ℕ → Type 0) (c : List (Option ℕ)) (near : IndexSet) → ((i : ℕ) → has near i ≡ false) →
+pub near_none : (q : ℕ) (T : ℕ → ℕ → Type 0) (c : List (Option ℕ)) (near : IndexSet) →
+    ((i : ℕ) → has near i ≡ false) →
     AreNear q T [] c near
 near_none q T c near none = record {
-  each = λ i below free. (λ e. let not = none i in absurd (cc (e, not)), λ (j, at). absurd (no_lines j at.line));
+  each = λ i below free. (
+    λ e. let not = none i in
+        absurd (cc (e, not)),
+    λ (j, at). absurd (no_lines j at.line),
+  );
 }
 
 pub searched_none : (q : ℕ) (T : ℕ → ℕ → Type 0) (c : List (Option ℕ)) → AreSearched q T c 0
 searched_none q T c = record { each = λ i below. absurd (omega arith) }
 
 -- one interval more, that has a number or is not directly covered
-pub searched_more : (q : ℕ) (T : ℕ → ℕ → Type 0) (c : List (Option ℕ)) (n : ℕ) → AreSearched q T c n →
+pub searched_more : (q : ℕ) (T : ℕ → ℕ → Type 0) (c : List (Option ℕ)) (n : ℕ) →
+    AreSearched q T c n →
     (number_at c n ≡ None → IsDirectlyCovered q T n → ⊥) → AreSearched q T c (n + 1)
 searched_more q T c n h here = record {
   each = λ i below none. elim (cases_lt i n) [
     | inl low ↦ h.each i low none
     | inr high ↦
         let e : i ≡ n = omega arith in
-        λ covered. here (subst (λ k. number_at c k ≡ None) e none) (subst (λ k. IsDirectlyCovered q T k) e covered)
+        λ covered. here (subst (λ k. number_at c k ≡ None) e none)
+        (subst (λ k. IsDirectlyCovered q T k) e covered)
   ];
 }
 
 -- ---- the next interval that is joined
 
 -- an interval of the set that is free is joined to one with a line
-joined_near : (q : ℕ) (T : ℕ → ℕ → Type 0) (lines : List CoverLine) (c : List (Option ℕ)) (free near : IndexSet) (i : ℕ) →
-    AreFree q c free → AreNear q T lines c near → (has near i && has free i) ≡ true → (j : ℕ) × JoinsLines q T lines i j
+joined_near : (q : ℕ) (T : ℕ → ℕ → Type 0) (lines : List CoverLine) (c : List (Option ℕ))
+    (free near : IndexSet) (i : ℕ) →
+    AreFree q c free → AreNear q T lines c near → (has near i && has free i) ≡ true →
+    (j : ℕ) × JoinsLines q T lines i j
 joined_near q T lines c free near i f n e =
     let both = and_parts (has near i) (has free i) e in
     let at = (f.each i).0 both.1 in
     (n.each i at.0 at.1).0 both.0
 
-near_joined : (q : ℕ) (T : ℕ → ℕ → Type 0) (lines : List CoverLine) (c : List (Option ℕ)) (free near : IndexSet) (i j : ℕ) →
-    AreNumbered lines c → AreFree q c free → AreNear q T lines c near → JoinsLines q T lines i j → (has near i && has free i) ≡ true
+near_joined : (q : ℕ) (T : ℕ → ℕ → Type 0) (lines : List CoverLine) (c : List (Option ℕ))
+    (free near : IndexSet) (i j : ℕ) →
+    AreNumbered lines c → AreFree q c free → AreNear q T lines c near → JoinsLines q T lines i j →
+    (has near i && has free i) ≡ true
 near_joined q T lines c free near i j h f n at =
     let none = no_number lines c i h at.no_line in
-    and_from (has near i) (has free i) ((n.each i at.first_within none).1 (j, at)) ((f.each i).1 (at.first_within, none))
+    and_from (has near i) (has free i) ((n.each i at.first_within none).1 (j, at))
+    ((f.each i).1 (at.first_within, none))
 
 pub is_open : (q : ℕ) (c : List (Option ℕ)) (free near set : IndexSet) (x : ℕ) → AreFree q c free →
-    ((i : ℕ) → has set i ≡ (has near i && has free i)) → IsFirst set 0 x → (x < q) × (number_at c x ≡ None)
-is_open q c free near set x f is first = (f.each x).0 (and_parts (has near x) (has free x) (sym (is x) ∙ first.found)).1
+    ((i : ℕ) → has set i ≡ (has near i && has free i)) → IsFirst set 0 x →
+    (x < q) × (number_at c x ≡ None)
+is_open q c free near set x f is first =
+    (f.each x).0 (and_parts (has near x) (has free x) (sym (is x) ∙ first.found)).1
 
 -- the least of them
-pub next_interval : (q : ℕ) (T : ℕ → ℕ → Type 0) (lines : List CoverLine) (c : List (Option ℕ)) (free near : IndexSet)
+pub next_interval : (q : ℕ) (T : ℕ → ℕ → Type 0) (lines : List CoverLine) (c : List (Option ℕ))
+    (free near : IndexSet)
     (set : IndexSet) (x : ℕ) → AreNumbered lines c → AreFree q c free → AreNear q T lines c near →
     ((i : ℕ) → has set i ≡ (has near i && has free i)) → IsFirst set 0 x →
     IsLeastFrom 0 (λ i. (n : ℕ) × JoinsLines q T lines i n) x
@@ -119,7 +139,8 @@ next_interval q T lines c free near set x h f n is first = record {
       cc (not, yes');
 }
 
-pub none_pending : (q : ℕ) (T : ℕ → ℕ → Type 0) (lines : List CoverLine) (c : List (Option ℕ)) (free near set : IndexSet) →
+pub none_pending : (q : ℕ) (T : ℕ → ℕ → Type 0) (lines : List CoverLine) (c : List (Option ℕ))
+    (free near set : IndexSet) →
     AreNumbered lines c → AreFree q c free → AreNear q T lines c near →
     ((i : ℕ) → has set i ≡ (has near i && has free i)) → ((i : ℕ) → has set i ≡ false) →
     (i j : ℕ) → JoinsLines q T lines i j → ⊥
@@ -129,9 +150,11 @@ none_pending q T lines c free near set h f n is none i j at =
     cc (not, yes')
 
 -- the intervals with a line to which a free one is joined
-lines_joined : (q : ℕ) (T : ℕ → ℕ → Type 0) (lines : List CoverLine) (c : List (Option ℕ)) (free joined : IndexSet) (x j : ℕ) →
+lines_joined : (q : ℕ) (T : ℕ → ℕ → Type 0) (lines : List CoverLine) (c : List (Option ℕ))
+    (free joined : IndexSet) (x j : ℕ) →
     AreNumbered lines c → AreFree q c free → x < q → number_at c x ≡ None →
-    ((k : ℕ) → IsTrue (has joined k) → k < q) → ((k : ℕ) → k < q → x ≢ k → IsTrue (has joined k) ↔ AreJoined q T x k) →
+    ((k : ℕ) → IsTrue (has joined k) → k < q) →
+    ((k : ℕ) → k < q → x ≢ k → IsTrue (has joined k) ↔ AreJoined q T x k) →
     (has joined j && not (has free j)) ≡ true → JoinsLines q T lines x j
 lines_joined q T lines c free joined x j h f below none within told e =
     let both = and_parts (has joined j) (not (has free j)) e in
@@ -150,32 +173,40 @@ lines_joined q T lines c free joined x j h f below none within told e =
       }
     ]
 
-joined_lines : (q : ℕ) (T : ℕ → ℕ → Type 0) (lines : List CoverLine) (c : List (Option ℕ)) (free joined : IndexSet) (x j : ℕ) →
+joined_lines : (q : ℕ) (T : ℕ → ℕ → Type 0) (lines : List CoverLine) (c : List (Option ℕ))
+    (free joined : IndexSet) (x j : ℕ) →
     AreNumbered lines c → AreFree q c free → number_at c x ≡ None →
-    ((k : ℕ) → k < q → x ≢ k → IsTrue (has joined k) ↔ AreJoined q T x k) → JoinsLines q T lines x j →
+    ((k : ℕ) → k < q → x ≢ k → IsTrue (has joined k) ↔ AreJoined q T x k) →
+    JoinsLines q T lines x j →
     (has joined j && not (has free j)) ≡ true
 joined_lines q T lines c free joined x j h f none told at =
     let number = line_number lines c j h at.line in
     let is = number.1 in
     let other : x ≢ j = λ same. let clash = ap (number_at c) same in cc (clash, none, is) in
-    let taken : has free j ≡ false = false_from_ne_true (has free j) (λ e. let free' = ((f.each j).0 e).1 in cc (free', is)) in
-    and_from (has joined j) (not (has free j)) ((told j at.second_within other).1 at.joined) (not_from_false (has free j) taken)
+    let taken : has free j ≡ false =
+    false_from_ne_true (has free j) (λ e. let free' = ((f.each j).0 e).1 in cc (free', is)) in
+    and_from (has joined j) (not (has free j)) ((told j at.second_within other).1 at.joined)
+    (not_from_false (has free j) taken)
 
-pub next_from : (q : ℕ) (T : ℕ → ℕ → Type 0) (lines : List CoverLine) (c : List (Option ℕ)) (free joined set : IndexSet) (x j : ℕ) →
+pub next_from : (q : ℕ) (T : ℕ → ℕ → Type 0) (lines : List CoverLine) (c : List (Option ℕ))
+    (free joined set : IndexSet) (x j : ℕ) →
     AreNumbered lines c → AreFree q c free → x < q → number_at c x ≡ None →
-    ((k : ℕ) → IsTrue (has joined k) → k < q) → ((k : ℕ) → k < q → x ≢ k → IsTrue (has joined k) ↔ AreJoined q T x k) →
+    ((k : ℕ) → IsTrue (has joined k) → k < q) →
+    ((k : ℕ) → k < q → x ≢ k → IsTrue (has joined k) ↔ AreJoined q T x k) →
     ((k : ℕ) → has set k ≡ (has joined k && not (has free k))) → IsFirst set 0 j →
     IsLeastFrom 0 (JoinsLines q T lines x) j
 next_from q T lines c free joined set x j h f below none within told is first = record {
   from = omega arith;
-  holds = lines_joined q T lines c free joined x j h f below none within told (sym (is j) ∙ first.found);
+  holds = lines_joined q T lines c free joined x j h f below none within told
+      (sym (is j) ∙ first.found);
   least = λ k low k_below at.
       let not = first.before k (omega arith) k_below in
       let yes' = is k ∙ joined_lines q T lines c free joined x k h f none told at in
       cc (not, yes');
 }
 
-pub none_from_it : (q : ℕ) (T : ℕ → ℕ → Type 0) (lines : List CoverLine) (c : List (Option ℕ)) (free joined set : IndexSet) (x : ℕ) →
+pub none_from_it : (q : ℕ) (T : ℕ → ℕ → Type 0) (lines : List CoverLine) (c : List (Option ℕ))
+    (free joined set : IndexSet) (x : ℕ) →
     AreNumbered lines c → AreFree q c free → number_at c x ≡ None →
     ((k : ℕ) → k < q → x ≢ k → IsTrue (has joined k) ↔ AreJoined q T x k) →
     ((k : ℕ) → has set k ≡ (has joined k && not (has free k))) → ((k : ℕ) → has set k ≡ false) →
@@ -187,8 +218,10 @@ none_from_it q T lines c free joined set x h f none told is empty (j, at) =
 
 -- ---- the next interval that opens a component
 
-pub next_opening : (q : ℕ) (T : ℕ → ℕ → Type 0) (lines : List CoverLine) (c : List (Option ℕ)) (x : ℕ) (face : Face) →
-    AreNumbered lines c → x < q → number_at c x ≡ None → ((i j : ℕ) → JoinsLines q T lines i j → ⊥) →
+pub next_opening : (q : ℕ) (T : ℕ → ℕ → Type 0) (lines : List CoverLine) (c : List (Option ℕ))
+    (x : ℕ) (face : Face) →
+    AreNumbered lines c → x < q → number_at c x ≡ None →
+    ((i j : ℕ) → JoinsLines q T lines i j → ⊥) →
     AreSearched q T c x → IsFirstFace q (λ kind a b. Covers q T kind a b x) face →
     IsOpeningLine q T lines (record { interval = x; from = x; face = face })
 next_opening q T lines c x face h below free none searched first = record {
@@ -206,7 +239,8 @@ next_opening q T lines c x face h below free none searched first = record {
   face = first;
 }
 
-pub none_open : (q n : ℕ) (T : ℕ → ℕ → Type 0) (lines : List CoverLine) (c : List (Option ℕ)) → AreNumbered lines c →
+pub none_open : (q n : ℕ) (T : ℕ → ℕ → Type 0) (lines : List CoverLine) (c : List (Option ℕ)) →
+    AreNumbered lines c →
     q ≤ n → AreSearched q T c n → (i : ℕ) → IsOpen q T lines i → ⊥
 none_open q n T lines c h all searched i at =
     let below : i < n = omega (arith, at.within) in
@@ -214,11 +248,14 @@ none_open q n T lines c h all searched i at =
 
 -- ---- no line yet
 
-pub begun : (q n : ℕ) (T : ℕ → ℕ → Type 0) (p : Progress) → n ≡ q → p.component.items ≡ replicate n None →
-    ((i : ℕ) → has p.free i ≡ ltb i n) → ((i : ℕ) → has p.near i ≡ false) → p.lines.items ≡ [] → p.count ≡ 0 → p.searched ≡ 0 → IsProgress q T p
+pub begun : (q n : ℕ) (T : ℕ → ℕ → Type 0) (p : Progress) → n ≡ q →
+    p.component.items ≡ replicate n None →
+    ((i : ℕ) → has p.free i ≡ ltb i n) → ((i : ℕ) → has p.near i ≡ false) → p.lines.items ≡ [] →
+    p.count ≡ 0 → p.searched ≡ 0 → IsProgress q T p
 begun q n T p is component free near lines count searched =
     let long : length (replicate {A = Option ℕ} n None) ≡ n = length-replicate n None in
-    let c : (i : ℕ) → number_at p.component.items i ≡ None = λ i. ap (λ l. number_at l i) component ∙ all_none n i in
+    let c : (i : ℕ) → number_at p.component.items i ≡ None = λ i. ap (λ l. number_at l i) component
+    ∙ all_none n i in
     let few = count_by-le-length is_none p.component.items in
     let len : length p.component.items ≡ q = ap (λ l. length l) component ∙ long ∙ is in
     record {

@@ -11,7 +11,8 @@ none_in_order q = record {
   ascending = λ before r s after e. absurd (no_end before r (s ∷ after) e);
 }
 
-one_alone : (x : Run) (before : List Run) (r s : Run) (after : List Run) → x ∷ [] ≡ before ++ r ∷ s ∷ after → ⊥
+one_alone : (x : Run) (before : List Run) (r s : Run) (after : List Run) →
+    x ∷ [] ≡ before ++ r ∷ s ∷ after → ⊥
 one_alone x [] r s after e = cc
 one_alone x (b ∷ before) r s after e =
     let tails : [] ≡ before ++ r ∷ s ∷ after = cc in no_end before r (s ∷ after) tails
@@ -25,8 +26,10 @@ two_follow x y h [] r s after e =
 two_follow x y h (b ∷ before) r s after e =
     let tails : y ∷ [] ≡ before ++ r ∷ s ∷ after = cc in absurd (one_alone y before r s after tails)
 
-pub two_in_order : (q : ℕ) (x y : Run) → IsRunOf q x → IsRunOf q y → EndsBefore x y → AreInOrder q (x ∷ y ∷ [])
+pub two_in_order : (q : ℕ) (x y : Run) → IsRunOf q x → IsRunOf q y → EndsBefore x y →
+    AreInOrder q (x ∷ y ∷ [])
 two_in_order q x y first second h = record {
-  each = All-cons (IsRunOf q) x (y ∷ []) first (All-cons (IsRunOf q) y [] second (All-nil (IsRunOf q)));
+  each = All-cons (IsRunOf q) x (y ∷ []) first
+      (All-cons (IsRunOf q) y [] second (All-nil (IsRunOf q)));
   ascending = two_follow x y h;
 }

@@ -11,17 +11,20 @@ pub same_tight : (t : Table) (i j k l : ℕ) → i % t.order ≡ k % t.order →
     is_tight_in t i j ≡ is_tight_in t k l
 unfolding is_tight_in
 same_tight t i j k l e g =
-    ap (λ n. in_row t.rows.items n (j % t.order)) e ∙ ap (λ n. in_row t.rows.items (k % t.order) n) g
+    ap (λ n. in_row t.rows.items n (j % t.order)) e
+    ∙ ap (λ n. in_row t.rows.items (k % t.order) n) g
 
 pub table_period : (t : Table) → HasPeriod t.order (IsTightInTable t)
 unfolding IsTightInTable
 table_period t i j k l e g h = sym (same_tight t i j k l e g) ∙ h
 
 -- the test of indices that are their own rests
-pub read_tight : (t : Table) (a b : ℕ) → a < t.order → b < t.order → in_row t.rows.items a b ≡ is_tight_in t a b
+pub read_tight : (t : Table) (a b : ℕ) → a < t.order → b < t.order →
+    in_row t.rows.items a b ≡ is_tight_in t a b
 unfolding is_tight_in
 read_tight t a b a_below b_below =
-    ap (λ n. in_row t.rows.items n b) (sym (mod-eq_of_lt a_below)) ∙ ap (in_row t.rows.items (a % t.order)) (sym (mod-eq_of_lt b_below))
+    ap (λ n. in_row t.rows.items n b) (sym (mod-eq_of_lt a_below))
+    ∙ ap (in_row t.rows.items (a % t.order)) (sym (mod-eq_of_lt b_below))
 
 -- between the test and the fact
 pub tight : (t : Table) (i j : ℕ) → is_tight_in t i j ≡ true → IsTightInTable t i j

@@ -22,11 +22,13 @@ places_next p n =
 
 pub place_true : (p : ℕ → Bool) (n : ℕ) → p n ≡ true → places p (n + 1) ≡ places p n ++ n ∷ []
 place_true p n e =
-    places_next p n ∙ ap (λ l. places p n ++ l) (let one : filter p (n ∷ []) ≡ n ∷ [] = ap (λ b. cond b (n ∷ []) []) e in one)
+    places_next p n ∙ ap (λ l. places p n ++ l) (let one : filter p (n ∷ []) ≡ n ∷ [] =
+    ap (λ b. cond b (n ∷ []) []) e in one)
 
 pub place_false : (p : ℕ → Bool) (n : ℕ) → p n ≡ false → places p (n + 1) ≡ places p n
 place_false p n e =
-    places_next p n ∙ ap (λ l. places p n ++ l) (let none : filter p (n ∷ []) ≡ [] = ap (λ b. cond b (n ∷ []) []) e in none)
+    places_next p n ∙ ap (λ l. places p n ++ l) (let none : filter p (n ∷ []) ≡ [] =
+    ap (λ b. cond b (n ∷ []) []) e in none)
     ∙ append-nil (places p n)
 
 range_ascends : (n : ℕ) → IsStrictlyIncreasing (range_with_len 0 n)
@@ -44,13 +46,16 @@ places_have : (p : ℕ → Bool) (n i : ℕ) → i < n → p i ≡ true → Cont
 places_have p n i below e =
     let split = ap (filter p) (range_at i n below)
     ∙ filter-append p (range_with_len 0 i) (i ∷ range_with_len (i + 1) (n - suc i)) in
-    let one : filter p (i ∷ range_with_len (i + 1) (n - suc i)) ≡ i ∷ filter p (range_with_len (i + 1) (n - suc i)) =
-    ap (λ b. cond b (i ∷ filter p (range_with_len (i + 1) (n - suc i))) (filter p (range_with_len (i + 1) (n - suc i)))) e in
+    let one : filter p (i ∷ range_with_len (i + 1) (n - suc i))
+    ≡ i ∷ filter p (range_with_len (i + 1) (n - suc i)) =
+    ap (λ b. cond b (i ∷ filter p (range_with_len (i + 1) (n - suc i)))
+    (filter p (range_with_len (i + 1) (n - suc i)))) e in
     subst (λ l. Contains l i) (sym (split ∙ ap (λ l. places p i ++ l) one))
     (Contains-append_right (places p i) (i ∷ filter p (range_with_len (i + 1) (n - suc i))) i
     (0, omega arith, refl))
 
-pub places_members : (p : ℕ → Bool) (n : ℕ) → ((i : ℕ) → p i ≡ true → i < n) → (i : ℕ) → Contains (places p n) i ↔ (p i ≡ true)
+pub places_members : (p : ℕ → Bool) (n : ℕ) → ((i : ℕ) → p i ≡ true → i < n) → (i : ℕ) →
+    Contains (places p n) i ↔ (p i ≡ true)
 places_members p n within i = (
   λ h. All-contains (λ k. p k ≡ true) (places p n) i (filter_passes p (range_with_len 0 n)) h,
   λ e. places_have p n i (within i e) e,

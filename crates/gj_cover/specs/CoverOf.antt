@@ -13,12 +13,14 @@ abbrev pub number_at : List (Option ℕ) → ℕ → Option ℕ
 number_at component i = slice_index_or component i None
 
 -- the list has the number of each interval's component, by the lines, and None if it is uncovered
-pub record AreComponents (q : ℕ) (Tight : ℕ → ℕ → Type 0) (lines : List CoverLine) (component : List (Option ℕ)) : Type 0 where
+pub record AreComponents (q : ℕ) (Tight : ℕ → ℕ → Type 0) (lines : List CoverLine)
+    (component : List (Option ℕ)) : Type 0 where
   pub length : length component ≡ q
   pub numbers : (i n : ℕ) → i < q → (number_at component i ≡ Some n) ↔ HasComponent lines n i
   pub uncovered : (i : ℕ) → i < q → (number_at component i ≡ None) ↔ (IsCovered q Tight i → ⊥)
   pub same : (i j : ℕ) → i < q → j < q →
-      ((n : ℕ) × (number_at component i ≡ Some n) × (number_at component j ≡ Some n)) ↔ AreInOneComponent q Tight i j
+      ((n : ℕ) × (number_at component i ≡ Some n) × (number_at component j ≡ Some n))
+      ↔ AreInOneComponent q Tight i j
   pub below : (i n : ℕ) → number_at component i ≡ Some n → n < components_in lines
 
 -- the list has the intervals of the class of the least uncovered interval in ascending order, and

@@ -7,11 +7,13 @@ use Rattle.gj_shape.specs.WalkOrder.{position_of_kind}
 -- the face of this kind of the square (a, b) is not before the other in walk order
 abbrev pub IsNotBefore : Face → FaceKind → ℕ → ℕ → Type 0
 IsNotBefore face kind a b =
-    (face.a < a) ⊎ ((face.a ≡ a) × ((face.b < b) ⊎ ((face.b ≡ b) × (position_of_kind face.kind ≤ position_of_kind kind))))
+    (face.a < a) ⊎ ((face.a ≡ a)
+    × ((face.b < b) ⊎ ((face.b ≡ b) × (position_of_kind face.kind ≤ position_of_kind kind))))
 
 -- the face is one of these squares and has the property, and none of these squares that has it is
 -- before it
-pub record IsFirstOf (Square : ℕ → ℕ → Type 0) (P : FaceKind → ℕ → ℕ → Type 0) (face : Face) : Type 0 where
+pub record IsFirstOf (Square : ℕ → ℕ → Type 0) (P : FaceKind → ℕ → ℕ → Type 0) (face : Face) :
+    Type 0 where
   pub square : Square face.a face.b
   pub holds : P face.kind face.a face.b
   pub first : (kind : FaceKind) (a b : ℕ) → Square a b → P kind a b → IsNotBefore face kind a b
@@ -42,7 +44,10 @@ IsInRowBefore found i j k = MatchOption found ⊥ (λ f. (f.a < i) × (f.a < j) 
 
 -- the first of a face that may have been found before and of those of these faces that have the
 -- property
-pub record AddsFirst (These P : FaceKind → ℕ → ℕ → Type 0) (found result : Option Face) : Type 0 where
+pub record AddsFirst (These P : FaceKind → ℕ → ℕ → Type 0) (found result : Option Face) :
+    Type 0 where
   pub from : IfSome result (λ f. (found ≡ Some f) ⊎ (These f.kind f.a f.b × P f.kind f.a f.b))
-  pub behind : (kind : FaceKind) (a b : ℕ) → IsFaceReached found kind a b → IsFaceReached result kind a b
-  pub first : (kind : FaceKind) (a b : ℕ) → These kind a b → P kind a b → IsFaceReached result kind a b
+  pub behind : (kind : FaceKind) (a b : ℕ) → IsFaceReached found kind a b →
+      IsFaceReached result kind a b
+  pub first : (kind : FaceKind) (a b : ℕ) → These kind a b → P kind a b →
+      IsFaceReached result kind a b

@@ -21,7 +21,8 @@ Leads q i j kind a b = LeadsBy q i j kind a b ⊎ LeadsBy q j i kind a b
 -- an additive edge links the interval i and j behind it
 pub data Links (q : ℕ) (Tight : ℕ → ℕ → Type 0) (i j : ℕ) : Type 0 where
   diagonal : IsAdditive Tight Diagonal i j → Links q Tight i j
-  horizontal : (b : ℕ) → b < q → (i + b) % q ≡ j → IsAdditive Tight Horizontal i b → Links q Tight i j
+  horizontal : (b : ℕ) → b < q → (i + b) % q ≡ j → IsAdditive Tight Horizontal i b →
+      Links q Tight i j
   vertical : (a : ℕ) → a < q → (a + i) % q ≡ j → IsAdditive Tight Vertical a i → Links q Tight i j
 
 -- the square is one (i, b) of the complex of order q

@@ -4,4 +4,5 @@ use Rattle.gj_shape.specs.FunctionData.{FunctionData, at}
 
 -- they do so at the multiples of 1/order
 pub record AreMirrored (f : FunctionData) : Type 0 where
-  pub each : (i : ℕ) → i < f.order → at f.value i +ℤ at f.value (f.place + (f.order - i)) ≡ pos f.scale
+  pub each : (i : ℕ) → i < f.order → at f.value i +ℤ at f.value (f.place + (f.order - i))
+      ≡ pos f.scale

@@ -9,22 +9,30 @@ use Rattle.gj_cover.specs.declared.progress.Progress.{Progress}
 
 -- each line is the next behind those before it
 pub record AreInTurn (q : ℕ) (Tight : ℕ → ℕ → Type 0) (lines : List CoverLine) : Type 0 where
-  pub each : (before : List CoverLine) (l : CoverLine) (after : List CoverLine) → lines ≡ before ++ l ∷ after → IsNextLine q Tight before l
+  pub each : (before : List CoverLine) (l : CoverLine) (after : List CoverLine) →
+      lines ≡ before ++ l ∷ after → IsNextLine q Tight before l
 
 -- the intervals that have a line have a number, which is that of their component
 pub record AreNumbered (lines : List CoverLine) (component : List (Option ℕ)) : Type 0 where
-  pub opened : (before : List CoverLine) (l : CoverLine) (after : List CoverLine) → lines ≡ before ++ l ∷ after →
+  pub opened : (before : List CoverLine) (l : CoverLine) (after : List CoverLine) →
+      lines ≡ before ++ l ∷ after →
       l.from ≡ l.interval → number_at component l.interval ≡ Some (components_in before)
-  pub joined : (before : List CoverLine) (l : CoverLine) (after : List CoverLine) → lines ≡ before ++ l ∷ after →
-      l.from ≢ l.interval → (n : ℕ) × (number_at component l.interval ≡ Some n) × (number_at component l.from ≡ Some n)
+  pub joined : (before : List CoverLine) (l : CoverLine) (after : List CoverLine) →
+      lines ≡ before ++ l ∷ after →
+      l.from ≢ l.interval → (n : ℕ) × (number_at component l.interval ≡ Some n)
+      × (number_at component l.from ≡ Some n)
   pub shown : (i n : ℕ) → number_at component i ≡ Some n → HasComponent lines n i
 
 -- the numbers below the count are those of components: only the last may be joined to an interval
 -- without a number
-pub record AreClasses (q : ℕ) (Tight : ℕ → ℕ → Type 0) (component : List (Option ℕ)) (count : ℕ) : Type 0 where
-  pub one : (i j m n : ℕ) → AreJoined q Tight i j → number_at component i ≡ Some m → number_at component j ≡ Some n → m ≡ n
-  pub last : (i j n : ℕ) → j < q → AreJoined q Tight i j → number_at component i ≡ Some n → number_at component j ≡ None → n + 1 ≡ count
-  pub linked : (i j n : ℕ) → number_at component i ≡ Some n → number_at component j ≡ Some n → LeadsTo q Tight j i
+pub record AreClasses (q : ℕ) (Tight : ℕ → ℕ → Type 0) (component : List (Option ℕ)) (count : ℕ) :
+    Type 0 where
+  pub one : (i j m n : ℕ) → AreJoined q Tight i j → number_at component i ≡ Some m →
+      number_at component j ≡ Some n → m ≡ n
+  pub last : (i j n : ℕ) → j < q → AreJoined q Tight i j → number_at component i ≡ Some n →
+      number_at component j ≡ None → n + 1 ≡ count
+  pub linked : (i j n : ℕ) → number_at component i ≡ Some n → number_at component j ≡ Some n →
+      LeadsTo q Tight j i
   pub below : (i n : ℕ) → number_at component i ≡ Some n → n < count
   pub covered : (i n : ℕ) → number_at component i ≡ Some n → IsCovered q Tight i
 
@@ -33,12 +41,14 @@ pub record AreFree (q : ℕ) (component : List (Option ℕ)) (free : IndexSet) :
   pub each : (i : ℕ) → IsTrue (has free i) ↔ ((i < q) × (number_at component i ≡ None))
 
 -- of the intervals without a number the set has those that are joined to one with a line
-pub record AreNear (q : ℕ) (Tight : ℕ → ℕ → Type 0) (lines : List CoverLine) (component : List (Option ℕ)) (near : IndexSet) : Type 0 where
+pub record AreNear (q : ℕ) (Tight : ℕ → ℕ → Type 0) (lines : List CoverLine)
+    (component : List (Option ℕ)) (near : IndexSet) : Type 0 where
   pub each : (i : ℕ) → i < q → number_at component i ≡ None →
       IsTrue (has near i) ↔ ((j : ℕ) × JoinsLines q Tight lines i j)
 
 -- no interval below n without a number is directly covered
-pub record AreSearched (q : ℕ) (Tight : ℕ → ℕ → Type 0) (component : List (Option ℕ)) (n : ℕ) : Type 0 where
+pub record AreSearched (q : ℕ) (Tight : ℕ → ℕ → Type 0) (component : List (Option ℕ)) (n : ℕ) :
+    Type 0 where
   pub each : (i : ℕ) → i < n → number_at component i ≡ None → IsDirectlyCovered q Tight i → ⊥
 
 -- how many intervals have no number

@@ -21,16 +21,21 @@ pub record AreReached (q : ℕ) (Tight : ℕ → ℕ → Type 0) (start : ℕ) (
   pub begun : IsTrue (has r.reached start)
   pub waiting : (i : ℕ) → IsTrue (has r.waiting i) → IsTrue (has r.reached i)
   pub closed : (i : ℕ) → IsTrue (has r.reached i) →
-      IsTrue (has r.waiting i) ⊎ ((j : ℕ) → j < q → AreJoined q Tight j i → IsTrue (has r.reached j))
+      IsTrue (has r.waiting i)
+      ⊎ ((j : ℕ) → j < q → AreJoined q Tight j i → IsTrue (has r.reached j))
   pub led : (i : ℕ) → IsTrue (has r.reached i) → (i < q) × LeadsTo q Tight i start
 
 -- all free intervals that are joined to the interval were reached too, and no others; the new ones
 -- wait, the interval does not
-pub record IsReachedFrom (q : ℕ) (Tight : ℕ → ℕ → Type 0) (interval : ℕ) (free : IndexSet) (old new : Reached) : Type 0 where
+pub record IsReachedFrom (q : ℕ) (Tight : ℕ → ℕ → Type 0) (interval : ℕ) (free : IndexSet)
+    (old new : Reached) : Type 0 where
   pub more : (i : ℕ) → IsTrue (has old.reached i) → IsTrue (has new.reached i)
-  pub joined : (i : ℕ) → i < q → IsTrue (has free i) → AreJoined q Tight i interval → IsTrue (has new.reached i)
+  pub joined : (i : ℕ) → i < q → IsTrue (has free i) → AreJoined q Tight i interval →
+      IsTrue (has new.reached i)
   pub only : (i : ℕ) → IsTrue (has new.reached i) →
-      IsTrue (has old.reached i) ⊎ ((i < q) × AreJoined q Tight i interval × IsTrue (has new.waiting i))
+      IsTrue (has old.reached i)
+      ⊎ ((i < q) × AreJoined q Tight i interval × IsTrue (has new.waiting i))
   pub still : (i : ℕ) → IsTrue (has old.waiting i) → i ≢ interval → IsTrue (has new.waiting i)
-  pub known : (i : ℕ) → IsTrue (has new.waiting i) → IsTrue (has old.waiting i) ⊎ IsTrue (has new.reached i)
+  pub known : (i : ℕ) → IsTrue (has new.waiting i) →
+      IsTrue (has old.waiting i) ⊎ IsTrue (has new.reached i)
   pub fewer : unfinished new 1024 < unfinished old 1024

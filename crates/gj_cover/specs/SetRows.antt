@@ -18,8 +18,10 @@ AreColumns q rows columns = (a b : ℕ) → a < q → b < q → in_row columns b
 
 -- the first indices of the pairs with a sum: a is in the set of a + b, modulo q
 abbrev pub AreFirsts : ℕ → List IndexSet → List IndexSet → Type 0
-AreFirsts q rows firsts = (a b : ℕ) → a < q → b < q → in_row firsts ((a + b) % q) a ≡ in_row rows a b
+AreFirsts q rows firsts = (a b : ℕ) → a < q → b < q →
+    in_row firsts ((a + b) % q) a ≡ in_row rows a b
 
 -- the second indices of the pairs with a sum: b is in the set of a + b, modulo q
 abbrev pub AreSeconds : ℕ → List IndexSet → List IndexSet → Type 0
-AreSeconds q rows seconds = (a b : ℕ) → a < q → b < q → in_row seconds ((a + b) % q) b ≡ in_row rows a b
+AreSeconds q rows seconds = (a b : ℕ) → a < q → b < q →
+    in_row seconds ((a + b) % q) b ≡ in_row rows a b

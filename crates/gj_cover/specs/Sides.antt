@@ -21,11 +21,13 @@ pub record AreOwnSides (q : ℕ) (rows : List IndexSet) (place : ℕ) : Type 0 w
   pub place_below : place < q
   pub columns_are : AreColumns q rows rows
   pub round : AreRound q rows
-  pub sums_are : (a b : ℕ) → a < q → b < q → in_row rows ((place + (q - (a + b) % q)) % q) a ≡ in_row rows a b
+  pub sums_are : (a b : ℕ) → a < q → b < q → in_row rows ((place + (q - (a + b) % q)) % q) a
+      ≡ in_row rows a b
 
 -- the sides of the rows
 abbrev pub AreSides : ℕ → List IndexSet → Sides → Type 0
-AreSides q rows (Apart columns firsts seconds) = AreApart q rows columns.items firsts.items seconds.items
+AreSides q rows (Apart columns firsts seconds) =
+    AreApart q rows columns.items firsts.items seconds.items
 AreSides q rows (Rows place) = AreOwnSides q rows place
 
 -- the sides are those of the rows in one way at most

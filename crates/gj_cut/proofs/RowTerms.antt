@@ -25,19 +25,27 @@ use Rattle.gj_cut.specs.declared.cut.RowCut.TheVariants.{Cut, Integral, OtherFra
 
 -- ---- the entries of a row
 
-in_range_all : (d : ℕ) (entries : List Entry) → 0 < d → d < 2 ^ 31 → All IsSmallNumber (map (λ e. e.value) entries) →
+in_range_all : (d : ℕ) (entries : List Entry) → 0 < d → d < 2 ^ 31 →
+    All IsSmallNumber (map (λ e. e.value) entries) →
     IsCommonDenominator (map (λ e. e.value) entries) d → All (λ e. IsRowNumber e.value) entries
 in_range_all d [] some fine small common = All-nil (λ e. IsRowNumber e.value)
 in_range_all d (e ∷ entries) some fine small common =
-    let divides = All-head (λ x. unsigned_abs (denominator x) ∣ d) e.value (map (λ e. e.value) entries) common in
+    let divides = All-head (λ x. unsigned_abs (denominator x) ∣ d) e.value
+    (map (λ e. e.value) entries) common in
     let bound : unsigned_abs (denominator e.value) ≤ d = le_of_dvd some divides in
     All-cons (λ e. IsRowNumber e.value) e entries
-    (record { small = All-head IsSmallNumber e.value (map (λ e. e.value) entries) small; fine = omega arith })
-    (in_range_all d entries some fine (All-tail IsSmallNumber e.value (map (λ e. e.value) entries) small)
+    (record {
+      small = All-head IsSmallNumber e.value (map (λ e. e.value) entries) small;
+      fine =
+          omega arith;
+    })
+    (in_range_all d entries some fine
+    (All-tail IsSmallNumber e.value (map (λ e. e.value) entries) small)
     (All-tail (λ x. unsigned_abs (denominator x) ∣ d) e.value (map (λ e. e.value) entries) common))
 
 -- those of a row within the limits can stand in a row
-pub entries_in_range : (row : Row) → AreWithinLimits (numbers_of row) → All (λ e. IsRowNumber e.value) row.entries
+pub entries_in_range : (row : Row) → AreWithinLimits (numbers_of row) →
+    All (λ e. IsRowNumber e.value) row.entries
 entries_in_range row h =
     let values = map (λ e. e.value) row.entries in
     let d = h.common.0 in
@@ -45,10 +53,12 @@ entries_in_range row h =
     (All-tail (λ x. unsigned_abs (denominator x) ∣ d) row.rhs values h.common.3)
 
 -- so is its right side
-pub right_fine : (row : Row) → AreWithinLimits (numbers_of row) → unsigned_abs (denominator row.rhs) < 2 ^ 31
+pub right_fine : (row : Row) → AreWithinLimits (numbers_of row) →
+    unsigned_abs (denominator row.rhs) < 2 ^ 31
 right_fine row h =
     let d = h.common.0 in
-    let divides = All-head (λ x. unsigned_abs (denominator x) ∣ d) row.rhs (map (λ e. e.value) row.entries) h.common.3 in
+    let divides = All-head (λ x. unsigned_abs (denominator x) ∣ d) row.rhs
+    (map (λ e. e.value) row.entries) h.common.3 in
     let some : 0 < d = h.common.1 in
     let bound : unsigned_abs (denominator row.rhs) ≤ d = le_of_dvd some divides in
     let fine : d < 2 ^ 31 = h.common.2 in
@@ -57,7 +67,8 @@ right_fine row h =
 -- ---- terms
 
 -- one more item in each of two lists
-pub zip_longer : {A B : Type 0} (R : A → B → Type 0) (xs : List A) (ys : List B) (x : A) (y : B) → AllZip R xs ys → R x y →
+pub zip_longer : {A B : Type 0} (R : A → B → Type 0) (xs : List A) (ys : List B) (x : A) (y : B) →
+    AllZip R xs ys → R x y →
     AllZip R (xs ++ x ∷ []) (ys ++ y ∷ [])
 zip_longer R [] [] x y h last = (last, tt)
 zip_longer R [] (z ∷ ys) x y h last = absurd h
@@ -65,51 +76,67 @@ zip_longer R (w ∷ xs) [] x y h last = absurd h
 zip_longer R (w ∷ xs) (z ∷ ys) x y h last = (h.0, zip_longer R xs ys x y h.1 last)
 
 -- one more item of a list that is gone through
-pub zip_next : {A B : Type 0} (R : A → B → Type 0) (xs : List A) (i : ℕ) (x : A) (ys zs : List B) (y : B) → i < length xs →
-    x ≡ get_or xs i x → zs ≡ ys ++ y ∷ [] → AllZip R (take i xs) ys → R x y → AllZip R (take (i + 1) xs) zs
+pub zip_next : {A B : Type 0} (R : A → B → Type 0) (xs : List A) (i : ℕ) (x : A) (ys zs : List B)
+    (y : B) → i < length xs →
+    x ≡ get_or xs i x → zs ≡ ys ++ y ∷ [] → AllZip R (take i xs) ys → R x y →
+    AllZip R (take (i + 1) xs) zs
 zip_next R xs i x ys zs y below here next h last =
-    let more : take (i + 1) xs ≡ take i xs ++ x ∷ [] = take_more xs i x below ∙ ap (λ z. take i xs ++ z ∷ []) (sym here) in
+    let more : take (i + 1) xs ≡ take i xs ++ x ∷ [] = take_more xs i x below
+    ∙ ap (λ z. take i xs ++ z ∷ []) (sym here) in
     subst₂ (AllZip R) (sym more) (sym next) (zip_longer R (take i xs) ys x y h last)
 
 -- ---- the cut
 
-pub term_values : {E : Type 0} (answers : E → Frac → Frac → Type 0) (rule : KeptRule E) (V : Frac → Frac → Type 0)
-    (entries : List Entry) (terms : List Term) → ((x y : Frac) → IsKindValue rule.kind x y → V x y) →
-    AllZip (IsTermOf answers rule) entries terms → AllZip V (map (λ t. t.entry) terms) (map (λ t. t.cut) terms)
+pub term_values : {E : Type 0} (answers : E → Frac → Frac → Type 0) (rule : KeptRule E) (V : Frac →
+    Frac → Type 0)
+    (entries : List Entry) (terms : List Term) →
+    ((x y : Frac) → IsKindValue rule.kind x y → V x y) →
+    AllZip (IsTermOf answers rule) entries terms →
+    AllZip V (map (λ t. t.entry) terms) (map (λ t. t.cut) terms)
 term_values answers rule V [] [] value h = tt
 term_values answers rule V [] (t ∷ terms) value h = absurd h
 term_values answers rule V (e ∷ entries) [] value h = absurd h
 term_values answers rule V (e ∷ entries) (t ∷ terms) value h = (
-  subst (λ (x : Frac). V x t.cut) (sym h.0.of_kind.entry_is) (value e.value t.cut h.0.of_kind.value_is),
+  subst (λ (x : Frac). V x t.cut) (sym h.0.of_kind.entry_is)
+      (value e.value t.cut h.0.of_kind.value_is),
   term_values answers rule V entries terms value h.1,
 )
 
-pub holds_at : {E : Type 0} (answers : E → Frac → Frac → Type 0) (rule : KeptRule E) (kind : RuleKind) (row : Row) (terms : List Term) →
+pub holds_at : {E : Type 0} (answers : E → Frac → Frac → Type 0) (rule : KeptRule E)
+    (kind : RuleKind) (row : Row) (terms : List Term) →
     rule.kind ≡ kind → IsKindWithinBounds kind → IsMinimalKind kind → HasPart kind row.rhs →
     AllZip (IsTermOf answers rule) row.entries terms → HoldsFor row (Cut terms)
 holds_at answers rule (Gmic f) row terms e bounded minimal part h =
     cut_by_gmic f (map (λ t. t.entry) terms) row.rhs (map (λ t. t.cut) terms) bounded.0 part
-    (term_values answers rule (IsGmicValue f) row.entries terms (λ x y v. subst (λ k. IsKindValue k x y) e v) h)
+    (term_values answers rule (IsGmicValue f) row.entries terms
+    (λ x y v. subst (λ k. IsKindValue k x y) e v) h)
 holds_at answers rule (Table shape) row terms e bounded minimal part h =
-    cut_by_function shape (map (λ t. t.entry) terms) row.rhs (map (λ t. t.cut) terms) bounded minimal part
-    (term_values answers rule (IsValueOf shape) row.entries terms (λ x y v. subst (λ k. IsKindValue k x y) e v) h)
+    cut_by_function shape (map (λ t. t.entry) terms) row.rhs
+    (map (λ t. t.cut) terms) bounded minimal part
+    (term_values answers rule (IsValueOf shape) row.entries terms
+    (λ x y v. subst (λ k. IsKindValue k x y) e v) h)
 
 -- ---- cuts by any rule of a kind
 
-pub terms_of_kind : {E : Type 0} (answers : E → Frac → Frac → Type 0) (rule : KeptRule E) (entries : List Entry) (terms : List Term) →
+pub terms_of_kind : {E : Type 0} (answers : E → Frac → Frac → Type 0) (rule : KeptRule E)
+    (entries : List Entry) (terms : List Term) →
     AllZip (IsTermOf answers rule) entries terms → AllZip (IsTermOfKind rule.kind) entries terms
 terms_of_kind answers rule [] [] h = tt
 terms_of_kind answers rule [] (t ∷ terms) h = absurd h
 terms_of_kind answers rule (e ∷ entries) [] h = absurd h
-terms_of_kind answers rule (e ∷ entries) (t ∷ terms) h = (h.0.of_kind, terms_of_kind answers rule entries terms h.1)
+terms_of_kind answers rule (e ∷ entries) (t ∷ terms) h =
+    (h.0.of_kind, terms_of_kind answers rule entries terms h.1)
 
-pub cut_of_kind : {E : Type 0} (answers : E → Frac → Frac → Type 0) (rule : KeptRule E) (row : Row) (cut : RowCut) →
+pub cut_of_kind : {E : Type 0} (answers : E → Frac → Frac → Type 0) (rule : KeptRule E) (row : Row)
+    (cut : RowCut) →
     IsCutOf answers rule row cut → IsCutOfKind rule.kind row cut
-cut_of_kind answers rule row (Cut terms) h = (h.0, h.1, terms_of_kind answers rule row.entries terms h.2)
+cut_of_kind answers rule row (Cut terms) h =
+    (h.0, h.1, terms_of_kind answers rule row.entries terms h.2)
 cut_of_kind answers rule row Integral h = h
 cut_of_kind answers rule row OtherFraction h = h
 
-pub gmic_cut_of : (f : Frac) (row : Row) (cut : RowCut) → HasPart (Gmic f) row.rhs → IsCutOfKind (Gmic f) row cut →
+pub gmic_cut_of : (f : Frac) (row : Row) (cut : RowCut) → HasPart (Gmic f) row.rhs →
+    IsCutOfKind (Gmic f) row cut →
     IsGmicCutOf row cut
 gmic_cut_of f row (Cut terms) part h = (f, h)
 gmic_cut_of f row Integral part h = h

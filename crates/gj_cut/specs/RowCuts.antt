@@ -35,13 +35,15 @@ pub record IsTermOfKind (kind : RuleKind) (entry : Entry) (term : Term) : Type 0
   pub value_is : IsKindValue kind entry.value term.cut
 
 -- and one that the kept evaluator answers there
-pub record IsTermOf {E : Type 0} (answers : E → Frac → Frac → Type 0) (rule : KeptRule E) (entry : Entry) (term : Term) : Type 0 where
+pub record IsTermOf {E : Type 0} (answers : E → Frac → Frac → Type 0) (rule : KeptRule E)
+    (entry : Entry) (term : Term) : Type 0 where
   pub of_kind : IsTermOfKind rule.kind entry term
   pub answered : answers rule.eval entry.value term.cut
 
 -- the cut of a row with these terms, or why there is none
 abbrev pub IsCutWith : (Entry → Term → Type 0) → RuleKind → Row → RowCut → Type 0
-IsCutWith P kind row (Cut terms) = (IsWhole row.rhs → ⊥) × HasPart kind row.rhs × AllZip P row.entries terms
+IsCutWith P kind row (Cut terms) = (IsWhole row.rhs → ⊥) × HasPart kind row.rhs
+    × AllZip P row.entries terms
 IsCutWith P kind row Integral = IsWhole row.rhs
 IsCutWith P kind row OtherFraction = (IsWhole row.rhs → ⊥) × (HasPart kind row.rhs → ⊥)
 

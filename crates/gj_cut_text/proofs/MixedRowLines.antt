@@ -26,29 +26,38 @@ use Rattle.gj_cut_text.specs.declared.mixed_lines.MixedLine.{MixedLine}
 
 -- ---- the columns of terms
 
-pub terms_in_columns : (P : Entry → Term → Type 0) (n : ℕ) (entries : List Entry) (terms : List Term) →
-    ((e : Entry) (t : Term) → P e t → t.column ≡ e.column) → All (λ e. e.column < n) entries → AllZip P entries terms →
+pub terms_in_columns : (P : Entry → Term → Type 0) (n : ℕ) (entries : List Entry)
+    (terms : List Term) →
+    ((e : Entry) (t : Term) → P e t → t.column ≡ e.column) → All (λ e. e.column < n) entries →
+    AllZip P entries terms →
     All (λ t. t.column < n) terms
 terms_in_columns P n [] [] same below h = All-nil (λ t. t.column < n)
 terms_in_columns P n [] (t ∷ terms) same below h = absurd h
 terms_in_columns P n (e ∷ entries) [] same below h = absurd h
 terms_in_columns P n (e ∷ entries) (t ∷ terms) same below h =
     All-cons (λ (t : Term). t.column < n) t terms
-    (subst (λ c. c < n) (sym (same e t h.0)) (All-head (λ (e : Entry). e.column < n) e entries below))
-    (terms_in_columns P n entries terms same (All-tail (λ (e : Entry). e.column < n) e entries below) h.1)
+    (subst (λ c. c < n) (sym (same e t h.0))
+    (All-head (λ (e : Entry). e.column < n) e entries below))
+    (terms_in_columns P n entries terms same
+    (All-tail (λ (e : Entry). e.column < n) e entries below) h.1)
 
-pub cut_in_columns : (k : RuleKind) (up down : Frac) (continuous : List Bool) (n : ℕ) (row : Row) (cut : MixedCut) →
+pub cut_in_columns : (k : RuleKind) (up down : Frac) (continuous : List Bool) (n : ℕ) (row : Row)
+    (cut : MixedCut) →
     IsRowWithinLimits n row → IsMixedCutOfKind k up down continuous row cut → AreInColumns n cut
 cut_in_columns k up down continuous n row (mixed_cut.Cut terms weights) limits h = (
-  terms_in_columns (IsTermOfKind k) n (filter (λ e. not (is_continuous continuous e)) row.entries) terms (λ e t p. p.column_is)
-      (All-filter (λ e. not (is_continuous continuous e)) (λ e. e.column < n) row.entries limits.below) h.2,
-  terms_in_columns (IsWeightTerm up down) n (filter (is_continuous continuous) row.entries) weights (λ e t p. p.column_is)
+  terms_in_columns (IsTermOfKind k) n (filter (λ e. not (is_continuous continuous e)) row.entries)
+      terms (λ e t p. p.column_is)
+      (All-filter (λ e. not (is_continuous continuous e))
+      (λ e. e.column < n) row.entries limits.below) h.2,
+  terms_in_columns (IsWeightTerm up down) n (filter (is_continuous continuous) row.entries) weights
+      (λ e t p. p.column_is)
       (All-filter (is_continuous continuous) (λ e. e.column < n) row.entries limits.below) h.3,
 )
 cut_in_columns k up down continuous n row mixed_cut.Integral limits h = tt
 cut_in_columns k up down continuous n row mixed_cut.OtherFraction limits h = tt
 
-pub gmic_in_columns : (continuous : List Bool) (n : ℕ) (row : Row) (cut : MixedCut) → IsRowWithinLimits n row →
+pub gmic_in_columns : (continuous : List Bool) (n : ℕ) (row : Row) (cut : MixedCut) →
+    IsRowWithinLimits n row →
     IsGmicMixedCutOf continuous row cut → AreInColumns n cut
 gmic_in_columns continuous n row (mixed_cut.Cut terms weights) limits (f, up, down, slopes, h) =
     cut_in_columns (kind.Gmic f) up down continuous n row (mixed_cut.Cut terms weights) limits h
@@ -57,28 +66,39 @@ gmic_in_columns continuous n row mixed_cut.OtherFraction limits h = tt
 
 -- ---- cuts that hold
 
-same_entries : (columns : List (List ℕ)) (terms : List Term) (named : List CutTerm) → AllZip (IsNamedTerm columns) terms named →
+same_entries : (columns : List (List ℕ)) (terms : List Term) (named : List CutTerm) →
+    AllZip (IsNamedTerm columns) terms named →
     map (λ t. t.entry) terms ≡ map (λ t. t.entry) named
 same_entries columns [] [] h = refl
 same_entries columns [] (c ∷ named) h = absurd h
 same_entries columns (t ∷ terms) [] h = absurd h
-same_entries columns (t ∷ terms) (c ∷ named) h = ap₂ (λ (x : Frac) (xs : List Frac). x ∷ xs) (sym h.0.entry) (same_entries columns terms named h.1)
+same_entries columns (t ∷ terms) (c ∷ named) h =
+    ap₂ (λ (x : Frac) (xs : List Frac). x ∷ xs) (sym h.0.entry)
+    (same_entries columns terms named h.1)
 
-same_cuts : (columns : List (List ℕ)) (terms : List Term) (named : List CutTerm) → AllZip (IsNamedTerm columns) terms named →
+same_cuts : (columns : List (List ℕ)) (terms : List Term) (named : List CutTerm) →
+    AllZip (IsNamedTerm columns) terms named →
     map (λ t. t.cut) terms ≡ map (λ t. t.cut) named
 same_cuts columns [] [] h = refl
 same_cuts columns [] (c ∷ named) h = absurd h
 same_cuts columns (t ∷ terms) [] h = absurd h
-same_cuts columns (t ∷ terms) (c ∷ named) h = ap₂ (λ (x : Frac) (xs : List Frac). x ∷ xs) (sym h.0.cut) (same_cuts columns terms named h.1)
+same_cuts columns (t ∷ terms) (c ∷ named) h =
+    ap₂ (λ (x : Frac) (xs : List Frac). x ∷ xs) (sym h.0.cut) (same_cuts columns terms named h.1)
 
-pub named_holds : (columns : List (List ℕ)) (row : Row) (cut : MixedCut) (line : CutLine) (weights : List CutTerm) → MixedHoldsFor row cut →
+pub named_holds : (columns : List (List ℕ)) (row : Row) (cut : MixedCut) (line : CutLine)
+    (weights : List CutTerm) → MixedHoldsFor row cut →
     NamesMixedCut columns row cut line weights → LineHolds line weights
 named_holds columns row (mixed_cut.Cut terms weights) (Cut name right named) weighed holds n =
-    let at_entries = subst₂ (λ (xs zs : List Frac). MixedCutHolds xs zs row.rhs (map (λ t. t.cut) terms) (map (λ t. t.cut) weights))
+    let at_entries = subst₂
+    (λ (xs zs : List Frac). MixedCutHolds xs zs row.rhs (map (λ t. t.cut) terms)
+    (map (λ t. t.cut) weights))
     (same_entries columns terms named n.2) (same_entries columns weights weighed n.3) holds in
-    let at_cuts = subst₂ (λ (ys ws : List Frac). MixedCutHolds (map (λ t. t.entry) named) (map (λ t. t.entry) weighed) row.rhs ys ws)
+    let at_cuts = subst₂
+    (λ (ys ws : List Frac). MixedCutHolds (map (λ t. t.entry) named)
+    (map (λ t. t.entry) weighed) row.rhs ys ws)
     (same_cuts columns terms named n.2) (same_cuts columns weights weighed n.3) at_entries in
-    subst (λ (r : Frac). MixedCutHolds (map (λ t. t.entry) named) (map (λ t. t.entry) weighed) r (map (λ t. t.cut) named) (map (λ t. t.cut) weighed))
+    subst (λ (r : Frac). MixedCutHolds (map (λ t. t.entry) named) (map (λ t. t.entry) weighed) r
+    (map (λ t. t.cut) named) (map (λ t. t.cut) weighed))
     (sym n.1) at_cuts
 named_holds columns row (mixed_cut.Cut terms weights) (Skip name right reason) weighed holds n = tt
 named_holds columns row mixed_cut.Integral (Skip name right reason) weighed holds n = tt
@@ -88,28 +108,36 @@ named_holds columns row mixed_cut.OtherFraction (Cut name right terms) weighed h
 
 -- ---- all rows
 
-pub lines_of_made : (r : CutRule) (columns : List (List ℕ)) (rows : List Row) (lines : List MixedLine) → AreMadeLines r columns rows lines →
+pub lines_of_made : (r : CutRule) (columns : List (List ℕ)) (rows : List Row)
+    (lines : List MixedLine) → AreMadeLines r columns rows lines →
     AllZip (IsMixedLineFor r columns) rows lines
 lines_of_made r columns [] [] h = tt
 lines_of_made r columns [] (m ∷ lines) h = absurd h
 lines_of_made r columns (row ∷ rows) [] h = absurd h
-lines_of_made r columns (row ∷ rows) (m ∷ lines) h = (h.0.line_is, lines_of_made r columns rows lines h.1)
+lines_of_made r columns (row ∷ rows) (m ∷ lines) h =
+    (h.0.line_is, lines_of_made r columns rows lines h.1)
 
-pub made_hold : (r : CutRule) (columns : List (List ℕ)) (rows : List Row) (lines : List MixedLine) → AreMadeLines r columns rows lines →
+pub made_hold : (r : CutRule) (columns : List (List ℕ)) (rows : List Row) (lines : List MixedLine) →
+    AreMadeLines r columns rows lines →
     All MixedLineHolds lines
 made_hold r columns [] [] h = All-nil MixedLineHolds
 made_hold r columns [] (m ∷ lines) h = absurd h
 made_hold r columns (row ∷ rows) [] h = absurd h
-made_hold r columns (row ∷ rows) (m ∷ lines) h = All-cons MixedLineHolds m lines h.0.holds (made_hold r columns rows lines h.1)
+made_hold r columns (row ∷ rows) (m ∷ lines) h =
+    All-cons MixedLineHolds m lines h.0.holds (made_hold r columns rows lines h.1)
 
 -- the lines of one row more
-pub one_row_more : (r : CutRule) (columns : List (List ℕ)) (rows : List Row) (i : ℕ) (row : Row) (old now new : List ℕ) (m : MixedLine) →
-    i < length rows → row ≡ get_or rows i row → AppendsLines r columns (take i rows) old now → IsMadeLine r columns row m →
+pub one_row_more : (r : CutRule) (columns : List (List ℕ)) (rows : List Row) (i : ℕ) (row : Row)
+    (old now new : List ℕ) (m : MixedLine) →
+    i < length rows → row ≡ get_or rows i row → AppendsLines r columns (take i rows) old now →
+    IsMadeLine r columns row m →
     new ≡ now ++ mixed_row_text m → AppendsLines r columns (take (i + 1) rows) old new
 one_row_more r columns rows i row old now new m below here h made pushed = record {
   lines = h.lines ++ m ∷ [];
-  are_made = zip_next (IsMadeLine r columns) rows i row h.lines (h.lines ++ m ∷ []) m below here refl h.are_made made;
-  appended = pushed ∙ ap (λ text. text ++ mixed_row_text m) h.appended ∙ flat_map_more mixed_row_text old h.lines m;
+  are_made = zip_next (IsMadeLine r columns) rows i row h.lines
+      (h.lines ++ m ∷ []) m below here refl h.are_made made;
+  appended = pushed ∙ ap (λ text. text ++ mixed_row_text m) h.appended
+      ∙ flat_map_more mixed_row_text old h.lines m;
 }
 
 -- ---- kinds
@@ -124,7 +152,8 @@ same_function f g e = ap (function_of f) e
 
 -- ---- the text
 
-pub text_written : (title subject body last first second third fourth : List ℕ) → first ≡ title → second ≡ first ++ subject → third ≡ second ++ body →
+pub text_written : (title subject body last first second third fourth : List ℕ) → first ≡ title →
+    second ≡ first ++ subject → third ≡ second ++ body →
     fourth ≡ third ++ last → fourth ≡ title ++ subject ++ body ++ last
 text_written title subject body last first second third fourth a b c d =
     d ∙ ap (λ xs. xs ++ last) (c ∙ ap (λ xs. xs ++ body) (b ∙ ap (λ xs. xs ++ subject) a))

@@ -18,7 +18,8 @@ use Rattle.gj_proof.specs.declared.cut.SkipReason.TheVariants.{Integral, Other}
 
 -- the term of an entry: the name of its column, the entry, and the rule's value there for this
 -- right side
-pub record IsTermFor (r : CutRule) (columns : List (List ℕ)) (row : Row) (e : Entry) (t : CutTerm) : Type 0 where
+pub record IsTermFor (r : CutRule) (columns : List (List ℕ)) (row : Row) (e : Entry) (t : CutTerm) :
+    Type 0 where
   pub name : t.name ≡ get_or columns e.column []
   pub entry : t.entry ≡ e.value
   pub value : MeetsValue r row.rhs t
@@ -26,9 +27,11 @@ pub record IsTermFor (r : CutRule) (columns : List (List ℕ)) (row : Row) (e : 
 -- the line of a row: its basic variable and its right side, and a term for each entry that is not
 -- 0, in the order of the columns, or why the row has no cut
 abbrev pub IsLineFor : CutRule → List (List ℕ) → Row → CutLine → Type 0
-IsLineFor r columns row (Cut name right terms) = (name ≡ row.basic) × (right ≡ row.rhs) × MeetsFraction r (Cut name right terms)
+IsLineFor r columns row (Cut name right terms) = (name ≡ row.basic) × (right ≡ row.rhs)
+    × MeetsFraction r (Cut name right terms)
     × AllZip (IsTermFor r columns row) row.entries terms
-IsLineFor r columns row (Skip name right reason) = (name ≡ row.basic) × (right ≡ row.rhs) × MeetsFraction r (Skip name right reason)
+IsLineFor r columns row (Skip name right reason) = (name ≡ row.basic) × (right ≡ row.rhs)
+    × MeetsFraction r (Skip name right reason)
 
 -- ---- what is made
 
@@ -49,7 +52,8 @@ NamesCut columns row row_cut.OtherFraction (Skip name right Other) =
 NamesCut columns row cut line = ⊥
 
 -- the new text is the old one, with the lines of the rows behind it
-pub record AppendsCuts (r : CutRule) (columns : List (List ℕ)) (rows : List Row) (old new : List ℕ) : Type 0 where
+pub record AppendsCuts (r : CutRule) (columns : List (List ℕ)) (rows : List Row)
+    (old new : List ℕ) : Type 0 where
   pub lines : List CutLine
   pub lines_are : AllZip (IsLineFor r columns) rows lines
   pub appended : new ≡ old ++ flat_map row_text lines

@@ -35,20 +35,25 @@ pub record IsNamedTerm (columns : List (List ℕ)) (t : Term) (named : CutTerm) 
 -- the cut of the row by the rule: by a function with its slopes at 0, or the mixed-integer cut
 abbrev pub IsMixedCutBy : CutRule → List (List ℕ) → Row → MixedCut → Type 0
 IsMixedCutBy (Table f) columns row cut =
-    (up : Frac) × (down : Frac) × AreSlopesAtZero f up down × IsMixedCutOfKind (kind.Table f) up down (continuous_columns columns) row cut
+    (up : Frac) × (down : Frac) × AreSlopesAtZero f up down
+    × IsMixedCutOfKind (kind.Table f) up down (continuous_columns columns) row cut
 IsMixedCutBy Gmic columns row cut = IsGmicMixedCutOf (continuous_columns columns) row cut
 
 -- the line of a row with this cut, with the names of its columns: the terms of whole columns, and
 -- the weights of continuous ones; or why the row has no cut
 abbrev pub NamesMixedCut : List (List ℕ) → Row → MixedCut → CutLine → List CutTerm → Type 0
 NamesMixedCut columns row (mixed_cut.Cut terms weights) (Cut name right named) weighed =
-    (name ≡ row.basic) × (right ≡ row.rhs) × AllZip (IsNamedTerm columns) terms named × AllZip (IsNamedTerm columns) weights weighed
-NamesMixedCut columns row mixed_cut.Integral (Skip name right Integral) weighed = (name ≡ row.basic) × (right ≡ row.rhs) × (weighed ≡ [])
-NamesMixedCut columns row mixed_cut.OtherFraction (Skip name right Other) weighed = (name ≡ row.basic) × (right ≡ row.rhs) × (weighed ≡ [])
+    (name ≡ row.basic) × (right ≡ row.rhs) × AllZip (IsNamedTerm columns) terms named
+    × AllZip (IsNamedTerm columns) weights weighed
+NamesMixedCut columns row mixed_cut.Integral (Skip name right Integral) weighed = (name ≡ row.basic)
+    × (right ≡ row.rhs) × (weighed ≡ [])
+NamesMixedCut columns row mixed_cut.OtherFraction (Skip name right Other) weighed =
+    (name ≡ row.basic) × (right ≡ row.rhs) × (weighed ≡ [])
 NamesMixedCut columns row cut line weighed = ⊥
 
 -- the line of the row is that of its cut by the rule
-pub record IsMixedLineFor («rule» : CutRule) (columns : List (List ℕ)) (row : Row) (m : MixedLine) : Type 0 where
+pub record IsMixedLineFor («rule» : CutRule) (columns : List (List ℕ)) (row : Row) (m : MixedLine) :
+    Type 0 where
   pub cut : MixedCut
   pub is_cut : IsMixedCutBy «rule» columns row cut
   pub names : NamesMixedCut columns row cut m.line m.weights
@@ -56,7 +61,8 @@ pub record IsMixedLineFor («rule» : CutRule) (columns : List (List ℕ)) (row 
 -- the cut, if there is one, holds at each solution of its row
 abbrev pub LineHolds : CutLine → List CutTerm → Type 0
 LineHolds (Cut name right terms) weights =
-    MixedCutHolds (map (λ t. t.entry) terms) (map (λ t. t.entry) weights) right (map (λ t. t.cut) terms) (map (λ t. t.cut) weights)
+    MixedCutHolds (map (λ t. t.entry) terms) (map (λ t. t.entry) weights) right
+    (map (λ t. t.cut) terms) (map (λ t. t.cut) weights)
 LineHolds (Skip name right reason) weights = Unit {0}
 
 abbrev pub MixedLineHolds : MixedLine → Type 0
@@ -66,11 +72,14 @@ MixedLineHolds m = LineHolds m.line m.weights
 
 -- `weight NAME C W`
 abbrev pub weight_line : CutTerm → List ℕ
-weight_line t = line (codes "weight " ++ t.name ++ codes " " ++ fraction_text t.entry ++ codes " " ++ fraction_text t.cut)
+weight_line t = line (codes "weight " ++ t.name ++ codes " " ++ fraction_text t.entry ++ codes " "
+    ++ fraction_text t.cut)
 
 -- the line of a term with this word and the name of its column
 abbrev pub named_line : List ℕ → List (List ℕ) → Term → List ℕ
-named_line word columns t = word ++ (get_or columns t.column [] ++ (32 ∷ (fraction_text t.entry ++ (32 ∷ (fraction_text t.cut ++ 10 ∷ [])))))
+named_line word columns t =
+    word ++ (get_or columns t.column []
+    ++ (32 ∷ (fraction_text t.entry ++ (32 ∷ (fraction_text t.cut ++ 10 ∷ [])))))
 
 -- the lines of a row: those of its whole columns as in a proof text, and a line for each continuous
 -- column
@@ -85,12 +94,14 @@ pub record AreMixedCutsOf («rule» : CutRule) (tableau : Tableau) (text : List 
   pub hold : All MixedLineHolds lines
   pub subject : List ℕ
   pub subject_is : AreSubjectLines (subject_of_rule «rule») subject
-  pub spelled : text ≡ line (codes "gj-mixed 1") ++ subject ++ flat_map mixed_row_text lines ++ line (codes "end")
+  pub spelled : text ≡ line (codes "gj-mixed 1") ++ subject ++ flat_map mixed_row_text lines ++ line
+      (codes "end")
 
 -- ---- what is made
 
 -- the line of a row by the rule, whose cut holds
-pub record IsMadeLine («rule» : CutRule) (columns : List (List ℕ)) (row : Row) (m : MixedLine) : Type 0 where
+pub record IsMadeLine («rule» : CutRule) (columns : List (List ℕ)) (row : Row) (m : MixedLine) :
+    Type 0 where
   pub line_is : IsMixedLineFor «rule» columns row m
   pub holds : MixedLineHolds m
 
@@ -98,13 +109,15 @@ abbrev pub AreMadeLines : CutRule → List (List ℕ) → List Row → List Mixe
 AreMadeLines r columns rows lines = AllZip (IsMadeLine r columns) rows lines
 
 -- the new text is the old one, with the lines of the rows behind it
-pub record AppendsLines (r : CutRule) (columns : List (List ℕ)) (rows : List Row) (old new : List ℕ) : Type 0 where
+pub record AppendsLines (r : CutRule) (columns : List (List ℕ)) (rows : List Row)
+    (old new : List ℕ) : Type 0 where
   pub lines : List MixedLine
   pub are_made : AreMadeLines r columns rows lines
   pub appended : new ≡ old ++ flat_map mixed_row_text lines
 
 -- the columns of the terms of a cut are among so many
 abbrev pub AreInColumns : ℕ → MixedCut → Type 0
-AreInColumns n (mixed_cut.Cut terms weights) = All (λ t. t.column < n) terms × All (λ t. t.column < n) weights
+AreInColumns n (mixed_cut.Cut terms weights) = All (λ t. t.column < n) terms
+    × All (λ t. t.column < n) weights
 AreInColumns n mixed_cut.Integral = Unit {0}
 AreInColumns n mixed_cut.OtherFraction = Unit {0}

@@ -14,13 +14,15 @@ use Rattle.gj_demo.specs.Summary.{AreCoveredIntervals}
 
 -- ---- elements that a test picks
 
-picked_next : {X : Type 0} (p : X → Bool) (P : X → Type 0) (x : X) (xs ys : List X) (b : Bool) → p x ≡ b →
+picked_next : {X : Type 0} (p : X → Bool) (P : X → Type 0) (x : X) (xs ys : List X) (b : Bool) →
+    p x ≡ b →
     ((p x ≡ true) ↔ P x) → ArePicked P xs ys → ArePicked P (x ∷ xs) (cond b (x ∷ ys) ys)
 picked_next p P x xs ys true e h more = kept (h.0 e) more
 picked_next p P x xs ys false e h more = dropped (λ held. let yes = h.1 held in absurd cc) more
 
 -- the elements at which a test gives true are those with the property for which it tests
-picked_by_test : {X : Type 0} (p : X → Bool) (P : X → Type 0) (xs : List X) → All (λ x. (p x ≡ true) ↔ P x) xs →
+picked_by_test : {X : Type 0} (p : X → Bool) (P : X → Type 0) (xs : List X) →
+    All (λ x. (p x ≡ true) ↔ P x) xs →
     ArePicked P xs (filter p xs)
 picked_by_test p P [] all = none
 picked_by_test p P (x ∷ xs) all =
@@ -38,13 +40,16 @@ some_unless_none None h = absurd (h refl)
 some_unless_none (Some n) h = refl
 
 -- an interval has a number exactly if it is covered
-number_where_covered : (q : ℕ) (Tight : ℕ → ℕ → Type 0) (lines : List CoverLine) (component : List (Option ℕ)) (i : ℕ) →
-    AreComponents q Tight lines component → i < q → (is_some (number_at component i) ≡ true) ↔ IsCovered q Tight i
+number_where_covered : (q : ℕ) (Tight : ℕ → ℕ → Type 0) (lines : List CoverLine)
+    (component : List (Option ℕ)) (i : ℕ) →
+    AreComponents q Tight lines component → i < q → (is_some (number_at component i) ≡ true)
+    ↔ IsCovered q Tight i
 number_where_covered q Tight lines component i h below = (
   (λ some.
       let (n, at) = has_number (number_at component i) some in
       ((h.same i i below below).0 (n, at, at)).0),
-  (λ covered. some_unless_none (number_at component i) (λ open_interval. (h.uncovered i below).0 open_interval covered)),
+  (λ covered. some_unless_none (number_at component i)
+      (λ open_interval. (h.uncovered i below).0 open_interval covered)),
 )
 
 count_over_range : (p : Option ℕ → Bool) (whole : List (Option ℕ)) (xs : List (Option ℕ)) (a : ℕ) →
@@ -62,7 +67,8 @@ count_over_range p whole (x ∷ xs) a same =
 
 pub counted_intervals : (f : FunctionData) (lines : List CoverLine) (component : List (Option ℕ)) →
     AreComponents f.order (IsTight f) lines component →
-    (intervals : List ℕ) × AreCoveredIntervals f intervals × (length intervals ≡ count_by is_some component)
+    (intervals : List ℕ) × AreCoveredIntervals f intervals
+    × (length intervals ≡ count_by is_some component)
 counted_intervals f lines component h =
     let test : ℕ → Bool = λ i. is_some (number_at component i) in (
       filter test (range_with_len 0 f.order),
@@ -71,5 +77,6 @@ counted_intervals f lines component h =
           (λ i below. number_where_covered f.order (IsTight f) lines component i h (omega arith))),
       length-filter test (range_with_len 0 f.order)
           ∙ ap (λ n. count_by test (range_with_len 0 n)) (sym h.length)
-          ∙ count_over_range is_some component component 0 (λ i _. ap (number_at component) (zero-add i)),
+          ∙ count_over_range is_some component component 0
+          (λ i _. ap (number_at component) (zero-add i)),
     )

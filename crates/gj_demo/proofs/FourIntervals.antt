@@ -37,7 +37,8 @@ high_odd k i some low high odd =
 abbrev pub AddUpAtTight : ℕ → (ℕ → ℕ → Type 0) → Type 0
 AddUpAtTight k Tight = (a b : ℕ) → number_at k a + number_at k b ≡ number_at k (a + b) → Tight a b
 
-lower_face : (k : ℕ) (Tight : ℕ → ℕ → Type 0) (i : ℕ) → AddUpAtTight k Tight → i < k → i % 2 ≡ 0 → IsAdditive Tight Lower 0 i
+lower_face : (k : ℕ) (Tight : ℕ → ℕ → Type 0) (i : ℕ) → AddUpAtTight k Tight → i < k → i % 2 ≡ 0 →
+    IsAdditive Tight Lower 0 i
 lower_face k Tight i tight below even =
     let some : 0 < k = omega arith in
     let zero_is = low_even k 0 some (omega arith) refl in
@@ -50,7 +51,8 @@ lower_face k Tight i tight below even =
     All-three (λ corner. Tight corner.0 corner.1) (0, i) (1, i) (0, i + 1)
     (tight 0 i (omega arith)) (tight 1 i (omega arith)) (tight 0 (i + 1) (omega arith))
 
-low_horizontal : (k : ℕ) (Tight : ℕ → ℕ → Type 0) (b : ℕ) → AddUpAtTight k Tight → b + 2 ≤ k → b % 2 ≡ 0 →
+low_horizontal : (k : ℕ) (Tight : ℕ → ℕ → Type 0) (b : ℕ) → AddUpAtTight k Tight → b + 2 ≤ k →
+    b % 2 ≡ 0 →
     IsAdditive Tight Horizontal 1 b
 low_horizontal k Tight b tight below even =
     let some : 0 < k = omega arith in
@@ -59,9 +61,11 @@ low_horizontal k Tight b tight below even =
     let here_is = low_even k b some (omega arith) even in
     let next_is = low_odd k (1 + b) some (omega arith) (omega arith) in
     let last_is = low_even k (2 + b) some (omega arith) (omega arith) in
-    All-two (λ corner. Tight corner.0 corner.1) (1, b) (2, b) (tight 1 b (omega arith)) (tight 2 b (omega arith))
+    All-two (λ corner. Tight corner.0 corner.1) (1, b) (2, b) (tight 1 b (omega arith))
+    (tight 2 b (omega arith))
 
-upper_face : (k : ℕ) (Tight : ℕ → ℕ → Type 0) (i : ℕ) → AddUpAtTight k Tight → k ≤ i → i < 2 * k → i % 2 ≡ 1 →
+upper_face : (k : ℕ) (Tight : ℕ → ℕ → Type 0) (i : ℕ) → AddUpAtTight k Tight → k ≤ i → i < 2 * k →
+    i % 2 ≡ 1 →
     IsAdditive Tight Upper (2 * k - 1) i
 upper_face k Tight i tight low high odd =
     let some : 0 < k = omega arith in
@@ -74,9 +78,11 @@ upper_face k Tight i tight low high odd =
     let second_sum = number_beyond k (a + (i + 1)) i (omega arith) in
     let third_sum = number_beyond k (a + 1 + (i + 1)) (i + 1) (omega arith) in
     All-three (λ corner. Tight corner.0 corner.1) (a + 1, i) (a, i + 1) (a + 1, i + 1)
-    (tight (a + 1) i (omega arith)) (tight a (i + 1) (omega arith)) (tight (a + 1) (i + 1) (omega arith))
+    (tight (a + 1) i (omega arith)) (tight a (i + 1) (omega arith))
+    (tight (a + 1) (i + 1) (omega arith))
 
-high_horizontal : (k : ℕ) (Tight : ℕ → ℕ → Type 0) (i : ℕ) → AddUpAtTight k Tight → k % 2 ≡ 1 → k ≤ i → i < 2 * k → i % 2 ≡ 0 →
+high_horizontal : (k : ℕ) (Tight : ℕ → ℕ → Type 0) (i : ℕ) → AddUpAtTight k Tight → k % 2 ≡ 1 →
+    k ≤ i → i < 2 * k → i % 2 ≡ 0 →
     IsAdditive Tight Horizontal (2 * k - 2) (i + 2)
 high_horizontal k Tight i tight k_odd low high even =
     let some : 0 < k = omega arith in
@@ -94,7 +100,8 @@ high_horizontal k Tight i tight k_odd low high even =
 
 -- ---- the interval to which each is joined
 
-joined_low_even : (k : ℕ) (Tight : ℕ → ℕ → Type 0) (i : ℕ) → AddUpAtTight k Tight → i < k → i % 2 ≡ 0 → AreJoined (2 * k) Tight i 0
+joined_low_even : (k : ℕ) (Tight : ℕ → ℕ → Type 0) (i : ℕ) → AddUpAtTight k Tight → i < k →
+    i % 2 ≡ 0 → AreJoined (2 * k) Tight i 0
 joined_low_even k Tight i tight below even = (
   Lower,
   0,
@@ -106,7 +113,8 @@ joined_low_even k Tight i tight below even = (
   },
 )
 
-joined_low_odd : (k : ℕ) (Tight : ℕ → ℕ → Type 0) (i : ℕ) → AddUpAtTight k Tight → i < k → i % 2 ≡ 1 → AreJoined (2 * k) Tight i 1
+joined_low_odd : (k : ℕ) (Tight : ℕ → ℕ → Type 0) (i : ℕ) → AddUpAtTight k Tight → i < k →
+    i % 2 ≡ 1 → AreJoined (2 * k) Tight i 1
 joined_low_odd k Tight i tight below odd =
     let b = i - 1 in
     let whole : 1 + b ≡ i = omega arith in (
@@ -120,7 +128,8 @@ joined_low_odd k Tight i tight below odd =
       },
     )
 
-joined_high_odd : (k : ℕ) (Tight : ℕ → ℕ → Type 0) (i : ℕ) → AddUpAtTight k Tight → k ≤ i → i < 2 * k → i % 2 ≡ 1 →
+joined_high_odd : (k : ℕ) (Tight : ℕ → ℕ → Type 0) (i : ℕ) → AddUpAtTight k Tight → k ≤ i →
+    i < 2 * k → i % 2 ≡ 1 →
     AreJoined (2 * k) Tight i (2 * k - 1)
 joined_high_odd k Tight i tight low high odd = (
   Upper,
@@ -133,7 +142,8 @@ joined_high_odd k Tight i tight low high odd = (
   },
 )
 
-joined_high_even : (k : ℕ) (Tight : ℕ → ℕ → Type 0) (i : ℕ) → AddUpAtTight k Tight → k % 2 ≡ 1 → k ≤ i → i < 2 * k → i % 2 ≡ 0 →
+joined_high_even : (k : ℕ) (Tight : ℕ → ℕ → Type 0) (i : ℕ) → AddUpAtTight k Tight → k % 2 ≡ 1 →
+    k ≤ i → i < 2 * k → i % 2 ≡ 0 →
     AreJoined (2 * k) Tight i (2 * k - 2)
 joined_high_even k Tight i tight k_odd low high even =
     let a = 2 * k - 2 in
@@ -143,7 +153,14 @@ joined_high_even k Tight i tight k_odd low high even =
       i + 2,
       record {
         additive = high_horizontal k Tight i tight k_odd low high even;
-        first = (1, a + (i + 2), omega arith, refl, ap (λ j. j % (2 * k)) whole ∙ add-mod_right i (2 * k));
+        first = (
+          1,
+          a + (i + 2),
+          omega arith,
+          refl,
+          ap (λ j. j % (2 * k)) whole
+              ∙ add-mod_right i (2 * k),
+        );
         second = (0, a, omega arith, refl, refl);
       },
     )
@@ -167,25 +184,32 @@ class_high k i high = ap (λ b. (if b then 2 + i % 2 else i % 2)) (le-leb k i hi
 
 pub class_below : (k i : ℕ) → class_of k i < 4
 class_below k i =
-    ⊎_elim (λ below. let e = class_low k i below in omega arith) (λ high. let e = class_high k i high in omega arith) (cases_lt i k)
+    ⊎_elim (λ below. let e = class_low k i below in omega arith)
+    (λ high. let e = class_high k i high in omega arith) (cases_lt i k)
 
 even_or_odd : (i : ℕ) → (i % 2 ≡ 0) ⊎ (i % 2 ≡ 1)
-even_or_odd i = ⊎_elim (λ (below : i % 2 < 1). inl (omega arith)) (λ (high : 1 ≤ i % 2). inr (omega arith)) (cases_lt (i % 2) 1)
+even_or_odd i = ⊎_elim (λ (below : i % 2 < 1). inl (omega arith))
+    (λ (high : 1 ≤ i % 2). inr (omega arith)) (cases_lt (i % 2) 1)
 
 -- the interval with the number c is j, and i is joined to it
-to_chosen : (k : ℕ) (Tight : ℕ → ℕ → Type 0) (i j c : ℕ) → class_of k i ≡ c → j ≡ chosen k c → AreJoined (2 * k) Tight i j →
+to_chosen : (k : ℕ) (Tight : ℕ → ℕ → Type 0) (i j c : ℕ) → class_of k i ≡ c → j ≡ chosen k c →
+    AreJoined (2 * k) Tight i j →
     LeadsTo (2 * k) Tight (chosen k (class_of k i)) i
 to_chosen k Tight i j c e there both =
-    subst (λ b. LeadsTo (2 * k) Tight b i) (there ∙ ap (chosen k) (sym e)) (onward i j both (here j refl))
+    subst (λ b. LeadsTo (2 * k) Tight b i) (there ∙ ap (chosen k) (sym e))
+    (onward i j both (here j refl))
 
-pub leads_to_chosen : (k : ℕ) (Tight : ℕ → ℕ → Type 0) (i : ℕ) → AddUpAtTight k Tight → k % 2 ≡ 1 → i < 2 * k →
+pub leads_to_chosen : (k : ℕ) (Tight : ℕ → ℕ → Type 0) (i : ℕ) → AddUpAtTight k Tight → k % 2 ≡ 1 →
+    i < 2 * k →
     LeadsTo (2 * k) Tight (chosen k (class_of k i)) i
 unfolding chosen
 leads_to_chosen k Tight i tight k_odd within =
     ⊎_elim
     (λ (below : i < k). ⊎_elim
-    (λ even. to_chosen k Tight i 0 0 (class_low k i below ∙ even) refl (joined_low_even k Tight i tight below even))
-    (λ odd. to_chosen k Tight i 1 1 (class_low k i below ∙ odd) refl (joined_low_odd k Tight i tight below odd))
+    (λ even. to_chosen k Tight i 0 0 (class_low k i below ∙ even) refl
+    (joined_low_even k Tight i tight below even))
+    (λ odd. to_chosen k Tight i 1 1 (class_low k i below ∙ odd) refl
+    (joined_low_odd k Tight i tight below odd))
     (even_or_odd i))
     (λ (high : k ≤ i). ⊎_elim
     (λ even. to_chosen k Tight i (2 * k - 2) 2 (class_high k i high ∙ ap (λ p. 2 + p) even) refl

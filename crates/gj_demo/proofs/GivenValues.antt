@@ -28,7 +28,8 @@ unfolding numbers
 number_in k i below =
     let long = numbers_length k in
     at_below (numbers k) i (omega arith)
-    ∙ get_or-map-range_with_len (λ j. pos (demo_number k j)) 0 (2 * k) i i (pos 0) below (omega arith)
+    ∙ get_or-map-range_with_len (λ j. pos (demo_number k j)) 0 (2 * k) i i (pos 0) below
+    (omega arith)
 
 number_small : (k i : ℕ) → i < 2 * k → demo_number k i ≤ 2 * k
 number_small k i below =
@@ -41,7 +42,8 @@ numbers_small k i d below =
     let long = numbers_length k in
     let inside : i < 2 * k = omega arith in
     let entry : get_or (numbers k) i d ≡ pos (demo_number k i) =
-    get_or_default (numbers k) i d (pos 0) below ∙ sym (at_below (numbers k) i below) ∙ number_in k i inside in
+    get_or_default (numbers k) i d (pos 0) below ∙ sym (at_below (numbers k) i below)
+    ∙ number_in k i inside in
     let small = number_small k i inside in
     subst (IsSmallOver (2 * k)) (sym entry) (omega arith)
 
@@ -53,14 +55,16 @@ pub record AreDemoValues (k : ℕ) (xs : List Frac) : Type 0 where
   pub length_is : length xs ≡ 2 * k
   pub values_are : AreOver (λ i. pos (demo_number k i)) (2 * k) xs
 
-fractions : (k : ℕ) (xs : List Frac) → AreDemoValues k xs → AreFractions (2 * k) (numbers k) (numbers k) xs xs
+fractions : (k : ℕ) (xs : List Frac) → AreDemoValues k xs →
+    AreFractions (2 * k) (numbers k) (numbers k) xs xs
 fractions k xs h =
     let long = numbers_length k in
     let count = h.length_is in
     let some = h.some in
     let high = h.high in
     let are : AreOver (at (numbers k)) (2 * k) xs = λ i x below.
-    subst (λ z. IsRatio (get_or xs i x) z (pos (2 * k))) (sym (number_in k i (omega arith))) (h.values_are i x below) in
+    subst (λ z. IsRatio (get_or xs i x) z (pos (2 * k))) (sym (number_in k i (omega arith)))
+    (h.values_are i x below) in
     record {
       some = omega arith;
       lengths = refl;
@@ -99,5 +103,6 @@ demo_only_memory k xs e h fault =
     let long = numbers_length k in
     let some = h.some in
     let high = h.high in
-    only_memory k (2 * k) (numbers k) (numbers k) xs xs e (omega arith, omega arith) (omega arith, omega arith) (fractions k xs h)
+    only_memory k (2 * k) (numbers k) (numbers k) xs xs e (omega arith, omega arith)
+    (omega arith, omega arith) (fractions k xs h)
     (subst (λ (q : ℕ). HasFault q k xs xs xs e) (sym long) fault)

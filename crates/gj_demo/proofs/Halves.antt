@@ -33,7 +33,8 @@ pub tent_minimal : (k : ℕ) → 0 < k → IsMinimalTable (λ i. pos (tent k i))
 tent_minimal k some =
     let half : 2 * k - k ≡ k = omega arith in
     let scale : gmic_scale (2 * k) k ≡ k * k = ap (λ n. k * n) half in
-    multiple_minimal k 1 (λ i. pos (tent k i)) (λ i. pos (gmic_table (2 * k) k i)) (2 * k) k k (gmic_scale (2 * k) k)
+    multiple_minimal k 1 (λ i. pos (tent k i)) (λ i. pos (gmic_table (2 * k) k i)) (2 * k) k k
+    (gmic_scale (2 * k) k)
     (record { some = some; same = λ i. let e = gmic_is_tent k i some in omega (arith, ints) })
     (omega (arith, ints))
     (gmic_minimal (2 * k) k some (omega arith))
@@ -55,10 +56,12 @@ parity_below k i j =
     let times = mul-le-mul_left k low in
     omega arith
 
-odd_opposite : (n i j : ℕ) → (i + j) % (2 * (2 * n + 1)) ≡ (2 * n + 1) % (2 * (2 * n + 1)) → i % 2 + j % 2 ≡ 1
+odd_opposite : (n i j : ℕ) → (i + j) % (2 * (2 * n + 1)) ≡ (2 * n + 1) % (2 * (2 * n + 1)) →
+    i % 2 + j % 2 ≡ 1
 odd_opposite n i j e =
     let k = 2 * n + 1 in
-    let parity : (i + j) % 2 ≡ k % 2 = sym (same_parity k (i + j)) ∙ ap (λ r. r % 2) e ∙ same_parity k k in
+    let parity : (i + j) % 2 ≡ k % 2 = sym (same_parity k (i + j)) ∙ ap (λ r. r % 2) e
+    ∙ same_parity k k in
     omega arith
 
 pub alternation_minimal : (n : ℕ) →
@@ -85,9 +88,12 @@ unfolding alternation
 numbers_are_sums k i = number_is k i
 
 pub numbers_minimal : (n : ℕ) →
-    IsMinimalTable (λ i. pos (tent (2 * n + 1) i) +ℤ pos (alternation (2 * n + 1) i)) (2 * (2 * n + 1)) (2 * n + 1) (2 * (2 * n + 1))
+    IsMinimalTable (λ i. pos (tent (2 * n + 1) i) +ℤ pos (alternation (2 * n + 1) i))
+    (2 * (2 * n + 1)) (2 * n + 1) (2 * (2 * n + 1))
 numbers_minimal n =
     let k = 2 * n + 1 in
     let twice : k + k ≡ 2 * k = omega arith in
-    subst (λ (s : ℕ). IsMinimalTable (λ i. pos (tent k i) +ℤ pos (alternation k i)) (2 * k) k s) twice
-    (sum_minimal (λ i. pos (tent k i)) (λ i. pos (alternation k i)) (2 * k) k k k (tent_minimal k (omega arith)) (alternation_minimal n))
+    subst (λ (s : ℕ). IsMinimalTable (λ i. pos (tent k i) +ℤ pos (alternation k i)) (2 * k) k s)
+    twice
+    (sum_minimal (λ i. pos (tent k i)) (λ i. pos (alternation k i)) (2 * k) k k k
+    (tent_minimal k (omega arith)) (alternation_minimal n))

@@ -38,7 +38,8 @@ tent_falling k i some low high =
     (λ (below : i < 2 * k). ap (λ r. min r (2 * k - r)) (mod-eq_of_lt below) ∙ omega arith)
     (λ (above : 2 * k ≤ i).
     let end : i ≡ 2 * k = omega arith in
-    ap (λ j. min (j % (2 * k)) (2 * k - j % (2 * k))) end ∙ ap (λ r. min r (2 * k - r)) (mod_self (2 * k)) ∙ omega arith)
+    ap (λ j. min (j % (2 * k)) (2 * k - j % (2 * k))) end
+    ∙ ap (λ r. min r (2 * k - r)) (mod_self (2 * k)) ∙ omega arith)
     (cases_lt i (2 * k))
 
 -- ---- the numbers
@@ -51,7 +52,8 @@ pub number_rising : (k i : ℕ) → 0 < k → i ≤ k → number_at k i ≡ i + 
 number_rising k i some low = number_is k i ∙ ap (λ t. t + k * (i % 2)) (tent_rising k i some low)
 
 pub number_falling : (k i : ℕ) → 0 < k → k ≤ i → i ≤ 2 * k → number_at k i ≡ 2 * k - i + k * (i % 2)
-number_falling k i some low high = number_is k i ∙ ap (λ t. t + k * (i % 2)) (tent_falling k i some low high)
+number_falling k i some low high = number_is k i
+    ∙ ap (λ t. t + k * (i % 2)) (tent_falling k i some low high)
 
 -- from one period on
 pub number_beyond : (k i j : ℕ) → i ≡ j + 2 * k → number_at k i ≡ number_at k j

@@ -16,21 +16,31 @@ use Rattle.gj_demo.specs.Summary.{HasSummary, lines_with}
 use Rattle.gj_demo.proofs.Counts.{counted_intervals}
 
 -- what is pushed line by line stands there in turn
-pub nine_in_turn : (a b c d e f g h i : List ℕ) (first second third fourth fifth sixth seventh eighth whole : List ℕ) →
-    first ≡ a → second ≡ first ++ b → third ≡ second ++ c → fourth ≡ third ++ d → fifth ≡ fourth ++ e → sixth ≡ fifth ++ f →
-    seventh ≡ sixth ++ g → eighth ≡ seventh ++ h → whole ≡ eighth ++ i → whole ≡ a ++ b ++ c ++ d ++ e ++ f ++ g ++ h ++ i
-nine_in_turn a b c d e f g h i first second third fourth fifth sixth seventh eighth whole p q r s t u v w x =
-    x ∙ ap (λ z. z ++ i) (w ∙ ap (λ z. z ++ h) (v ∙ ap (λ z. z ++ g) (u ∙ ap (λ z. z ++ f) (t ∙ ap (λ z. z ++ e)
+pub nine_in_turn : (a b c d e f g h i : List ℕ)
+    (first second third fourth fifth sixth seventh eighth whole : List ℕ) →
+    first ≡ a → second ≡ first ++ b → third ≡ second ++ c → fourth ≡ third ++ d →
+    fifth ≡ fourth ++ e → sixth ≡ fifth ++ f →
+    seventh ≡ sixth ++ g → eighth ≡ seventh ++ h → whole ≡ eighth ++ i →
+    whole ≡ a ++ b ++ c ++ d ++ e ++ f ++ g ++ h ++ i
+nine_in_turn a b c d e f g h i first second third fourth fifth sixth seventh eighth whole p q r s t
+    u v w x =
+    x ∙ ap (λ z. z ++ i)
+    (w ∙ ap (λ z. z ++ h) (v ∙ ap (λ z. z ++ g) (u ∙ ap (λ z. z ++ f) (t ∙ ap (λ z. z ++ e)
     (s ∙ ap (λ z. z ++ d) (r ∙ ap (λ z. z ++ c) (q ∙ ap (λ z. z ++ b) p)))))))
 
-pub summary_of : (n : ℕ) (f : FunctionData) (claim : Claim) (h : Halves) (listed : List Face) (cover : Cover)
-    (order triangles covered uncovered : ℕ) (text : List ℕ) → IsDemo n f → IsWithinBounds f → IsDecided f claim → claim ≡ NotExtreme f h →
+pub summary_of : (n : ℕ) (f : FunctionData) (claim : Claim) (h : Halves) (listed : List Face)
+    (cover : Cover)
+    (order triangles covered uncovered : ℕ) (text : List ℕ) → IsDemo n f → IsWithinBounds f →
+    IsDecided f claim → claim ≡ NotExtreme f h →
     AreAdditiveTriangles f listed → IsCoverOf f.order (IsTight f) cover → order ≡ f.order →
-    triangles ≡ length listed → covered ≡ count_by is_some cover.component → uncovered ≡ order - covered →
+    triangles ≡ length listed → covered ≡ count_by is_some cover.component →
+    uncovered ≡ order - covered →
     text ≡ lines_with n order triangles covered uncovered cover.count h → HasSummary n text
-summary_of n f claim h listed cover order triangles covered uncovered text demo bounds decided is are_triangles cover_is order_is
+summary_of n f claim h listed cover order triangles covered uncovered text demo bounds decided is
+    are_triangles cover_is order_is
     triangles_are covered_are uncovered_are spelled =
-    let (intervals, are_intervals, some) = counted_intervals f cover.lines cover.component cover_is.component in
+    let (intervals, are_intervals, some) =
+    counted_intervals f cover.lines cover.component cover_is.component in
     record {
       function = f;
       halves = h;
@@ -43,13 +53,16 @@ summary_of n f claim h listed cover order triangles covered uncovered text demo 
         intervals = intervals;
         are_intervals = are_intervals;
         uncovered = uncovered;
-        others = let few = count_by-le-length is_some cover.component in let long = cover_is.component.length in omega arith;
+        others = let few = count_by-le-length is_some cover.component in
+            let long = cover_is.component.length in omega arith;
         lines = cover.lines;
         are_lines = cover_is.lines;
         spelled = spelled
             ∙ ap (λ m. lines_with n m triangles covered uncovered cover.count h) order_is
             ∙ ap (λ m. lines_with n f.order m covered uncovered cover.count h) triangles_are
-            ∙ ap (λ m. lines_with n f.order (length listed) m uncovered cover.count h) (covered_are ∙ sym some)
-            ∙ ap (λ m. lines_with n f.order (length listed) (length intervals) uncovered m h) cover_is.count;
+            ∙ ap (λ m. lines_with n f.order (length listed) m uncovered cover.count h)
+            (covered_are ∙ sym some)
+            ∙ ap (λ m. lines_with n f.order (length listed) (length intervals) uncovered m h)
+            cover_is.count;
       };
     }

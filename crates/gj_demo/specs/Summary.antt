@@ -18,14 +18,17 @@ use Rattle.gj_demo.specs.Demo.{IsDemo}
 
 -- the covered intervals of the function, ascending
 abbrev pub AreCoveredIntervals : FunctionData → List ℕ → Type 0
-AreCoveredIntervals f intervals = ArePicked (IsCovered f.order (IsTight f)) (range_with_len 0 f.order) intervals
+AreCoveredIntervals f intervals =
+    ArePicked (IsCovered f.order (IsTight f)) (range_with_len 0 f.order) intervals
 
 -- the lines of a summary with these numbers
 abbrev pub lines_with : ℕ → ℕ → ℕ → ℕ → ℕ → ℕ → Halves → List ℕ
 lines_with n order triangles covered uncovered components h =
-    count_line (codes "demo ") n ++ order_line order ++ line (codes "f 1/2") ++ count_line (codes "triangles ") triangles
+    count_line (codes "demo ") n ++ order_line order ++ line (codes "f 1/2") ++ count_line
+    (codes "triangles ") triangles
     ++ count_line (codes "covered ") covered ++ count_line (codes "uncovered ") uncovered
-    ++ count_line (codes "components ") components ++ line (codes "verdict not-extreme") ++ halves_line h
+    ++ count_line (codes "components ") components ++ line (codes "verdict not-extreme")
+    ++ halves_line h
 
 -- the text sums up the n-th function: how many triangles are additive, how many intervals are
 -- covered and how many are not, how many components there are, and that it is not extreme, with the
@@ -40,7 +43,8 @@ pub record IsSummary (n : ℕ) (f : FunctionData) (h : Halves) (text : List ℕ)
   pub others : length intervals + uncovered ≡ f.order
   pub lines : List CoverLine
   pub are_lines : AreCoverLines f.order (IsTight f) lines
-  pub spelled : text ≡ lines_with n f.order (length triangles) (length intervals) uncovered (components_in lines) h
+  pub spelled : text ≡ lines_with n f.order (length triangles) (length intervals) uncovered
+      (components_in lines) h
 
 -- the text is such a summary, of a function within the limits, with the halves that the decision
 -- gives

@@ -19,7 +19,8 @@ moved_along [] xs ys zs total same h = h
 moved_along (c ∷ columns) xs ys zs total same (shift, rest, first, more, is) = (
   shift,
   rest,
-  subst (λ y. IsMovedBy (HasLower c) (HasUpper c) (xs zero) y shift) (same zero (omega arith)) first,
+  subst (λ y. IsMovedBy (HasLower c) (HasUpper c) (xs zero) y shift)
+      (same zero (omega arith)) first,
   moved_along columns (λ j. xs (suc j)) (λ j. ys (suc j)) (λ j. zs (suc j)) rest
       (λ j below. same (suc j) (omega arith)) more,
   is,
@@ -44,7 +45,8 @@ unmovable_along columns xs ys zs j same h = record {
 }
 
 pub wide_along : (columns : List Column) (factor : Frac) (base : Line) (ys zs : ℕ → Rational) →
-    AgreeIn columns ys zs → IsWideMoving columns factor base ys → IsWideMoving columns factor base zs
+    AgreeIn columns ys zs → IsWideMoving columns factor base ys →
+    IsWideMoving columns factor base zs
 wide_along columns factor base ys zs same =
     ⊎_elim
     (λ (a : (right : Frac) × (rational right ≡ base.right) × (FitsProduct factor right → ⊥)). inl a)

@@ -101,7 +101,8 @@ module _ (f : Option FunctionData) (grid : Option ℕ) where
   all_shown p drafts i xs r end h = subst (λ (ds : List Draft). AreShown f grid (begun p) ds xs)
       (take_all i drafts end) h.are_shown
 
-  pub reached_at : (p : Problem) (drafts : List Draft) (i : ℕ) (d : Draft) (xs : List Shown) (r : Reached) → i < length drafts → d ≡ get_or drafts i d →
+  pub reached_at : (p : Problem) (drafts : List Draft) (i : ℕ) (d : Draft) (xs : List Shown)
+      (r : Reached) → i < length drafts → d ≡ get_or drafts i d →
       AreShownTo p (take i drafts) xs r → IsReached f grid p drafts i xs r d
   reached_at p drafts i d xs r below here h = record {
     before = take i drafts;

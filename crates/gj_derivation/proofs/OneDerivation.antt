@@ -277,7 +277,8 @@ module _ (f : Option FunctionData) (grid : Option ℕ) where
   lost_or_failed : (p : Problem) (drafts : List Draft) (i : ℕ) (failure : Failure)
       (xs ys : List Shown) → All IsUsableDraft drafts →
       IsDerivedBy f grid p drafts (derived.Lost i xs) →
-      IsDerivedBy f grid p drafts (derived.Failed failure ys) → TellWide f grid (begun p) drafts xs →
+      IsDerivedBy f grid p drafts (derived.Failed failure ys) →
+      TellWide f grid (begun p) drafts xs →
       TellWide f grid (begun p) drafts (ys ++ shown.Against failure.verdict ∷ []) → ⊥
   lost_or_failed p drafts i failure xs ys usable h k x_told y_told =
       let same = same_end p drafts i failure.step xs ys h.1 k.1 usable

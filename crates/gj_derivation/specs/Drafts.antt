@@ -210,7 +210,8 @@ AreShown f grid r [] (x ∷ xs) = ⊥
 AreShown f grid r (d ∷ drafts) [] = ⊥
 
 -- the draft with this index, and what those before it show
-pub record IsReached (f : Option FunctionData) (grid : Option ℕ) (p : Problem) (drafts : List Draft) (i : ℕ) (shown : List Shown) (r : Reached)
+pub record IsReached (f : Option FunctionData) (grid : Option ℕ) (p : Problem) (drafts : List Draft)
+    (i : ℕ) (shown : List Shown) (r : Reached)
     (draft : Draft) : Type 0 where
   pub before : List Draft
   pub after : List Draft
@@ -225,9 +226,12 @@ IsLost r c = Any (λ (m : Multiplier). line_at r m.line ≡ None) c.multipliers
 
 abbrev pub IsDerivedBy : Option FunctionData → Option ℕ → Problem → List Draft → Derived → Type 0
 IsDerivedBy f grid p drafts (All xs) = AreShown f grid (begun p) drafts xs
-IsDerivedBy f grid p drafts (Lost i xs) = (r : Reached) × (d : Draft) × IsReached f grid p drafts i xs r d × IsLost r d.combination
-IsDerivedBy f grid p drafts (Failed failure xs) = (r : Reached) × (d : Draft) × IsReached f grid p drafts failure.step xs r d
-    × IsNext f grid r d (shown.Against failure.verdict) × Ends d.claim (shown.Against failure.verdict)
+IsDerivedBy f grid p drafts (Lost i xs) = (r : Reached) × (d : Draft)
+    × IsReached f grid p drafts i xs r d × IsLost r d.combination
+IsDerivedBy f grid p drafts (Failed failure xs) = (r : Reached) × (d : Draft)
+    × IsReached f grid p drafts failure.step xs r d
+    × IsNext f grid r d (shown.Against failure.verdict)
+    × Ends d.claim (shown.Against failure.verdict)
 
 -- ---- where a number does not fit
 

@@ -38,7 +38,8 @@ pub record AreOwn (r : Reached) : Type 0 where
 same_some : (a b : ℕ) → Some a ≡ Some b → a ≡ b
 same_some a b e = cc
 
-counted : (n k i a : ℕ) → slice_index_or (map Some (range_with_len k n)) i None ≡ Some a → (a ≡ k + i) × (i < n)
+counted : (n k i a : ℕ) → slice_index_or (map Some (range_with_len k n)) i None ≡ Some a →
+    (a ≡ k + i) × (i < n)
 counted zero k i a e = absurd (let no : None ≡ Some a = e in cc)
 counted (suc n) k zero a e = (omega (arith, same_some k a e), omega arith)
 counted (suc n) k (suc i) a e =
@@ -47,7 +48,8 @@ counted (suc n) k (suc i) a e =
 
 own_begun : (p : Problem) → AreOwn (begun p)
 own_begun p = record {
-  below = λ i a e. let (is, below) = counted (length p.constraints) 0 i a e in omega (arith, is, below);
+  below = λ i a e. let (is, below) = counted (length p.constraints) 0 i a e in
+      omega (arith, is, below);
   one = λ i j a e d.
       let (is, below) = counted (length p.constraints) 0 i a e in
       let (same, less) = counted (length p.constraints) 0 j a d in
@@ -55,7 +57,8 @@ own_begun p = record {
 }
 
 -- one more line is the last, or one of those before
-pushed : (xs : List (Option ℕ)) (y : Option ℕ) (i a : ℕ) → slice_index_or (xs ++ y ∷ []) i None ≡ Some a →
+pushed : (xs : List (Option ℕ)) (y : Option ℕ) (i a : ℕ) →
+    slice_index_or (xs ++ y ∷ []) i None ≡ Some a →
     (slice_index_or xs i None ≡ Some a) ⊎ ((i ≡ length xs) × (y ≡ Some a))
 pushed [] y zero a e = inr (refl, e)
 pushed [] y (suc i) a e = absurd (let no : None ≡ Some a = e in cc)
@@ -65,17 +68,19 @@ pushed (x ∷ xs) y (suc i) a e = elim (pushed xs y i a e) [
   | inr (same, is) ↦ inr (ap suc same, is)
 ]
 
-own_left_out : (r : Reached) (lines : List (Option ℕ)) → lines ≡ r.lines ++ None ∷ [] → AreOwn r → AreOwn (record { problem = r.problem; lines = lines })
+own_left_out : (r : Reached) (lines : List (Option ℕ)) → lines ≡ r.lines ++ None ∷ [] → AreOwn r →
+    AreOwn (record { problem = r.problem; lines = lines })
 own_left_out r lines is h = record {
   below = λ i a e. h.below i a (old i a e);
   one = λ i j a e d. h.one i j a (old i a e) (old j a d);
 }
   where
     old : (i a : ℕ) → slice_index_or lines i None ≡ Some a → line_at r i ≡ Some a
-    old i a e = elim (pushed r.lines None i a (subst (λ (ls : List (Option ℕ)). slice_index_or ls i None ≡ Some a) is e)) [
-      | inl s ↦ s
-      | inr (same, none) ↦ absurd (cc)
-    ]
+    old i a e = elim (pushed r.lines None i a
+        (subst (λ (ls : List (Option ℕ)). slice_index_or ls i None ≡ Some a) is e)) [
+          | inl s ↦ s
+          | inr (same, none) ↦ absurd (cc)
+        ]
 
 own_step : (r : Reached) (s : Step) → AreOwn r → AreOwn (reach r (shown.Step s))
 own_step r s h = record { below = below; one = one }
@@ -89,7 +94,8 @@ own_step r s h = record { below = below; one = one }
     longer : length new.problem.constraints ≡ n + 1
     longer = length-append r.problem.constraints _
 
-    cases : (i a : ℕ) → line_at new i ≡ Some a → (line_at r i ≡ Some a) ⊎ ((i ≡ length r.lines) × (a ≡ n))
+    cases : (i a : ℕ) → line_at new i ≡ Some a →
+        (line_at r i ≡ Some a) ⊎ ((i ≡ length r.lines) × (a ≡ n))
     cases i a e = elim (pushed r.lines (Some n) i a e) [
       | inl s ↦ inl s
       | inr (same, is) ↦ inr (same, sym (same_some n a is))
@@ -116,7 +122,8 @@ own_step r s h = record { below = below; one = one }
 -- ---- one step
 
 -- the lines of the problem in the place of lines that are all different are all different
-placed_new : (r : Reached) (h : AreOwn r) (n : ℕ) (taken placed : List ℕ) (ms ks : List Multiplier) →
+placed_new : (r : Reached) (h : AreOwn r) (n : ℕ) (taken placed : List ℕ)
+    (ms ks : List Multiplier) →
     ((a : ℕ) → Contains placed a → (i : ℕ) × Contains taken i × (line_at r i ≡ Some a)) →
     AreNewBelow n taken (map (λ (m : Multiplier). m.line) ms) →
     AllZip (λ (m k : Multiplier). (line_at r m.line ≡ Some k.line) × (k.value ≡ m.value)) ms ks →
@@ -132,21 +139,25 @@ placed_new r h n taken placed (m ∷ ms) (k ∷ ks) from new at = (
   placed_new r h n (taken ++ m.line ∷ []) (placed ++ k.line ∷ []) ms ks more new.2 at.1,
 )
   where
-    more : (a : ℕ) → Contains (placed ++ k.line ∷ []) a → (i : ℕ) × Contains (taken ++ m.line ∷ []) i × (line_at r i ≡ Some a)
+    more : (a : ℕ) → Contains (placed ++ k.line ∷ []) a →
+        (i : ℕ) × Contains (taken ++ m.line ∷ []) i × (line_at r i ≡ Some a)
     more a inside = elim (Contains-push_cases placed k.line a inside) [
-      | inl before ↦ let (i, among, is) = from a before in (i, Contains-append_left taken (m.line ∷ []) i among, is)
+      | inl before ↦ let (i, among, is) = from a before in
+          (i, Contains-append_left taken (m.line ∷ []) i among, is)
       | inr same ↦ (m.line, Contains-push taken m.line, at.0.0 ∙ ap Some same)
     ]
 
 none_in : (a : ℕ) → Contains [] a → ⊥
 none_in a (k, below, is) = omega (arith, below)
 
-readable_placed : (f : Option FunctionData) (columns n : ℕ) (r : Reached) (c placed : Combination) → AreOwn r → IsReadable f columns n c →
+readable_placed : (f : Option FunctionData) (columns n : ℕ) (r : Reached) (c placed : Combination) →
+    AreOwn r → IsReadable f columns n c →
     IsPlaced r c placed → IsReadable f columns (length r.problem.constraints) placed
 readable_placed f columns n r c placed own h p = record {
   factor = subst (λ x. pos 0 <ℤ numerator x) (sym p.factor) h.factor;
   function = λ asked. h.function (sym p.rule ∙ asked);
-  multipliers = placed_new r own n [] [] c.multipliers placed.multipliers (λ a inside. absurd (none_in a inside)) h.multipliers p.multipliers;
+  multipliers = placed_new r own n [] [] c.multipliers placed.multipliers
+      (λ a inside. absurd (none_in a inside)) h.multipliers p.multipliers;
   at_upper = subst (AreIndices columns) (sym p.at_upper) h.at_upper;
   none_turned = λ linear. p.at_upper ∙ h.none_turned (sym p.rule ∙ linear);
 }
@@ -156,7 +167,8 @@ within_at_most : (j k : ℕ) (entries : List Entry) → AreTermsWithin j k entri
 within_at_most j k [] h = h
 within_at_most j k (e ∷ entries) h = omega (arith, h.0, within_at_most (e.column + 1) k entries h.2)
 
-ascending_new : (j k : ℕ) (taken : List ℕ) (entries : List Entry) → ((a : ℕ) → Contains taken a → a < j) → AreTermsWithin j k entries →
+ascending_new : (j k : ℕ) (taken : List ℕ) (entries : List Entry) →
+    ((a : ℕ) → Contains taken a → a < j) → AreTermsWithin j k entries →
     AreNewBelow k taken (map (λ (e : Entry). e.column) entries)
 ascending_new j k taken [] low h = tt
 ascending_new j k taken (e ∷ entries) low h = (
@@ -171,44 +183,58 @@ ascending_new j k taken (e ∷ entries) low h = (
       | inr same ↦ omega (arith, same)
     ]
 
-readable_terms : (f : Option FunctionData) (grid : Option ℕ) (p : Problem) (c : Combination) (claim : Claim) (q : Inequality) →
-    IsReadableClaim (length p.columns) claim → IsClaimOf f grid p c claim q → AreReadableTerms (length p.columns) q.entries
+readable_terms : (f : Option FunctionData) (grid : Option ℕ) (p : Problem) (c : Combination)
+    (claim : Claim) (q : Inequality) →
+    IsReadableClaim (length p.columns) claim → IsClaimOf f grid p c claim q →
+    AreReadableTerms (length p.columns) q.entries
 readable_terms f grid p c Absent q h (positive, base, is, found) =
     ascending_new 0 (length p.columns) [] q.entries (λ a inside. absurd (none_in a inside)) found.0
-readable_terms f grid p c (Terms entries) q h (same, is) = subst (AreReadableTerms (length p.columns)) (sym same) h
+readable_terms f grid p c (Terms entries) q h (same, is) =
+    subst (AreReadableTerms (length p.columns)) (sym same) h
 readable_terms f grid p c (Given claim) q h (same, follows) =
     subst (λ (r : Inequality). AreReadableTerms (length p.columns) r.entries) (sym same) h
 
 -- ---- all steps
 
-pub shown_readable : (f : Option FunctionData) (grid : Option ℕ) (columns n : ℕ) (r : Reached) (drafts : List Draft) (xs : List Shown) → AreOwn r →
-    columns ≡ length r.problem.columns → AreShown f grid r drafts xs → AreReadableDrafts f columns n drafts →
+pub shown_readable : (f : Option FunctionData) (grid : Option ℕ) (columns n : ℕ) (r : Reached)
+    (drafts : List Draft) (xs : List Shown) → AreOwn r →
+    columns ≡ length r.problem.columns → AreShown f grid r drafts xs →
+    AreReadableDrafts f columns n drafts →
     AreReadableDrafts f columns (length r.problem.constraints) (map as_draft (steps_of xs))
 shown_readable f grid columns n r [] [] own same h readable = tt
 shown_readable f grid columns n r [] (x ∷ xs) own same h readable = absurd h
 shown_readable f grid columns n r (d ∷ drafts) [] own same h readable = absurd h
-shown_readable f grid columns n r (d ∷ drafts) (shown.Against v ∷ xs) own same (next, goes, more) readable =
-    shown_readable f grid columns (n + 1) (reach r (shown.Against v)) drafts xs (own_left_out r _ refl own) same more readable.1
-shown_readable f grid columns n r (d ∷ drafts) (shown.Step s ∷ xs) own same ((c, placed, (is, claim)), goes, more) readable = (
-  record {
-    combination = subst (IsReadable f columns (length r.problem.constraints)) (sym is)
-        (readable_placed f columns n r d.combination c own readable.0.combination placed);
-    claim = subst (λ (m : ℕ). AreReadableTerms m s.claim.entries) (sym same)
-        (readable_terms f grid r.problem c d.claim s.claim (subst (λ (m : ℕ). IsReadableClaim m d.claim) same readable.0.claim) claim);
-  },
-  subst (λ (m : ℕ). AreReadableDrafts f columns m (map as_draft (steps_of xs))) (length-append r.problem.constraints _)
-      (shown_readable f grid columns (n + 1) (reach r (shown.Step s)) drafts xs (own_step r s own) same more readable.1),
-)
+shown_readable f grid columns n r (d ∷ drafts) (shown.Against v ∷ xs) own same
+    (next, goes, more) readable =
+    shown_readable f grid columns (n + 1) (reach r (shown.Against v)) drafts xs
+    (own_left_out r _ refl own) same more readable.1
+shown_readable f grid columns n r (d ∷ drafts) (shown.Step s ∷ xs) own same
+    ((c, placed, (is, claim)), goes, more) readable = (
+      record {
+        combination = subst (IsReadable f columns (length r.problem.constraints)) (sym is)
+            (readable_placed f columns n r d.combination c own readable.0.combination placed);
+        claim = subst (λ (m : ℕ). AreReadableTerms m s.claim.entries) (sym same)
+            (readable_terms f grid r.problem c d.claim s.claim
+            (subst (λ (m : ℕ). IsReadableClaim m d.claim) same readable.0.claim) claim);
+      },
+      subst (λ (m : ℕ). AreReadableDrafts f columns m (map as_draft (steps_of xs)))
+          (length-append r.problem.constraints _)
+          (shown_readable f grid columns (n + 1) (reach r (shown.Step s)) drafts xs
+          (own_step r s own) same more readable.1),
+    )
 
-pub shown_count : (f : Option FunctionData) (grid : Option ℕ) (r : Reached) (drafts : List Draft) (xs : List Shown) → AreShown f grid r drafts xs →
+pub shown_count : (f : Option FunctionData) (grid : Option ℕ) (r : Reached) (drafts : List Draft)
+    (xs : List Shown) → AreShown f grid r drafts xs →
     length drafts ≡ length xs
 shown_count f grid r [] [] h = refl
 shown_count f grid r [] (x ∷ xs) h = absurd h
 shown_count f grid r (d ∷ drafts) [] h = absurd h
 shown_count f grid r (d ∷ drafts) (x ∷ xs) h = ap suc (shown_count f grid (reach r x) drafts xs h.2)
 
-pub derived_readable : (f : Option FunctionData) (grid : Option ℕ) (p : Problem) (columns n : ℕ) (drafts : List Draft) (xs : List Shown) →
-    columns ≡ length p.columns → AreShown f grid (begun p) drafts xs → AreReadableDrafts f columns n drafts →
+pub derived_readable : (f : Option FunctionData) (grid : Option ℕ) (p : Problem) (columns n : ℕ)
+    (drafts : List Draft) (xs : List Shown) →
+    columns ≡ length p.columns → AreShown f grid (begun p) drafts xs →
+    AreReadableDrafts f columns n drafts →
     AreReadableDrafts f columns (length p.constraints) (map as_draft (steps_of xs))
 derived_readable f grid p columns n drafts xs same h readable =
     shown_readable f grid columns n (begun p) drafts xs (own_begun p) same h readable
@@ -216,7 +242,8 @@ derived_readable f grid p columns n drafts xs same h readable =
 -- ---- names
 
 -- one name less
-without : (front : List (List ℕ)) (name : List ℕ) (back : List (List ℕ)) → AreNames (front ++ name ∷ back) → AreNames (front ++ back)
+without : (front : List (List ℕ)) (name : List ℕ) (back : List (List ℕ)) →
+    AreNames (front ++ name ∷ back) → AreNames (front ++ back)
 without front name back h = record {
   are = All-append IsName front back (All-front IsName front (name ∷ back) h.are)
       (All-tail IsName name back (All-back IsName front (name ∷ back) h.are));
@@ -242,45 +269,56 @@ without front name back h = record {
 
     moved : (i j : ℕ) → Place i j → name_at few i ≡ name_at all j
     moved i j (inl (below, is)) =
-        get_or_append_left front back [] i below ∙ sym (get_or_append_left front (name ∷ back) [] i below) ∙ ap (name_at all) (sym is)
+        get_or_append_left front back [] i below
+        ∙ sym (get_or_append_left front (name ∷ back) [] i below) ∙ ap (name_at all) (sym is)
     moved i j (inr (past, is)) =
         let next : suc (i - length front) ≡ i + 1 - length front = omega (arith, past) in
         get_or-append_right front back (length front) i [] refl past
         ∙ ap (λ (k : ℕ). name_at (name ∷ back) k) next
-        ∙ sym (get_or-append_right front (name ∷ back) (length front) (i + 1) [] refl (omega (arith, past)))
+        ∙ sym (get_or-append_right front (name ∷ back) (length front) (i + 1) [] refl
+        (omega (arith, past)))
         ∙ ap (name_at all) (sym is)
 
     within : (i j : ℕ) → Place i j → i < length few → j < length all
     within i j (inl (below, is)) less = omega (arith, is, below, length-append front (name ∷ back))
-    within i j (inr (past, is)) less = omega (arith, is, less, length-append front back, length-append front (name ∷ back))
+    within i j (inr (past, is)) less =
+        omega (arith, is, less, length-append front back, length-append front (name ∷ back))
 
     apart : (i j k l : ℕ) → Place i k → Place j l → k ≡ l → i ≡ j
     apart i j k l (inl (below, is)) (inl (less, too)) e = omega (arith, is, too, e)
-    apart i j k l (inl (below, is)) (inr (past, too)) e = absurd (omega (arith, is, too, e, below, past))
-    apart i j k l (inr (past, is)) (inl (less, too)) e = absurd (omega (arith, is, too, e, past, less))
+    apart i j k l (inl (below, is)) (inr (past, too)) e =
+        absurd (omega (arith, is, too, e, below, past))
+    apart i j k l (inr (past, is)) (inl (less, too)) e =
+        absurd (omega (arith, is, too, e, past, less))
     apart i j k l (inr (past, is)) (inr (more, too)) e = omega (arith, is, too, e)
 
     different : (i j : ℕ) → i < length few → j < length few → name_at few i ≡ name_at few j → i ≡ j
     different i j less below e =
         let (k, p) = place i in
         let (l, q) = place j in
-        apart i j k l p q (h.different k l (within i k p less) (within j l q below) (sym (moved i k p) ∙ e ∙ moved j l q))
+        apart i j k l p q (h.different k l (within i k p less) (within j l q below)
+        (sym (moved i k p) ∙ e ∙ moved j l q))
 
 -- those in front alone
 front_names : (front back : List (List ℕ)) → AreNames (front ++ back) → AreNames front
 front_names front [] h = subst AreNames (append-nil front) h
 front_names front (name ∷ back) h = front_names front back (without front name back h)
 
-pub kept_are_names : (front names : List (List ℕ)) (xs : List Shown) → AreNames (front ++ names) → AreNames (front ++ kept_names names xs)
+pub kept_are_names : (front names : List (List ℕ)) (xs : List Shown) → AreNames (front ++ names) →
+    AreNames (front ++ kept_names names xs)
 kept_are_names front [] [] h = h
 kept_are_names front [] (x ∷ xs) h = h
-kept_are_names front (name ∷ names) [] h = subst AreNames (sym (append-nil front)) (front_names front (name ∷ names) h)
+kept_are_names front (name ∷ names) [] h =
+    subst AreNames (sym (append-nil front)) (front_names front (name ∷ names) h)
 kept_are_names front (name ∷ names) (shown.Step s ∷ xs) h =
     subst AreNames (append_assoc front (name ∷ []) (kept_names names xs))
-    (kept_are_names (front ++ name ∷ []) names xs (subst AreNames (sym (append_assoc front (name ∷ []) names)) h))
-kept_are_names front (name ∷ names) (shown.Against v ∷ xs) h = kept_are_names front names xs (without front name names h)
+    (kept_are_names (front ++ name ∷ []) names xs
+    (subst AreNames (sym (append_assoc front (name ∷ []) names)) h))
+kept_are_names front (name ∷ names) (shown.Against v ∷ xs) h =
+    kept_are_names front names xs (without front name names h)
 
-pub kept_count : (names : List (List ℕ)) (xs : List Shown) → length names ≡ length xs → length (kept_names names xs) ≡ length (steps_of xs)
+pub kept_count : (names : List (List ℕ)) (xs : List Shown) → length names ≡ length xs →
+    length (kept_names names xs) ≡ length (steps_of xs)
 kept_count [] [] e = refl
 kept_count [] (x ∷ xs) e = absurd (omega (arith, e))
 kept_count (name ∷ names) [] e = absurd (omega (arith, e))

@@ -13,18 +13,23 @@ use Rattle.gj_derivation_text.specs.DerivationInputs.{as_draft, HasGivenClaim}
 
 -- ---- one behind another
 
-module _ (drafts : List Draft) (steps : List Step) (left : List Draft) (d : Draft) (rest : List Draft) (so_far : drafts ≡ map as_draft steps ++ left)
+module _ (drafts : List Draft) (steps : List Step) (left : List Draft) (d : Draft)
+    (rest : List Draft) (so_far : drafts ≡ map as_draft steps ++ left)
     (next : left ≡ d ∷ rest) where
   pub claim_at : All HasGivenClaim drafts → HasGivenClaim d
   claim_at all =
       All-head HasGivenClaim d rest
-      (subst (All HasGivenClaim) next (All-back HasGivenClaim (map as_draft steps) left (subst (All HasGivenClaim) so_far all)))
+      (subst (All HasGivenClaim) next
+      (All-back HasGivenClaim (map as_draft steps) left (subst (All HasGivenClaim) so_far all)))
 
-  pub one_more : (s : Step) (new : List Step) → d ≡ as_draft s → new ≡ steps ++ s ∷ [] → drafts ≡ map as_draft new ++ rest
+  pub one_more : (s : Step) (new : List Step) → d ≡ as_draft s → new ≡ steps ++ s ∷ [] →
+      drafts ≡ map as_draft new ++ rest
   one_more s new is new_is =
-      so_far ∙ ap (λ (ds : List Draft). map as_draft steps ++ ds) (next ∙ ap (λ (e : Draft). e ∷ rest) is)
+      so_far ∙ ap (λ (ds : List Draft). map as_draft steps ++ ds)
+      (next ∙ ap (λ (e : Draft). e ∷ rest) is)
       ∙ sym (append_assoc (map as_draft steps) (as_draft s ∷ []) rest)
-      ∙ ap (λ (ds : List Draft). ds ++ rest) (sym (map-append as_draft steps (s ∷ [])) ∙ ap (λ (ss : List Step). map as_draft ss) (sym new_is))
+      ∙ ap (λ (ds : List Draft). ds ++ rest) (sym (map-append as_draft steps (s ∷ []))
+      ∙ ap (λ (ss : List Step). map as_draft ss) (sym new_is))
 
 -- ---- a draft is one step
 
@@ -43,7 +48,8 @@ no_draft d ds e = cc
 both : (d e : Draft) (ds es : List Draft) → d ∷ ds ≡ e ∷ es → (d ≡ e) × (ds ≡ es)
 both d e ds es is = (cc, cc)
 
-pub same_steps : (steps others : List Step) → map as_draft steps ≡ map as_draft others → steps ≡ others
+pub same_steps : (steps others : List Step) → map as_draft steps ≡ map as_draft others →
+    steps ≡ others
 same_steps [] [] e = refl
 same_steps [] (t ∷ others) e = absurd (no_draft _ _ e)
 same_steps (s ∷ steps) [] e = absurd (no_draft _ _ (sym e))

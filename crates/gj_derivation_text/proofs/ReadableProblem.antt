@@ -34,11 +34,13 @@ pub record IsTask (s : Task) : Type 0 where
   pub grid : IfSome s.grid (λ n. 0 < n)
 
 -- one more entry of the last constraint is one more of all
-longer_entries : (old : List Constraint) (e : Entry) (new : List Constraint) → AreLonger old e new → entries_of new ≡ entries_of old ++ e ∷ []
+longer_entries : (old : List Constraint) (e : Entry) (new : List Constraint) → AreLonger old e new →
+    entries_of new ≡ entries_of old ++ e ∷ []
 longer_entries old e new h =
     let all = λ (cs : List Constraint). entries_of cs in
     let front = entries_of h.others in
-    let more : Constraint = record { entries = h.last.entries ++ e ∷ []; sense = h.last.sense; right = h.last.right } in
+    let more : Constraint =
+    record { entries = h.last.entries ++ e ∷ []; sense = h.last.sense; right = h.last.right } in
     ap all h.new_is ∙ flat_map-append (λ (c : Constraint). c.entries) h.others (more ∷ [])
     ∙ ap (λ (es : List Entry). front ++ es) (append-nil (h.last.entries ++ e ∷ []))
     ∙ sym (append_assoc front h.last.entries (e ∷ []))
@@ -46,22 +48,28 @@ longer_entries old e new h =
     ∙ ap (λ (es : List Entry). es ++ e ∷ [])
     (sym (ap all h.old_is ∙ flat_map-append (λ (c : Constraint). c.entries) h.others (h.last ∷ [])))
 
-longer_count : (old : List Constraint) (e : Entry) (new : List Constraint) → AreLonger old e new → length new ≡ length old
+longer_count : (old : List Constraint) (e : Entry) (new : List Constraint) → AreLonger old e new →
+    length new ≡ length old
 longer_count old e new h =
     omega (
       arith,
       ap length h.new_is,
       ap length h.old_is,
       length-append h.others (h.last ∷ []),
-      length-append h.others (record { entries = h.last.entries ++ e ∷ []; sense = h.last.sense; right = h.last.right } ∷ []),
+      length-append h.others
+          (record { entries = h.last.entries ++ e ∷ []; sense = h.last.sense; right = h.last.right }
+          ∷ []),
     )
 
-bare_entries : (constraints : List Constraint) (c : Constraint) → c.entries ≡ [] → entries_of (constraints ++ c ∷ []) ≡ entries_of constraints
+bare_entries : (constraints : List Constraint) (c : Constraint) → c.entries ≡ [] →
+    entries_of (constraints ++ c ∷ []) ≡ entries_of constraints
 bare_entries constraints c none =
     flat_map-append (λ (d : Constraint). d.entries) constraints (c ∷ [])
-    ∙ ap (λ (es : List Entry). entries_of constraints ++ (es ++ [])) none ∙ append-nil (entries_of constraints)
+    ∙ ap (λ (es : List Entry). entries_of constraints ++ (es ++ [])) none
+    ∙ append-nil (entries_of constraints)
 
-adds_task : (s : Task) (line : ProblemLine) (t : Task) → HasProblemLine line → Adds s line t → IsTask s → IsTask t
+adds_task : (s : Task) (line : ProblemLine) (t : Task) → HasProblemLine line → Adds s line t →
+    IsTask s → IsTask t
 adds_task s (column name is_whole low high) t has a h =
     let more = length-append s.names (name ∷ []) in
     subst IsTask (sym a.added) (record {
@@ -70,11 +78,13 @@ adds_task s (column name is_whole low high) t has a h =
         arith,
         more,
         h.column_count,
-        length-append s.problem.columns (record { is_whole = is_whole; lower = a.lower; upper = a.upper } ∷ []),
+        length-append s.problem.columns
+            (record { is_whole = is_whole; lower = a.lower; upper = a.upper } ∷ []),
       );
       columns_few = omega (arith, more, a.few);
       constraints_few = h.constraints_few;
-      known = All-weaker (λ (e : Entry). e.column < length s.names) (λ (e : Entry). e.column < length (s.names ++ name ∷ []))
+      known = All-weaker (λ (e : Entry). e.column < length s.names)
+          (λ (e : Entry). e.column < length (s.names ++ name ∷ []))
           (λ e below. omega (arith, more)) (all_entries s.problem) h.known;
       entries = h.entries;
       entries_few = h.entries_few;
@@ -100,10 +110,18 @@ adds_task s (entry name value) t has a h =
       names = h.names;
       column_count = h.column_count;
       columns_few = h.columns_few;
-      constraints_few = omega (arith, longer_count s.problem.constraints e a.constraints a.longer, h.constraints_few);
+      constraints_few = omega
+          (arith, longer_count s.problem.constraints e a.constraints a.longer, h.constraints_few);
       known = subst (All (λ (d : Entry). d.column < length s.names)) (sym same)
-          (All-push (λ (d : Entry). d.column < length s.names) (all_entries s.problem) e h.known (index_below s.names name a.index a.index_is));
-      entries = omega (arith, h.entries, ap length same, length-append (all_entries s.problem) (e ∷ []));
+          (All-push (λ (d : Entry). d.column < length s.names) (all_entries s.problem) e h.known
+          (index_below s.names name a.index a.index_is));
+      entries = omega (
+        arith,
+        h.entries,
+        ap length same,
+        length-append (all_entries s.problem)
+            (e ∷ []),
+      );
       entries_few = omega (arith, a.few);
       grid = h.grid;
     })
@@ -163,8 +181,10 @@ pub record IsProblem (s : Drafts) : Type 0 where
   pub left : s.left ≡ []
 
 -- the line of a constraint is one more, with its name; another line is none
-is_more : (s : Task) (line : ProblemLine) (t : Task) (lines new : List (List ℕ)) → Adds s line t → AddsName lines (new_name line) new →
-    AreNames lines → length lines ≡ length s.problem.constraints → AreNames new × (length new ≡ length t.problem.constraints)
+is_more : (s : Task) (line : ProblemLine) (t : Task) (lines new : List (List ℕ)) → Adds s line t →
+    AddsName lines (new_name line) new →
+    AreNames lines → length lines ≡ length s.problem.constraints →
+    AreNames new × (length new ≡ length t.problem.constraints)
 is_more s (constraint name sense right) t lines new a (none, is) names count =
     let c : Constraint = record { entries = []; sense = sense; right = right } in (
       subst AreNames (sym is) (one_more_name lines name names a.is_name none),
@@ -188,18 +208,34 @@ is_more s (entry name value) t lines new a is names count =
         longer_count s.problem.constraints e a.constraints a.longer,
       ),
     )
-is_more s (column name is_whole low high) t lines new a is names count =
-    (subst AreNames (sym is) names, omega (arith, ap length is, count, ap (λ (u : Task). length u.problem.constraints) a.added))
-is_more s (upper name) t lines new a is names count =
-    (subst AreNames (sym is) names, omega (arith, ap length is, count, ap (λ (u : Task). length u.problem.constraints) a.added))
-is_more s (sum multipliers) t lines new a is names count =
-    (subst AreNames (sym is) names, omega (arith, ap length is, count, ap (λ (u : Task). length u.problem.constraints) a.added))
-is_more s (grid n) t lines new a is names count =
-    (subst AreNames (sym is) names, omega (arith, ap length is, count, ap (λ (u : Task). length u.problem.constraints) a.added))
-is_more s (round n) t lines new a is names count =
-    (subst AreNames (sym is) names, omega (arith, ap length is, count, ap (λ (u : Task). length u.problem.constraints) a.added))
+is_more s (column name is_whole low high) t lines new a is names count = (
+  subst AreNames (sym is) names,
+  omega
+      (arith, ap length is, count, ap (λ (u : Task). length u.problem.constraints) a.added),
+)
+is_more s (upper name) t lines new a is names count = (
+  subst AreNames (sym is) names,
+  omega
+      (arith, ap length is, count, ap (λ (u : Task). length u.problem.constraints) a.added),
+)
+is_more s (sum multipliers) t lines new a is names count = (
+  subst AreNames (sym is) names,
+  omega
+      (arith, ap length is, count, ap (λ (u : Task). length u.problem.constraints) a.added),
+)
+is_more s (grid n) t lines new a is names count = (
+  subst AreNames (sym is) names,
+  omega
+      (arith, ap length is, count, ap (λ (u : Task). length u.problem.constraints) a.added),
+)
+is_more s (round n) t lines new a is names count = (
+  subst AreNames (sym is) names,
+  omega
+      (arith, ap length is, count, ap (λ (u : Task). length u.problem.constraints) a.added),
+)
 
-adds_problem : (s : Drafts) (line : ProblemLine) (t : Drafts) → HasProblemLine line → AddsLine s line t → IsProblem s → IsProblem t
+adds_problem : (s : Drafts) (line : ProblemLine) (t : Drafts) → HasProblemLine line →
+    AddsLine s line t → IsProblem s → IsProblem t
 adds_problem s line t has (task, adds, lines, names, is) h =
     let more = is_more s.task line task s.lines lines adds names h.lines h.count in
     subst IsProblem (sym is) (record {
@@ -223,10 +259,15 @@ apart s t e = cc
 
 pub problem_in_turn : (drafts : Bool) (t : Drafts) (rest : List ℕ) (s : Drafts) (text : List ℕ) →
     ReadsInTurn (λ u. (next_of_problem drafts u).Reads) t rest s text → IsProblem s → IsProblem t
-problem_in_turn drafts t rest s text (last _ _ (inl (goes, (same, at)))) h = subst IsProblem (sym (same_end s t same)) h
-problem_in_turn drafts t rest s text (last _ _ (inr (not, (u, one, same)))) h = absurd (apart t u (sym same))
-problem_in_turn drafts t rest s text (onward _ _ next middle (inl (goes, (same, at))) more) h = absurd (apart s next same)
-problem_in_turn drafts t rest s text (onward _ _ next middle (inr (not, (u, (start, words, line, (free, (told, spelled, adds))), same))) more) h =
+problem_in_turn drafts t rest s text (last _ _ (inl (goes, (same, at)))) h =
+    subst IsProblem (sym (same_end s t same)) h
+problem_in_turn drafts t rest s text (last _ _ (inr (not, (u, one, same)))) h =
+    absurd (apart t u (sym same))
+problem_in_turn drafts t rest s text (onward _ _ next middle (inl (goes, (same, at))) more) h =
+    absurd (apart s next same)
+problem_in_turn drafts t rest s text
+    (onward _ _ next middle
+    (inr (not, (u, (start, words, line, (free, (told, spelled, adds))), same))) more) h =
     problem_in_turn drafts t rest next middle more
     (subst IsProblem (sym (same_next u next same)) (adds_problem s told u spelled.1 adds h))
 

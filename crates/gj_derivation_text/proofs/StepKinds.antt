@@ -24,12 +24,14 @@ head (term name value) = codes "term"
 
 -- ---- the kinds
 
-by_is_made : (b : StepLine) (words : List (List ℕ)) → first_of (with_numbers (line_fields b) words) ≡ codes "by" → first_of words ≡ codes "by" →
+by_is_made : (b : StepLine) (words : List (List ℕ)) → first_of (with_numbers (line_fields b) words)
+    ≡ codes "by" → first_of words ≡ codes "by" →
     (a : List ℕ × (Frac × Unit {0})) × (b ≡ by a.0 a.1.0)
 by_is_made (by name value) words e d = ((name, (value, tt)), refl)
 by_is_made b words e d = absurd (apart (head b) (codes "by") refl e)
 
-pub by_kind : IsKind line_form (codes "by") (then_form name_word (then_form any_fraction no_form)) (λ a. by a.0 a.1.0)
+pub by_kind : IsKind line_form (codes "by") (then_form name_word (then_form any_fraction no_form))
+    (λ a. by a.0 a.1.0)
 by_kind = record {
   fields = λ a. refl;
   has_form = λ a h. h.0;
@@ -39,7 +41,8 @@ by_kind = record {
   made = by_is_made;
 }
 
-upper_is_made : (b : StepLine) (words : List (List ℕ)) → first_of (with_numbers (line_fields b) words) ≡ codes "upper" →
+upper_is_made : (b : StepLine) (words : List (List ℕ)) →
+    first_of (with_numbers (line_fields b) words) ≡ codes "upper" →
     first_of words ≡ codes "upper" → (a : List ℕ × Unit {0}) × (b ≡ upper a.0)
 upper_is_made (upper name) words e d = ((name, tt), refl)
 upper_is_made b words e d = absurd (apart (head b) (codes "upper") refl e)
@@ -54,12 +57,14 @@ upper_kind = record {
   made = upper_is_made;
 }
 
-times_is_made : (b : StepLine) (words : List (List ℕ)) → first_of (with_numbers (line_fields b) words) ≡ codes "times" →
+times_is_made : (b : StepLine) (words : List (List ℕ)) →
+    first_of (with_numbers (line_fields b) words) ≡ codes "times" →
     first_of words ≡ codes "times" → (a : Frac × Unit {0}) × (b ≡ times a.0)
 times_is_made (times factor) words e d = ((factor, tt), refl)
 times_is_made b words e d = absurd (apart (head b) (codes "times") refl e)
 
-pub times_kind : IsKind line_form (codes "times") (then_form positive_fraction no_form) (λ a. times a.0)
+pub times_kind : IsKind line_form (codes "times") (then_form positive_fraction no_form)
+    (λ a. times a.0)
 times_kind = record {
   fields = λ a. refl;
   has_form = λ a h. tt;
@@ -69,12 +74,14 @@ times_kind = record {
   made = times_is_made;
 }
 
-term_is_made : (b : StepLine) (words : List (List ℕ)) → first_of (with_numbers (line_fields b) words) ≡ codes "term" →
+term_is_made : (b : StepLine) (words : List (List ℕ)) →
+    first_of (with_numbers (line_fields b) words) ≡ codes "term" →
     first_of words ≡ codes "term" → (a : List ℕ × (Frac × Unit {0})) × (b ≡ term a.0 a.1.0)
 term_is_made (term name value) words e d = ((name, (value, tt)), refl)
 term_is_made b words e d = absurd (apart (head b) (codes "term") refl e)
 
-pub term_kind : IsKind line_form (codes "term") (then_form name_word (then_form any_fraction no_form)) (λ a. term a.0 a.1.0)
+pub term_kind : IsKind line_form (codes "term")
+    (then_form name_word (then_form any_fraction no_form)) (λ a. term a.0 a.1.0)
 term_kind = record {
   fields = λ a. refl;
   has_form = λ a h. h.0;
@@ -86,7 +93,8 @@ term_kind = record {
 
 -- ---- a line tells one thing
 
-alike_lines : (a b : StepLine) (words : List (List ℕ)) → with_numbers (line_fields a) words ≡ with_numbers (line_fields b) words →
+alike_lines : (a b : StepLine) (words : List (List ℕ)) →
+    with_numbers (line_fields a) words ≡ with_numbers (line_fields b) words →
     AreAlike (line_fields a) (line_fields b)
 alike_lines (by m x) (by n y) words e = tt
 alike_lines (upper m) (upper n) words e = tt
@@ -107,7 +115,8 @@ told_line (term m x) (term n y) e =
     let name : m ≡ n = cc in
     let value : x ≡ y = cc in
     λ i. term (name i) (value i)
-told_line a b e = absurd (apart (head a) (head b) refl (ap (λ fields. first_of (words_of fields)) e))
+told_line a b e = absurd
+    (apart (head a) (head b) refl (ap (λ fields. first_of (words_of fields)) e))
 
 of_line_form : (a : StepLine) → HasStepLine a → HasLineForm a
 of_line_form (by name value) h = h
@@ -116,13 +125,17 @@ of_line_form (times factor) h = tt
 of_line_form (claim right) h = tt
 of_line_form (term name value) h = h
 
-pub line_rule_is_exact : IsExactRule (rule_in Lenient line_form).Spells (rule_in Lenient line_form).Breaks
-line_rule_is_exact = rule_in_is_exact Lenient line_form (record { of_form = of_line_form; alike = alike_lines; tell = told_line })
+pub line_rule_is_exact : IsExactRule (rule_in Lenient line_form).Spells
+    (rule_in Lenient line_form).Breaks
+line_rule_is_exact =
+    rule_in_is_exact Lenient line_form
+    (record { of_form = of_line_form; alike = alike_lines; tell = told_line })
 
 -- ---- words that tell nothing
 
 -- words that begin otherwise
-pub other_first : (w : List ℕ) (ws : List (List ℕ)) → ((b : StepLine) → w ≡ head b → ⊥) → (rule_in Lenient line_form).Breaks (w ∷ ws) Form
+pub other_first : (w : List ℕ) (ws : List (List ℕ)) → ((b : StepLine) → w ≡ head b → ⊥) →
+    (rule_in Lenient line_form).Breaks (w ∷ ws) Form
 other_first w ws other = inl (refl, deny)
   where
     deny : AreOfForm line_form (w ∷ ws) → ⊥

@@ -23,7 +23,8 @@ with_function f = made_part (λ s a. a ≡ record { function = f; drafts = s })
 -- a derivation; or a function text, and a derivation behind it, told apart by the first word
 abbrev pub input_part : Bool → Part DraftInput
 input_part drafts =
-    where_part BeginsAsFunction (then_part function_text (λ f. with_function (Some f) (derivation_part drafts true)))
+    where_part BeginsAsFunction
+    (then_part function_text (λ f. with_function (Some f) (derivation_part drafts true)))
     (with_function None (derivation_part drafts false))
 
 -- steps that may lack claims

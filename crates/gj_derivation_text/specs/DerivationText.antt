@@ -55,13 +55,15 @@ IsTaken lines (Some name) = (index_in lines name ≡ None) → ⊥
 
 -- the line makes of s the drafts t
 abbrev pub AddsLine : Drafts → ProblemLine → Drafts → Type 0
-AddsLine s line t = (task : Task) × problem.Adds s.task line task × (lines : List (List ℕ)) × AddsName s.lines (new_name line) lines
+AddsLine s line t = (task : Task) × problem.Adds s.task line task × (lines : List (List ℕ))
+    × AddsName s.lines (new_name line) lines
     × (t ≡ record s { task = task; lines = lines })
 
 -- or is refused: as a line of a problem, or for its name
 abbrev pub RefusesLine : Drafts → ProblemLine → Reason → Type 0
 RefusesLine s line e = problem.Refuses s.task line e
-    ⊎ ((task : Task) × problem.Adds s.task line task × IsTaken s.lines (new_name line) × (e ≡ reason.Place))
+    ⊎ ((task : Task) × problem.Adds s.task line task × IsTaken s.lines (new_name line)
+    × (e ≡ reason.Place))
 
 -- no rows are asked for, nor data on a grid, and a grid for drafts alone
 abbrev pub AreBarred : Bool → List (List ℕ) → Type 0
@@ -69,12 +71,14 @@ AreBarred drafts words = (first_of words ≡ codes "upper") ⊎ (first_of words 
     ⊎ (first_of words ≡ codes "round") ⊎ ((drafts ≡ false) × (first_of words ≡ codes "grid"))
 
 abbrev pub problem_rule : Bool → Drafts → LineRule Drafts
-problem_rule drafts s = barred_rule (AreBarred drafts) (made_rule (AddsLine s) (RefusesLine s) told_rule)
+problem_rule drafts s =
+    barred_rule (AreBarred drafts) (made_rule (AddsLine s) (RefusesLine s) told_rule)
 
 -- lines of the problem, up to the first step or the end
 abbrev pub next_of_problem : Bool → Drafts → Part (Drafts ⊎ Drafts)
 next_of_problem drafts s =
-    where_part StepsGoOn (empty_part (inr s)) (made_part (λ t next. next ≡ inl t) (line_part Lenient (problem_rule drafts s)))
+    where_part StepsGoOn (empty_part (inr s))
+    (made_part (λ t next. next ≡ inl t) (line_part Lenient (problem_rule drafts s)))
 
 abbrev pub problem_part : Bool → Part Drafts
 problem_part drafts = loop_part (next_of_problem drafts) no_drafts
@@ -91,20 +95,24 @@ Head = List ℕ × (StepRule × Unit {0})
 -- a step by a function needs one in front; steps are few, and each has a name of its own
 abbrev pub Begins : Bool → Drafts → Head → Head → Type 0
 Begins has_function s head same =
-    (head.1.0 ≡ Function → IsTrue has_function) × (length s.steps < most_steps) × (index_in s.lines head.0 ≡ None) × (same ≡ head)
+    (head.1.0 ≡ Function → IsTrue has_function) × (length s.steps < most_steps)
+    × (index_in s.lines head.0 ≡ None) × (same ≡ head)
 
 abbrev pub RefusesHead : Bool → Drafts → Head → Reason → Type 0
 RefusesHead has_function s head =
     Unless (head.1.0 ≡ Function → IsTrue has_function) reason.Form
-    (Unless (length s.steps < most_steps) reason.Large (Unless (index_in s.lines head.0 ≡ None) reason.Place Never))
+    (Unless (length s.steps < most_steps) reason.Large
+    (Unless (index_in s.lines head.0 ≡ None) reason.Place Never))
 
 abbrev pub head_rule : Bool → Drafts → LineRule Head
-head_rule has_function s = made_rule (Begins has_function s) (RefusesHead has_function s) (rule_in Lenient step_form)
+head_rule has_function s = made_rule (Begins has_function s) (RefusesHead has_function s)
+    (rule_in Lenient step_form)
 
 -- one line, and how many bytes of the text are left from it on
 abbrev pub placed_line : {A : Type 0} → Spelling → LineRule A → Part (A × ℕ)
 placed_line s rule = record {
-  Reads = λ text p rest. (start : List ℕ) × (words : List (List ℕ)) × HasLine s text start words rest × rule.Spells words p.0
+  Reads = λ text p rest. (start : List ℕ) × (words : List (List ℕ))
+      × HasLine s text start words rest × rule.Spells words p.0
       × (p.1 ≡ length start);
   Faults = (line_part s rule).Faults;
 }
@@ -115,18 +123,25 @@ names_of drafts s = record { columns = s.task.names; lines = s.lines; drafts = d
 
 abbrev pub with_step : Drafts → List ℕ → ℕ → Draft → Drafts
 with_step s name left draft =
-    record s { lines = s.lines ++ name ∷ []; steps = s.steps ++ draft ∷ []; left = s.left ++ left ∷ [] }
+    record s {
+      lines = s.lines ++ name ∷ [];
+      steps = s.steps ++ draft ∷ [];
+      left =
+          s.left ++ left ∷ [];
+    }
 
 -- a step: its first line, and those behind it
 abbrev pub step_part : Bool → Bool → Drafts → Part Drafts
 step_part drafts has_function s =
     then_part (placed_line Lenient (head_rule has_function s))
-    (λ p. made_part (λ draft t. t ≡ with_step s p.0.0 p.1 draft) (lines_of_step (names_of drafts s) (begun p.0.1.0)))
+    (λ p. made_part (λ draft t. t ≡ with_step s p.0.0 p.1 draft)
+    (lines_of_step (names_of drafts s) (begun p.0.1.0)))
 
 -- the next step, or the line `end`
 abbrev pub next_step : Bool → Bool → Drafts → Part (Drafts ⊎ Drafts)
 next_step drafts has_function s =
-    where_part (BeginsWithWord Lenient (codes "end")) (made_part (λ u next. next ≡ inr s) (line_part Lenient (words_rule end_words)))
+    where_part (BeginsWithWord Lenient (codes "end"))
+    (made_part (λ u next. next ≡ inr s) (line_part Lenient (words_rule end_words)))
     (made_part (λ t next. next ≡ inl t) (step_part drafts has_function s))
 
 -- ---- the whole

@@ -59,11 +59,14 @@ columns_claimed s = map (λ (e : Entry). e.column) s.entries
 
 -- a multiplier of a line that is not yet named
 abbrev pub AddsBy : List (List ℕ) → OpenStep → List ℕ → Frac → OpenStep → Type 0
-AddsBy lines s name value t = (s.is_claimed ≡ false) × (i : ℕ) × HasNewIndex lines name (lines_named s) i
+AddsBy lines s name value t = (s.is_claimed ≡ false) × (i : ℕ)
+    × HasNewIndex lines name (lines_named s) i
     × (t ≡ record s { multipliers = s.multipliers ++ record { line = i; value = value } ∷ [] })
 
 abbrev pub RefusesBy : List (List ℕ) → OpenStep → List ℕ → Reason → Type 0
-RefusesBy lines s name = Unless (s.is_claimed ≡ false) reason.Form (Unless (IsNewIn lines name (lines_named s)) reason.Place Never)
+RefusesBy lines s name =
+    Unless (s.is_claimed ≡ false) reason.Form
+    (Unless (IsNewIn lines name (lines_named s)) reason.Place Never)
 
 -- a column that is turned by its upper bound: not in a linear step
 abbrev pub TakesUpper : OpenStep → Type 0
@@ -74,7 +77,8 @@ AddsUpper columns s name t = TakesUpper s × (j : ℕ) × HasNewIndex columns na
     × (t ≡ record s { at_upper = s.at_upper ++ j ∷ [] })
 
 abbrev pub RefusesUpper : List (List ℕ) → OpenStep → List ℕ → Reason → Type 0
-RefusesUpper columns s name = Unless (TakesUpper s) reason.Form (Unless (IsNewIn columns name s.at_upper) reason.Place Never)
+RefusesUpper columns s name =
+    Unless (TakesUpper s) reason.Form (Unless (IsNewIn columns name s.at_upper) reason.Place Never)
 
 -- the factor, once
 abbrev pub TakesFactor : OpenStep → Type 0
@@ -88,21 +92,25 @@ abbrev pub SpellsRight : Bool → List ℕ → Option Frac → Type 0
 SpellsRight drafts word right = SpellsBound word right × (right ≡ None → IsTrue drafts)
 
 abbrev pub AddsClaim : Bool → OpenStep → List ℕ → OpenStep → Type 0
-AddsClaim drafts s word t = (s.is_claimed ≡ false) × (right : Option Frac) × SpellsRight drafts word right
+AddsClaim drafts s word t = (s.is_claimed ≡ false) × (right : Option Frac)
+    × SpellsRight drafts word right
     × (t ≡ record s { is_claimed = true; right = right })
 
 abbrev pub RefusesClaim : Bool → OpenStep → List ℕ → Reason → Type 0
 RefusesClaim drafts s word =
-    Unless (s.is_claimed ≡ false) reason.Form (Unless ((right : Option Frac) × SpellsRight drafts word right) reason.Number Never)
+    Unless (s.is_claimed ≡ false) reason.Form
+    (Unless ((right : Option Frac) × SpellsRight drafts word right) reason.Number Never)
 
 -- a term of the claim, of a column that has none yet
 abbrev pub AddsTerm : List (List ℕ) → OpenStep → List ℕ → Frac → OpenStep → Type 0
-AddsTerm columns s name value t = (s.is_claimed ≡ true) × (j : ℕ) × HasNewIndex columns name (columns_claimed s) j
+AddsTerm columns s name value t = (s.is_claimed ≡ true) × (j : ℕ)
+    × HasNewIndex columns name (columns_claimed s) j
     × (t ≡ record s { entries = s.entries ++ record { column = j; value = value } ∷ [] })
 
 abbrev pub RefusesTerm : List (List ℕ) → OpenStep → List ℕ → Reason → Type 0
 RefusesTerm columns s name =
-    Unless (s.is_claimed ≡ true) reason.Form (Unless (IsNewIn columns name (columns_claimed s)) reason.Place Never)
+    Unless (s.is_claimed ≡ true) reason.Form
+    (Unless (IsNewIn columns name (columns_claimed s)) reason.Place Never)
 
 -- ---- all lines
 
@@ -139,7 +147,13 @@ IsFactor (Some y) x = x ≡ y
 
 abbrev pub draft_of : OpenStep → Frac → Draft
 draft_of s factor = record {
-  combination = record { «rule» = s.rule; multipliers = s.multipliers; at_upper = s.at_upper; factor = factor };
+  combination = record {
+    «rule» = s.rule;
+    multipliers = s.multipliers;
+    at_upper =
+        s.at_upper;
+    factor = factor;
+  };
   claim = claim_of s.is_claimed s.right s.entries;
 }
 
@@ -148,7 +162,8 @@ IsDraftOf s draft = (factor : Frac) × IsFactor s.factor factor × (draft ≡ dr
 
 -- the next line begins with `step` or `end`
 abbrev pub StepsGoOn : List ℕ → Type 0
-StepsGoOn text = BeginsWithWord Lenient (codes "step") text ⊎ BeginsWithWord Lenient (codes "end") text
+StepsGoOn text = BeginsWithWord Lenient (codes "step") text
+    ⊎ BeginsWithWord Lenient (codes "end") text
 
 -- the step ends here: it has a claim, or drafts are read, and no line of it follows
 abbrev pub EndsHere : Names → OpenStep → List ℕ → Type 0
@@ -156,7 +171,9 @@ EndsHere c s text = (IsTrue c.drafts ⊎ IsTrue s.is_claimed) × StepsGoOn text
 
 abbrev pub next_of_step : Names → OpenStep → Part (OpenStep ⊎ Draft)
 next_of_step c s =
-    where_part (EndsHere c s) (made_part (λ (u : Unit {0}) next. (draft : Draft) × IsDraftOf s draft × (next ≡ inr draft)) (empty_part {A = Unit {0}} tt))
+    where_part (EndsHere c s)
+    (made_part (λ (u : Unit {0}) next. (draft : Draft) × IsDraftOf s draft × (next ≡ inr draft))
+    (empty_part {A = Unit {0}} tt))
     (made_part (λ t next. next ≡ inl t) (line_part Lenient (step_line_rule c s)))
 
 abbrev pub lines_of_step : Names → OpenStep → Part Draft

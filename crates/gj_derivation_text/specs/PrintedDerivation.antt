@@ -51,13 +51,15 @@ factor_told x = if is_one x then [] else times x ∷ []
 
 abbrev pub combination_told : List (List ℕ) → List (List ℕ) → Combination → List StepLine
 combination_told columns lines c =
-    map (by_told lines) c.multipliers ++ (map (upper_told columns) c.at_upper ++ factor_told c.factor)
+    map (by_told lines) c.multipliers
+    ++ (map (upper_told columns) c.at_upper ++ factor_told c.factor)
 
 abbrev pub claim_told : List (List ℕ) → Inequality → List StepLine
 claim_told columns q = claim (fraction_text q.right) ∷ map (term_told columns) q.entries
 
 abbrev pub step_told : List (List ℕ) → List (List ℕ) → Step → List StepLine
-step_told columns lines s = combination_told columns lines s.combination ++ claim_told columns s.claim
+step_told columns lines s =
+    combination_told columns lines s.combination ++ claim_told columns s.claim
 
 -- the lines that tell so
 abbrev pub printed_lines : List StepLine → List ℕ
@@ -96,7 +98,8 @@ HasFunctionText (Some f) text = IsCanonicalText text f
 -- the lines in front of the steps: the function, the title, and the problem with these names
 abbrev pub IsFront : Option FunctionData → List (List ℕ) → List (List ℕ) → Problem → List ℕ → Type 0
 IsFront f columns constraints p front =
-    (text : List ℕ) × HasFunctionText f text × (front ≡ text ++ (line (codes "gj-derivation 1") ++ problem_lines columns constraints p))
+    (text : List ℕ) × HasFunctionText f text
+    × (front ≡ text ++ (line (codes "gj-derivation 1") ++ problem_lines columns constraints p))
 
 -- the lines of the steps that are shown, and of those that are left out, with these names, and the
 -- line `end`; the names of the constraints and of the steps are those of the lines
@@ -106,7 +109,8 @@ steps_text columns constraints names xs =
 
 -- the text of the derivation whose constraints and steps have these names, and of whose steps those
 -- are left out that show nothing
-pub record IsDerivedText (d : DerivationInput) (constraints names : List (List ℕ)) (xs : List Shown) (text : List ℕ) : Type 0 where
+pub record IsDerivedText (d : DerivationInput) (constraints names : List (List ℕ)) (xs : List Shown)
+    (text : List ℕ) : Type 0 where
   pub steps : d.steps ≡ steps_of xs
   pub lines : d.lines ≡ constraints ++ kept_names names xs
   pub count : length names ≡ length xs

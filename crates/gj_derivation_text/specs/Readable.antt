@@ -23,7 +23,8 @@ use Rattle.gj_derivation_text.specs.declared.input.DerivationInput.{DerivationIn
 -- each is below n, and none is one of these or stands twice
 abbrev pub AreNewBelow : ℕ → List ℕ → List ℕ → Type 0
 AreNewBelow n taken [] = Unit {0}
-AreNewBelow n taken (i ∷ indices) = (i < n) × (Contains taken i → ⊥) × AreNewBelow n (taken ++ i ∷ []) indices
+AreNewBelow n taken (i ∷ indices) = (i < n) × (Contains taken i → ⊥)
+    × AreNewBelow n (taken ++ i ∷ []) indices
 
 -- each is below n, and none stands twice
 abbrev pub AreIndices : ℕ → List ℕ → Type 0
@@ -71,7 +72,8 @@ pub record IsReadableProblem (columns : List (List ℕ)) (p : Problem) : Type 0 
 
 -- the steps are few, and speak of the columns and of the lines before them; all lines have names
 -- that are different
-pub record AreReadableSteps (f : Option FunctionData) (columns constraints : ℕ) (lines : List (List ℕ)) (steps : List Draft) : Type 0 where
+pub record AreReadableSteps (f : Option FunctionData) (columns constraints : ℕ)
+    (lines : List (List ℕ)) (steps : List Draft) : Type 0 where
   pub names : AreNames lines
   pub count : length lines ≡ constraints + length steps
   pub few : length steps ≤ most_steps
@@ -80,11 +82,13 @@ pub record AreReadableSteps (f : Option FunctionData) (columns constraints : ℕ
 pub record AreReadable (f : Option FunctionData) (s : Drafts) : Type 0 where
   pub function : IfSome f IsWithinBounds
   pub problem : IsReadableProblem s.task.names s.task.problem
-  pub steps : AreReadableSteps f (length s.task.names) (length s.task.problem.constraints) s.lines s.steps
+  pub steps : AreReadableSteps f (length s.task.names) (length s.task.problem.constraints) s.lines
+      s.steps
   pub grid : IfSome s.task.grid (λ n. 0 < n)
   pub left : length s.left ≡ length s.steps
 
 pub record IsReadableDerivation (d : DerivationInput) : Type 0 where
   pub function : IfSome d.function IsWithinBounds
   pub problem : IsReadableProblem d.columns d.problem
-  pub steps : AreReadableSteps d.function (length d.columns) (length d.problem.constraints) d.lines (map as_draft d.steps)
+  pub steps : AreReadableSteps d.function (length d.columns) (length d.problem.constraints) d.lines
+      (map as_draft d.steps)

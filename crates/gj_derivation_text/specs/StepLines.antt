@@ -17,7 +17,12 @@ rule_word Gmic = codes "gmic"
 rule_word Function = codes "function"
 
 abbrev pub rule_kind : FieldForm StepRule
-rule_kind = record { field = λ r. word (rule_word r); HasForm = λ r. Unit {0}; HasWord = λ r. Unit {0} }
+rule_kind = record {
+  field = λ r. word (rule_word r);
+  HasForm = λ r. Unit {0};
+  HasWord =
+      λ r. Unit {0};
+}
 
 -- `step NAME linear|gmic|function`
 abbrev pub step_form : LineForm (List ℕ × (StepRule × Unit {0}))

@@ -21,7 +21,8 @@ cause_fields columns lines Wide = word (codes "wide") ∷ []
 -- `rejected line N CAUSE ..`, where the step begins in the N-th line
 abbrev pub rejected_line : List (List ℕ) → List (List ℕ) → ℕ → Verdict → List ℕ
 rejected_line columns lines n v =
-    bytes_of (word (codes "rejected") ∷ word (codes "line") ∷ count n ∷ cause_fields columns lines v)
+    bytes_of (word (codes "rejected") ∷ word (codes "line") ∷ count n
+    ∷ cause_fields columns lines v)
 
 -- `accepted derivation`
 abbrev pub accepted_line : List ℕ
@@ -29,4 +30,5 @@ accepted_line = bytes_of (word (codes "accepted") ∷ word (codes "derivation") 
 
 -- `# NAME CAUSE ..`, for a step that is left out
 abbrev pub left_out_line : List (List ℕ) → List (List ℕ) → List ℕ → Verdict → List ℕ
-left_out_line columns lines name v = bytes_of (word (codes "#") ∷ word name ∷ cause_fields columns lines v)
+left_out_line columns lines name v =
+    bytes_of (word (codes "#") ∷ word name ∷ cause_fields columns lines v)

@@ -23,20 +23,24 @@ some_below n len h = ap (λ b. cond b (Some n) None) (lt-ltb n len h)
 
 none_below : (n len : ℕ) → len ≤ n → place_below n len ≡ None
 none_below n len h =
-    ap (λ b. cond b (Some n) None) (never_true (nat_lt n len) (λ t. let below = ltb-true n len t in omega arith))
+    ap (λ b. cond b (Some n) None)
+    (never_true (nat_lt n len) (λ t. let below = ltb-true n len t in omega arith))
 
 at_most_length : {X : Type 0} (p : X → Bool) (xs : List X) → position_or_len p xs ≤ length xs
 at_most_length p [] = omega arith
 at_most_length p (x ∷ xs) = by_test (p x) (at_most_length p xs)
   where
-    by_test : (b : Bool) → position_or_len p xs ≤ length xs → cond (not b) (1 + position_or_len p xs) 0 ≤ length (x ∷ xs)
+    by_test : (b : Bool) → position_or_len p xs ≤ length xs →
+        cond (not b) (1 + position_or_len p xs) 0 ≤ length (x ∷ xs)
     by_test true h = omega arith
     by_test false h = omega arith
 
-push_other : {X : Type 0} (p : X → Bool) (xs : List X) (y : X) → p y ≡ false → position p (xs ++ y ∷ []) ≡ position p xs
+push_other : {X : Type 0} (p : X → Bool) (xs : List X) (y : X) → p y ≡ false →
+    position p (xs ++ y ∷ []) ≡ position p xs
 push_other p xs y e = by_place (cases_lt (position_or_len p xs) (length xs))
   where
-    by_place : (position_or_len p xs < length xs) ⊎ (length xs ≤ position_or_len p xs) → position p (xs ++ y ∷ []) ≡ position p xs
+    by_place : (position_or_len p xs < length xs) ⊎ (length xs ≤ position_or_len p xs) →
+        position p (xs ++ y ∷ []) ≡ position p xs
     by_place (inl below) =
         let same : position_or_len p (xs ++ y ∷ []) ≡ position_or_len p xs =
         position_or_len_push p xs y
@@ -66,7 +70,8 @@ push_here p xs y e none = by_place (cases_lt (position_or_len p xs) (length xs))
     by_place : (position_or_len p xs < length xs) ⊎ (length xs ≤ position_or_len p xs) →
         Some (length xs) ≡ position p (xs ++ y ∷ [])
     by_place (inl below) =
-        let clash : None ≡ Some (position_or_len p xs) = none ∙ some_below (position_or_len p xs) (length xs) below in
+        let clash : None ≡ Some (position_or_len p xs) = none
+        ∙ some_below (position_or_len p xs) (length xs) below in
         absurd cc
     by_place (inr past) =
         let most = at_most_length p xs in
@@ -75,19 +80,23 @@ push_here p xs y e none = by_place (cases_lt (position_or_len p xs) (length xs))
         ∙ ap (λ b. cond b (length xs + cond (p y) 0 1) (position_or_len p xs))
         (eq-eqb (position_or_len p xs) (length xs) (omega arith))
         ∙ ap (λ b. length xs + cond b 0 1) e ∙ plus_none (length xs) in
-        sym (ap₂ place_below here (length_push xs y) ∙ some_below (length xs) (length xs + 1) (omega arith))
+        sym (ap₂ place_below here (length_push xs y)
+        ∙ some_below (length xs) (length xs + 1) (omega arith))
 
 -- ---- places
 
-pub places_more : (n : ℕ) (log log' : List LogRow) (places : List (Option ℕ)) (l : LogRow) (p : ℕ) → ArePlaces n log places →
-    IsFreeColumn n log l.pivot → p ≡ length log → log' ≡ log ++ l ∷ [] → ArePlaces n log' (set places l.pivot (Some p))
+pub places_more : (n : ℕ) (log log' : List LogRow) (places : List (Option ℕ)) (l : LogRow) (p : ℕ) →
+    ArePlaces n log places →
+    IsFreeColumn n log l.pivot → p ≡ length log → log' ≡ log ++ l ∷ [] →
+    ArePlaces n log' (set places l.pivot (Some p))
 places_more n log log' places l p h free p_is log_is =
     subst (λ (xs : List LogRow). ArePlaces n xs (set places l.pivot (Some p))) (sym log_is) record {
       columns_are = length-set places l.pivot (Some p) ∙ h.columns_are;
       place = λ c below. by_column c below (cases_lt c l.pivot) (cases_lt l.pivot c);
     }
   where
-    other : (c : ℕ) → c < n → l.pivot ≢ c → get_or (set places l.pivot (Some p)) c None ≡ position (has c) (log ++ l ∷ [])
+    other : (c : ℕ) → c < n → l.pivot ≢ c → get_or (set places l.pivot (Some p)) c None
+        ≡ position (has c) (log ++ l ∷ [])
     other c below apart =
         get_or-set_other places l.pivot c (Some p) None (λ e. apart (sym e)) ∙ h.place c below
         ∙ sym (push_other (has c) log l (ne_eqb l.pivot c apart))
@@ -104,20 +113,25 @@ places_more n log log' places l p h free p_is log_is =
         ∙ ap Some p_is ∙ push_here (has l.pivot) log l (eq-eqb l.pivot l.pivot refl) free.free
         ∙ ap (λ k. position (has k) (log ++ l ∷ [])) same
 
-pub place_at : (n : ℕ) (log : List LogRow) (places : List (Option ℕ)) (c : ℕ) (o : Option ℕ) → ArePlaces n log places → c < n →
+pub place_at : (n : ℕ) (log : List LogRow) (places : List (Option ℕ)) (c : ℕ) (o : Option ℕ) →
+    ArePlaces n log places → c < n →
     get_or places c None ≡ o → o ≡ position (has c) log
 place_at n log places c o h below is = sym is ∙ h.place c below
 
 -- a column without a place is free
-pub free_at : (n : ℕ) (log : List LogRow) (places : List (Option ℕ)) (c : ℕ) → ArePlaces n log places → c < n →
+pub free_at : (n : ℕ) (log : List LogRow) (places : List (Option ℕ)) (c : ℕ) →
+    ArePlaces n log places → c < n →
     get_or places c None ≡ None → IsFreeColumn n log c
-free_at n log places c h below is = record { below = below; free = place_at n log places c None h below is }
+free_at n log places c h below is =
+    record { below = below; free = place_at n log places c None h below is }
 
-pub pushed : {X : Type 0} (old old' new : List X) (x : X) → new ≡ old' ++ x ∷ [] → old' ≡ old → new ≡ old ++ x ∷ []
+pub pushed : {X : Type 0} (old old' new : List X) (x : X) → new ≡ old' ++ x ∷ [] → old' ≡ old →
+    new ≡ old ++ x ∷ []
 pushed old old' new x e f = e ∙ ap (λ xs. xs ++ x ∷ []) f
 
 -- what the code's `places[c]` gives
-pub place_read : (n : ℕ) (log : List LogRow) (places : List (Option ℕ)) (c : ℕ) (x o : Option ℕ) → ArePlaces n log places → c < n →
+pub place_read : (n : ℕ) (log : List LogRow) (places : List (Option ℕ)) (c : ℕ) (x o : Option ℕ) →
+    ArePlaces n log places → c < n →
     x ≡ get_or places c x → x ≡ o → o ≡ position (has c) log
 place_read n log places c x o h below x_is is =
     let inside : c < length places = omega (arith, h.columns_are) in
@@ -125,23 +139,30 @@ place_read n log places c x o h below x_is is =
 
 -- ---- extents
 
-pub no_extents : (rows : List (List ℤ)) (extents : List Extent) → rows ≡ [] → extents ≡ [] → AreExtents rows extents
+pub no_extents : (rows : List (List ℤ)) (extents : List Extent) → rows ≡ [] → extents ≡ [] →
+    AreExtents rows extents
 no_extents rows extents none none' = record {
   rows_are = ap length none' ∙ sym (ap length none);
   extent = λ i below. let empty : length rows ≡ 0 = ap length none in absurd (omega arith);
 }
 
 -- one more row with its extent
-pub extents_more : (rows rows' : List (List ℤ)) (extents extents' : List Extent) (row : List ℤ) (e : Extent) → AreExtents rows extents →
-    rows' ≡ rows ++ row ∷ [] → extents' ≡ extents ++ e ∷ [] → IsExtent e.bound e.end row → AreExtents rows' extents'
-extents_more rows rows' extents extents' row e h rows_is extents_is new = subst₂ AreExtents (sym rows_is) (sym extents_is) record {
-  rows_are = length_push extents e ∙ ap (λ n. n + 1) h.rows_are ∙ sym (length_push rows row);
-  extent = λ i below.
-      below_more (λ k. IsExtent (get_or (extents ++ e ∷ []) k no_extent).bound (get_or (extents ++ e ∷ []) k no_extent).end
-      (get_or (rows ++ row ∷ []) k [])) (length rows) earlier last i (subst (λ n. i < n) (length_push rows row) below);
-}
+pub extents_more : (rows rows' : List (List ℤ)) (extents extents' : List Extent) (row : List ℤ)
+    (e : Extent) → AreExtents rows extents →
+    rows' ≡ rows ++ row ∷ [] → extents' ≡ extents ++ e ∷ [] → IsExtent e.bound e.end row →
+    AreExtents rows' extents'
+extents_more rows rows' extents extents' row e h rows_is extents_is new =
+    subst₂ AreExtents (sym rows_is) (sym extents_is) record {
+      rows_are = length_push extents e ∙ ap (λ n. n + 1) h.rows_are ∙ sym (length_push rows row);
+      extent = λ i below.
+          below_more (λ k. IsExtent (get_or (extents ++ e ∷ []) k no_extent).bound
+          (get_or (extents ++ e ∷ []) k no_extent).end
+          (get_or (rows ++ row ∷ []) k [])) (length rows) earlier last i
+          (subst (λ n. i < n) (length_push rows row) below);
+    }
   where
-    at : (k : ℕ) (x : Extent) (xs : List ℤ) → get_or (extents ++ e ∷ []) k no_extent ≡ x → get_or (rows ++ row ∷ []) k [] ≡ xs →
+    at : (k : ℕ) (x : Extent) (xs : List ℤ) → get_or (extents ++ e ∷ []) k no_extent ≡ x →
+        get_or (rows ++ row ∷ []) k [] ≡ xs →
         IsExtent x.bound x.end xs → IsExtent (get_or (extents ++ e ∷ []) k no_extent).bound
         (get_or (extents ++ e ∷ []) k no_extent).end (get_or (rows ++ row ∷ []) k [])
     at k x xs x_is xs_is is =
@@ -151,21 +172,32 @@ extents_more rows rows' extents extents' row e h rows_is extents_is new = subst�
         (get_or (extents ++ e ∷ []) k no_extent).end (get_or (rows ++ row ∷ []) k [])
     earlier k below =
         at k (get_or extents k no_extent) (get_or rows k [])
-        (get_or_append_left extents (e ∷ []) no_extent k (subst (λ n. k < n) (sym h.rows_are) below))
+        (get_or_append_left extents (e ∷ []) no_extent k
+        (subst (λ n. k < n) (sym h.rows_are) below))
         (get_or_append_left rows (row ∷ []) [] k below) (h.extent k below)
 
     last : IsExtent (get_or (extents ++ e ∷ []) (length rows) no_extent).bound
-        (get_or (extents ++ e ∷ []) (length rows) no_extent).end (get_or (rows ++ row ∷ []) (length rows) [])
-    last = at (length rows) e row (get_or_push extents e no_extent (length rows) h.rows_are) (get_or_push rows row [] (length rows) refl) new
+        (get_or (extents ++ e ∷ []) (length rows) no_extent).end
+        (get_or (rows ++ row ∷ []) (length rows) [])
+    last = at (length rows) e row (get_or_push extents e no_extent (length rows) h.rows_are)
+        (get_or_push rows row [] (length rows) refl) new
 
 -- one more line, with the columns as they were given
 pub line_pushed : (old old' new : List LogRow) (number pivot : ℕ) (columns columns' : List ℕ) →
-    new ≡ old' ++ record { number = number; reduce = columns; pivot = pivot } ∷ [] → old' ≡ old → columns ≡ columns' →
+    new ≡ old' ++ record { number = number; reduce = columns; pivot = pivot } ∷ [] → old' ≡ old →
+    columns ≡ columns' →
     new ≡ old ++ record { number = number; reduce = columns'; pivot = pivot } ∷ []
 line_pushed old old' new number pivot columns columns' e f g =
-    e ∙ ap₂ (λ (xs : List LogRow) (cs : List ℕ). xs ++ record { number = number; reduce = cs; pivot = pivot } ∷ []) f g
+    e ∙ ap₂ (λ (xs : List LogRow) (cs : List ℕ). xs ++ record {
+      number = number;
+      reduce =
+          cs;
+      pivot = pivot;
+    } ∷ []) f g
 
 -- one more row, as it is given
-pub row_pushed : (old old' new : List (List ℤ)) (row row' : List ℤ) → new ≡ old' ++ row ∷ [] → old' ≡ old → row ≡ row' →
+pub row_pushed : (old old' new : List (List ℤ)) (row row' : List ℤ) → new ≡ old' ++ row ∷ [] →
+    old' ≡ old → row ≡ row' →
     new ≡ old ++ row' ∷ []
-row_pushed old old' new row row' e f g = e ∙ ap₂ (λ (xs : List (List ℤ)) (r : List ℤ). xs ++ r ∷ []) f g
+row_pushed old old' new row row' e f g = e
+    ∙ ap₂ (λ (xs : List (List ℤ)) (r : List ℤ). xs ++ r ∷ []) f g

@@ -13,11 +13,14 @@ use Rattle.gj_theory.proofs.Passing.{none_passes, front_passes, back_passes, eit
 
 -- the columns from j on are solved, and none of the numbers so far passes
 pub record IsSolvedTo (kept : List KeptRow) (n free j : ℕ) (w : List ℤ) : Type 0 where
-  pub numbers : (solution_below kept free (unit_row n free)).numbers ≡ (solution_below kept j w).numbers
-  pub marked : Passes (solution_below kept free (unit_row n free)).marked ↔ Passes (solution_below kept j w).marked
+  pub numbers : (solution_below kept free (unit_row n free)).numbers
+      ≡ (solution_below kept j w).numbers
+  pub marked : Passes (solution_below kept free (unit_row n free)).marked
+      ↔ Passes (solution_below kept j w).marked
   pub columns : length w ≡ n
 
-pub solved_start : (kept : List KeptRow) (n free : ℕ) (w : List ℤ) → w ≡ unit_row n free → IsSolvedTo kept n free free w
+pub solved_start : (kept : List KeptRow) (n free : ℕ) (w : List ℤ) → w ≡ unit_row n free →
+    IsSolvedTo kept n free free w
 solved_start kept n free w is =
     subst (IsSolvedTo kept n free free) (sym is) record {
       numbers = refl;
@@ -41,22 +44,26 @@ below_next kept j w e (k, found, is) =
       marked = marked_in_solving xs j w ++ (solution_below kept j (solved_at xs j w)).marked;
     } in s) here
 
-pub solved_more : (kept : List KeptRow) (n free j : ℕ) (w w' e : List ℤ) → IsSolvedTo kept n free (j + 1) w → IsRowAt kept j e →
+pub solved_more : (kept : List KeptRow) (n free j : ℕ) (w w' e : List ℤ) →
+    IsSolvedTo kept n free (j + 1) w → IsRowAt kept j e →
     (Passes (marked_in_solving e j w) → ⊥) → w' ≡ solved_at e j w → IsSolvedTo kept n free j w'
 solved_more kept n free j w w' e h at narrow is =
     let next = below_next kept j w e at in
     subst (IsSolvedTo kept n free j) (sym is) record {
       numbers = h.numbers ∙ ap (λ s. s.numbers) next;
       marked = (
-        λ p. later (either_passes (marked_in_solving e j w) (solution_below kept j (solved_at e j w)).marked
+        λ p. later (either_passes (marked_in_solving e j w)
+            (solution_below kept j (solved_at e j w)).marked
             (subst (λ (s : Solution). Passes s.marked) next (h.marked.0 p))),
         λ p. h.marked.1 (subst (λ (s : Solution). Passes s.marked) (sym next)
-            (back_passes (marked_in_solving e j w) (solution_below kept j (solved_at e j w)).marked p)),
+            (back_passes (marked_in_solving e j w) (solution_below kept j (solved_at e j w)).marked
+            p)),
       );
       columns = length-solved e j w ∙ h.columns;
     }
   where
-    later : Passes (marked_in_solving e j w) ⊎ Passes (solution_below kept j (solved_at e j w)).marked →
+    later : Passes (marked_in_solving e j w)
+        ⊎ Passes (solution_below kept j (solved_at e j w)).marked →
         Passes (solution_below kept j (solved_at e j w)).marked
     later (inl p) = absurd (narrow p)
     later (inr p) = p
@@ -67,7 +74,8 @@ marked_of : (kept : List KeptRow) (n free : ℕ) → Some free ≡ free_column n
 unfolding solution_from
 marked_of kept n free e = ap (solution_from n kept) (sym e)
 
-pub solved_wide : (b : BasisData) (kept : List KeptRow) (n free j : ℕ) (w e : List ℤ) → kept ≡ b.kept → n ≡ b.columns →
+pub solved_wide : (b : BasisData) (kept : List KeptRow) (n free j : ℕ) (w e : List ℤ) →
+    kept ≡ b.kept → n ≡ b.columns →
     Some free ≡ free_column n kept → IsSolvedTo kept n free (j + 1) w → IsRowAt kept j e →
     Passes (marked_in_solving e j w) → Passes (marked_in (kernel b.columns b.kept))
 solved_wide b kept n free j w e kept_is n_is free_is h at p =
@@ -75,7 +83,8 @@ solved_wide b kept n free j w e kept_is n_is free_is h at p =
     h.marked.1 (subst (λ (s : Solution). Passes s.marked) (sym (below_next kept j w e at))
     (front_passes (marked_in_solving e j w) (solution_below kept j (solved_at e j w)).marked p)) in
     subst₂ (λ (m : ℕ) (ks : List KeptRow). Passes (marked_in (kernel m ks))) n_is kept_is
-    (subst (λ (o : Option Solution). Passes (marked_in o)) (sym (marked_of kept n free free_is)) whole)
+    (subst (λ (o : Option Solution). Passes (marked_in o))
+    (sym (marked_of kept n free free_is)) whole)
 
 -- ---- the end
 
@@ -86,8 +95,10 @@ pub record IsKernel (b : BasisData) (w : List ℤ) : Type 0 where
   pub solves : SolvesKept w b.kept
   pub positive : Any (λ x. pos 0 <ℤ x) w
 
-pub solved_end : (b : BasisData) (kept : List KeptRow) (n free j : ℕ) (w : List ℤ) → kept ≡ b.kept → n ≡ b.columns →
-    AreTriangular n kept → Some free ≡ free_column n kept → IsSolvedTo kept n free j w → j ≡ 0 → IsKernel b w
+pub solved_end : (b : BasisData) (kept : List KeptRow) (n free j : ℕ) (w : List ℤ) → kept ≡ b.kept →
+    n ≡ b.columns →
+    AreTriangular n kept → Some free ≡ free_column n kept → IsSolvedTo kept n free j w → j ≡ 0 →
+    IsKernel b w
 unfolding solution_below
 solved_end b kept n free j w kept_is n_is h free_is solved zero =
     subst (λ (x : BasisData). IsKernel x w) (same_basis b kept n kept_is n_is) here
@@ -95,7 +106,8 @@ solved_end b kept n free j w kept_is n_is h free_is solved zero =
     same_basis : (b : BasisData) (kept : List KeptRow) (n : ℕ) → kept ≡ b.kept → n ≡ b.columns →
         (let x : BasisData = record { columns = n; inserted = b.inserted; kept = kept } in x) ≡ b
     same_basis b kept n kept_is n_is =
-        ap₂ (λ (m : ℕ) (ks : List KeptRow). let x : BasisData = record { columns = m; inserted = b.inserted; kept = ks } in x) n_is kept_is
+        ap₂ (λ (m : ℕ) (ks : List KeptRow). let x : BasisData =
+        record { columns = m; inserted = b.inserted; kept = ks } in x) n_is kept_is
 
     is : kernel n kept ≡ Some (solution_below kept free (unit_row n free))
     is = marked_of kept n free free_is
@@ -114,9 +126,11 @@ solved_end b kept n free j w kept_is n_is h free_is solved zero =
           none_passes (subst (λ (m : ℕ). Passes (solution_below kept m w).marked) zero
           (solved.marked.0 (subst (λ (o : Option Solution). Passes (marked_in o)) is p)));
       solves = subst (λ (xs : List ℤ). SolvesKept xs kept) (sym numbers)
-          (subst (λ (o : Option Solution). IfSome o (λ s. SolvesKept s.numbers kept)) is (kernel_solves n kept h));
+          (subst (λ (o : Option Solution). IfSome o (λ s. SolvesKept s.numbers kept)) is
+          (kernel_solves n kept h));
       positive = subst (λ (xs : List ℤ). Any (λ x. pos 0 <ℤ x) xs) (sym numbers)
-          (subst (λ (o : Option Solution). IfSome o (λ s. Any (λ x. pos 0 <ℤ x) s.numbers)) is (kernel_positive n kept h));
+          (subst (λ (o : Option Solution). IfSome o (λ s. Any (λ x. pos 0 <ℤ x) s.numbers)) is
+          (kernel_positive n kept h));
     }
 
 -- if there is no free column
@@ -124,7 +138,8 @@ pub record HasNoKernel (b : BasisData) : Type 0 where
   pub full : length b.kept ≡ b.columns
   pub narrow : Passes (marked_in (kernel b.columns b.kept)) → ⊥
 
-pub no_kernel : (b : BasisData) (kept : List KeptRow) (n : ℕ) → kept ≡ b.kept → n ≡ b.columns → AreTriangular n kept →
+pub no_kernel : (b : BasisData) (kept : List KeptRow) (n : ℕ) → kept ≡ b.kept → n ≡ b.columns →
+    AreTriangular n kept →
     None ≡ free_column n kept → HasNoKernel b
 unfolding solution_from
 no_kernel b kept n kept_is n_is h none =
@@ -132,13 +147,15 @@ no_kernel b kept n kept_is n_is h none =
       full = ap length (sym kept_is) ∙ (kernel_none n kept h).0 is ∙ n_is;
       narrow = λ p.
           none_passes (subst (λ (o : Option Solution). Passes (marked_in o)) is
-          (subst₂ (λ (m : ℕ) (ks : List KeptRow). Passes (marked_in (kernel m ks))) (sym n_is) (sym kept_is) p));
+          (subst₂ (λ (m : ℕ) (ks : List KeptRow). Passes (marked_in (kernel m ks))) (sym n_is)
+          (sym kept_is) p));
     }
 
 -- a column below the free one has a row
 pub row_there : (kept : List KeptRow) (n free j : ℕ) → Some free ≡ free_column n kept → j < free →
     row_with_pivot kept j ≡ None → ⊥
-row_there kept n free j free_is below none = (free_has_no_row n kept free (sym free_is)).2 j below none
+row_there kept n free j free_is below none =
+    (free_has_no_row n kept free (sym free_is)).2 j below none
 
 pub free_below : (kept : List KeptRow) (n free : ℕ) → Some free ≡ free_column n kept → free < n
 free_below kept n free free_is = (free_has_no_row n kept free (sym free_is)).0

@@ -24,9 +24,11 @@ use Rattle.gj_elim.specs.Lazy.{IsMultipleRow, IsLazyStep, AreLazyFactors}
 gcd_of_multiple : (l : ℕ) (xs : List ℤ) → gcd_of_row (scaled (pos l) xs) ≡ gcd_of_row xs * l
 gcd_of_multiple l [] = omega arith
 gcd_of_multiple l (x ∷ xs) =
-    let size : unsigned_abs (pos l *ℤ x) ≡ unsigned_abs x * l = unsigned_abs-mul (pos l) x ∙ omega (arith, ints) in
+    let size : unsigned_abs (pos l *ℤ x) ≡ unsigned_abs x * l = unsigned_abs-mul (pos l) x
+    ∙ omega (arith, ints) in
     ap₂ gcd_of size (gcd_of_multiple l xs)
-    ∙ sym (gcd_is_gcd_of (unsigned_abs x * l) (gcd_of_row xs * l) (gcd_of (unsigned_abs x) (gcd_of_row xs) * l)
+    ∙ sym (gcd_is_gcd_of (unsigned_abs x * l) (gcd_of_row xs * l)
+    (gcd_of (unsigned_abs x) (gcd_of_row xs) * l)
     (gcd_scaled (unsigned_abs x) (gcd_of_row xs) (gcd_of (unsigned_abs x) (gcd_of_row xs)) l
     (gcd_of_is (unsigned_abs x) (gcd_of_row xs))))
 
@@ -35,10 +37,15 @@ multiple_of_zeros : (l : ℕ) (xs : List ℤ) → gcd_of_row xs ≡ 0 → scaled
 multiple_of_zeros l [] e = refl
 multiple_of_zeros l (x ∷ xs) e =
     let both = gcd_of_is (unsigned_abs x) (gcd_of_row xs) in
-    let first : unsigned_abs x ≡ 0 = zero_or (unsigned_abs x) (λ some. gcd_positive (unsigned_abs x) (gcd_of_row xs) _ both (inl some)) in
-    let later : gcd_of_row xs ≡ 0 = zero_or (gcd_of_row xs) (λ some. gcd_positive (unsigned_abs x) (gcd_of_row xs) _ both (inr some)) in
+    let first : unsigned_abs x ≡ 0 =
+    zero_or (unsigned_abs x)
+    (λ some. gcd_positive (unsigned_abs x) (gcd_of_row xs) _ both (inl some)) in
+    let later : gcd_of_row xs ≡ 0 =
+    zero_or (gcd_of_row xs)
+    (λ some. gcd_positive (unsigned_abs x) (gcd_of_row xs) _ both (inr some)) in
     let x_is = abs_zero_z x first in
-    ap₂ (λ y ys. y ∷ ys) (ap (λ z. pos l *ℤ z) x_is ∙ times_zero l ∙ sym x_is) (multiple_of_zeros l xs later)
+    ap₂ (λ y ys. y ∷ ys) (ap (λ z. pos l *ℤ z) x_is ∙ times_zero l ∙ sym x_is)
+    (multiple_of_zeros l xs later)
   where
     zero_or : (n : ℕ) → (0 < n → 0 < gcd_of_row (x ∷ xs)) → n ≡ 0
     zero_or zero h = refl
@@ -49,7 +56,9 @@ multiple_of_zeros l (x ∷ xs) e =
 
 scaled_twice : (u v : ℤ) (xs : List ℤ) → scaled u (scaled v xs) ≡ scaled (u *ℤ v) xs
 scaled_twice u v [] = refl
-scaled_twice u v (x ∷ xs) = ap₂ (λ y ys. y ∷ ys) (by_ring (u ∷ v ∷ x ∷ []) (search ring depth 40) refl) (scaled_twice u v xs)
+scaled_twice u v (x ∷ xs) =
+    ap₂ (λ y ys. y ∷ ys) (by_ring (u ∷ v ∷ x ∷ []) (search ring depth 40) refl)
+    (scaled_twice u v xs)
 
 scaled_cancel : (n : ℕ) (xs ys : List ℤ) → 0 < n → scaled (pos n) xs ≡ scaled (pos n) ys → xs ≡ ys
 scaled_cancel n xs ys some e =
@@ -59,12 +68,14 @@ scaled_cancel n xs ys some e =
     (λ k d below.
     let same : pos n *ℤ at_column xs k ≡ pos n *ℤ at_column ys k =
     sym (at_scaled (pos n) xs k) ∙ ap (λ zs. at_column zs k) e ∙ at_scaled (pos n) ys k in
-    get_or_default xs k d (pos 0) below ∙ mul_cancel_left_z (at_column xs k) (at_column ys k) (pos n) same (λ none. omega arith)
+    get_or_default xs k d (pos 0) below ∙ mul_cancel_left_z (at_column xs k) (at_column ys k)
+    (pos n) same (λ none. omega arith)
     ∙ get_or_default ys k (pos 0) d (omega arith))
 
 exactly_divided : (xs : List ℤ) → gcd_of_row xs ≢ 0 → scaled (pos (gcd_of_row xs)) (divided xs) ≡ xs
 exactly_divided xs some =
-    ap (scaled (pos (gcd_of_row xs))) (divided_some xs some) ∙ scaled_quotients (gcd_of_row xs) xs (dvd_refl (gcd_of_row xs))
+    ap (scaled (pos (gcd_of_row xs))) (divided_some xs some)
+    ∙ scaled_quotients (gcd_of_row xs) xs (dvd_refl (gcd_of_row xs))
 
 -- a multiple divided is the row divided
 pub divided_multiple : (l : ℕ) (xs : List ℤ) → 0 < l → divided (scaled (pos l) xs) ≡ divided xs
@@ -83,7 +94,8 @@ divided_multiple l xs some = ⊎_elim none all (zero_or_not (gcd_of_row xs))
         ap (λ n. scaled (pos n) (divided (scaled (pos l) xs))) (sym product)
         ∙ exactly_divided (scaled (pos l) xs) (λ e. omega arith) in
         let part : scaled (pos (g * l)) (divided xs) ≡ scaled (pos l) xs =
-        ap (λ z. scaled z (divided xs)) (swapped g l) ∙ sym (scaled_twice (pos l) (pos g) (divided xs))
+        ap (λ z. scaled z (divided xs)) (swapped g l)
+        ∙ sym (scaled_twice (pos l) (pos g) (divided xs))
         ∙ ap (scaled (pos l)) (exactly_divided xs apart) in
         scaled_cancel (g * l) (divided (scaled (pos l) xs)) (divided xs) above (whole ∙ sym part)
       where
@@ -97,13 +109,16 @@ divided_twice xs =
     sym (divided_multiple g (divided xs) some) ∙ ap divided is
 
 -- a multiple is kept with the same entries
-pub kept_multiple : (l : ℕ) (xs : List ℤ) (c : ℕ) → 0 < l → kept_entries (scaled (pos l) xs) c ≡ kept_entries xs c
+pub kept_multiple : (l : ℕ) (xs : List ℤ) (c : ℕ) → 0 < l →
+    kept_entries (scaled (pos l) xs) c ≡ kept_entries xs c
 unfolding kept_entries
 kept_multiple l xs c some =
     ap₂ (λ b ys. if b then map neg_ℤ ys else ys)
-    (ap (λ z. int_lt z (pos 0)) (at_scaled (pos l) xs c) ∙ same_sign l (at_column xs c) some) (divided_multiple l xs some)
+    (ap (λ z. int_lt z (pos 0)) (at_scaled (pos l) xs c) ∙ same_sign l (at_column xs c) some)
+    (divided_multiple l xs some)
   where
-    by_tests : (a b : ℤ) (s t : Bool) → int_lt a (pos 0) ≡ s → int_lt b (pos 0) ≡ t → (a <ℤ pos 0 → b <ℤ pos 0) →
+    by_tests : (a b : ℤ) (s t : Bool) → int_lt a (pos 0) ≡ s → int_lt b (pos 0) ≡ t →
+        (a <ℤ pos 0 → b <ℤ pos 0) →
         (b <ℤ pos 0 → a <ℤ pos 0) → s ≡ t
     by_tests a b true true e f there back = refl
     by_tests a b false false e f there back = refl
@@ -121,8 +136,10 @@ kept_multiple l xs c some =
         let zero_times : pos l *ℤ pos 0 ≡ pos 0 = omega (arith, ints) in
         let above : pos 0 <ℤ pos l = omega (arith, ints) in
         by_tests (pos l *ℤ x) x (int_lt (pos l *ℤ x) (pos 0)) (int_lt x (pos 0)) refl refl
-        (λ low. mul_lt_cancel_left_z x (pos 0) (pos l) above (subst (λ (z : ℤ). (pos l *ℤ x) <ℤ z) (sym zero_times) low))
-        (λ low. subst (λ (z : ℤ). (pos l *ℤ x) <ℤ z) zero_times (mul_lt_mul_left_z x (pos 0) (pos l) above low))
+        (λ low. mul_lt_cancel_left_z x (pos 0) (pos l) above
+        (subst (λ (z : ℤ). (pos l *ℤ x) <ℤ z) (sym zero_times) low))
+        (λ low. subst (λ (z : ℤ). (pos l *ℤ x) <ℤ z) zero_times
+        (mul_lt_mul_left_z x (pos 0) (pos l) above low))
 
 -- ---- one step
 
@@ -134,17 +151,21 @@ record AreMore (u w u' w' : ℤ) (l : ℕ) : Type 0 where
   pub kept : w ≡ pos more *ℤ w'
 
 -- g is the divisor of the step, l of the row, d the one that the code has
-factors_are_more : (u w u' w' p x : ℤ) (l d g : ℕ) → 0 < l → 0 < d → g ≡ gcd_of (unsigned_abs x) (unsigned_abs p) → 0 < g →
-    u *ℤ pos d ≡ p → w *ℤ pos d ≡ pos l *ℤ x → u' *ℤ pos g ≡ p → w' *ℤ pos g ≡ x → AreMore u w u' w' l
+factors_are_more : (u w u' w' p x : ℤ) (l d g : ℕ) → 0 < l → 0 < d →
+    g ≡ gcd_of (unsigned_abs x) (unsigned_abs p) → 0 < g →
+    u *ℤ pos d ≡ p → w *ℤ pos d ≡ pos l *ℤ x → u' *ℤ pos g ≡ p → w' *ℤ pos g ≡ x →
+    AreMore u w u' w' l
 factors_are_more u w u' w' p x l d g l_some d_some g_is g_some row kept row' kept' =
     let (rest, product) = cofactor d (g * l) divides in
     let m_some : 0 < rest = positive rest product in record {
       more = rest;
       some = m_some;
       row = mul_cancel_left_z (u *ℤ pos l) (pos rest *ℤ u') (pos d)
-          (crossed u u' (pos l) (pos d) (pos g) (pos rest) p (product_z rest product) row row') (λ e. omega arith);
+          (crossed u u' (pos l) (pos d) (pos g) (pos rest) p (product_z rest product) row row')
+          (λ e. omega arith);
       kept = mul_cancel_left_z w (pos rest *ℤ w') (pos d)
-          (straight w w' (pos l) (pos d) (pos g) (pos rest) x (product_z rest product) kept kept') (λ e. omega arith);
+          (straight w w' (pos l) (pos d) (pos g) (pos rest) x (product_z rest product) kept kept')
+          (λ e. omega arith);
     }
   where
     size_of_product : (w x : ℤ) (d : ℕ) → w *ℤ pos d ≡ x → unsigned_abs x ≡ d * unsigned_abs w
@@ -156,9 +177,11 @@ factors_are_more u w u' w' p x l d g l_some d_some g_is g_some row kept row' kep
         omega arith ∙ sym (unsigned_abs-mul (pos l) x) ∙ size_of_product w (pos l *ℤ x) d kept in
         let second : unsigned_abs p ≡ d * unsigned_abs u = size_of_product u p d row in
         let greatest = gcd_scaled (unsigned_abs x) (unsigned_abs p) g l
-        (subst (IsGcd (unsigned_abs x) (unsigned_abs p)) (sym g_is) (gcd_of_is (unsigned_abs x) (unsigned_abs p))) in
+        (subst (IsGcd (unsigned_abs x) (unsigned_abs p)) (sym g_is)
+        (gcd_of_is (unsigned_abs x) (unsigned_abs p))) in
         greatest.2 d (divides_product d (unsigned_abs x * l) (unsigned_abs w) first)
-        (dvd_trans d (divides_product d (unsigned_abs p) (unsigned_abs u) second) (dvd-mul_right (unsigned_abs p) l))
+        (dvd_trans d (divides_product d (unsigned_abs p) (unsigned_abs u) second)
+        (dvd-mul_right (unsigned_abs p) l))
 
     positive : (m : ℕ) → g * l ≡ d * m → 0 < m
     positive zero e =
@@ -169,20 +192,28 @@ factors_are_more u w u' w' p x l d g l_some d_some g_is g_some row kept row' kep
 
     product_z : (m : ℕ) → g * l ≡ d * m → pos g *ℤ pos l ≡ pos d *ℤ pos m
     product_z m e =
-        by_ring (pos g ∷ pos l ∷ []) (search ring depth 40) refl ∙ ap pos e ∙ by_ring (pos d ∷ pos m ∷ []) (search ring depth 40) refl
+        by_ring (pos g ∷ pos l ∷ []) (search ring depth 40) refl ∙ ap pos e
+        ∙ by_ring (pos d ∷ pos m ∷ []) (search ring depth 40) refl
 
-    crossed : (u u' l d g m p : ℤ) → g *ℤ l ≡ d *ℤ m → u *ℤ d ≡ p → u' *ℤ g ≡ p → d *ℤ (u *ℤ l) ≡ d *ℤ (m *ℤ u')
+    crossed : (u u' l d g m p : ℤ) → g *ℤ l ≡ d *ℤ m → u *ℤ d ≡ p → u' *ℤ g ≡ p →
+        d *ℤ (u *ℤ l) ≡ d *ℤ (m *ℤ u')
     crossed u u' l d g m p product row row' =
-        let first : d *ℤ (u *ℤ l) ≡ (u *ℤ d) *ℤ l = by_ring (d ∷ u ∷ l ∷ []) (search ring depth 40) refl in
-        let second : (u' *ℤ g) *ℤ l ≡ (g *ℤ l) *ℤ u' = by_ring (u' ∷ g ∷ l ∷ []) (search ring depth 40) refl in
-        let third : (d *ℤ m) *ℤ u' ≡ d *ℤ (m *ℤ u') = by_ring (d ∷ m ∷ u' ∷ []) (search ring depth 40) refl in
+        let first : d *ℤ (u *ℤ l) ≡ (u *ℤ d) *ℤ l =
+        by_ring (d ∷ u ∷ l ∷ []) (search ring depth 40) refl in
+        let second : (u' *ℤ g) *ℤ l ≡ (g *ℤ l) *ℤ u' =
+        by_ring (u' ∷ g ∷ l ∷ []) (search ring depth 40) refl in
+        let third : (d *ℤ m) *ℤ u' ≡ d *ℤ (m *ℤ u') =
+        by_ring (d ∷ m ∷ u' ∷ []) (search ring depth 40) refl in
         first ∙ ap (λ z. z *ℤ l) (row ∙ sym row') ∙ second ∙ ap (λ z. z *ℤ u') product ∙ third
 
-    straight : (w w' l d g m x : ℤ) → g *ℤ l ≡ d *ℤ m → w *ℤ d ≡ l *ℤ x → w' *ℤ g ≡ x → d *ℤ w ≡ d *ℤ (m *ℤ w')
+    straight : (w w' l d g m x : ℤ) → g *ℤ l ≡ d *ℤ m → w *ℤ d ≡ l *ℤ x → w' *ℤ g ≡ x →
+        d *ℤ w ≡ d *ℤ (m *ℤ w')
     straight w w' l d g m x product kept kept' =
         let first : d *ℤ w ≡ w *ℤ d = by_ring (d ∷ w ∷ []) (search ring depth 40) refl in
-        let second : l *ℤ (w' *ℤ g) ≡ (g *ℤ l) *ℤ w' = by_ring (l ∷ w' ∷ g ∷ []) (search ring depth 40) refl in
-        let third : (d *ℤ m) *ℤ w' ≡ d *ℤ (m *ℤ w') = by_ring (d ∷ m ∷ w' ∷ []) (search ring depth 40) refl in
+        let second : l *ℤ (w' *ℤ g) ≡ (g *ℤ l) *ℤ w' =
+        by_ring (l ∷ w' ∷ g ∷ []) (search ring depth 40) refl in
+        let third : (d *ℤ m) *ℤ w' ≡ d *ℤ (m *ℤ w') =
+        by_ring (d ∷ m ∷ w' ∷ []) (search ring depth 40) refl in
         first ∙ kept ∙ ap (λ z. l *ℤ z) (sym kept') ∙ second ∙ ap (λ z. z *ℤ w') product ∙ third
 
 -- the products and the difference of each entry
@@ -194,12 +225,15 @@ pub record AreNarrow (u w : ℤ) (row kept : List ℤ) : Type 0 where
 -- what is less than a multiple that fits
 below_multiple : (m : ℕ) (x y : ℤ) → 0 < m → y ≡ pos m *ℤ x → Fits y → Fits x
 below_multiple m x y some e fits =
-    let size : unsigned_abs y ≡ m * unsigned_abs x = ap unsigned_abs e ∙ unsigned_abs-mul (pos m) x in
+    let size : unsigned_abs y ≡ m * unsigned_abs x = ap unsigned_abs e
+    ∙ unsigned_abs-mul (pos m) x in
     let more : 1 * unsigned_abs x ≤ m * unsigned_abs x = mul-le-mul_right (unsigned_abs x) some in
     omega arith
 
-pub lazy_step : (kept other row next : List ℤ) (c : ℕ) (u w : ℤ) → IsMultipleRow other row → length kept ≡ length row →
-    pos 0 <ℤ at_column kept c → AreLazyFactors (at_column kept c) (at_column row c) u w → AreNarrow u w row kept →
+pub lazy_step : (kept other row next : List ℤ) (c : ℕ) (u w : ℤ) → IsMultipleRow other row →
+    length kept ≡ length row →
+    pos 0 <ℤ at_column kept c → AreLazyFactors (at_column kept c) (at_column row c) u w →
+    AreNarrow u w row kept →
     next ≡ differences (scaled u row) (scaled w kept) → IsLazyStep kept other next c
 unfolding reduced marked_in_step
 lazy_step kept other row next c u w multiple len positive factors narrow next_is =
@@ -207,10 +241,14 @@ lazy_step kept other row next c u w multiple len positive factors narrow next_is
     let g = gcd_of (unsigned_abs (at_column other c)) (unsigned_abs (at_column kept c)) in
     let g_some : 0 < g =
     gcd_positive (unsigned_abs (at_column other c)) (unsigned_abs (at_column kept c)) g
-    (gcd_of_is (unsigned_abs (at_column other c)) (unsigned_abs (at_column kept c))) (inr (abs_positive_z (at_column kept c) positive)) in
-    let entry : at_column row c ≡ pos l *ℤ at_column other c = ap (λ xs. at_column xs c) multiple.is ∙ at_scaled (pos l) other c in
-    let more = factors_are_more u w (row_factor kept other c) (kept_factor kept other c) (at_column kept c) (at_column other c)
-    l factors.divisor g multiple.some factors.some refl g_some factors.row (factors.kept ∙ entry) (row_factor_times kept other c)
+    (gcd_of_is (unsigned_abs (at_column other c)) (unsigned_abs (at_column kept c)))
+    (inr (abs_positive_z (at_column kept c) positive)) in
+    let entry : at_column row c ≡ pos l *ℤ at_column other c = ap (λ xs. at_column xs c) multiple.is
+    ∙ at_scaled (pos l) other c in
+    let more = factors_are_more u w (row_factor kept other c) (kept_factor kept other c)
+    (at_column kept c) (at_column other c)
+    l factors.divisor g multiple.some factors.some refl g_some factors.row (factors.kept ∙ entry)
+    (row_factor_times kept other c)
     (kept_factor_times kept other c) in
     by_factors more
   where
@@ -220,7 +258,8 @@ lazy_step kept other row next c u w multiple len positive factors narrow next_is
     at_row : (k : ℕ) → at_column row k ≡ pos multiple.factor *ℤ at_column other k
     at_row k = ap (λ xs. at_column xs k) multiple.is ∙ at_scaled (pos multiple.factor) other k
 
-    by_factors : AreMore u w (row_factor kept other c) (kept_factor kept other c) multiple.factor → IsLazyStep kept other next c
+    by_factors : AreMore u w (row_factor kept other c) (kept_factor kept other c) multiple.factor →
+        IsLazyStep kept other next c
     by_factors more = record { multiple = next_multiple; narrow = none }
       where
         u' : ℤ
@@ -234,7 +273,8 @@ lazy_step kept other row next c u w multiple len positive factors narrow next_is
 
         first_product : (k : ℕ) → u *ℤ at_column row k ≡ pos m *ℤ (u' *ℤ at_column other k)
         first_product k =
-            ap (λ z. u *ℤ z) (at_row k) ∙ outer u (pos multiple.factor) (at_column other k) ∙ ap (λ z. z *ℤ at_column other k) more.row
+            ap (λ z. u *ℤ z) (at_row k) ∙ outer u (pos multiple.factor) (at_column other k)
+            ∙ ap (λ z. z *ℤ at_column other k) more.row
             ∙ inner (pos m) u' (at_column other k)
           where
             outer : (u l x : ℤ) → u *ℤ (l *ℤ x) ≡ (u *ℤ l) *ℤ x
@@ -244,7 +284,8 @@ lazy_step kept other row next c u w multiple len positive factors narrow next_is
             inner m u x = by_ring (u ∷ m ∷ x ∷ []) (search ring depth 40) refl
 
         second_product : (k : ℕ) → w *ℤ at_column kept k ≡ pos m *ℤ (w' *ℤ at_column kept k)
-        second_product k = ap (λ z. z *ℤ at_column kept k) more.kept ∙ inner (pos m) w' (at_column kept k)
+        second_product k = ap (λ z. z *ℤ at_column kept k) more.kept
+            ∙ inner (pos m) w' (at_column kept k)
           where
             inner : (m u x : ℤ) → (m *ℤ u) *ℤ x ≡ m *ℤ (u *ℤ x)
             inner m u x = by_ring (u ∷ m ∷ x ∷ []) (search ring depth 40) refl
@@ -265,7 +306,8 @@ lazy_step kept other row next c u w multiple len positive factors narrow next_is
             let size' = length-map (eliminated kept other c) (λ x. pos m *ℤ x) in
             let size'' = length-eliminated kept other c columns in
             let size''' = columns in
-            next_is ∙ same_lists (differences (scaled u row) (scaled w kept)) (scaled (pos m) (eliminated kept other c)) (omega arith)
+            next_is ∙ same_lists (differences (scaled u row) (scaled w kept))
+            (scaled (pos m) (eliminated kept other c)) (omega arith)
             (λ k d below.
             get_or_default (differences (scaled u row) (scaled w kept)) k d (pos 0) below
             ∙ at_differences (scaled u row) (scaled w kept) k (first ∙ sym second)
@@ -284,27 +326,33 @@ lazy_step kept other row next c u w multiple len positive factors narrow next_is
             let product : 1 * d ≤ m * d = mul-le-mul_right d more_some in record {
               factor = m * d;
               some = omega arith;
-              is = whole ∙ ap (scaled (pos m)) (sym is) ∙ scaled_twice (pos m) (pos d) (divided (eliminated kept other c))
+              is = whole ∙ ap (scaled (pos m)) (sym is)
+                  ∙ scaled_twice (pos m) (pos d) (divided (eliminated kept other c))
                   ∙ ap (λ z. scaled z (divided (eliminated kept other c))) (joined m d);
             }
 
         none : Passes (marked_in_step kept other c) → ⊥
-        none p = by_part (either_passes (scaled u' other ++ scaled w' kept) (eliminated kept other c) p)
+        none p = by_part (either_passes (scaled u' other ++ scaled w' kept)
+            (eliminated kept other c) p)
           where
             products : Passes (scaled u' other) ⊎ Passes (scaled w' kept) → ⊥
             products (inl q) =
                 none_pass (scaled u' other)
                 (λ k below. subst Fits (sym (at_scaled u' other k))
-                (below_multiple m (u' *ℤ at_column other k) (u *ℤ at_column row k) more.some (first_product k) (narrow.first k))) q
+                (below_multiple m (u' *ℤ at_column other k) (u *ℤ at_column row k) more.some
+                (first_product k) (narrow.first k))) q
             products (inr q) =
                 none_pass (scaled w' kept)
                 (λ k below. subst Fits (sym (at_scaled w' kept k))
-                (below_multiple m (w' *ℤ at_column kept k) (w *ℤ at_column kept k) more.some (second_product k) (narrow.second k))) q
+                (below_multiple m (w' *ℤ at_column kept k) (w *ℤ at_column kept k) more.some
+                (second_product k) (narrow.second k))) q
 
-            by_part : Passes (scaled u' other ++ scaled w' kept) ⊎ Passes (eliminated kept other c) → ⊥
+            by_part : Passes (scaled u' other ++ scaled w' kept)
+                ⊎ Passes (eliminated kept other c) → ⊥
             by_part (inl q) = products (either_passes (scaled u' other) (scaled w' kept) q)
             by_part (inr q) =
                 none_pass (eliminated kept other c)
                 (λ k below. subst Fits (sym (at_eliminated kept other c k columns))
-                (below_multiple m (u' *ℤ at_column other k -ℤ w' *ℤ at_column kept k) (u *ℤ at_column row k -ℤ w *ℤ at_column kept k)
+                (below_multiple m (u' *ℤ at_column other k -ℤ w' *ℤ at_column kept k)
+                (u *ℤ at_column row k -ℤ w *ℤ at_column kept k)
                 more.some (both k) (narrow.difference k))) q

@@ -9,7 +9,12 @@ use Rattle.gj_elim.specs.declared.basis.Basis.TheInside.{Inside}
 
 -- the basis with these fields
 abbrev pub data_of : Inside → BasisData
-data_of b = record { columns = b.columns; inserted = b.inserted; kept = kept_rows b.log.items b.rows.items }
+data_of b = record {
+  columns = b.columns;
+  inserted = b.inserted;
+  kept =
+      kept_rows b.log.items b.rows.items;
+}
 
 -- the log has a line for each row, the rows are triangular with entries of at most 2^127 - 1 in
 -- absolute value, and the row that is reduced has its length, once with 128 bits a number and once

@@ -13,7 +13,8 @@ abbrev pub behind_by : Arithmetic → BasisData → List ℤ → BasisData
 behind_by by b row = record {
   columns = b.columns;
   inserted = b.inserted + 1;
-  kept = kept_behind b.kept b.inserted (inserted_by by b.columns b.kept row).reduce (inserted_by by b.columns b.kept row).kept;
+  kept = kept_behind b.kept b.inserted (inserted_by by b.columns b.kept row).reduce
+      (inserted_by by b.columns b.kept row).kept;
 }
 
 abbrev pub behind : BasisData → List ℤ → BasisData

@@ -8,7 +8,8 @@ use Rattle.gj_elim.specs.declared.log.Inserted.TheVariants.{Pivot, Nothing}
 -- the kept rows with these lines of the log and these entries
 abbrev pub kept_rows : List LogRow → List (List ℤ) → List KeptRow
 kept_rows (l ∷ log) (row ∷ rows) =
-    record { number = l.number; reduce = l.reduce; pivot = l.pivot; entries = row } ∷ kept_rows log rows
+    record { number = l.number; reduce = l.reduce; pivot = l.pivot; entries = row }
+    ∷ kept_rows log rows
 kept_rows log rows = []
 
 -- the line of the log for a kept row

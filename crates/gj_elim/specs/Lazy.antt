@@ -36,7 +36,8 @@ pub record IsZeroOutside (from to : ℕ) (row : List ℤ) : Type 0 where
 
 -- the products of the factors u and w with what the bounds let through are small, and the row after
 -- the step has this extent
-pub record HasRoom (u w : ℤ) (row_bound row_end kept_bound kept_end next_bound next_end : ℕ) : Type 0 where
+pub record HasRoom (u w : ℤ) (row_bound row_end kept_bound kept_end next_bound next_end : ℕ) :
+    Type 0 where
   pub row : unsigned_abs u * row_bound < 2 ^ 62
   pub kept : unsigned_abs w * kept_bound < 2 ^ 62
   pub bound : next_bound ≡ unsigned_abs u * row_bound + unsigned_abs w * kept_bound

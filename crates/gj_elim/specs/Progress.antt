@@ -15,7 +15,8 @@ kept_at by (Some c) row = with_pivot c (by.keep row c)
 
 -- what the insertion leaves: the row with something left at this column, or nothing; and the
 -- columns of its steps
-pub record IsLeft (by : Arithmetic) (i : Insertion) (left : Option ℕ) (row : List ℤ) (reduce : List ℕ) : Type 0 where
+pub record IsLeft (by : Arithmetic) (i : Insertion) (left : Option ℕ) (row : List ℤ)
+    (reduce : List ℕ) : Type 0 where
   pub reduce_is : i.reduce ≡ reduce
   pub kept_is : i.kept ≡ kept_at by left row
 
@@ -31,7 +32,8 @@ pub record IsBehind (i : Insertion) (reduce : List ℕ) (rest : Insertion) : Typ
   pub marked : Passes i.marked ↔ Passes rest.marked
 
 -- the insertion has come to its end, and no number passes
-pub record IsDone (by : Arithmetic) (i : Insertion) (left : Option ℕ) (row : List ℤ) (reduce : List ℕ) : Type 0 where
+pub record IsDone (by : Arithmetic) (i : Insertion) (left : Option ℕ) (row : List ℤ)
+    (reduce : List ℕ) : Type 0 where
   pub left_is : IsLeft by i left row reduce
   pub narrow : Passes i.marked → ⊥
 
@@ -44,7 +46,8 @@ pub record IsFreeColumn (n : ℕ) (log : List LogRow) (c : ℕ) : Type 0 where
 -- be reduced
 abbrev pub IsReached : List KeptRow → Insertion → Reached → List ℤ → List ℤ → List ℕ → Type 0
 IsReached kept i (End left) row exact reduce = IsDone whole_numbers i left row reduce
-IsReached kept i (Column c) row exact reduce = IsBehind i reduce (rest whole_numbers kept (length exact) c exact)
+IsReached kept i (Column c) row exact reduce =
+    IsBehind i reduce (rest whole_numbers kept (length exact) c exact)
 
 -- the row that is reached fits, and a column with something left of it is free
 abbrev pub IsReachedWithin : ℕ → List LogRow → Reached → List ℤ → List ℤ → Type 0

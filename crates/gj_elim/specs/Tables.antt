@@ -17,4 +17,6 @@ no_extent = record { bound = 0; end = 0 }
 -- for each of the rows its extent
 pub record AreExtents (rows : List (List ℤ)) (extents : List Extent) : Type 0 where
   pub rows_are : length extents ≡ length rows
-  pub extent : (i : ℕ) → i < length rows → IsExtent (get_or extents i no_extent).bound (get_or extents i no_extent).end (get_or rows i [])
+  pub extent : (i : ℕ) → i < length rows →
+      IsExtent (get_or extents i no_extent).bound (get_or extents i no_extent).end
+      (get_or rows i [])

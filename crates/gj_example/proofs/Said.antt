@@ -26,12 +26,14 @@ SaysExtreme (ExtremeByResidues g lines rows) = Unit {0}
 SaysExtreme (NotExtreme g h) = ⊥
 
 -- a true claim that a function is extreme says so of the function that was decided
-pub extreme_if_said : (f : FunctionData) (c : Claim) → IsDecided f c → ClaimHolds c → SaysExtreme c → IsExtreme f
+pub extreme_if_said : (f : FunctionData) (c : Claim) → IsDecided f c → ClaimHolds c →
+    SaysExtreme c → IsExtreme f
 extreme_if_said f (Minimal g) decided holds said = absurd said
 extreme_if_said f (NotMinimal g v) decided holds said = absurd said
 extreme_if_said f (Cut rule rows) decided holds said = absurd said
 extreme_if_said f (Extreme g lines rows) decided holds said = subst IsExtreme decided.0 holds.1
-extreme_if_said f (ExtremeByResidues g lines rows) decided holds said = subst IsExtreme decided.0 holds.1
+extreme_if_said f (ExtremeByResidues g lines rows) decided holds said =
+    subst IsExtreme decided.0 holds.1
 extreme_if_said f (NotExtreme g h) decided holds said = absurd said
 
 -- an extreme function is minimal
@@ -39,18 +41,24 @@ extreme_is_minimal : (f : FunctionData) → IsExtreme f → IsMinimal f
 extreme_is_minimal f extreme m some = (extreme m some).minimal
 
 -- and of an extreme function nothing else is claimed
-pub said_if_extreme : (f : FunctionData) (c : Claim) → IsDecided f c → IsBounded c → ClaimHolds c → IsByTable f c → IsExtreme f → SaysExtreme c
+pub said_if_extreme : (f : FunctionData) (c : Claim) → IsDecided f c → IsBounded c → ClaimHolds c →
+    IsByTable f c → IsExtreme f → SaysExtreme c
 said_if_extreme f (Minimal g) decided bounded holds table extreme = absurd decided
 said_if_extreme f (NotMinimal g v) decided bounded holds table extreme =
-    absurd (violation_denies g v bounded holds (extreme_is_minimal g (subst IsExtreme (sym decided.0) extreme)))
+    absurd (violation_denies g v bounded holds
+    (extreme_is_minimal g (subst IsExtreme (sym decided.0) extreme)))
 said_if_extreme f (Cut rule rows) decided bounded holds table extreme = absurd decided
 said_if_extreme f (Extreme g lines rows) decided bounded holds table extreme = tt
 said_if_extreme f (ExtremeByResidues g lines rows) decided bounded holds table extreme = tt
-said_if_extreme f (NotExtreme g h) decided bounded holds table extreme = absurd (table (extreme 4 (omega arith)))
+said_if_extreme f (NotExtreme g h) decided bounded holds table extreme =
+    absurd (table (extreme 4 (omega arith)))
 
 -- a claim in none of the two forms
-pub no_extreme_claim : (c : Claim) → ((g : FunctionData) → (lines : List CoverLine) → (rows : List PivotRow) → c ≡ Extreme g lines rows → ⊥) →
-    ((g : FunctionData) → (lines : List CoverLine) → (rows : List PivotRow) → c ≡ ExtremeByResidues g lines rows → ⊥) → SaysExtreme c → ⊥
+pub no_extreme_claim : (c : Claim) →
+    ((g : FunctionData) → (lines : List CoverLine) → (rows : List PivotRow) →
+    c ≡ Extreme g lines rows → ⊥) →
+    ((g : FunctionData) → (lines : List CoverLine) → (rows : List PivotRow) →
+    c ≡ ExtremeByResidues g lines rows → ⊥) → SaysExtreme c → ⊥
 no_extreme_claim (Minimal g) whole residues said = said
 no_extreme_claim (NotMinimal g v) whole residues said = said
 no_extreme_claim (Cut rule rows) whole residues said = said
@@ -59,13 +67,15 @@ no_extreme_claim (ExtremeByResidues g lines rows) whole residues said = residues
 no_extreme_claim (NotExtreme g h) whole residues said = said
 
 -- an error that goes on as it is
-pub same_fault : {T U : Type 0} (r : Result T DecideFault) (x y : DecideFault) → IsErr r → IsErrAnd r (λ e. e ≡ x) → r ≡ Err y →
+pub same_fault : {T U : Type 0} (r : Result T DecideFault) (x y : DecideFault) → IsErr r →
+    IsErrAnd r (λ e. e ≡ x) → r ≡ Err y →
     ◌≡◌ {A = Result U DecideFault} (Err x) (Err y)
 same_fault (Ok v) x y is_err h e = absurd cc
 same_fault (Err z) x y is_err h e = cc
 
 -- an error that goes on as that of a decision
-pub undecided_fault : {T U : Type 0} (r : Result T UseFault) (x y : DecideFault) → IsErr r → IsErrAnd r (λ e. e ≡ Undecided x) →
+pub undecided_fault : {T U : Type 0} (r : Result T UseFault) (x y : DecideFault) → IsErr r →
+    IsErrAnd r (λ e. e ≡ Undecided x) →
     r ≡ Err (Undecided y) → ◌≡◌ {A = Result U DecideFault} (Err x) (Err y)
 undecided_fault (Ok v) x y is_err h e = absurd cc
 undecided_fault (Err z) x y is_err h e = cc

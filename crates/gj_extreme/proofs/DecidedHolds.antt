@@ -41,11 +41,13 @@ only_zero Residues f component n slopes full long solve =
     elimination_modulo_zero modulus n (map (named_row f component n) (row_names f)) slopes (lit< tt)
     (begun_columns f component n (row_names f)) full long solve
 
-pub extreme_holds : (numbers : Numbers) (f : FunctionData) (lines : List CoverLine) (rows : List PivotRow) → IsWithinBounds f →
+pub extreme_holds : (numbers : Numbers) (f : FunctionData) (lines : List CoverLine)
+    (rows : List PivotRow) → IsWithinBounds f →
     IsMinimal f → IsContinuous f → AreExtremeRows numbers f lines rows → IsExtreme f
 extreme_holds numbers f lines rows l minimal continuous h =
     let n = h.n in
-    extreme_by_cover f lines h.component n l continuous minimal (lines_meet_rules f.order (IsTight f) lines h.covered.are_lines)
+    extreme_by_cover f lines h.component n l continuous minimal
+    (lines_meet_rules f.order (IsTight f) lines h.covered.are_lines)
     h.covered.numbers h.covered.count
     (λ slopes long solve.
     only_zero numbers f h.component n slopes h.all long
@@ -58,13 +60,36 @@ decided_holds f (NotMinimal g v) l h =
     subst (λ (x : FunctionData). ClaimHolds (NotMinimal x v)) (sym h.0) (first_shown f v l h.1)
 decided_holds f (Cut rule rows) l h = absurd h
 decided_holds f (Extreme g lines rows) l h =
-    subst (λ (x : FunctionData). ClaimHolds (Extreme x lines rows)) (sym h.0) (h.2, extreme_holds Whole f lines rows l h.1 h.2 h.3)
+    subst (λ (x : FunctionData). ClaimHolds (Extreme x lines rows)) (sym h.0)
+    (h.2, extreme_holds Whole f lines rows l h.1 h.2 h.3)
 decided_holds f (ExtremeByResidues g lines rows) l h =
     subst (λ (x : FunctionData). ClaimHolds (ExtremeByResidues x lines rows)) (sym h.0)
     (h.2, extreme_holds Residues f lines rows l h.1 h.2 h.3)
 decided_holds f (NotExtreme g halves) l (is, minimal, continuous, inl zig) =
-    subst (λ (x : FunctionData). ClaimHolds (NotExtreme x halves)) (sym is)
-    (continuous, minimal, (4, 3 * zig.halves.p, omega arith, zig.halves.order, zig.halves.scale, zigzag_halves f halves l continuous minimal zig))
+    subst (λ (x : FunctionData). ClaimHolds (NotExtreme x halves)) (sym is) (
+      continuous,
+      minimal,
+      (
+        4,
+        3 * zig.halves.p,
+        omega arith,
+        zig.halves.order,
+        zig.halves.scale,
+        zigzag_halves f
+            halves l continuous minimal zig,
+      ),
+    )
 decided_holds f (NotExtreme g halves) l (is, minimal, continuous, inr slope) =
-    subst (λ (x : FunctionData). ClaimHolds (NotExtreme x halves)) (sym is)
-    (continuous, minimal, (1, 3 * slope.halves.p, omega arith, slope.halves.order, slope.halves.scale, slope_halves f halves l minimal slope))
+    subst (λ (x : FunctionData). ClaimHolds (NotExtreme x halves)) (sym is) (
+      continuous,
+      minimal,
+      (
+        1,
+        3 * slope.halves.p,
+        omega arith,
+        slope.halves.order,
+        slope.halves.scale,
+        slope_halves f
+            halves l minimal slope,
+      ),
+    )

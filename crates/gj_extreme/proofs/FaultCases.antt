@@ -19,7 +19,8 @@ use Rattle.gj_extreme.specs.declared.faults.DecideFault.TheVariants.{NotContinuo
 
 -- ---- the cause of a fault, by that of the part
 
-pub elimination_cause : {U : Type 0} (f : FunctionData) (x : ElimFault) → IsMinimal f → IsContinuous f →
+pub elimination_cause : {U : Type 0} (f : FunctionData) (x : ElimFault) → IsMinimal f →
+    IsContinuous f →
     (IsErrOf {T = U} (Err x) elimination.Wide → IsTooWide f) → IsCause f (of_elimination x)
 elimination_cause f elimination.Wide minimal continuous wide = (minimal, continuous, wide refl)
 elimination_cause f (elimination.Memory m) minimal continuous wide = tt
@@ -29,7 +30,8 @@ pub split_cause : {U : Type 0} (f : FunctionData) (x : SplitFault) → IsMinimal
 split_cause f split.Wide minimal continuous wide = (minimal, continuous, wide refl)
 split_cause f (split.Memory m) minimal continuous wide = tt
 
-pub settling_cause : {U : Type 0} (f : FunctionData) (x : SettleFault) → IsMinimal f → IsContinuous f →
+pub settling_cause : {U : Type 0} (f : FunctionData) (x : SettleFault) → IsMinimal f →
+    IsContinuous f →
     (IsErrOf {T = U} (Err x) settling.Wide → IsTooWide f) → IsCause f (of_settling x)
 settling_cause f settling.Wide minimal continuous wide = (minimal, continuous, wide refl)
 settling_cause f (settling.Memory m) minimal continuous wide = tt
@@ -39,28 +41,33 @@ memory_cause f (NotContinuous i) memory = absurd memory
 memory_cause f Wide memory = absurd memory
 memory_cause f (Memory m) memory = tt
 
-pub split_memory : {U : Type 0} (x : SplitFault) → (IsErrOf {T = U} (Err x) split.Wide → ⊥) → IsMemoryFault (of_split x)
+pub split_memory : {U : Type 0} (x : SplitFault) → (IsErrOf {T = U} (Err x) split.Wide → ⊥) →
+    IsMemoryFault (of_split x)
 split_memory split.Wide narrow = absurd (narrow refl)
 split_memory (split.Memory m) narrow = tt
 
 -- ---- a fault that is handed on
 
-pub handed : {T : Type 0} (P : DecideFault → Type 0) (r : Result T DecideFault) (x : DecideFault) → IsErr r → IsErrAnd r (λ e. e ≡ x) →
+pub handed : {T : Type 0} (P : DecideFault → Type 0) (r : Result T DecideFault) (x : DecideFault) →
+    IsErr r → IsErrAnd r (λ e. e ≡ x) →
     P x → IfErr r P
 handed P (Ok v) x is_err same cause = absurd cc
 handed P (Err e) x is_err same cause = subst P (sym same) cause
 
-pub handed_decision : (f : FunctionData) (r : Result Claim DecideFault) (x : DecideFault) → IsErr r → IsErrAnd r (λ e. e ≡ x) →
+pub handed_decision : (f : FunctionData) (r : Result Claim DecideFault) (x : DecideFault) →
+    IsErr r → IsErrAnd r (λ e. e ≡ x) →
     IsCause f x → IsDecision f r
 handed_decision f (Ok v) x is_err same cause = absurd cc
 handed_decision f (Err e) x is_err same cause = subst (IsCause f) (sym same) cause
 
-pub memory_decision : (f : FunctionData) (r : Result Claim DecideFault) (m : AllocError) → IsErr r → IsErrAnd r (λ e. e ≡ Memory m) →
+pub memory_decision : (f : FunctionData) (r : Result Claim DecideFault) (m : AllocError) → IsErr r →
+    IsErrAnd r (λ e. e ≡ Memory m) →
     IsDecision f r
 memory_decision f r m is_err same = handed_decision f r (Memory m) is_err same tt
 
 -- the cause of the fault that a result is
-pub cause_of : {T : Type 0} (f : FunctionData) (r : Result T DecideFault) (x y : DecideFault) → IsErr r → IsErrAnd r (λ e. e ≡ x) →
+pub cause_of : {T : Type 0} (f : FunctionData) (r : Result T DecideFault) (x y : DecideFault) →
+    IsErr r → IsErrAnd r (λ e. e ≡ x) →
     IsErrOf r y → IsCause f x → IsCause f y
 cause_of f (Ok v) x y is_err same is cause = absurd cc
 cause_of f (Err e) x y is_err same is cause = let it : x ≡ y = cc in subst (IsCause f) it cause

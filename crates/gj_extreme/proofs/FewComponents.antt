@@ -39,7 +39,8 @@ use Rattle.gj_extreme.proofs.SmallSolutions.{small_total, grown, SolutionIsSmall
 
 -- from one place to a later one a component rises, by at most their distance
 rises_between : (component : ℕ → ℕ) (i j c : ℕ) → i ≤ j →
-    (rises component i c ≤ rises component j c) × (rises component j c ≤ rises component i c + (j - i))
+    (rises component i c ≤ rises component j c)
+    × (rises component j c ≤ rises component i c + (j - i))
 rises_between component i j c up =
     let test : ℕ → Bool = λ a. eqb (component a) c in
     let behind : List ℕ = range_with_len (0 + i) (j - i) in
@@ -52,7 +53,8 @@ rises_between component i j c up =
     (omega arith, omega arith)
 
 -- the entry of a pair is at most the order
-pair_low : (component : ℕ → ℕ) (q k a b c : ℕ) → a < q → b < q → unsigned_abs (row_entry component q k (Pair a b) c) ≤ q
+pair_low : (component : ℕ → ℕ) (q k a b c : ℕ) → a < q → b < q →
+    unsigned_abs (row_entry component q k (Pair a b) c) ≤ q
 pair_low component q k a b c a_low b_low = by_place (cases_lt (a + b) q)
   where
     r : ℕ
@@ -66,7 +68,8 @@ pair_low component q k a b c a_low b_low = by_place (cases_lt (a + b) q)
         omega (arith, ints)
     by_place (inr behind) =
         let place : r ≡ a + b - q =
-        ap (λ i. i % q) (let e : a + b ≡ q + (a + b - q) = omega arith in e) ∙ add-mod_left q (a + b - q)
+        ap (λ i. i % q) (let e : a + b ≡ q + (a + b - q) = omega arith in e)
+        ∙ add-mod_left q (a + b - q)
         ∙ mod-eq_of_lt (let low : a + b - q < q = omega arith in low) in
         let (up, most) = rises_between component r a c (omega arith) in
         let second = rises_at_most component b c in
@@ -77,30 +80,37 @@ entries_small : (f : FunctionData) (component : ℕ → ℕ) (n : ℕ) → IsWit
 entries_small f component n l =
     each_row (λ name. IsSmall 1000 (named_row f component n name)) f
     (each Period (λ c. rises_at_most component f.order c))
-    (each F (λ c. let low = rises_at_most component f.place c in let place = l.place_high in omega arith))
-    (λ a b a_low b_low tight. each (Pair a b) (λ c. pair_low component f.order f.place a b c a_low b_low))
+    (each F (λ c. let low = rises_at_most component f.place c in let place = l.place_high in
+    omega arith))
+    (λ a b a_low b_low tight. each (Pair a b)
+    (λ c. pair_low component f.order f.place a b c a_low b_low))
   where
-    each : (name : RowName) → ((c : ℕ) → unsigned_abs (row_entry component f.order f.place name c) ≤ f.order) →
+    each : (name : RowName) →
+        ((c : ℕ) → unsigned_abs (row_entry component f.order f.place name c) ≤ f.order) →
         IsSmall 1000 (named_row f component n name)
     each name low =
         All-made (λ x. unsigned_abs x ≤ 1000) (row_entry component f.order f.place name) 0 n
         (λ c below. let entry = low c in let high = l.order_high in omega arith)
 
-elimination_is_small : (f : FunctionData) (component : ℕ → ℕ) (n t : ℕ) → IsWithinBounds f → n ≤ suc t →
+elimination_is_small : (f : FunctionData) (component : ℕ → ℕ) (n t : ℕ) → IsWithinBounds f →
+    n ≤ suc t →
     EliminationIsSmall 1000 t (slope_elimination f component n)
 elimination_is_small f component n t l few =
     elimination_small 1000 t n [] 0 (map (named_row f component n) (row_names f)) (omega arith) few
     (All-nil (λ (k : KeptRow). IsSmall (bound_at 1000 [] k.pivot) k.entries))
     (All-map (IsSmall 1000) (named_row f component n) (row_names f) (entries_small f component n l))
 
-solution_is_small : (f : FunctionData) (component : ℕ → ℕ) (n t : ℕ) (s : Solution) → IsWithinBounds f → 1 ≤ t → n ≤ suc t →
+solution_is_small : (f : FunctionData) (component : ℕ → ℕ) (n t : ℕ) (s : Solution) →
+    IsWithinBounds f → 1 ≤ t → n ≤ suc t →
     kernel n (slope_elimination f component n).kept ≡ Some s → SolutionIsSmall (grown 1000 t t) s
 solution_is_small f component n t s l some few e =
     kernel_small 1000 t n (slope_elimination f component n).kept s (omega arith) some few
-    (elimination_has whole_sound n (map (named_row f component n) (row_names f)) (begun_columns f component n (row_names f))).triangular
+    (elimination_has whole_sound n (map (named_row f component n) (row_names f))
+    (begun_columns f component n (row_names f))).triangular
     (elimination_is_small f component n t l few).kept e
 
-perturbation_small : (f : FunctionData) (component : ℕ → ℕ) (numbers : List ℤ) (b i : ℕ) → IsWithinBounds f → IsSmall b numbers →
+perturbation_small : (f : FunctionData) (component : ℕ → ℕ) (numbers : List ℤ) (b i : ℕ) →
+    IsWithinBounds f → IsSmall b numbers →
     unsigned_abs (slope_perturbation f component numbers i) ≤ 1000 * b
 perturbation_small f component numbers b i l small =
     let slope = λ (a : ℕ). at_column numbers (component a) in
@@ -108,9 +118,11 @@ perturbation_small f component numbers b i l small =
     let long : length slopes ≡ i % f.order = length-map-range_with_len slope 0 (i % f.order) in
     let below = mod-lt i (let some : 0 < f.order = omega (arith, l.order_low) in some) in
     let sum = small_total b slopes
-    (All-made (λ x. unsigned_abs x ≤ b) slope 0 (i % f.order) (λ a low. small_at b numbers (component a) small)) in
+    (All-made (λ x. unsigned_abs x ≤ b) slope 0 (i % f.order)
+    (λ a low. small_at b numbers (component a) small)) in
     let high = l.order_high in
-    let times : length slopes * b ≤ 1000 * b = mul-le-mul_right b (let e : length slopes ≤ 1000 = omega arith in e) in
+    let times : length slopes * b ≤ 1000 * b =
+    mul-le-mul_right b (let e : length slopes ≤ 1000 = omega arith in e) in
     omega arith
 
 -- ---- the widths
@@ -127,11 +139,14 @@ apart b top x low small high = omega arith
 
 narrow : (b : ℕ) (xs : List ℤ) → b < 2 ^ 127 → IsSmall b xs → Passes xs → ⊥
 narrow b xs low small passes =
-    let found = all_of_any (λ x. unsigned_abs x ≤ b) (λ x. 2 ^ 127 ≤ unsigned_abs x) xs small passes in
+    let found = all_of_any (λ x. unsigned_abs x ≤ b) (λ x. 2 ^ 127 ≤ unsigned_abs x) xs small
+    passes in
     apart b (2 ^ 127) (unsigned_abs found.0) low found.1 found.2
 
-narrow_behind : (f : FunctionData) (component : ℕ → ℕ) (s : Solution) (g d : ℕ) → IsWithinBounds f → f.scale ≤ d →
-    1000 * g < 2 ^ 127 → 3 * (1000 * g) * d ≤ 2 ^ 124 → SolutionIsSmall g s → IsWideBehind f component s → ⊥
+narrow_behind : (f : FunctionData) (component : ℕ → ℕ) (s : Solution) (g d : ℕ) → IsWithinBounds f →
+    f.scale ≤ d →
+    1000 * g < 2 ^ 127 → 3 * (1000 * g) * d ≤ 2 ^ 124 → SolutionIsSmall g s →
+    IsWideBehind f component s → ⊥
 narrow_behind f component s g d l low fits scale_fits small (kernel_passes passes) =
     narrow g s.marked (below g (2 ^ 127) fits) small.marked passes
   where
@@ -153,11 +168,13 @@ narrow_behind f component s g d l low fits scale_fits small (scale_passes h halv
     scale_apart : (b top x : ℕ) → b ≤ top → x ≤ b → pos top <ℤ pos x → ⊥
     scale_apart b top x low small high = omega (arith, ints)
 
-pub narrow_components : (f : FunctionData) (lines : List CoverLine) (component : ℕ → ℕ) (n t : ℕ) → IsWithinBounds f →
+pub narrow_components : (f : FunctionData) (lines : List CoverLine) (component : ℕ → ℕ) (n t : ℕ) →
+    IsWithinBounds f →
     AreAllCovered f lines component n → n ≤ suc t → BoundsFit t → IsTooWide f → ⊥
 narrow_components f lines component n t l covered few fits wide =
     let same : wide.n ≡ n =
-    wide.covered.count ∙ ap components_in (one_cover f.order (IsTight f) wide.lines lines wide.covered.are_lines covered.are_lines)
+    wide.covered.count ∙ ap components_in
+    (one_cover f.order (IsTight f) wide.lines lines wide.covered.are_lines covered.are_lines)
     ∙ sym covered.count in
     let so_few : wide.n ≤ suc t = omega arith in
     let scale_low : f.scale ≤ 2 ^ 31 = let high = l.scale_high in omega arith in
@@ -166,8 +183,10 @@ narrow_components f lines component n t l covered few fits wide =
           narrow (bound 1000 t) (slope_elimination f wide.component wide.n).marked fits.elimination
           (elimination_is_small f wide.component wide.n t l so_few).marked passes.0
       | inr (narrow_elimination, behind) ↦
-          narrow_behind f wide.component behind.0 (grown 1000 t t) (2 ^ 31) l scale_low fits.perturbation fits.scale
-          (solution_is_small f wide.component wide.n t behind.0 l fits.some so_few behind.1) behind.2
+          narrow_behind f wide.component behind.0 (grown 1000 t t)
+          (2 ^ 31) l scale_low fits.perturbation fits.scale
+          (solution_is_small f wide.component wide.n t behind.0 l fits.some so_few behind.1)
+          behind.2
     ]
 
 -- ---- at most four components
@@ -188,26 +207,33 @@ four_fit = record {
   scale = subst (λ (g : ℕ). 3 * (1000 * g) * 2 ^ 31 ≤ 2 ^ 124) (sym three_solved) (omega arith);
 }
 
-pub few_components : (f : FunctionData) (lines : List CoverLine) (component : ℕ → ℕ) (n : ℕ) → IsWithinBounds f →
+pub few_components : (f : FunctionData) (lines : List CoverLine) (component : ℕ → ℕ) (n : ℕ) →
+    IsWithinBounds f →
     AreAllCovered f lines component n → n ≤ 4 → IsTooWide f → ⊥
-few_components f lines component n l covered few wide = narrow_components f lines component n 3 l covered few four_fit wide
+few_components f lines component n l covered few wide =
+    narrow_components f lines component n 3 l covered few four_fit wide
 
 -- no number of the elimination passes, so that no proof is by residues
-pub few_components_narrow : (f : FunctionData) (lines : List CoverLine) (component : ℕ → ℕ) (n : ℕ) → IsWithinBounds f →
+pub few_components_narrow : (f : FunctionData) (lines : List CoverLine) (component : ℕ → ℕ)
+    (n : ℕ) → IsWithinBounds f →
     AreAllCovered f lines component n → n ≤ 4 → Passes (slope_elimination f component n).marked → ⊥
 few_components_narrow f lines component n l covered few passes =
-    narrow (bound 1000 3) (slope_elimination f component n).marked four_fit.elimination (elimination_is_small f component n 3 l few).marked
+    narrow (bound 1000 3) (slope_elimination f component n).marked four_fit.elimination
+    (elimination_is_small f component n 3 l few).marked
     passes
 
-few_residues : (f : FunctionData) (lines others : List CoverLine) (component : ℕ → ℕ) (n : ℕ) (rows : List PivotRow) → IsWithinBounds f →
+few_residues : (f : FunctionData) (lines others : List CoverLine) (component : ℕ → ℕ) (n : ℕ)
+    (rows : List PivotRow) → IsWithinBounds f →
     AreAllCovered f lines component n → n ≤ 4 → AreExtremeRows Residues f others rows → ⊥
 few_residues f lines others component n rows l covered few h =
     let same : h.n ≡ n =
-    h.covered.count ∙ ap components_in (one_cover f.order (IsTight f) others lines h.covered.are_lines covered.are_lines)
+    h.covered.count ∙ ap components_in
+    (one_cover f.order (IsTight f) others lines h.covered.are_lines covered.are_lines)
     ∙ sym covered.count in
     few_components_narrow f others h.component h.n l h.covered (omega arith) h.needed
 
-pub few_components_plain : (f : FunctionData) (lines : List CoverLine) (component : ℕ → ℕ) (n : ℕ) (c : Claim) → IsWithinBounds f →
+pub few_components_plain : (f : FunctionData) (lines : List CoverLine) (component : ℕ → ℕ) (n : ℕ)
+    (c : Claim) → IsWithinBounds f →
     AreAllCovered f lines component n → n ≤ 4 → IsDecided f c → numbers_of c ≡ Whole
 few_components_plain f lines component n (Minimal g) l covered few h = refl
 few_components_plain f lines component n (NotMinimal g v) l covered few h = refl

@@ -25,32 +25,47 @@ pub record IsKernel (f : FunctionData) (component : ℕ → ℕ) (n : ℕ) (numb
   pub same : numbers ≡ solution.numbers
 
 -- the basis has the kernel of the rows that are kept of all
-pub kernel_same : (f : FunctionData) (component : ℕ → ℕ) (n : ℕ) (rows : Rows) → AreInserted f component n rows →
+pub kernel_same : (f : FunctionData) (component : ℕ → ℕ) (n : ℕ) (rows : Rows) →
+    AreInserted f component n rows →
     kernel n (slope_elimination f component n).kept ≡ kernel rows.basis.columns rows.basis.kept
 kernel_same f component n rows h =
-    ap (kernel n) h.kept ∙ kernel_renumbered h.numbers n rows.basis.kept ∙ ap (λ m. kernel m rows.basis.kept) (sym h.columns)
+    ap (kernel n) h.kept ∙ kernel_renumbered h.numbers n rows.basis.kept
+    ∙ ap (λ m. kernel m rows.basis.kept) (sym h.columns)
 
 -- if fewer rows are kept than there are components, there is one
 pub kernel_found : (f : FunctionData) (component : ℕ → ℕ) (n : ℕ) (rows : Rows) (numbers : List ℤ) →
     AreInserted f component n rows → length rows.basis.kept < n →
     IfSome (kernel rows.basis.columns rows.basis.kept) (λ s. numbers ≡ s.numbers) →
-    (Passes (marked_in (kernel rows.basis.columns rows.basis.kept)) → ⊥) → IsKernel f component n numbers
+    (Passes (marked_in (kernel rows.basis.columns rows.basis.kept)) → ⊥) →
+    IsKernel f component n numbers
 kernel_found f component n rows numbers h fewer value narrow =
     by_solution (kernel rows.basis.columns rows.basis.kept) refl value narrow
   where
-    by_solution : (o : Option Solution) → kernel rows.basis.columns rows.basis.kept ≡ o → IfSome o (λ s. numbers ≡ s.numbers) →
+    by_solution : (o : Option Solution) → kernel rows.basis.columns rows.basis.kept ≡ o →
+        IfSome o (λ s. numbers ≡ s.numbers) →
         (Passes (marked_in o) → ⊥) → IsKernel f component n numbers
     by_solution None e is fits =
-        let triangular = (elimination_has whole_sound n _ (begun_columns f component n (row_names f))).triangular in
-        let full = (kernel_none n (slope_elimination f component n).kept triangular).0 (kernel_same f component n rows h ∙ e) in
+        let triangular = (elimination_has whole_sound n _
+        (begun_columns f component n (row_names f))).triangular in
+        let full = (kernel_none n (slope_elimination f component n).kept triangular).0
+        (kernel_same f component n rows h ∙ e) in
         let len = ap length h.kept in
         let same = length-map rows.basis.kept (renumbered h.numbers) in
         absurd (omega arith)
-    by_solution (Some s) e is fits = record { solution = s; solves = kernel_same f component n rows h ∙ e; fits = fits; same = is }
+    by_solution (Some s) e is fits =
+        record {
+          solution = s;
+          solves = kernel_same f component n rows h ∙ e;
+          fits = fits;
+          same =
+              is;
+        }
 
 -- they have a number for each component
-pub kernel_covers : (f : FunctionData) (lines : List CoverLine) (component : List ℕ) (n : ℕ) (numbers : List ℤ) →
-    length component ≡ f.order → AreAllCovered f lines (component_in component) n → IsKernel f (component_in component) n numbers →
+pub kernel_covers : (f : FunctionData) (lines : List CoverLine) (component : List ℕ) (n : ℕ)
+    (numbers : List ℤ) →
+    length component ≡ f.order → AreAllCovered f lines (component_in component) n →
+    IsKernel f (component_in component) n numbers →
     All (λ c. c < length numbers) component
 kernel_covers f lines component n numbers len covered h = λ k d below.
     let solves = solution_solves f (component_in component) n h.solution h.solves in

@@ -26,7 +26,8 @@ use Rattle.gj_theory.specs.HandedOver.{renumbered}
 zeros_at : (q : ℕ) → 0 < q → (0 + 0) % q ≡ 0
 zeros_at q some = mod-eq_of_lt some
 
-pub zero_pair : (f : FunctionData) (component : ℕ → ℕ) (n : ℕ) (before : List (List ℤ)) (p : SeenPair) → 0 < f.order →
+pub zero_pair : (f : FunctionData) (component : ℕ → ℕ) (n : ℕ) (before : List (List ℤ))
+    (p : SeenPair) → 0 < f.order →
     p ≡ record { a = 0; b = 0 } → IsSeenRow f component n before p
 zero_pair f component n before p some is =
     subst (IsSeenRow f component n before) (sym is)
@@ -34,9 +35,12 @@ zero_pair f component n before p some is =
     (λ c below. ap (λ i. pos 0 +ℤ pos 0 -ℤ pos (rises component i c)) (zeros_at f.order some))))
 
 -- so are those of places that are new
-pub places_are_made : (f : FunctionData) (component : ℕ → ℕ) (n : ℕ) (rows : Rows) (seen : SeenPairs) (rest : List RowName) →
-    0 < f.order → All (λ p. p ≡ record { a = 0; b = 0 }) seen.pairs.items → AreToCome f component n rows rest →
-    AreToCome f component n (record { basis = rows.basis; names = rows.names; row = rows.row; seen = seen }) rest
+pub places_are_made : (f : FunctionData) (component : ℕ → ℕ) (n : ℕ) (rows : Rows)
+    (seen : SeenPairs) (rest : List RowName) →
+    0 < f.order → All (λ p. p ≡ record { a = 0; b = 0 }) seen.pairs.items →
+    AreToCome f component n rows rest →
+    AreToCome f component n
+    (record { basis = rows.basis; names = rows.names; row = rows.row; seen = seen }) rest
 places_are_made f component n rows seen rest some zeros h =
     let g = h.handed_over in
     record {
@@ -53,26 +57,33 @@ places_are_made f component n rows seen rest some zeros h =
         kept = g.kept;
         marked = g.marked;
         names = g.names;
-        seen = λ i d low. zero_pair f component n g.before (get_or seen.pairs.items i d) some (zeros i d low);
+        seen = λ i d low. zero_pair f component n g.before (get_or seen.pairs.items i d) some
+            (zeros i d low);
         known = g.known;
       };
     }
 
 -- a pair below the order is remembered
-pub pair_is_below : (q : ℕ) (old seen : SeenPairs) (place : ℕ) (p : SeenPair) → IsPairBelow q p → seen.codes ≡ old.codes →
+pub pair_is_below : (q : ℕ) (old seen : SeenPairs) (place : ℕ) (p : SeenPair) → IsPairBelow q p →
+    seen.codes ≡ old.codes →
     seen.pairs.items ≡ set old.pairs.items place p → AreSeenBelow q old → AreSeenBelow q seen
 pair_is_below q old seen place p below codes pairs h = record {
-  some = subst (λ (m : ℕ). 0 < m) (sym (ap length pairs ∙ length-set old.pairs.items place p)) h.some;
-  few = subst (λ (m : ℕ). m ≤ 1024) (sym (ap length pairs ∙ length-set old.pairs.items place p)) h.few;
-  points = subst (All (IsPairBelow q)) (sym pairs) (All-set (IsPairBelow q) old.pairs.items place p below h.points);
+  some = subst (λ (m : ℕ). 0 < m) (sym (ap length pairs ∙ length-set old.pairs.items place p))
+      h.some;
+  few = subst (λ (m : ℕ). m ≤ 1024) (sym (ap length pairs ∙ length-set old.pairs.items place p))
+      h.few;
+  points = subst (All (IsPairBelow q)) (sym pairs)
+      (All-set (IsPairBelow q) old.pairs.items place p below h.points);
   codes = ap (λ c. length c.items) codes ∙ h.codes;
 }
 
 -- a pair whose row was handed over is remembered
-pub pair_is_set : (f : FunctionData) (component : ℕ → ℕ) (n : ℕ) (rows : Rows) (seen : SeenPairs) (place : ℕ) (p : SeenPair)
+pub pair_is_set : (f : FunctionData) (component : ℕ → ℕ) (n : ℕ) (rows : Rows) (seen : SeenPairs)
+    (place : ℕ) (p : SeenPair)
     (rest : List RowName) → seen.pairs.items ≡ set rows.seen.pairs.items place p →
     IsTaken f component n (Pair p.a p.b) rows rest →
-    AreToCome f component n (record { basis = rows.basis; names = rows.names; row = rows.row; seen = seen }) rest
+    AreToCome f component n
+    (record { basis = rows.basis; names = rows.names; row = rows.row; seen = seen }) rest
 pair_is_set f component n rows seen place p rest pairs (h, has) =
     let g = h.handed_over in
     record {
@@ -90,7 +101,8 @@ pair_is_set f component n rows seen place p rest pairs (h, has) =
         marked = g.marked;
         names = g.names;
         seen = subst (All (IsSeenRow f component n g.before)) (sym pairs)
-            (All-set (IsSeenRow f component n g.before) rows.seen.pairs.items place p (inr has) g.seen);
+            (All-set (IsSeenRow f component n g.before) rows.seen.pairs.items place p
+            (inr has) g.seen);
         known = g.known;
       };
     }
@@ -98,7 +110,8 @@ pair_is_set f component n rows seen place p rest pairs (h, has) =
 -- ---- the pair before
 
 -- the row of a pair from the counts of one interval less
-one_interval_less : (x y z u v c : ℕ) → y ≡ u + c → z ≡ v + c → pos x +ℤ pos u -ℤ pos v ≡ pos x +ℤ pos y -ℤ pos z
+one_interval_less : (x y z u v c : ℕ) → y ≡ u + c → z ≡ v + c →
+    pos x +ℤ pos u -ℤ pos v ≡ pos x +ℤ pos y -ℤ pos z
 one_interval_less x y z u v c first second = omega (arith, ints)
 
 next_sum : (x q : ℕ) → x + 1 ≢ q → x + 1 < 2 * q → x % q + 1 ≡ (x + 1) % q
@@ -111,7 +124,8 @@ next_sum x q other small = elim (cases_lt (x + 1) q) [
     | inl less ↦ absurd (other (omega arith))
     | inr more ↦
         let here : x % q ≡ x - q = mod-eq-sub-mod more ∙ mod-eq_of_lt (omega arith) in
-        let there : (x + 1) % q ≡ x + 1 - q = mod-eq-sub-mod (omega arith) ∙ mod-eq_of_lt (omega arith) in
+        let there : (x + 1) % q ≡ x + 1 - q = mod-eq-sub-mod (omega arith)
+        ∙ mod-eq_of_lt (omega arith) in
         omega arith
   ]
 ]
@@ -135,13 +149,19 @@ same_row_as_before component n q k a b s positive a_below b_below other before s
         ap (λ i. i + 1) before ∙ next_sum (a + (b - 1)) q (λ e. other (sym whole ∙ e)) (omega arith)
         ∙ ap (λ i. i % q) whole
 
-    here : (c : ℕ) → row_entry component q k (Pair a (b - 1)) c ≡ row_entry component q k (Pair a b) c
+    here : (c : ℕ) → row_entry component q k (Pair a (b - 1)) c
+        ≡ row_entry component q k (Pair a b) c
     here c =
-        ap (λ i. pos (rises component a c) +ℤ pos (rises component (b - 1) c) -ℤ pos (rises component i c)) (sym before)
-        ∙ one_interval_less (rises component a c) (rises component (b - 1 + 1) c) (rises component (s + 1) c)
+        ap (λ i. pos (rises component a c) +ℤ pos (rises component (b - 1) c) -ℤ pos
+        (rises component i c)) (sym before)
+        ∙ one_interval_less (rises component a c) (rises component (b - 1 + 1) c)
+        (rises component (s + 1) c)
         (rises component (b - 1) c) (rises component s c) (cond (eqb (component s) c) 1 0)
-        (rises_more component (b - 1) c ∙ ap (λ i. rises component (b - 1) c + cond (eqb i c) 1 0) same) (rises_more component s c)
-        ∙ ap₂ (λ i j. pos (rises component a c) +ℤ pos (rises component i c) -ℤ pos (rises component j c)) again sum
+        (rises_more component (b - 1) c
+        ∙ ap (λ i. rises component (b - 1) c + cond (eqb i c) 1 0) same)
+        (rises_more component s c)
+        ∙ ap₂ (λ i j. pos (rises component a c) +ℤ pos (rises component i c) -ℤ pos
+        (rises component j c)) again sum
 
 -- ---- pairs beside
 
@@ -152,7 +172,8 @@ intervals_over low high first second over sum more moved = omega (arith, ints)
 
 -- if the intervals before a and behind b are in one component, the pair has the row of the one with
 -- these moved
-pub same_row_as_beside : (component : ℕ → ℕ) (n q k a b : ℕ) → 0 < a → component (a - 1) ≡ component b →
+pub same_row_as_beside : (component : ℕ → ℕ) (n q k a b : ℕ) → 0 < a →
+    component (a - 1) ≡ component b →
     row_of component n q k (Pair (a - 1) (b + 1)) ≡ row_of component n q k (Pair a b)
 same_row_as_beside component n q k a b some same =
     ap (λ g. map g (range_with_len 0 n)) (fun_ext (λ c. here c))
@@ -163,17 +184,21 @@ same_row_as_beside component n q k a b some same =
     sum : a - 1 + (b + 1) ≡ a + b
     sum = omega arith
 
-    here : (c : ℕ) → row_entry component q k (Pair (a - 1) (b + 1)) c ≡ row_entry component q k (Pair a b) c
+    here : (c : ℕ) → row_entry component q k (Pair (a - 1) (b + 1)) c
+        ≡ row_entry component q k (Pair a b) c
     here c =
-        ap (λ i. pos (rises component (a - 1) c) +ℤ pos (rises component (b + 1) c) -ℤ pos (rises component (i % q) c)) sum
-        ∙ intervals_over (rises component (a - 1) c) (rises component a c) (rises component b c) (rises component (b + 1) c)
+        ap (λ i. pos (rises component (a - 1) c) +ℤ pos (rises component (b + 1) c) -ℤ pos
+        (rises component (i % q) c)) sum
+        ∙ intervals_over (rises component (a - 1) c) (rises component a c) (rises component b c)
+        (rises component (b + 1) c)
         (cond (eqb (component b) c) 1 0) (rises component ((a + b) % q) c)
         (ap (λ i. rises component i c) (sym again) ∙ rises_more component (a - 1) c
         ∙ ap (λ i. rises component (a - 1) c + cond (eqb i c) 1 0) same)
         (rises_more component b c)
 
 -- so it is with two intervals before a, and two behind b
-pub same_row_as_two_beside : (component : ℕ → ℕ) (n q k a b : ℕ) → 1 < a → component (a - 2) ≡ component b →
+pub same_row_as_two_beside : (component : ℕ → ℕ) (n q k a b : ℕ) → 1 < a →
+    component (a - 2) ≡ component b →
     component (a - 1) ≡ component (b + 1) →
     row_of component n q k (Pair (a - 2) (b + 1 + 1)) ≡ row_of component n q k (Pair a b)
 same_row_as_two_beside component n q k a b some other last =
@@ -188,7 +213,8 @@ same_row_as_two_beside component n q k a b some other last =
     sum : a - 2 + (b + 1 + 1) ≡ a + b
     sum = omega arith
 
-    here : (c : ℕ) → row_entry component q k (Pair (a - 2) (b + 1 + 1)) c ≡ row_entry component q k (Pair a b) c
+    here : (c : ℕ) → row_entry component q k (Pair (a - 2) (b + 1 + 1)) c
+        ≡ row_entry component q k (Pair a b) c
     here c =
         let one = cond (eqb (component b) c) 1 0 in
         let two = cond (eqb (component (b + 1)) c) 1 0 in
@@ -198,18 +224,25 @@ same_row_as_two_beside component n q k a b some other last =
         let high : rises component a c ≡ rises component (a - 1) c + two =
         ap (λ i. rises component i c) (sym again) ∙ rises_more component (a - 1) c
         ∙ ap (λ i. rises component (a - 1) c + cond (eqb i c) 1 0) last in
-        let first : rises component (b + 1) c ≡ rises component b c + one = rises_more component b c in
-        let second : rises component (b + 1 + 1) c ≡ rises component (b + 1) c + two = rises_more component (b + 1) c in
-        ap (λ i. pos (rises component (a - 2) c) +ℤ pos (rises component (b + 1 + 1) c) -ℤ pos (rises component (i % q) c)) sum
-        ∙ intervals_over (rises component (a - 2) c) (rises component a c) (rises component b c) (rises component (b + 1 + 1) c)
+        let first : rises component (b + 1) c ≡ rises component b c + one =
+        rises_more component b c in
+        let second : rises component (b + 1 + 1) c ≡ rises component (b + 1) c + two =
+        rises_more component (b + 1) c in
+        ap (λ i. pos (rises component (a - 2) c) +ℤ pos (rises component (b + 1 + 1) c) -ℤ pos
+        (rises component (i % q) c)) sum
+        ∙ intervals_over (rises component (a - 2) c) (rises component a c) (rises component b c)
+        (rises component (b + 1 + 1) c)
         (one + two) (rises component ((a + b) % q) c) (omega arith) (omega arith)
 
 -- no rows, of which all are to come
-pub none_yet : (f : FunctionData) (component : ℕ → ℕ) (n : ℕ) (rows : Rows) → rows.basis.columns ≡ n → rows.basis.inserted ≡ 0 →
-    rows.basis.kept ≡ [] → rows.names.items ≡ [] → length rows.row.items ≡ n → rows.seen.pairs.items ≡ [] →
+pub none_yet : (f : FunctionData) (component : ℕ → ℕ) (n : ℕ) (rows : Rows) →
+    rows.basis.columns ≡ n → rows.basis.inserted ≡ 0 →
+    rows.basis.kept ≡ [] → rows.names.items ≡ [] → length rows.row.items ≡ n →
+    rows.seen.pairs.items ≡ [] →
     AreToCome f component n rows (row_names f)
 none_yet f component n rows columns inserted kept names width seen =
-    let start = λ (more : List (List ℤ)). ap₂ (λ ks i. elimination_from n ks i more) (sym kept) (sym inserted) in
+    let start = λ (more : List (List ℤ)). ap₂ (λ ks i. elimination_from n ks i more) (sym kept)
+    (sym inserted) in
     record {
       columns = columns;
       width = width;
@@ -222,11 +255,15 @@ none_yet f component n rows columns inserted kept names width seen =
         onward = λ more given. given;
         inserted = λ short. inserted;
         kept = λ more. ap (λ e. e.kept) (start more);
-        marked = λ more.
-            (subst (λ e. Passes e.marked) (start more), subst (λ e. Passes e.marked) (sym (start more)));
+        marked = λ more. (
+          subst (λ e. Passes e.marked) (start more),
+          subst (λ e. Passes e.marked)
+              (sym (start more)),
+        );
         names = λ more.
             names ∙ ap (map (λ k. name_of f (renumbered more k))) (sym kept);
-        seen = subst (All (IsSeenRow f component n [])) (sym seen) (All-nil (IsSeenRow f component n []));
+        seen = subst (All (IsSeenRow f component n [])) (sym seen)
+            (All-nil (IsSeenRow f component n []));
         known = λ name given. inr given;
       };
     }

@@ -30,11 +30,14 @@ small_at b [] c h = omega arith
 small_at b (x ∷ xs) zero h = All-head (λ y. unsigned_abs y ≤ b) x xs h
 small_at b (x ∷ xs) (suc c) h = small_at b xs c (All-tail (λ y. unsigned_abs y ≤ b) x xs h)
 
-pub small_scaled : (a b : ℕ) (u : ℤ) (xs : List ℤ) → unsigned_abs u ≤ a → IsSmall b xs → IsSmall (a * b) (scaled u xs)
+pub small_scaled : (a b : ℕ) (u : ℤ) (xs : List ℤ) → unsigned_abs u ≤ a → IsSmall b xs →
+    IsSmall (a * b) (scaled u xs)
 small_scaled a b u xs h small =
-    All-map (λ y. unsigned_abs y ≤ a * b) (λ x. u *ℤ x) xs (λ k d low. product_at_most a b u _ h (small k d low))
+    All-map (λ y. unsigned_abs y ≤ a * b) (λ x. u *ℤ x) xs
+    (λ k d low. product_at_most a b u _ h (small k d low))
 
-small_differences : (a b : ℕ) (xs ys : List ℤ) → IsSmall a xs → IsSmall b ys → IsSmall (a + b) (differences xs ys)
+small_differences : (a b : ℕ) (xs ys : List ℤ) → IsSmall a xs → IsSmall b ys →
+    IsSmall (a + b) (differences xs ys)
 small_differences a b [] ys h k = All-nil (λ x. unsigned_abs x ≤ a + b)
 small_differences a b (x ∷ xs) [] h k = All-nil (λ x. unsigned_abs x ≤ a + b)
 small_differences a b (x ∷ xs) (y ∷ ys) h k =
@@ -42,7 +45,8 @@ small_differences a b (x ∷ xs) (y ∷ ys) h k =
     let first = All-head (λ z. unsigned_abs z ≤ a) x xs h in
     let second = All-head (λ z. unsigned_abs z ≤ b) y ys k in
     All-cons (λ z. unsigned_abs z ≤ a + b) (x -ℤ y) (differences xs ys) (omega arith)
-    (small_differences a b xs ys (All-tail (λ z. unsigned_abs z ≤ a) x xs h) (All-tail (λ z. unsigned_abs z ≤ b) y ys k))
+    (small_differences a b xs ys (All-tail (λ z. unsigned_abs z ≤ a) x xs h)
+    (All-tail (λ z. unsigned_abs z ≤ b) y ys k))
 
 small_unscaled : (b g : ℕ) (xs : List ℤ) → 0 < g → IsSmall b (scaled (pos g) xs) → IsSmall b xs
 small_unscaled b g [] some h = All-nil (λ x. unsigned_abs x ≤ b)
@@ -51,7 +55,8 @@ small_unscaled b g (x ∷ xs) some h =
     let product : unsigned_abs (pos g *ℤ x) ≡ g * unsigned_abs x = unsigned_abs-mul (pos g) x in
     let more : unsigned_abs x * 1 ≤ unsigned_abs x * g = mul-le-mul_left (unsigned_abs x) some in
     All-cons (λ y. unsigned_abs y ≤ b) x xs (omega arith)
-    (small_unscaled b g xs some (All-tail (λ y. unsigned_abs y ≤ b) (pos g *ℤ x) (scaled (pos g) xs) h))
+    (small_unscaled b g xs some
+    (All-tail (λ y. unsigned_abs y ≤ b) (pos g *ℤ x) (scaled (pos g) xs) h))
 
 small_divided : (b : ℕ) (row : List ℤ) → IsSmall b row → IsSmall b (divided row)
 small_divided b row h =
@@ -87,28 +92,34 @@ record StepIsSmall (r k : ℕ) (kept row : List ℤ) (c : ℕ) : Type 0 where
   marked : IsSmall (k * r + r * k) (marked_in_step kept row c)
   reduced_small : IsSmall (k * r + r * k) (reduced kept row c)
 
-step_small : (r k : ℕ) (kept row : List ℤ) (c : ℕ) → IsSmall k kept → IsSmall r row → at_column row c ≢ pos 0 →
+step_small : (r k : ℕ) (kept row : List ℤ) (c : ℕ) → IsSmall k kept → IsSmall r row →
+    at_column row c ≢ pos 0 →
     StepIsSmall r k kept row c
 unfolding eliminated reduced marked_in_step
 step_small r k kept row c kept_small row_small some =
     let g = gcd_of (unsigned_abs (at_column row c)) (unsigned_abs (at_column kept c)) in
     let u = row_factor kept row c in
     let v = kept_factor kept row c in
-    let u_low = factor_small u g (at_column kept c) (gcd_some kept row c some) (row_factor_times kept row c) in
-    let v_low = factor_small v g (at_column row c) (gcd_some kept row c some) (kept_factor_times kept row c) in
+    let u_low = factor_small u g (at_column kept c) (gcd_some kept row c some)
+    (row_factor_times kept row c) in
+    let v_low = factor_small v g (at_column row c) (gcd_some kept row c some)
+    (kept_factor_times kept row c) in
     let kept_at = small_at k kept c kept_small in
     let row_at = small_at r row c row_small in
     let first : IsSmall (k * r) (scaled u row) = small_scaled k r u row (omega arith) row_small in
-    let second : IsSmall (r * k) (scaled v kept) = small_scaled r k v kept (omega arith) kept_small in
+    let second : IsSmall (r * k) (scaled v kept) =
+    small_scaled r k v kept (omega arith) kept_small in
     let both : IsSmall (k * r + r * k) (differences (scaled u row) (scaled v kept)) =
     small_differences (k * r) (r * k) (scaled u row) (scaled v kept) first second in
     let P : ℤ → Type 0 = λ x. unsigned_abs x ≤ k * r + r * k in
     record {
       marked =
           All-append P (scaled u row ++ scaled v kept) (differences (scaled u row) (scaled v kept))
-          (All-append P (scaled u row) (scaled v kept) (small_up (k * r) (k * r + r * k) (scaled u row) (omega arith) first)
+          (All-append P (scaled u row) (scaled v kept)
+          (small_up (k * r) (k * r + r * k) (scaled u row) (omega arith) first)
           (small_up (r * k) (k * r + r * k) (scaled v kept) (omega arith) second)) both;
-      reduced_small = small_divided (k * r + r * k) (differences (scaled u row) (scaled v kept)) both;
+      reduced_small = small_divided (k * r + r * k) (differences (scaled u row) (scaled v kept))
+          both;
     }
 
 -- ---- the bound behind some steps
@@ -138,11 +149,13 @@ bound_some b (suc j) some =
 bound_step : (b j : ℕ) → 1 ≤ b → bound b j ≤ bound b (suc j)
 bound_step b j some =
     let next = bound_next b j in
-    let more : bound b j * 1 ≤ bound b j * bound b j = mul-le-mul_left (bound b j) (bound_some b j some) in
+    let more : bound b j * 1 ≤ bound b j * bound b j =
+    mul-le-mul_left (bound b j) (bound_some b j some) in
     omega arith
 
 bound_more : (b j m : ℕ) → 1 ≤ b → bound b j ≤ bound b (j + m)
-bound_more b j zero some = let same = ap (bound b) (let e : j + zero ≡ j = omega arith in e) in omega arith
+bound_more b j zero some = let same = ap (bound b) (let e : j + zero ≡ j = omega arith in e) in
+    omega arith
 bound_more b j (suc m) some =
     let before = bound_more b j m some in
     let step = bound_step b (j + m) some in
@@ -176,7 +189,8 @@ pivots_start : (kept : List KeptRow) → pivots_before kept 0 ≡ 0
 unfolding pivots_before
 pivots_start kept = refl
 
-pivots_next : (kept : List KeptRow) (c : ℕ) → pivots_before kept (suc c) ≡ pivots_before kept c + has_row (row_with_pivot kept c)
+pivots_next : (kept : List KeptRow) (c : ℕ) →
+    pivots_before kept (suc c) ≡ pivots_before kept c + has_row (row_with_pivot kept c)
 unfolding pivots_before
 pivots_next kept c = refl
 
@@ -205,10 +219,13 @@ pivots_by_column kept (suc c) =
     omega arith
 
 -- one more row counts at most once
-row_other : (k : KeptRow) (kept : List KeptRow) (c : ℕ) → k.pivot ≢ c → row_with_pivot (k ∷ kept) c ≡ row_with_pivot kept c
-row_other k kept c apart = ap (λ b. cond b (Some k) (row_with_pivot kept c)) (ne_eqb k.pivot c apart)
+row_other : (k : KeptRow) (kept : List KeptRow) (c : ℕ) → k.pivot ≢ c →
+    row_with_pivot (k ∷ kept) c ≡ row_with_pivot kept c
+row_other k kept c apart =
+    ap (λ b. cond b (Some k) (row_with_pivot kept c)) (ne_eqb k.pivot c apart)
 
-pivots_same : (k : KeptRow) (kept : List KeptRow) (c : ℕ) → c ≤ k.pivot → pivots_before (k ∷ kept) c ≡ pivots_before kept c
+pivots_same : (k : KeptRow) (kept : List KeptRow) (c : ℕ) → c ≤ k.pivot →
+    pivots_before (k ∷ kept) c ≡ pivots_before kept c
 pivots_same k kept zero low = pivots_start (k ∷ kept) ∙ sym (pivots_start kept)
 pivots_same k kept (suc c) low =
     let next = pivots_next kept c in
@@ -217,11 +234,13 @@ pivots_same k kept (suc c) low =
     let other = ap has_row (row_other k kept c (λ e. absurd (omega arith))) in
     omega arith
 
-pivots_one_more : (k : KeptRow) (kept : List KeptRow) (c : ℕ) → pivots_before (k ∷ kept) c ≤ suc (pivots_before kept c)
+pivots_one_more : (k : KeptRow) (kept : List KeptRow) (c : ℕ) →
+    pivots_before (k ∷ kept) c ≤ suc (pivots_before kept c)
 pivots_one_more k kept zero = let start = pivots_start (k ∷ kept) in omega arith
 pivots_one_more k kept (suc c) = by_place (cases_eq k.pivot c) (pivots_one_more k kept c)
   where
-    by_place : (k.pivot ≡ c) ⊎ (k.pivot ≢ c) → pivots_before (k ∷ kept) c ≤ suc (pivots_before kept c) →
+    by_place : (k.pivot ≡ c) ⊎ (k.pivot ≢ c) →
+        pivots_before (k ∷ kept) c ≤ suc (pivots_before kept c) →
         pivots_before (k ∷ kept) (suc c) ≤ suc (pivots_before kept (suc c))
     by_place (inl here) later =
         let next = pivots_next kept c in
@@ -251,17 +270,21 @@ pivots_by_rows (k ∷ kept) c =
     let one = pivots_one_more k kept c in
     omega arith
 
-row_push : (kept : List KeptRow) (k : KeptRow) (c : ℕ) → has_row (row_with_pivot kept c) ≤ has_row (row_with_pivot (kept ++ k ∷ []) c)
+row_push : (kept : List KeptRow) (k : KeptRow) (c : ℕ) →
+    has_row (row_with_pivot kept c) ≤ has_row (row_with_pivot (kept ++ k ∷ []) c)
 unfolding has_row
 row_push [] k c = omega arith
 row_push (x ∷ kept) k c = by_test (eqb x.pivot c) (row_push kept k c)
   where
-    by_test : (b : Bool) → has_row (row_with_pivot kept c) ≤ has_row (row_with_pivot (kept ++ k ∷ []) c) →
-        has_row (cond b (Some x) (row_with_pivot kept c)) ≤ has_row (cond b (Some x) (row_with_pivot (kept ++ k ∷ []) c))
+    by_test : (b : Bool) →
+        has_row (row_with_pivot kept c) ≤ has_row (row_with_pivot (kept ++ k ∷ []) c) →
+        has_row (cond b (Some x) (row_with_pivot kept c))
+        ≤ has_row (cond b (Some x) (row_with_pivot (kept ++ k ∷ []) c))
     by_test true later = omega arith
     by_test false later = later
 
-pivots_push : (kept : List KeptRow) (k : KeptRow) (c : ℕ) → pivots_before kept c ≤ pivots_before (kept ++ k ∷ []) c
+pivots_push : (kept : List KeptRow) (k : KeptRow) (c : ℕ) →
+    pivots_before kept c ≤ pivots_before (kept ++ k ∷ []) c
 pivots_push kept k zero = let start = pivots_start kept in omega arith
 pivots_push kept k (suc c) =
     let next = pivots_next kept c in
@@ -280,11 +303,14 @@ bound_at b kept c = bound b (pivots_before kept c)
 abbrev pub AreSmall : ℕ → List KeptRow → Type 0
 AreSmall b kept = All (λ k. IsSmall (bound_at b kept k.pivot) k.entries) kept
 
-pub kept_small_at : (b : ℕ) (kept : List KeptRow) (c : ℕ) (k : KeptRow) → AreSmall b kept → row_with_pivot kept c ≡ Some k →
+pub kept_small_at : (b : ℕ) (kept : List KeptRow) (c : ℕ) (k : KeptRow) → AreSmall b kept →
+    row_with_pivot kept c ≡ Some k →
     IsSmall (bound_at b kept c) k.entries
 kept_small_at b kept c k h e =
-    let found = find_has (λ r. IsSmall (bound_at b kept r.pivot) r.entries) (λ r. eqb r.pivot c) kept k h e in
-    subst (λ (j : ℕ). IsSmall (bound_at b kept j) k.entries) ((Decides-eqb k.pivot c).0 found.1) found.0
+    let found = find_has (λ r. IsSmall (bound_at b kept r.pivot) r.entries)
+    (λ r. eqb r.pivot c) kept k h e in
+    subst (λ (j : ℕ). IsSmall (bound_at b kept j) k.entries)
+    ((Decides-eqb k.pivot c).0 found.1) found.0
 
 -- ---- an insertion
 
@@ -297,10 +323,13 @@ record InsertionIsSmall (b t : ℕ) (rows : List KeptRow) (i : Insertion) : Type
   marked : IsSmall (bound b t) i.marked
   kept : KeptIsSmall b rows i.kept
 
-small_here : (b t a : ℕ) (kept : List KeptRow) (row : List ℤ) (onward : List ℤ → Insertion) → 1 ≤ b → length kept ≤ t →
+small_here : (b t a : ℕ) (kept : List KeptRow) (row : List ℤ) (onward : List ℤ → Insertion) →
+    1 ≤ b → length kept ≤ t →
     AreSmall b kept → IsSmall (bound_at b kept a) row →
-    ((next : List ℤ) → IsSmall (bound_at b kept (a + 1)) next → InsertionIsSmall b t kept (onward next)) →
-    (o : Option KeptRow) → row_with_pivot kept a ≡ o → at_column row a ≢ pos 0 → InsertionIsSmall b t kept (inserted_at o a row onward)
+    ((next : List ℤ) → IsSmall (bound_at b kept (a + 1)) next →
+    InsertionIsSmall b t kept (onward next)) →
+    (o : Option KeptRow) → row_with_pivot kept a ≡ o → at_column row a ≢ pos 0 →
+    InsertionIsSmall b t kept (inserted_at o a row onward)
 unfolding inserted_at_by
 small_here b t a kept row onward some few h small later None e apart = record {
   marked = All-nil (λ x. unsigned_abs x ≤ bound b t);
@@ -312,32 +341,41 @@ small_here b t a kept row onward some few h small later (Some k) e apart =
     let next : here * here + here * here ≡ bound_at b kept (a + 1) =
     sym (bound_next b (pivots_before kept a)) ∙ sym (ap (bound b) (pivots_at kept a k e)) in
     let up : bound_at b kept (a + 1) ≤ bound b t =
-    bound_up b (pivots_before kept (a + 1)) t some (let low = pivots_by_rows kept (a + 1) in omega arith) in
-    let rest = later (reduced k.entries row a) (subst (λ (x : ℕ). IsSmall x (reduced k.entries row a)) next step.reduced_small) in
+    bound_up b (pivots_before kept (a + 1)) t some (let low = pivots_by_rows kept (a + 1) in
+    omega arith) in
+    let rest = later (reduced k.entries row a)
+    (subst (λ (x : ℕ). IsSmall x (reduced k.entries row a)) next step.reduced_small) in
     record {
       marked =
-          All-append (λ x. unsigned_abs x ≤ bound b t) (marked_in_step k.entries row a) (onward (reduced k.entries row a)).marked
+          All-append (λ x. unsigned_abs x ≤ bound b t) (marked_in_step k.entries row a)
+          (onward (reduced k.entries row a)).marked
           (small_up (bound_at b kept (a + 1)) (bound b t) (marked_in_step k.entries row a) up
           (subst (λ (x : ℕ). IsSmall x (marked_in_step k.entries row a)) next step.marked))
           rest.marked;
       kept = rest.kept;
     }
 
-small_by_test : (b t a : ℕ) (kept : List KeptRow) (row : List ℤ) (onward : List ℤ → Insertion) → 1 ≤ b → length kept ≤ t →
+small_by_test : (b t a : ℕ) (kept : List KeptRow) (row : List ℤ) (onward : List ℤ → Insertion) →
+    1 ≤ b → length kept ≤ t →
     AreSmall b kept → IsSmall (bound_at b kept a) row →
-    ((next : List ℤ) → IsSmall (bound_at b kept (a + 1)) next → InsertionIsSmall b t kept (onward next)) →
+    ((next : List ℤ) → IsSmall (bound_at b kept (a + 1)) next →
+    InsertionIsSmall b t kept (onward next)) →
     (zero_here : Bool) → int_eq (at_column row a) (pos 0) ≡ zero_here →
-    InsertionIsSmall b t kept (if zero_here then onward row else inserted_at (row_with_pivot kept a) a row onward)
+    InsertionIsSmall b t kept
+    (if zero_here then onward row else inserted_at (row_with_pivot kept a) a row onward)
 small_by_test b t a kept row onward some few h small later true e =
     later row
     (small_up (bound_at b kept a) (bound_at b kept (a + 1)) row
     (bound_up b (pivots_before kept a) (pivots_before kept (a + 1)) some (pivots_up kept a)) small)
 small_by_test b t a kept row onward some few h small later false e =
     small_here b t a kept row onward some few h small later (row_with_pivot kept a) refl
-    (not_from_Decides (int_eq (at_column row a) (pos 0)) (Decides-int_eq (at_column row a) (pos 0)) e)
+    (not_from_Decides (int_eq (at_column row a) (pos 0)) (Decides-int_eq (at_column row a) (pos 0))
+    e)
 
-insertion_small : (b t a m : ℕ) (kept : List KeptRow) (row : List ℤ) → 1 ≤ b → length kept ≤ t → AreSmall b kept →
-    IsSmall (bound_at b kept a) row → InsertionIsSmall b t kept (insertion kept (range_with_len a m) row)
+insertion_small : (b t a m : ℕ) (kept : List KeptRow) (row : List ℤ) → 1 ≤ b → length kept ≤ t →
+    AreSmall b kept →
+    IsSmall (bound_at b kept a) row →
+    InsertionIsSmall b t kept (insertion kept (range_with_len a m) row)
 unfolding insertion_by
 insertion_small b t a zero kept row some few h small =
     record { marked = All-nil (λ x. unsigned_abs x ≤ bound b t); kept = tt }
@@ -349,13 +387,16 @@ insertion_small b t a (suc m) kept row some few h small =
 -- ---- all rows
 
 -- one more kept row lowers no bound
-pushed_up : (b : ℕ) (kept : List KeptRow) (k : KeptRow) (c : ℕ) (xs : List ℤ) → 1 ≤ b → IsSmall (bound_at b kept c) xs →
+pushed_up : (b : ℕ) (kept : List KeptRow) (k : KeptRow) (c : ℕ) (xs : List ℤ) → 1 ≤ b →
+    IsSmall (bound_at b kept c) xs →
     IsSmall (bound_at b (kept ++ k ∷ []) c) xs
 pushed_up b kept k c xs some small =
     small_up (bound_at b kept c) (bound_at b (kept ++ k ∷ []) c) xs
-    (bound_up b (pivots_before kept c) (pivots_before (kept ++ k ∷ []) c) some (pivots_push kept k c)) small
+    (bound_up b (pivots_before kept c) (pivots_before (kept ++ k ∷ []) c) some
+    (pivots_push kept k c)) small
 
-kept_behind_small : (b number : ℕ) (kept : List KeptRow) (reduce : List ℕ) (o : Option (ℕ × List ℤ)) → 1 ≤ b → AreSmall b kept →
+kept_behind_small : (b number : ℕ) (kept : List KeptRow) (reduce : List ℕ)
+    (o : Option (ℕ × List ℤ)) → 1 ≤ b → AreSmall b kept →
     KeptIsSmall b kept o → AreSmall b (kept_behind kept number reduce o)
 unfolding kept_behind
 kept_behind_small b number kept reduce None some h small = h
@@ -369,14 +410,16 @@ pub record EliminationIsSmall (b t : ℕ) (e : Elimination) : Type 0 where
   pub marked : IsSmall (bound b t) e.marked
   pub kept : AreSmall b e.kept
 
-pub elimination_small : (b t n : ℕ) (kept : List KeptRow) (number : ℕ) (rows : List (List ℤ)) → 1 ≤ b → n ≤ suc t → AreSmall b kept →
+pub elimination_small : (b t n : ℕ) (kept : List KeptRow) (number : ℕ) (rows : List (List ℤ)) →
+    1 ≤ b → n ≤ suc t → AreSmall b kept →
     All (IsSmall b) rows → EliminationIsSmall b t (elimination_from n kept number rows)
 unfolding elimination_from_by
 elimination_small b t n kept number [] some few h small =
     record { marked = All-nil (λ x. unsigned_abs x ≤ bound b t); kept = h }
 elimination_small b t n kept number (row ∷ rows) some few h small =
     by_rank (nat_le n (length kept)) refl
-    (λ next all. elimination_small b t n next (number + 1) rows some few all (All-tail (IsSmall b) row rows small))
+    (λ next all. elimination_small b t n next (number + 1) rows some few all
+    (All-tail (IsSmall b) row rows small))
   where
     start : IsSmall (bound_at b kept 0) row
     start =
@@ -384,11 +427,13 @@ elimination_small b t n kept number (row ∷ rows) some few h small =
         subst (λ (x : ℕ). IsSmall x row) same (All-head (IsSmall b) row rows small)
 
     by_rank : (full : Bool) → nat_le n (length kept) ≡ full →
-        ((next : List KeptRow) → AreSmall b next → EliminationIsSmall b t (elimination_from n next (number + 1) rows)) →
+        ((next : List KeptRow) → AreSmall b next →
+        EliminationIsSmall b t (elimination_from n next (number + 1) rows)) →
         EliminationIsSmall b t
         (if full then record { kept = kept; marked = [] }
         else behind_insertion (inserted n kept row).marked
-        (elimination_from n (kept_behind kept number (inserted n kept row).reduce (inserted n kept row).kept) (number + 1) rows))
+        (elimination_from n (kept_behind kept number (inserted n kept row).reduce
+        (inserted n kept row).kept) (number + 1) rows))
     by_rank true e later = record { marked = All-nil (λ x. unsigned_abs x ≤ bound b t); kept = h }
     by_rank false e later =
         let fewer = leb-false n (length kept) e in
@@ -398,7 +443,8 @@ elimination_small b t n kept number (row ∷ rows) some few h small =
         let rest = later next (kept_behind_small b number kept i.reduce i.kept some h first.kept) in
         record {
           marked =
-              All-append (λ x. unsigned_abs x ≤ bound b t) i.marked (elimination_from n next (number + 1) rows).marked
+              All-append (λ x. unsigned_abs x ≤ bound b t) i.marked
+              (elimination_from n next (number + 1) rows).marked
               first.marked rest.marked;
           kept = rest.kept;
         }

@@ -21,25 +21,46 @@ use Rattle.gj_extreme.specs.Decision.{AreAllCovered, elimination_over, slope_eli
 use Rattle.gj_extreme.specs.Decision.IsWideBehind.{kernel_passes, perturbation_passes, scale_passes}
 use Rattle.gj_extreme.proofs.ListedHalves.{AreSums}
 
-pub elimination_wide : (f : FunctionData) (lines : List CoverLine) (component : ℕ → ℕ) (n : ℕ) → AreAllCovered f lines component n →
-    Passes (slope_elimination f component n).marked → length (elimination_over Residues f component n).kept < n → IsTooWide f
+pub elimination_wide : (f : FunctionData) (lines : List CoverLine) (component : ℕ → ℕ) (n : ℕ) →
+    AreAllCovered f lines component n →
+    Passes (slope_elimination f component n).marked →
+    length (elimination_over Residues f component n).kept < n → IsTooWide f
 elimination_wide f lines component n covered passes fewer =
-    record { lines = lines; component = component; n = n; covered = covered; passes = inl (passes, fewer) }
+    record {
+      lines = lines;
+      component = component;
+      n = n;
+      covered = covered;
+      passes =
+          inl (passes, fewer);
+    }
 
 -- no number of the elimination passes
 abbrev IsNarrow : FunctionData → (ℕ → ℕ) → ℕ → Type 0
 IsNarrow f component n = Passes (slope_elimination f component n).marked → ⊥
 
-behind_wide : (f : FunctionData) (lines : List CoverLine) (component : ℕ → ℕ) (n : ℕ) (s : Solution) → AreAllCovered f lines component n →
-    IsNarrow f component n → kernel n (slope_elimination f component n).kept ≡ Some s → IsWideBehind f component s → IsTooWide f
+behind_wide : (f : FunctionData) (lines : List CoverLine) (component : ℕ → ℕ) (n : ℕ)
+    (s : Solution) → AreAllCovered f lines component n →
+    IsNarrow f component n → kernel n (slope_elimination f component n).kept ≡ Some s →
+    IsWideBehind f component s → IsTooWide f
 behind_wide f lines component n s covered narrow e wide =
-    record { lines = lines; component = component; n = n; covered = covered; passes = inr (narrow, (s, e, wide)) }
+    record {
+      lines = lines;
+      component = component;
+      n = n;
+      covered = covered;
+      passes =
+          inr (narrow, (s, e, wide));
+    }
 
 -- the kernel of the rows that are kept
-pub kernel_wide : (f : FunctionData) (lines : List CoverLine) (component : ℕ → ℕ) (n m : ℕ) (kept : List KeptRow) →
-    AreAllCovered f lines component n → IsNarrow f component n → kernel n (slope_elimination f component n).kept ≡ kernel m kept →
+pub kernel_wide : (f : FunctionData) (lines : List CoverLine) (component : ℕ → ℕ) (n m : ℕ)
+    (kept : List KeptRow) →
+    AreAllCovered f lines component n → IsNarrow f component n →
+    kernel n (slope_elimination f component n).kept ≡ kernel m kept →
     Passes (marked_in (kernel m kept)) → IsTooWide f
-kernel_wide f lines component n m kept covered narrow same passes = by_solution (kernel m kept) refl passes
+kernel_wide f lines component n m kept covered narrow same passes =
+    by_solution (kernel m kept) refl passes
   where
     by_solution : (o : Option Solution) → kernel m kept ≡ o → Passes (marked_in o) → IsTooWide f
     by_solution None e p = absurd (none_passes p)
@@ -47,13 +68,16 @@ kernel_wide f lines component n m kept covered narrow same passes = by_solution 
         behind_wide f lines component n s covered narrow (same ∙ e) (kernel_passes p)
 
 -- a sum of slopes
-pub sum_wide : (f : FunctionData) (lines : List CoverLine) (component : List ℕ) (n : ℕ) (s : Solution) → length component ≡ f.order →
+pub sum_wide : (f : FunctionData) (lines : List CoverLine) (component : List ℕ) (n : ℕ)
+    (s : Solution) → length component ≡ f.order →
     AreAllCovered f lines (component_in component) n → IsNarrow f (component_in component) n →
-    kernel n (slope_elimination f (component_in component) n).kept ≡ Some s → IsWideSum component s.numbers → IsTooWide f
+    kernel n (slope_elimination f (component_in component) n).kept ≡ Some s →
+    IsWideSum component s.numbers → IsTooWide f
 sum_wide f lines component n s len covered narrow e wide =
     let i = wide.index in
     let below : wide.index < f.order = subst (λ (q : ℕ). i < q) len wide.below in
-    let same : slope_sum component s.numbers i ≡ slope_perturbation f (component_in component) s.numbers i =
+    let same : slope_sum component s.numbers i
+    ≡ slope_perturbation f (component_in component) s.numbers i =
     ap (λ q. perturbation_of q (slope_at component s.numbers) i) len in
     behind_wide f lines (component_in component) n s covered narrow e
     (perturbation_passes i below (subst (λ (z : ℤ). 2 ^ 127 ≤ unsigned_abs z) same
@@ -66,9 +90,12 @@ sum_wide f lines component n s len covered narrow e wide =
     by_size (inr large) = large
 
 -- the scale of the halves
-pub scale_wide : (f : FunctionData) (lines : List CoverLine) (component : List ℕ) (n : ℕ) (s : Solution) (p : Perturbation) →
-    IsWithinBounds f → IsMinimal f → AreAllCovered f lines (component_in component) n → IsNarrow f (component_in component) n →
-    kernel n (slope_elimination f (component_in component) n).kept ≡ Some s → AreSums f component s.numbers p → IsWide f p → IsTooWide f
+pub scale_wide : (f : FunctionData) (lines : List CoverLine) (component : List ℕ) (n : ℕ)
+    (s : Solution) (p : Perturbation) →
+    IsWithinBounds f → IsMinimal f → AreAllCovered f lines (component_in component) n →
+    IsNarrow f (component_in component) n →
+    kernel n (slope_elimination f (component_in component) n).kept ≡ Some s →
+    AreSums f component s.numbers p → IsWide f p → IsTooWide f
 scale_wide f lines component n s p l minimal covered narrow e sums wide =
     let g = slope_perturbation f (component_in component) s.numbers in
     let slack = least_slack f 1 l minimal (omega arith) in
@@ -77,8 +104,10 @@ scale_wide f lines component n s p l minimal covered narrow e sums wide =
     let h : Halves = record {
       order = f.order * 1;
       scale = pos (3 * size * (f.scale * 1));
-      first = map (λ i. pos (3 * size) *ℤ table f 1 i +ℤ pos u *ℤ g i) (range_with_len 0 (f.order * 1));
-      second = map (λ i. pos (3 * size) *ℤ table f 1 i -ℤ pos u *ℤ g i) (range_with_len 0 (f.order * 1));
+      first = map (λ i. pos (3 * size) *ℤ table f 1 i +ℤ pos u *ℤ g i)
+          (range_with_len 0 (f.order * 1));
+      second = map (λ i. pos (3 * size) *ℤ table f 1 i -ℤ pos u *ℤ g i)
+          (range_with_len 0 (f.order * 1));
     } in
     let above : 2 ^ 124 < 3 * wide.size * (f.scale * 1) =
     subst (λ (k : ℕ). 2 ^ 124 < 3 * wide.size * (f.scale * k)) sums.times wide.above in

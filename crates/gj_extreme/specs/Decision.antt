@@ -29,14 +29,16 @@ use Rattle.gj_extreme.specs.declared.faults.DecideFault.TheVariants.{NotContinuo
 
 -- the cover lines are those of the function, and cover all its intervals, with these numbers of n
 -- components
-pub record AreAllCovered (f : FunctionData) (lines : List CoverLine) (component : ℕ → ℕ) (n : ℕ) : Type 0 where
+pub record AreAllCovered (f : FunctionData) (lines : List CoverLine) (component : ℕ → ℕ) (n : ℕ) :
+    Type 0 where
   pub are_lines : AreCoverLines f.order (IsTight f) lines
   pub numbers : AreNumbersOf f lines component
   pub count : n ≡ components_in lines
 
 -- the elimination of all rows of the system, in their order, over whole numbers or over residues
 abbrev pub elimination_over : Numbers → FunctionData → (ℕ → ℕ) → ℕ → Elimination
-elimination_over numbers f component n = elimination_by (arithmetic_of numbers) n (map (named_row f component n) (row_names f))
+elimination_over numbers f component n =
+    elimination_by (arithmetic_of numbers) n (map (named_row f component n) (row_names f))
 
 -- plain elimination
 abbrev pub slope_elimination : FunctionData → (ℕ → ℕ) → ℕ → Elimination
@@ -49,17 +51,24 @@ AreNeeded Residues marked = Passes marked
 
 -- the group of a row that it keeps
 abbrev pub group_of : FunctionData → KeptRow → PivotRow
-group_of f k = record { name = get_or (row_names f) k.number Period; reduce = k.reduce; pivot = k.pivot }
+group_of f k = record {
+  name = get_or (row_names f) k.number Period;
+  reduce = k.reduce;
+  pivot =
+      k.pivot;
+}
 
 -- the perturbation with the numbers as slopes of the components
 abbrev pub slope_perturbation : FunctionData → (ℕ → ℕ) → List ℤ → ℕ → ℤ
-slope_perturbation f component numbers i = perturbation_of f.order (λ a. at_column numbers (component a)) i
+slope_perturbation f component numbers i =
+    perturbation_of f.order (λ a. at_column numbers (component a)) i
 
 -- ---- the three ends of the decision on a minimal continuous function
 
 -- all intervals are covered, and the rows that are kept over these numbers, one for each component,
 -- leave only the slopes 0
-pub record AreExtremeRows (numbers : Numbers) (f : FunctionData) (lines : List CoverLine) (rows : List PivotRow) : Type 0 where
+pub record AreExtremeRows (numbers : Numbers) (f : FunctionData) (lines : List CoverLine)
+    (rows : List PivotRow) : Type 0 where
   pub component : ℕ → ℕ
   pub n : ℕ
   pub covered : AreAllCovered f lines component n
@@ -93,9 +102,12 @@ abbrev pub IsDecided : FunctionData → Claim → Type 0
 IsDecided f (Minimal g) = ⊥
 IsDecided f (NotMinimal g v) = (g ≡ f) × IsFirstViolation f v
 IsDecided f (Cut rule rows) = ⊥
-IsDecided f (Extreme g lines rows) = (g ≡ f) × IsMinimal f × IsContinuous f × AreExtremeRows Whole f lines rows
-IsDecided f (ExtremeByResidues g lines rows) = (g ≡ f) × IsMinimal f × IsContinuous f × AreExtremeRows Residues f lines rows
-IsDecided f (NotExtreme g h) = (g ≡ f) × IsMinimal f × IsContinuous f × (AreZigzagHalves f h ⊎ AreSlopeHalves f h)
+IsDecided f (Extreme g lines rows) = (g ≡ f) × IsMinimal f × IsContinuous f
+    × AreExtremeRows Whole f lines rows
+IsDecided f (ExtremeByResidues g lines rows) = (g ≡ f) × IsMinimal f × IsContinuous f
+    × AreExtremeRows Residues f lines rows
+IsDecided f (NotExtreme g h) = (g ≡ f) × IsMinimal f × IsContinuous f
+    × (AreZigzagHalves f h ⊎ AreSlopeHalves f h)
 
 -- it is that the function is extreme, by cover lines and rows of whole numbers
 abbrev pub IsExtremeClaim : FunctionData → Claim → Type 0
@@ -121,8 +133,11 @@ IsByTable f (NotExtreme g h) = IsExtremeOnGrid4 f → ⊥
 -- a number of the kernel, of the perturbation or of the halves is too wide
 pub data IsWideBehind (f : FunctionData) (component : ℕ → ℕ) (s : Solution) : Type 0 where
   kernel_passes : Passes s.marked → IsWideBehind f component s
-  perturbation_passes : (i : ℕ) → i < f.order → 2 ^ 127 ≤ unsigned_abs (slope_perturbation f component s.numbers i) → IsWideBehind f component s
-  scale_passes : (h : Halves) → AreHalvesOf f 1 (slope_perturbation f component s.numbers) h → pos greatest_halves_scale <ℤ h.scale → IsWideBehind f component s
+  perturbation_passes : (i : ℕ) → i < f.order →
+      2 ^ 127 ≤ unsigned_abs (slope_perturbation f component s.numbers i) →
+      IsWideBehind f component s
+  scale_passes : (h : Halves) → AreHalvesOf f 1 (slope_perturbation f component s.numbers) h →
+      pos greatest_halves_scale <ℤ h.scale → IsWideBehind f component s
 
 -- all intervals are covered, and a number of the elimination is above 2^127 - 1 in absolute value
 -- and residues keep fewer rows than there are components, or none is, and one of those behind it is
@@ -132,9 +147,11 @@ pub record IsTooWide (f : FunctionData) : Type 0 where
   pub component : ℕ → ℕ
   pub n : ℕ
   pub covered : AreAllCovered f lines component n
-  pub passes : (Passes (slope_elimination f component n).marked × (length (elimination_over Residues f component n).kept < n))
+  pub passes : (Passes (slope_elimination f component n).marked
+      × (length (elimination_over Residues f component n).kept < n))
       ⊎ ((Passes (slope_elimination f component n).marked → ⊥)
-      × ((s : Solution) × (kernel n (slope_elimination f component n).kept ≡ Some s) × IsWideBehind f component s))
+      × ((s : Solution) × (kernel n (slope_elimination f component n).kept ≡ Some s)
+      × IsWideBehind f component s))
 
 -- ---- a claim, or a fault with its cause
 

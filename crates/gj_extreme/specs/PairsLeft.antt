@@ -23,10 +23,12 @@ pub record HasPairBefore (pairs : TightPairs) (component : ℕ → ℕ) (a b : �
   pub within : second < pairs.order
   pub tight : IsTightIn pairs first second
   pub same : (n place : ℕ) →
-      row_of component n pairs.order place (Pair first second) ≡ row_of component n pairs.order place (Pair a b)
+      row_of component n pairs.order place (Pair first second)
+      ≡ row_of component n pairs.order place (Pair a b)
 
 -- the set has the b of tight pairs (a, b), and each of them but for those with such a pair before
-pub record ArePairsLeft (pairs : TightPairs) (component : ℕ → ℕ) (a : ℕ) (left : IndexSet) : Type 0 where
+pub record ArePairsLeft (pairs : TightPairs) (component : ℕ → ℕ) (a : ℕ) (left : IndexSet) :
+    Type 0 where
   pub within : (b : ℕ) → pairs.order ≤ b → has left b ≡ false
   pub tight : (b : ℕ) → b < pairs.order → IsTrue (has left b) → IsTightIn pairs a b
   pub others : (b : ℕ) → b < pairs.order → IsTightIn pairs a b → has left b ≡ false →

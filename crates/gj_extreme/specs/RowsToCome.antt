@@ -33,7 +33,8 @@ rows_named f component n names = map (named_row f component n) names
 
 -- these names follow the first so many
 abbrev pub AreNextNames : FunctionData → ℕ → List RowName → Type 0
-AreNextNames f number rest = (before : List RowName) × (row_names f ≡ before ++ rest) × (length before ≡ number)
+AreNextNames f number rest = (before : List RowName) × (row_names f ≡ before ++ rest)
+    × (length before ≡ number)
 
 -- the steps and the pivot of a line of a log, and of a kept row
 abbrev pub line_parts : LogRow → List ℕ × ℕ
@@ -51,27 +52,33 @@ AreLoggedRows kept log = map line_parts log ≡ map row_parts kept
 -- rows are handed over, each with its number, and the basis has them; behind this number the rows
 -- of these names are to come, and with each list of those that are handed over of them these are
 -- handed over of all rows; each row was one before, has only zeros, or is to come
-pub record AreHandedOver (f : FunctionData) (component : ℕ → ℕ) (n : ℕ) (rows : Rows) (rest : List RowName) : Type 0 where
+pub record AreHandedOver (f : FunctionData) (component : ℕ → ℕ) (n : ℕ) (rows : Rows)
+    (rest : List RowName) : Type 0 where
   pub handed : List (ℕ × List ℤ)
   pub before : List (List ℤ)
   pub number : ℕ
   pub few : length handed ≤ number
   pub next : AreNextNames f number rest
-  pub onward : (more : List (ℕ × List ℤ)) → IsHandedOver before number (rows_named f component n rest) more →
+  pub onward : (more : List (ℕ × List ℤ)) →
+      IsHandedOver before number (rows_named f component n rest) more →
       IsHandedOver [] 0 (rows_named f component n (row_names f)) (handed ++ more)
   pub inserted : length rows.basis.kept < n → rows.basis.inserted ≡ length handed
   pub kept : (more : List (List ℤ)) →
-      (elimination n (handed_rows handed ++ more)).kept ≡ (elimination_from n rows.basis.kept rows.basis.inserted more).kept
+      (elimination n (handed_rows handed ++ more)).kept
+      ≡ (elimination_from n rows.basis.kept rows.basis.inserted more).kept
   pub marked : (more : List (List ℤ)) →
       Passes (elimination n (handed_rows handed ++ more)).marked
       ↔ Passes (elimination_from n rows.basis.kept rows.basis.inserted more).marked
   pub names : (more : List ℕ) →
-      rows.names.items ≡ map (λ k. name_of f (renumbered (handed_numbers handed ++ more) k)) rows.basis.kept
+      rows.names.items ≡ map (λ k. name_of f (renumbered (handed_numbers handed ++ more) k))
+      rows.basis.kept
   pub seen : All (IsSeenRow f component n before) rows.seen.pairs.items
-  pub known : (name : RowName) → Contains (row_names f) name → IsSeenName f component n before name ⊎ Contains rest name
+  pub known : (name : RowName) → Contains (row_names f) name → IsSeenName f component n before name
+      ⊎ Contains rest name
 
 -- the rows of these names are still to come
-pub record AreToCome (f : FunctionData) (component : ℕ → ℕ) (n : ℕ) (rows : Rows) (rest : List RowName) : Type 0 where
+pub record AreToCome (f : FunctionData) (component : ℕ → ℕ) (n : ℕ) (rows : Rows)
+    (rest : List RowName) : Type 0 where
   pub columns : rows.basis.columns ≡ n
   pub width : length rows.row.items ≡ n
   pub handed_over : AreHandedOver f component n rows rest
@@ -79,7 +86,8 @@ pub record AreToCome (f : FunctionData) (component : ℕ → ℕ) (n : ℕ) (row
 -- so they are, and the row of this name was one before
 abbrev pub IsTaken : FunctionData → (ℕ → ℕ) → ℕ → RowName → Rows → List RowName → Type 0
 IsTaken f component n name rows rest =
-    (h : AreToCome f component n rows rest) × Contains h.handed_over.before (named_row f component n name)
+    (h : AreToCome f component n rows rest)
+    × Contains h.handed_over.before (named_row f component n name)
 
 -- all rows are inserted, or as many are kept as there are components; the basis numbers those that
 -- were handed over

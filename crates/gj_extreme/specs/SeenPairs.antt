@@ -22,7 +22,8 @@ pub record AreSeenBelow (q : ℕ) (seen : SeenPairs) : Type 0 where
 -- the row of this name is all 0, or one of those before
 abbrev pub IsSeenName : FunctionData → (ℕ → ℕ) → ℕ → List (List ℤ) → RowName → Type 0
 IsSeenName f component n before name =
-    All (λ x. x ≡ pos 0) (named_row f component n name) ⊎ Contains before (named_row f component n name)
+    All (λ x. x ≡ pos 0) (named_row f component n name)
+    ⊎ Contains before (named_row f component n name)
 
 -- so is that of the pair
 abbrev pub IsSeenRow : FunctionData → (ℕ → ℕ) → ℕ → List (List ℤ) → SeenPair → Type 0

@@ -37,19 +37,23 @@ extended_or_not f Vertex a b =
     either (either (tight_or_not f (a + 1) b) (tight_or_not f (a + back) b))
     (either (either (tight_or_not f a (b + 1)) (tight_or_not f a (b + back)))
     (either (tight_or_not f (a + back) (b + 1)) (tight_or_not f (a + 1) (b + back))))
-extended_or_not f Horizontal a b = either (tight_or_not f a (b + 1)) (tight_or_not f (a + 1) (b + (f.order - 1)))
-extended_or_not f Vertical a b = either (tight_or_not f (a + 1) b) (tight_or_not f (a + (f.order - 1)) (b + 1))
+extended_or_not f Horizontal a b =
+    either (tight_or_not f a (b + 1)) (tight_or_not f (a + 1) (b + (f.order - 1)))
+extended_or_not f Vertical a b =
+    either (tight_or_not f (a + 1) b) (tight_or_not f (a + (f.order - 1)) (b + 1))
 extended_or_not f Diagonal a b = either (tight_or_not f a b) (tight_or_not f (a + 1) (b + 1))
 extended_or_not f Lower a b = inr (λ h. h)
 extended_or_not f Upper a b = inr (λ h. h)
 
 -- the closure of the one face lies in that of the other
 abbrev IsInsideOf : FunctionData → FaceKind → ℕ → ℕ → FaceKind → ℕ → ℕ → Type 0
-IsInsideOf f kind a b other c d = (m i j : ℕ) → IsInClosure f m kind a b i j → IsInClosure f m other c d i j
+IsInsideOf f kind a b other c d = (m i j : ℕ) → IsInClosure f m kind a b i j →
+    IsInClosure f m other c d i j
 
 -- a face of the border
 part_inside : (f : FunctionData) (kind : FaceKind) (a b : ℕ) (other : FaceKind) (c d : ℕ) →
-    Any (λ face. IsSameFace f.order face (kind, a, b)) (border_of other c d) → IsInsideOf f kind a b other c d
+    Any (λ face. IsSameFace f.order face (kind, a, b)) (border_of other c d) →
+    IsInsideOf f kind a b other c d
 part_inside f kind a b other c d found m i j h =
     let face = found.1 in
     let same = found.4 in
@@ -77,20 +81,25 @@ held_by_itself f l kind a b h =
     record {
       first = mod-lt a some;
       second = mod-lt b some;
-      maximal = maximal_at_same q (IsTight f) some (tight_is_periodic f l) kind a b (a % q) (b % q) (sym (mod-mod a q))
+      maximal = maximal_at_same q (IsTight f) some (tight_is_periodic f l) kind a b (a % q) (b % q)
+          (sym (mod-mod a q))
           (sym (mod-mod b q)) h;
-      inside = λ m i j. closure_at_same f m kind a b (a % q) (b % q) i j (sym (mod-mod a q)) (sym (mod-mod b q));
+      inside = λ m i j. closure_at_same f m kind a b (a % q) (b % q) i j (sym (mod-mod a q))
+          (sym (mod-mod b q));
     }
 
-held : (f : FunctionData) → IsWithinBounds f → (n : ℕ) (kind : FaceKind) (a b : ℕ) → 2 ≤ n + dimension kind →
+held : (f : FunctionData) → IsWithinBounds f → (n : ℕ) (kind : FaceKind) (a b : ℕ) →
+    2 ≤ n + dimension kind →
     IsAdditive (IsTight f) kind a b → (face : Face) × IsHeld f kind a b face
 held f l zero kind a b enough h = (
   _,
-  held_by_itself f l kind a b (maximal_unless_extended f.order (IsTight f) (omega (arith, l.order_low))
+  held_by_itself f l kind a b
+      (maximal_unless_extended f.order (IsTight f) (omega (arith, l.order_low))
       (tight_is_periodic f l) kind a b h (two_dimensional kind enough)),
 )
   where
-    two_dimensional : (kind : FaceKind) → 2 ≤ zero + dimension kind → IsExtended f.order (IsTight f) kind a b → ⊥
+    two_dimensional : (kind : FaceKind) → 2 ≤ zero + dimension kind →
+        IsExtended f.order (IsTight f) kind a b → ⊥
     two_dimensional Vertex enough extended = omega arith
     two_dimensional Horizontal enough extended = omega arith
     two_dimensional Vertical enough extended = omega arith
@@ -98,19 +107,23 @@ held f l zero kind a b enough h = (
     two_dimensional Lower enough extended = extended
     two_dimensional Upper enough extended = extended
 held f l (suc n) kind a b enough h =
-    by_cases (λ other c d wide additive. held f l n other c d wide additive) (extended_or_not f kind a b)
+    by_cases (λ other c d wide additive. held f l n other c d wide additive)
+    (extended_or_not f kind a b)
   where
-    by_cases : ((other : FaceKind) (c d : ℕ) → 2 ≤ n + dimension other → IsAdditive (IsTight f) other c d →
+    by_cases : ((other : FaceKind) (c d : ℕ) → 2 ≤ n + dimension other →
+        IsAdditive (IsTight f) other c d →
         (face : Face) × IsHeld f other c d face) →
         IsExtended f.order (IsTight f) kind a b ⊎ (IsExtended f.order (IsTight f) kind a b → ⊥) →
         (face : Face) × IsHeld f kind a b face
     by_cases wider (inr alone) = (
       _,
-      held_by_itself f l kind a b (maximal_unless_extended f.order (IsTight f) (omega (arith, l.order_low))
+      held_by_itself f l kind a b
+          (maximal_unless_extended f.order (IsTight f) (omega (arith, l.order_low))
           (tight_is_periodic f l) kind a b h alone),
     )
     by_cases wider (inl extended) =
-        let part = grown f.order (IsTight f) (omega (arith, l.order_low)) (tight_is_periodic f l) kind a b h extended in
+        let part = grown f.order (IsTight f) (omega (arith, l.order_low))
+        (tight_is_periodic f l) kind a b h extended in
         let higher = part.3.higher in
         let found = wider part.0 part.1 part.2 (omega arith) part.3.additive in
         let is_held = found.1 in (
@@ -119,17 +132,21 @@ held f l (suc n) kind a b enough h =
             first = is_held.first;
             second = is_held.second;
             maximal = is_held.maximal;
-            inside = λ m i j at. is_held.inside m i j (part_inside f kind a b part.0 part.1 part.2 part.3.border m i j at);
+            inside = λ m i j at. is_held.inside m i j
+                (part_inside f kind a b part.0 part.1 part.2 part.3.border m i j at);
           },
         )
 
 -- so it lies in the closure of a listed one
-pub additive_in_listed : (f : FunctionData) (faces : List Face) → IsWithinBounds f → AreMaximalFaces f faces →
+pub additive_in_listed : (f : FunctionData) (faces : List Face) → IsWithinBounds f →
+    AreMaximalFaces f faces →
     HoldAdditive f faces
 additive_in_listed f faces l picked m kind a b i j h inside =
     let found = held f l 2 kind a b (omega arith) h in
     let face = found.0 in
     let is_held = found.1 in
-    let listed = picked_has (λ face. IsMaximalFace f.order (IsTight f) face.kind face.a face.b) found.0 picked
-    (in_walk f.order found.0.kind found.0.a found.0.b is_held.first is_held.second) is_held.maximal in
+    let listed = picked_has (λ face. IsMaximalFace f.order (IsTight f) face.kind face.a face.b)
+    found.0 picked
+    (in_walk f.order found.0.kind found.0.a found.0.b is_held.first is_held.second)
+    is_held.maximal in
     (listed.0, found.0, listed.1, listed.2, is_held.inside m i j inside)

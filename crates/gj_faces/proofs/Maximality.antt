@@ -60,10 +60,12 @@ module _ (q : ℕ) (Tight : ℕ → ℕ → Type 0) (some : 0 < q) (periodic : I
   pub lower : (a b : ℕ) → Tight a b → Tight (a + 1) b → Tight a (b + 1) → IsAdditive Tight Lower a b
   lower a b h k l = All-three (λ c. Tight c.0 c.1) (a, b) (a + 1, b) (a, b + 1) h k l
 
-  pub upper : (a b : ℕ) → Tight (a + 1) b → Tight a (b + 1) → Tight (a + 1) (b + 1) → IsAdditive Tight Upper a b
+  pub upper : (a b : ℕ) → Tight (a + 1) b → Tight a (b + 1) → Tight (a + 1) (b + 1) →
+      IsAdditive Tight Upper a b
   upper a b h k l = All-three (λ c. Tight c.0 c.1) (a + 1, b) (a, b + 1) (a + 1, b + 1) h k l
 
-  pub corner : (kind : FaceKind) (a b k : ℕ) → k < length (corners_of kind a b) → IsAdditive Tight kind a b →
+  pub corner : (kind : FaceKind) (a b k : ℕ) → k < length (corners_of kind a b) →
+      IsAdditive Tight kind a b →
       Tight (get_or (corners_of kind a b) k (0, 0)).0 (get_or (corners_of kind a b) k (0, 0)).1
   corner kind a b k below h = h k (0, 0) below
 
@@ -80,19 +82,25 @@ module _ (q : ℕ) (Tight : ℕ → ℕ → Type 0) (some : 0 < q) (periodic : I
   pub extended_at_same : (kind : FaceKind) (c d a b : ℕ) → c % q ≡ a % q → d % q ≡ b % q →
       IsExtended q Tight kind c d → IsExtended q Tight kind a b
   extended_at_same Vertex c d a b e g (inl (inl h)) = inl (inl (at_same (a + 1) b (next c a e) g h))
-  extended_at_same Vertex c d a b e g (inl (inr h)) = inl (inr (at_same (a + (q - 1)) b (back c a e) g h))
-  extended_at_same Vertex c d a b e g (inr (inl (inl h))) = inr (inl (inl (at_same a (b + 1) e (next d b g) h)))
-  extended_at_same Vertex c d a b e g (inr (inl (inr h))) = inr (inl (inr (at_same a (b + (q - 1)) e (back d b g) h)))
+  extended_at_same Vertex c d a b e g (inl (inr h)) =
+      inl (inr (at_same (a + (q - 1)) b (back c a e) g h))
+  extended_at_same Vertex c d a b e g (inr (inl (inl h))) =
+      inr (inl (inl (at_same a (b + 1) e (next d b g) h)))
+  extended_at_same Vertex c d a b e g (inr (inl (inr h))) =
+      inr (inl (inr (at_same a (b + (q - 1)) e (back d b g) h)))
   extended_at_same Vertex c d a b e g (inr (inr (inl h))) =
       inr (inr (inl (at_same (a + (q - 1)) (b + 1) (back c a e) (next d b g) h)))
   extended_at_same Vertex c d a b e g (inr (inr (inr h))) =
       inr (inr (inr (at_same (a + 1) (b + (q - 1)) (next c a e) (back d b g) h)))
   extended_at_same Horizontal c d a b e g (inl h) = inl (at_same a (b + 1) e (next d b g) h)
-  extended_at_same Horizontal c d a b e g (inr h) = inr (at_same (a + 1) (b + (q - 1)) (next c a e) (back d b g) h)
+  extended_at_same Horizontal c d a b e g (inr h) =
+      inr (at_same (a + 1) (b + (q - 1)) (next c a e) (back d b g) h)
   extended_at_same Vertical c d a b e g (inl h) = inl (at_same (a + 1) b (next c a e) g h)
-  extended_at_same Vertical c d a b e g (inr h) = inr (at_same (a + (q - 1)) (b + 1) (back c a e) (next d b g) h)
+  extended_at_same Vertical c d a b e g (inr h) =
+      inr (at_same (a + (q - 1)) (b + 1) (back c a e) (next d b g) h)
   extended_at_same Diagonal c d a b e g (inl h) = inl (at_same a b e g h)
-  extended_at_same Diagonal c d a b e g (inr h) = inr (at_same (a + 1) (b + 1) (next c a e) (next d b g) h)
+  extended_at_same Diagonal c d a b e g (inr h) =
+      inr (at_same (a + 1) (b + 1) (next c a e) (next d b g) h)
   extended_at_same Lower c d a b e g h = h
   extended_at_same Upper c d a b e g h = h
 
@@ -104,7 +112,8 @@ module _ (q : ℕ) (Tight : ℕ → ℕ → Type 0) (some : 0 < q) (periodic : I
   all_faces_nil : All IsExtendedFace []
   all_faces_nil = All-nil IsExtendedFace
 
-  more : (x : FaceKind × ℕ × ℕ) (xs : List (FaceKind × ℕ × ℕ)) → IsExtendedFace x → All IsExtendedFace xs → All IsExtendedFace (x ∷ xs)
+  more : (x : FaceKind × ℕ × ℕ) (xs : List (FaceKind × ℕ × ℕ)) → IsExtendedFace x →
+      All IsExtendedFace xs → All IsExtendedFace (x ∷ xs)
   more x xs h k = All-cons IsExtendedFace x xs h k
 
   -- a pair one back along a row, and along a column
@@ -114,7 +123,8 @@ module _ (q : ℕ) (Tight : ℕ → ℕ → Type 0) (some : 0 < q) (periodic : I
   south : (c d : ℕ) → Tight c d → Tight c (d + 1 + (q - 1))
   south c d h = at_same c (d + 1 + (q - 1)) refl (one_back q d (d + 1) some refl) h
 
-  border_extended : (kind : FaceKind) (c d : ℕ) → IsAdditive Tight kind c d → All IsExtendedFace (border_of kind c d)
+  border_extended : (kind : FaceKind) (c d : ℕ) → IsAdditive Tight kind c d →
+      All IsExtendedFace (border_of kind c d)
   border_extended Vertex c d h = all_faces_nil
   border_extended Horizontal c d h =
       let first = corner Horizontal c d 0 (lit< tt) h in
@@ -147,10 +157,12 @@ module _ (q : ℕ) (Tight : ℕ → ℕ → Type 0) (some : 0 < q) (periodic : I
       let second = corner Upper c d 1 (lit< tt) h in
       let third = corner Upper c d 2 (lit< tt) h in
       let edges = edges_of Upper c d in
-      more (Vertex, c + 1, d) ((Vertex, c, d + 1) ∷ (Vertex, c + 1, d + 1) ∷ edges) (inr (inl (inl third)))
+      more (Vertex, c + 1, d) ((Vertex, c, d + 1) ∷ (Vertex, c + 1, d + 1) ∷ edges)
+      (inr (inl (inl third)))
       (more (Vertex, c, d + 1) ((Vertex, c + 1, d + 1) ∷ edges) (inl (inl third))
       (more (Vertex, c + 1, d + 1) edges (inr (inl (inr (south (c + 1) d first))))
-      (more (Horizontal, c, d + 1) ((Vertical, c + 1, d) ∷ (Diagonal, c, d) ∷ []) (inr (south (c + 1) d first))
+      (more (Horizontal, c, d + 1) ((Vertical, c + 1, d) ∷ (Diagonal, c, d) ∷ [])
+      (inr (south (c + 1) d first))
       (more (Vertical, c + 1, d) ((Diagonal, c, d) ∷ []) (inr (west c (d + 1) second))
       (more (Diagonal, c, d) [] (inr third) all_faces_nil)))))
 
@@ -166,10 +178,12 @@ module _ (q : ℕ) (Tight : ℕ → ℕ → Type 0) (some : 0 < q) (periodic : I
   IsPartOfAdditive kind a b = (other : FaceKind) × (c : ℕ) × (d : ℕ) × IsPart kind a b other c d
 
   -- the face at this place of the border
-  same_face : (kind : FaceKind) (a b c d : ℕ) → c % q ≡ a % q → d % q ≡ b % q → IsSameFace q (kind, c, d) (kind, a, b)
+  same_face : (kind : FaceKind) (a b c d : ℕ) → c % q ≡ a % q → d % q ≡ b % q →
+      IsSameFace q (kind, c, d) (kind, a, b)
   same_face kind a b c d e g = record { kind = refl; first_index = e; second_index = g }
 
-  pub grown : (kind : FaceKind) (a b : ℕ) → IsAdditive Tight kind a b → IsExtended q Tight kind a b →
+  pub grown : (kind : FaceKind) (a b : ℕ) → IsAdditive Tight kind a b →
+      IsExtended q Tight kind a b →
       IsPartOfAdditive kind a b
   grown Vertex a b h (inl (inl east)) = (
     Horizontal,
@@ -183,14 +197,22 @@ module _ (q : ℕ) (Tight : ℕ → ℕ → Type 0) (some : 0 < q) (periodic : I
   )
   grown Vertex a b h (inl (inr west_pair)) =
       let w = a + (q - 1) in
-      let here = at_same (a + (q - 1) + 1) b (sym (one_ahead q a some)) refl (corner Vertex a b 0 (lit< tt) h) in (
+      let here = at_same (a + (q - 1) + 1) b (sym (one_ahead q a some)) refl
+      (corner Vertex a b 0 (lit< tt) h) in (
         Horizontal,
         w,
         b,
         record {
           additive = horizontal w b west_pair here;
           higher = lit< tt;
-          border = (1, (Vertex, w + 1, b), lit< tt, refl, same_face Vertex a b (w + 1) b (one_ahead q a some) refl);
+          border = (
+            1,
+            (Vertex, w + 1, b),
+            lit< tt,
+            refl,
+            same_face Vertex a b (w + 1) b
+                (one_ahead q a some) refl,
+          );
         },
       )
   grown Vertex a b h (inr (inl (inl north))) = (
@@ -205,38 +227,62 @@ module _ (q : ℕ) (Tight : ℕ → ℕ → Type 0) (some : 0 < q) (periodic : I
   )
   grown Vertex a b h (inr (inl (inr south_pair))) =
       let s = b + (q - 1) in
-      let here = at_same a (b + (q - 1) + 1) refl (sym (one_ahead q b some)) (corner Vertex a b 0 (lit< tt) h) in (
+      let here = at_same a (b + (q - 1) + 1) refl (sym (one_ahead q b some))
+      (corner Vertex a b 0 (lit< tt) h) in (
         Vertical,
         a,
         s,
         record {
           additive = vertical a s south_pair here;
           higher = lit< tt;
-          border = (1, (Vertex, a, s + 1), lit< tt, refl, same_face Vertex a b a (s + 1) refl (one_ahead q b some));
+          border = (
+            1,
+            (Vertex, a, s + 1),
+            lit< tt,
+            refl,
+            same_face Vertex a b a (s + 1) refl
+                (one_ahead q b some),
+          );
         },
       )
   grown Vertex a b h (inr (inr (inl north_west))) =
       let w = a + (q - 1) in
-      let here = at_same (a + (q - 1) + 1) b (sym (one_ahead q a some)) refl (corner Vertex a b 0 (lit< tt) h) in (
+      let here = at_same (a + (q - 1) + 1) b (sym (one_ahead q a some)) refl
+      (corner Vertex a b 0 (lit< tt) h) in (
         Diagonal,
         w,
         b,
         record {
           additive = diagonal w b here north_west;
           higher = lit< tt;
-          border = (0, (Vertex, w + 1, b), lit< tt, refl, same_face Vertex a b (w + 1) b (one_ahead q a some) refl);
+          border = (
+            0,
+            (Vertex, w + 1, b),
+            lit< tt,
+            refl,
+            same_face Vertex a b (w + 1) b
+                (one_ahead q a some) refl,
+          );
         },
       )
   grown Vertex a b h (inr (inr (inr south_east))) =
       let s = b + (q - 1) in
-      let here = at_same a (b + (q - 1) + 1) refl (sym (one_ahead q b some)) (corner Vertex a b 0 (lit< tt) h) in (
+      let here = at_same a (b + (q - 1) + 1) refl (sym (one_ahead q b some))
+      (corner Vertex a b 0 (lit< tt) h) in (
         Diagonal,
         a,
         s,
         record {
           additive = diagonal a s south_east here;
           higher = lit< tt;
-          border = (1, (Vertex, a, s + 1), lit< tt, refl, same_face Vertex a b a (s + 1) refl (one_ahead q b some));
+          border = (
+            1,
+            (Vertex, a, s + 1),
+            lit< tt,
+            refl,
+            same_face Vertex a b a (s + 1) refl
+                (one_ahead q b some),
+          );
         },
       )
   grown Horizontal a b h (inl north) = (
@@ -244,7 +290,8 @@ module _ (q : ℕ) (Tight : ℕ → ℕ → Type 0) (some : 0 < q) (periodic : I
     a,
     b,
     record {
-      additive = lower a b (corner Horizontal a b 0 (lit< tt) h) (corner Horizontal a b 1 (lit< tt) h) north;
+      additive = lower a b (corner Horizontal a b 0 (lit< tt) h)
+          (corner Horizontal a b 1 (lit< tt) h) north;
       higher = lit< tt;
       border = (3, (Horizontal, a, b), lit< tt, refl, same_face Horizontal a b a b refl refl);
     },
@@ -260,7 +307,14 @@ module _ (q : ℕ) (Tight : ℕ → ℕ → Type 0) (some : 0 < q) (periodic : I
         record {
           additive = upper a s south_east first second;
           higher = lit< tt;
-          border = (3, (Horizontal, a, s + 1), lit< tt, refl, same_face Horizontal a b a (s + 1) refl (one_ahead q b some));
+          border = (
+            3,
+            (Horizontal, a, s + 1),
+            lit< tt,
+            refl,
+            same_face Horizontal a b a
+                (s + 1) refl (one_ahead q b some),
+          );
         },
       )
   grown Vertical a b h (inl east) = (
@@ -268,7 +322,8 @@ module _ (q : ℕ) (Tight : ℕ → ℕ → Type 0) (some : 0 < q) (periodic : I
     a,
     b,
     record {
-      additive = lower a b (corner Vertical a b 0 (lit< tt) h) east (corner Vertical a b 1 (lit< tt) h);
+      additive = lower a b (corner Vertical a b 0 (lit< tt) h) east
+          (corner Vertical a b 1 (lit< tt) h);
       higher = lit< tt;
       border = (4, (Vertical, a, b), lit< tt, refl, same_face Vertical a b a b refl refl);
     },
@@ -284,7 +339,14 @@ module _ (q : ℕ) (Tight : ℕ → ℕ → Type 0) (some : 0 < q) (periodic : I
         record {
           additive = upper w b first north_west second;
           higher = lit< tt;
-          border = (4, (Vertical, w + 1, b), lit< tt, refl, same_face Vertical a b (w + 1) b (one_ahead q a some) refl);
+          border = (
+            4,
+            (Vertical, w + 1, b),
+            lit< tt,
+            refl,
+            same_face Vertical a b (w + 1) b
+                (one_ahead q a some) refl,
+          );
         },
       )
   grown Diagonal a b h (inl here) = (
@@ -292,7 +354,8 @@ module _ (q : ℕ) (Tight : ℕ → ℕ → Type 0) (some : 0 < q) (periodic : I
     a,
     b,
     record {
-      additive = lower a b here (corner Diagonal a b 0 (lit< tt) h) (corner Diagonal a b 1 (lit< tt) h);
+      additive = lower a b here (corner Diagonal a b 0 (lit< tt) h)
+          (corner Diagonal a b 1 (lit< tt) h);
       higher = lit< tt;
       border = (5, (Diagonal, a, b), lit< tt, refl, same_face Diagonal a b a b refl refl);
     },
@@ -302,7 +365,8 @@ module _ (q : ℕ) (Tight : ℕ → ℕ → Type 0) (some : 0 < q) (periodic : I
     a,
     b,
     record {
-      additive = upper a b (corner Diagonal a b 0 (lit< tt) h) (corner Diagonal a b 1 (lit< tt) h) north_east;
+      additive = upper a b (corner Diagonal a b 0 (lit< tt) h)
+          (corner Diagonal a b 1 (lit< tt) h) north_east;
       higher = lit< tt;
       border = (5, (Diagonal, a, b), lit< tt, refl, same_face Diagonal a b a b refl refl);
     },
@@ -317,11 +381,13 @@ module _ (q : ℕ) (Tight : ℕ → ℕ → Type 0) (some : 0 < q) (periodic : I
   maximal_unless_extended kind a b h alone = record {
     additive = h;
     maximal = λ other c d additive.
-        All-weaker IsExtendedFace (λ face. IsSameFace q face (kind, a, b) → ⊥) (λ face extended same. alone (moved face extended same))
+        All-weaker IsExtendedFace (λ face. IsSameFace q face (kind, a, b) → ⊥)
+        (λ face extended same. alone (moved face extended same))
         (border_of other c d) (border_extended other c d additive);
   }
     where
-      moved : (face : FaceKind × ℕ × ℕ) → IsExtendedFace face → IsSameFace q face (kind, a, b) → IsExtended q Tight kind a b
+      moved : (face : FaceKind × ℕ × ℕ) → IsExtendedFace face → IsSameFace q face (kind, a, b) →
+          IsExtended q Tight kind a b
       moved face extended same =
           extended_at_same kind face.1 face.2 a b same.first_index same.second_index
           (subst (λ k. IsExtended q Tight k face.1 face.2) same.kind extended)
@@ -336,9 +402,11 @@ module _ (q : ℕ) (Tight : ℕ → ℕ → Type 0) (some : 0 < q) (periodic : I
 
   -- ---- at indices with equal remainders
 
-  pub additive_at_same : (kind : FaceKind) (c d a b : ℕ) → c % q ≡ a % q → d % q ≡ b % q → IsAdditive Tight kind c d →
+  pub additive_at_same : (kind : FaceKind) (c d a b : ℕ) → c % q ≡ a % q → d % q ≡ b % q →
+      IsAdditive Tight kind c d →
       IsAdditive Tight kind a b
-  additive_at_same Vertex c d a b e g h = vertex a b (at_same a b e g (corner Vertex c d 0 (lit< tt) h))
+  additive_at_same Vertex c d a b e g h =
+      vertex a b (at_same a b e g (corner Vertex c d 0 (lit< tt) h))
   additive_at_same Horizontal c d a b e g h =
       horizontal a b (at_same a b e g (corner Horizontal c d 0 (lit< tt) h))
       (at_same (a + 1) b (next c a e) g (corner Horizontal c d 1 (lit< tt) h))
@@ -357,47 +425,72 @@ module _ (q : ℕ) (Tight : ℕ → ℕ → Type 0) (some : 0 < q) (periodic : I
       (at_same a (b + 1) e (next d b g) (corner Upper c d 1 (lit< tt) h))
       (at_same (a + 1) (b + 1) (next c a e) (next d b g) (corner Upper c d 2 (lit< tt) h))
 
-  pub maximal_at_same : (kind : FaceKind) (c d a b : ℕ) → c % q ≡ a % q → d % q ≡ b % q → IsMaximalFace q Tight kind c d →
+  pub maximal_at_same : (kind : FaceKind) (c d a b : ℕ) → c % q ≡ a % q → d % q ≡ b % q →
+      IsMaximalFace q Tight kind c d →
       IsMaximalFace q Tight kind a b
   maximal_at_same kind c d a b e g h =
       maximal_unless_extended kind a b (additive_at_same kind c d a b e g h.additive)
-      (λ extended. maximal_is_not_extended kind c d h (extended_at_same kind a b c d (sym e) (sym g) extended))
+      (λ extended. maximal_is_not_extended kind c d h
+      (extended_at_same kind a b c d (sym e) (sym g) extended))
 
   -- ---- beside a maximal face that is no triangle its square has no other
 
   -- a corner of a maximal face
-  held : (kind : FaceKind) (a b k : ℕ) → k < length (corners_of kind a b) → IsMaximalFace q Tight kind a b →
+  held : (kind : FaceKind) (a b k : ℕ) → k < length (corners_of kind a b) →
+      IsMaximalFace q Tight kind a b →
       Tight (get_or (corners_of kind a b) k (0, 0)).0 (get_or (corners_of kind a b) k (0, 0)).1
   held kind a b k below h = corner kind a b k below h.additive
 
-  refused : (kind other : FaceKind) (a b : ℕ) → IsMaximalFace q Tight kind a b → IsExtended q Tight kind a b → kind ≡ other
+  refused : (kind other : FaceKind) (a b : ℕ) → IsMaximalFace q Tight kind a b →
+      IsExtended q Tight kind a b → kind ≡ other
   refused kind other a b h extended = absurd (maximal_is_not_extended kind a b h extended)
 
-  pub no_other : (kind other : FaceKind) (a b : ℕ) → is_triangle kind ≡ false → IsMaximalFace q Tight kind a b →
+  pub no_other : (kind other : FaceKind) (a b : ℕ) → is_triangle kind ≡ false →
+      IsMaximalFace q Tight kind a b →
       IsMaximalFace q Tight other a b → kind ≡ other
   no_other Vertex Vertex a b plain h k = refl
-  no_other Vertex Horizontal a b plain h k = refused Vertex Horizontal a b h (inl (inl (held Horizontal a b 1 (lit< tt) k)))
-  no_other Vertex Vertical a b plain h k = refused Vertex Vertical a b h (inr (inl (inl (held Vertical a b 1 (lit< tt) k))))
-  no_other Vertex Diagonal a b plain h k = refused Vertex Diagonal a b h (inl (inl (held Diagonal a b 0 (lit< tt) k)))
-  no_other Vertex Lower a b plain h k = refused Vertex Lower a b h (inl (inl (held Lower a b 1 (lit< tt) k)))
-  no_other Vertex Upper a b plain h k = refused Vertex Upper a b h (inl (inl (held Upper a b 0 (lit< tt) k)))
-  no_other Horizontal Vertex a b plain h k = sym (refused Vertex Horizontal a b k (inl (inl (held Horizontal a b 1 (lit< tt) h))))
+  no_other Vertex Horizontal a b plain h k =
+      refused Vertex Horizontal a b h (inl (inl (held Horizontal a b 1 (lit< tt) k)))
+  no_other Vertex Vertical a b plain h k =
+      refused Vertex Vertical a b h (inr (inl (inl (held Vertical a b 1 (lit< tt) k))))
+  no_other Vertex Diagonal a b plain h k =
+      refused Vertex Diagonal a b h (inl (inl (held Diagonal a b 0 (lit< tt) k)))
+  no_other Vertex Lower a b plain h k =
+      refused Vertex Lower a b h (inl (inl (held Lower a b 1 (lit< tt) k)))
+  no_other Vertex Upper a b plain h k =
+      refused Vertex Upper a b h (inl (inl (held Upper a b 0 (lit< tt) k)))
+  no_other Horizontal Vertex a b plain h k =
+      sym (refused Vertex Horizontal a b k (inl (inl (held Horizontal a b 1 (lit< tt) h))))
   no_other Horizontal Horizontal a b plain h k = refl
-  no_other Horizontal Vertical a b plain h k = refused Horizontal Vertical a b h (inl (held Vertical a b 1 (lit< tt) k))
-  no_other Horizontal Diagonal a b plain h k = refused Horizontal Diagonal a b h (inl (held Diagonal a b 1 (lit< tt) k))
-  no_other Horizontal Lower a b plain h k = refused Horizontal Lower a b h (inl (held Lower a b 2 (lit< tt) k))
-  no_other Horizontal Upper a b plain h k = refused Horizontal Upper a b h (inl (held Upper a b 1 (lit< tt) k))
-  no_other Vertical Vertex a b plain h k = sym (refused Vertex Vertical a b k (inr (inl (inl (held Vertical a b 1 (lit< tt) h)))))
-  no_other Vertical Horizontal a b plain h k = refused Vertical Horizontal a b h (inl (held Horizontal a b 1 (lit< tt) k))
+  no_other Horizontal Vertical a b plain h k =
+      refused Horizontal Vertical a b h (inl (held Vertical a b 1 (lit< tt) k))
+  no_other Horizontal Diagonal a b plain h k =
+      refused Horizontal Diagonal a b h (inl (held Diagonal a b 1 (lit< tt) k))
+  no_other Horizontal Lower a b plain h k =
+      refused Horizontal Lower a b h (inl (held Lower a b 2 (lit< tt) k))
+  no_other Horizontal Upper a b plain h k =
+      refused Horizontal Upper a b h (inl (held Upper a b 1 (lit< tt) k))
+  no_other Vertical Vertex a b plain h k =
+      sym (refused Vertex Vertical a b k (inr (inl (inl (held Vertical a b 1 (lit< tt) h)))))
+  no_other Vertical Horizontal a b plain h k =
+      refused Vertical Horizontal a b h (inl (held Horizontal a b 1 (lit< tt) k))
   no_other Vertical Vertical a b plain h k = refl
-  no_other Vertical Diagonal a b plain h k = refused Vertical Diagonal a b h (inl (held Diagonal a b 0 (lit< tt) k))
-  no_other Vertical Lower a b plain h k = refused Vertical Lower a b h (inl (held Lower a b 1 (lit< tt) k))
-  no_other Vertical Upper a b plain h k = refused Vertical Upper a b h (inl (held Upper a b 0 (lit< tt) k))
-  no_other Diagonal Vertex a b plain h k = refused Diagonal Vertex a b h (inl (held Vertex a b 0 (lit< tt) k))
-  no_other Diagonal Horizontal a b plain h k = refused Diagonal Horizontal a b h (inl (held Horizontal a b 0 (lit< tt) k))
-  no_other Diagonal Vertical a b plain h k = refused Diagonal Vertical a b h (inl (held Vertical a b 0 (lit< tt) k))
+  no_other Vertical Diagonal a b plain h k =
+      refused Vertical Diagonal a b h (inl (held Diagonal a b 0 (lit< tt) k))
+  no_other Vertical Lower a b plain h k =
+      refused Vertical Lower a b h (inl (held Lower a b 1 (lit< tt) k))
+  no_other Vertical Upper a b plain h k =
+      refused Vertical Upper a b h (inl (held Upper a b 0 (lit< tt) k))
+  no_other Diagonal Vertex a b plain h k =
+      refused Diagonal Vertex a b h (inl (held Vertex a b 0 (lit< tt) k))
+  no_other Diagonal Horizontal a b plain h k =
+      refused Diagonal Horizontal a b h (inl (held Horizontal a b 0 (lit< tt) k))
+  no_other Diagonal Vertical a b plain h k =
+      refused Diagonal Vertical a b h (inl (held Vertical a b 0 (lit< tt) k))
   no_other Diagonal Diagonal a b plain h k = refl
-  no_other Diagonal Lower a b plain h k = refused Diagonal Lower a b h (inl (held Lower a b 0 (lit< tt) k))
-  no_other Diagonal Upper a b plain h k = refused Diagonal Upper a b h (inr (held Upper a b 2 (lit< tt) k))
+  no_other Diagonal Lower a b plain h k =
+      refused Diagonal Lower a b h (inl (held Lower a b 0 (lit< tt) k))
+  no_other Diagonal Upper a b plain h k =
+      refused Diagonal Upper a b h (inr (held Upper a b 2 (lit< tt) k))
   no_other Lower other a b plain h k = absurd (true≢false plain)
   no_other Upper other a b plain h k = absurd (true≢false plain)

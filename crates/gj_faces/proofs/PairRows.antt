@@ -16,30 +16,36 @@ use Rattle.gj_faces.proofs.Periods.{tight_is_periodic}
 
 -- ---- rows that are made one after another
 
-pub row_more : (f : FunctionData) (rows : List IndexSet) (n : ℕ) (row : IndexSet) → AreRows f n rows → TellsRow f n row →
+pub row_more : (f : FunctionData) (rows : List IndexSet) (n : ℕ) (row : IndexSet) →
+    AreRows f n rows → TellsRow f n row →
     AreRows f (n + 1) (rows ++ row ∷ [])
 row_more f rows n row h here =
     let count = h.count in record {
       count = length_push rows row ∙ ap (λ k. k + 1) h.count;
       tell = λ a below. elim (cases_lt a n) [
-        | inl before ↦ subst (TellsRow f a) (sym (get_or_append_left rows (row ∷ []) no_set a (omega arith))) (h.tell a before)
+        | inl before ↦ subst (TellsRow f a)
+            (sym (get_or_append_left rows (row ∷ []) no_set a (omega arith))) (h.tell a before)
         | inr last ↦
             let e : a ≡ n = omega arith in
-            subst (TellsRow f a) (sym (get_or_push rows row no_set a (omega arith))) (subst (λ k. TellsRow f k row) (sym e) here)
+            subst (TellsRow f a) (sym (get_or_push rows row no_set a (omega arith)))
+            (subst (λ k. TellsRow f k row) (sym e) here)
       ];
     }
 
-pub rows_within : (f : FunctionData) (rows : List IndexSet) (n : ℕ) → AreRows f n rows → AreSetsWithin rows f.order
+pub rows_within : (f : FunctionData) (rows : List IndexSet) (n : ℕ) → AreRows f n rows →
+    AreSetsWithin rows f.order
 rows_within f rows n h a b past =
     elim (cases_lt a n) [
-      | inl inside ↦ false_from_ne_true (has (get_or rows a no_set) b) (λ yes. let both = (h.tell a inside b).0 yes in
+      | inl inside ↦ false_from_ne_true (has (get_or rows a no_set) b)
+          (λ yes. let both = (h.tell a inside b).0 yes in
           let below = both.0 in omega arith)
       | inr beyond ↦
           let count = h.count in
           ap (λ row. has row b) (get_or_past rows a no_set (omega arith)) ∙ none_in_no_set b
     ]
 
-pub all_rows_tell : (f : FunctionData) (pairs : TightPairs) → IsWithinBounds f → AreRows f f.order pairs.rows.items →
+pub all_rows_tell : (f : FunctionData) (pairs : TightPairs) → IsWithinBounds f →
+    AreRows f f.order pairs.rows.items →
     pairs.order ≡ f.order → AreTightPairsOf f pairs
 unfolding IsTightIn
 all_rows_tell f pairs limits h order = record {
@@ -47,10 +53,17 @@ all_rows_tell f pairs limits h order = record {
   tell = λ i j.
       let some : 0 < pairs.order = omega (arith, limits.order_low) in
       let row = h.tell (i % pairs.order) (omega (arith, mod-lt i some)) (j % pairs.order) in
-      let first = ap (λ q. i % pairs.order % q) (sym order) ∙ mod-mod i pairs.order ∙ ap (λ q. i % q) order in
-      let second = ap (λ q. j % pairs.order % q) (sym order) ∙ mod-mod j pairs.order ∙ ap (λ q. j % q) order in (
-        λ yes. tight_is_periodic f limits (i % pairs.order) (j % pairs.order) i j first second (row.0 yes).1,
-        λ tight. row.1 (omega (arith, mod-lt j some), tight_is_periodic f limits i j (i % pairs.order) (j % pairs.order) (sym first) (sym second) tight),
+      let first = ap (λ q. i % pairs.order % q) (sym order) ∙ mod-mod i pairs.order
+      ∙ ap (λ q. i % q) order in
+      let second = ap (λ q. j % pairs.order % q) (sym order) ∙ mod-mod j pairs.order
+      ∙ ap (λ q. j % q) order in (
+        λ yes. tight_is_periodic f limits (i % pairs.order) (j % pairs.order) i j first second
+            (row.0 yes).1,
+        λ tight. row.1 (
+          omega (arith, mod-lt j some),
+          tight_is_periodic f limits i j
+              (i % pairs.order) (j % pairs.order) (sym first) (sym second) tight,
+        ),
       );
 }
 
@@ -66,7 +79,8 @@ tight_at pairs a b first second =
       λ yes. subst (λ k. IsTrue (has (get_or pairs.rows.items (a % pairs.order) no_set) k)) place
           (subst (λ k. IsTrue (has (get_or pairs.rows.items k no_set) b)) row yes),
       λ yes. subst (λ k. IsTrue (has (get_or pairs.rows.items k no_set) b)) (sym row)
-          (subst (λ k. IsTrue (has (get_or pairs.rows.items (a % pairs.order) no_set) k)) (sym place) yes),
+          (subst (λ k. IsTrue (has (get_or pairs.rows.items (a % pairs.order) no_set) k))
+          (sym place) yes),
     )
 
 -- ---- neighbours in a row
@@ -76,8 +90,10 @@ abbrev pub TellsBelow : FunctionData → ℕ → IndexSet → Type 0
 TellsBelow f i row = (b : ℕ) → b < f.order → IsTrue (has row b) ↔ IsTight f i b
 
 -- that of its remainder
-pub row_of_index : (f : FunctionData) (pairs : TightPairs) (i a : ℕ) (row : IndexSet) → IsWithinBounds f → AreTightPairsOf f pairs →
-    a ≡ i % f.order → ((b : ℕ) → b < pairs.order → IsTrue (has row b) ↔ IsTightIn pairs a b) → TellsBelow f i row
+pub row_of_index : (f : FunctionData) (pairs : TightPairs) (i a : ℕ) (row : IndexSet) →
+    IsWithinBounds f → AreTightPairsOf f pairs →
+    a ≡ i % f.order → ((b : ℕ) → b < pairs.order → IsTrue (has row b) ↔ IsTightIn pairs a b) →
+    TellsBelow f i row
 row_of_index f pairs i a row limits h e tells b below =
     let order = h.order in
     let both = tells b (omega arith) in
@@ -87,7 +103,8 @@ row_of_index f pairs i a row limits h e tells b below =
     )
 
 -- the next index in the row
-pub next_in_row : (f : FunctionData) (i b : ℕ) (row : IndexSet) (x : Bool) → IsWithinBounds f → b < f.order → TellsBelow f i row →
+pub next_in_row : (f : FunctionData) (i b : ℕ) (row : IndexSet) (x : Bool) → IsWithinBounds f →
+    b < f.order → TellsBelow f i row →
     x ≡ has row (if b + 1 == f.order then 0 else b + 1) → (x ≡ true) ↔ IsTight f i (b + 1)
 next_in_row f i b row x limits below tells e =
     elim (cases_eq (b + 1) f.order) [
@@ -96,18 +113,24 @@ next_in_row f i b row x limits below tells e =
           let some = limits.order_low in
           let last' : 0 + f.order ≡ b + 1 = omega arith in
           let both = tells 0 (omega arith) in
-          let same : 0 % f.order ≡ (b + 1) % f.order = sym (add-mod_right 0 f.order) ∙ ap (λ k. k % f.order) last' in (
-            λ yes. tight_is_periodic f limits i 0 i (b + 1) refl same (both.0 (sym (e ∙ test) ∙ yes)),
-            λ tight. e ∙ test ∙ both.1 (tight_is_periodic f limits i (b + 1) i 0 refl (sym same) tight),
+          let same : 0 % f.order ≡ (b + 1) % f.order = sym (add-mod_right 0 f.order)
+          ∙ ap (λ k. k % f.order) last' in (
+            λ yes. tight_is_periodic f limits i 0 i (b + 1) refl same
+                (both.0 (sym (e ∙ test) ∙ yes)),
+            λ tight. e ∙ test ∙ both.1
+                (tight_is_periodic f limits i (b + 1) i 0 refl (sym same) tight),
           )
       | inr inside ↦
           let test = ap (λ t. has row (if t then 0 else b + 1)) (ne_eqb (b + 1) f.order inside) in
-          let both = tells (b + 1) (omega arith) in (λ yes. both.0 (sym (e ∙ test) ∙ yes), λ tight. e ∙ test ∙ both.1 tight)
+          let both = tells (b + 1) (omega arith) in
+          (λ yes. both.0 (sym (e ∙ test) ∙ yes), λ tight. e ∙ test ∙ both.1 tight)
     ]
 
 -- the index before it
-pub previous_in_row : (f : FunctionData) (i b : ℕ) (row : IndexSet) (x : Bool) → IsWithinBounds f → b < f.order → TellsBelow f i row →
-    x ≡ has row (if b == 0 then f.order - 1 else b - 1) → (x ≡ true) ↔ IsTight f i (b + (f.order - 1))
+pub previous_in_row : (f : FunctionData) (i b : ℕ) (row : IndexSet) (x : Bool) → IsWithinBounds f →
+    b < f.order → TellsBelow f i row →
+    x ≡ has row (if b == 0 then f.order - 1 else b - 1) →
+    (x ≡ true) ↔ IsTight f i (b + (f.order - 1))
 previous_in_row f i b row x limits below tells e =
     let some = limits.order_low in
     elim (cases_eq b 0) [
@@ -122,8 +145,11 @@ previous_in_row f i b row x limits below tells e =
           let test = ap (λ t. has row (if t then f.order - 1 else b - 1)) (ne_eqb b 0 later) in
           let both = tells (b - 1) (omega arith) in
           let around : b - 1 + f.order ≡ b + (f.order - 1) = omega arith in
-          let same : (b - 1) % f.order ≡ (b + (f.order - 1)) % f.order = sym (add-mod_right (b - 1) f.order) ∙ ap (λ k. k % f.order) around in (
-            λ yes. tight_is_periodic f limits i (b - 1) i (b + (f.order - 1)) refl same (both.0 (sym (e ∙ test) ∙ yes)),
-            λ tight. e ∙ test ∙ both.1 (tight_is_periodic f limits i (b + (f.order - 1)) i (b - 1) refl (sym same) tight),
+          let same : (b - 1) % f.order ≡ (b + (f.order - 1)) % f.order =
+          sym (add-mod_right (b - 1) f.order) ∙ ap (λ k. k % f.order) around in (
+            λ yes. tight_is_periodic f limits i (b - 1) i (b + (f.order - 1)) refl same
+                (both.0 (sym (e ∙ test) ∙ yes)),
+            λ tight. e ∙ test ∙ both.1
+                (tight_is_periodic f limits i (b + (f.order - 1)) i (b - 1) refl (sym same) tight),
           )
     ]

@@ -11,7 +11,8 @@ pub same_sum : (q i j k l : ℕ) → i % q ≡ k % q → j % q ≡ l % q → (i 
 same_sum q i j k l first second =
     add-mod i j q ∙ ap₂ (λ (x y : ℕ). (x + y) % q) first second ∙ sym (add-mod k l q)
 
-same_value : (f : FunctionData) (i j : ℕ) → IsWithinBounds f → i % f.order ≡ j % f.order → at f.value i ≡ at f.value j
+same_value : (f : FunctionData) (i j : ℕ) → IsWithinBounds f → i % f.order ≡ j % f.order →
+    at f.value i ≡ at f.value j
 same_value f i j h e =
     at_same_remainder f.value i j
     (ap (λ n. i % n) h.value_length ∙ e ∙ sym (ap (λ n. j % n) h.value_length))

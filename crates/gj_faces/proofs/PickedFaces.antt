@@ -13,21 +13,25 @@ use Rattle.gj_faces.specs.Picked.{ArePicked, none, kept, dropped}
 -- ---- picked elements
 
 -- those of two lists, one behind the other
-pub picked_joined : {X : Type 0} (P : X → Type 0) {xs ys : List X} (us vs : List X) → ArePicked P xs ys → ArePicked P us vs →
+pub picked_joined : {X : Type 0} (P : X → Type 0) {xs ys : List X} (us vs : List X) →
+    ArePicked P xs ys → ArePicked P us vs →
     ArePicked P (xs ++ us) (ys ++ vs)
 picked_joined P us vs none k = k
 picked_joined P us vs (kept p h) k = kept p (picked_joined P us vs h k)
 picked_joined P us vs (dropped p h) k = dropped p (picked_joined P us vs h k)
 
 -- an element with the property is picked
-pub picked_has : {X : Type 0} (P : X → Type 0) {xs ys : List X} (x : X) → ArePicked P xs ys → Contains xs x → P x → Contains ys x
+pub picked_has : {X : Type 0} (P : X → Type 0) {xs ys : List X} (x : X) → ArePicked P xs ys →
+    Contains xs x → P x → Contains ys x
 picked_has P x none found p = absurd (omega (arith, found.1))
 picked_has P x (kept {x = y} {xs = xs} {ys = ys} q h) (zero, below, same) p = (0, omega arith, same)
 picked_has P x (kept {x = y} {xs = xs} {ys = ys} q h) (suc k, below, same) p =
     let rest = picked_has P x h (k, omega arith, same) p in
     (suc rest.0, omega (arith, rest.1), rest.2)
-picked_has P x (dropped {x = y} {xs = xs} {ys = ys} q h) (zero, below, same) p = absurd (q (subst P (sym same) p))
-picked_has P x (dropped {x = y} {xs = xs} {ys = ys} q h) (suc k, below, same) p = picked_has P x h (k, omega arith, same) p
+picked_has P x (dropped {x = y} {xs = xs} {ys = ys} q h) (zero, below, same) p =
+    absurd (q (subst P (sym same) p))
+picked_has P x (dropped {x = y} {xs = xs} {ys = ys} q h) (suc k, below, same) p =
+    picked_has P x h (k, omega arith, same) p
 
 -- each picked element has the property
 pub picked_all : {X : Type 0} (P : X → Type 0) {xs ys : List X} → ArePicked P xs ys → All P ys
@@ -41,7 +45,8 @@ in_range : (q a : ℕ) → a < q → Contains (range_with_len 0 q) a
 in_range q a below =
     (a, omega (arith, length-range_with_len 0 q), get_or-range_with_len 0 q a a below ∙ omega arith)
 
-in_flat_map : {X Y : Type 0} (f : X → List Y) (xs : List X) (x : X) (y : Y) → Contains xs x → Contains (f x) y →
+in_flat_map : {X Y : Type 0} (f : X → List Y) (xs : List X) (x : X) (y : Y) → Contains xs x →
+    Contains (f x) y →
     Contains (flat_map f xs) y
 in_flat_map f [] x y found h = absurd (omega (arith, found.1))
 in_flat_map f (z ∷ xs) x y (zero, below, same) h =
@@ -49,7 +54,8 @@ in_flat_map f (z ∷ xs) x y (zero, below, same) h =
 in_flat_map f (z ∷ xs) x y (suc k, below, same) h =
     Contains-append_right (f z) (flat_map f xs) y (in_flat_map f xs x y (k, omega arith, same) h)
 
-in_square : (kind : FaceKind) (a b : ℕ) → Contains (faces_of_square a b) (record { kind = kind; a = a; b = b })
+in_square : (kind : FaceKind) (a b : ℕ) →
+    Contains (faces_of_square a b) (record { kind = kind; a = a; b = b })
 in_square Vertex a b = (0, lit< tt, refl)
 in_square Horizontal a b = (1, lit< tt, refl)
 in_square Vertical a b = (2, lit< tt, refl)
@@ -60,8 +66,10 @@ in_square Upper a b = (5, lit< tt, refl)
 pub in_walk : (q : ℕ) (kind : FaceKind) (a b : ℕ) → a < q → b < q →
     Contains (faces_of q) (record { kind = kind; a = a; b = b })
 in_walk q kind a b first second =
-    in_flat_map (λ a. flat_map (faces_of_square a) (range_with_len 0 q)) (range_with_len 0 q) a _ (in_range q a first)
-    (in_flat_map (faces_of_square a) (range_with_len 0 q) b _ (in_range q b second) (in_square kind a b))
+    in_flat_map (λ a. flat_map (faces_of_square a) (range_with_len 0 q)) (range_with_len 0 q) a _
+    (in_range q a first)
+    (in_flat_map (faces_of_square a) (range_with_len 0 q) b _ (in_range q b second)
+    (in_square kind a b))
 
 -- one row or one square more
 range_more : (a n j : ℕ) → a + n ≡ j → range_with_len a (suc n) ≡ range_with_len a n ++ j ∷ []

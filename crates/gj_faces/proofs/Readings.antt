@@ -13,12 +13,15 @@ in_range : (bound : ℕ) (x : ℤ) → unsigned_abs x < bound → IsInRange (pos
 in_range bound x small = (omega (arith, ints), omega (arith, ints))
 
 -- and only then: the code reads one that is not, by its absolute value
-pub not_in_range : (bound : ℕ) (xs : List ℤ) (i large : ℕ) → i < length xs → large ≡ unsigned_abs (to_z w64 (of_z w64 (get_or xs i (pos 0)))) →
+pub not_in_range : (bound : ℕ) (xs : List ℤ) (i large : ℕ) → i < length xs →
+    large ≡ unsigned_abs (to_z w64 (of_z w64 (get_or xs i (pos 0)))) →
     large ≤ 2 ^ 63 → bound ≤ large → AreInRange (pos 1 -ℤ pos bound) bound xs → ⊥
 not_in_range bound xs i large below is most above h =
-    of_entry (get_or xs i (pos 0)) is (subst (IsInRange (pos 1 -ℤ pos bound) bound) (at_below xs i below) (h i))
+    of_entry (get_or xs i (pos 0)) is
+    (subst (IsInRange (pos 1 -ℤ pos bound) bound) (at_below xs i below) (h i))
   where
-    of_entry : (x : ℤ) → large ≡ unsigned_abs (to_z w64 (of_z w64 x)) → IsInRange (pos 1 -ℤ pos bound) bound x → ⊥
+    of_entry : (x : ℤ) → large ≡ unsigned_abs (to_z w64 (of_z w64 x)) →
+        IsInRange (pos 1 -ℤ pos bound) bound x → ⊥
     of_entry x is here =
         let low = here.0 in
         let high = here.1 in
@@ -27,18 +30,22 @@ not_in_range bound xs i large below is most above h =
         omega arith
 
 -- numbers that are up to their end are in it
-pub all_in_range : (bound : ℕ) (xs : List ℤ) → 0 < bound → ((i : ℕ) → i < length xs → unsigned_abs (get_or xs i (pos 0)) < bound) →
+pub all_in_range : (bound : ℕ) (xs : List ℤ) → 0 < bound →
+    ((i : ℕ) → i < length xs → unsigned_abs (get_or xs i (pos 0)) < bound) →
     AreInRange (pos 1 -ℤ pos bound) bound xs
 unfolding at
 all_in_range bound xs some h i =
     in_range bound _ (elim (cases_lt (i % length xs) (length xs)) [
       | inl below ↦ h (i % length xs) below
-      | inr past ↦ subst (λ x. unsigned_abs x < bound) (sym (get_or_past xs (i % length xs) (pos 0) past)) some
+      | inr past ↦ subst (λ x. unsigned_abs x < bound)
+          (sym (get_or_past xs (i % length xs) (pos 0) past)) some
     ])
 
 -- the pairs of a row, as they are read off lanes
-module _ {L : Type 0} (number : L → ℤ) (least : ℤ) (bound : ℕ) (f : FunctionData) (a : ℕ) (lanes : List L) (values : List ℤ) (first : L)
-    (limits : IsWithinBounds f) (e : values ≡ f.value) (h : ArePeriods number least bound lanes values) (below : a < length values)
+module _ {L : Type 0} (number : L → ℤ) (least : ℤ) (bound : ℕ) (f : FunctionData) (a : ℕ)
+    (lanes : List L) (values : List ℤ) (first : L)
+    (limits : IsWithinBounds f) (e : values ≡ f.value)
+    (h : ArePeriods number least bound lanes values) (below : a < length values)
     (first_is : first ≡ get_or lanes a first) where
   count : length values ≡ f.order
   count = ap length e ∙ limits.value_length
@@ -49,10 +56,12 @@ module _ {L : Type 0} (number : L → ℤ) (least : ℤ) (bound : ℕ) (f : Func
   first_value : number first ≡ at f.value a
   first_value = ap number first_is ∙ value_at a first (omega arith)
 
-  sum_at : (b : ℕ) (z : L) → b < length values → number (get_or (take (length lanes - a) (drop a lanes)) b z) ≡ at f.value (a + b)
+  sum_at : (b : ℕ) (z : L) → b < length values →
+      number (get_or (take (length lanes - a) (drop a lanes)) b z) ≡ at f.value (a + b)
   sum_at b z inside =
       let room = h.room in
-      ap number (get_or-take (length lanes - a) (drop a lanes) b z (omega arith) ∙ get_or-drop a lanes b z)
+      ap number (get_or-take (length lanes - a) (drop a lanes) b z (omega arith)
+      ∙ get_or-drop a lanes b z)
       ∙ value_at (a + b) z (omega arith)
 
   -- they are in the range
@@ -65,11 +74,14 @@ module _ {L : Type 0} (number : L → ℤ) (least : ℤ) (bound : ℕ) (f : Func
   pub first_in_row : IsInRange least bound (number first)
   first_in_row = in_row a _ first_value
 
-  pub sums_in_row : AreLanesInRange number least bound (take (length lanes - a) (drop a lanes)) (length values)
+  pub sums_in_row : AreLanesInRange number least bound (take (length lanes - a) (drop a lanes))
+      (length values)
   sums_in_row b z inside = in_row (a + b) _ (sum_at b z inside)
 
   pub row_of_lanes : (b : ℕ) (P : Type 0) →
-      P ↔ ((b < length values) × (number (get_or lanes b first) +ℤ number first ≡ number (get_or (take (length lanes - a) (drop a lanes)) b first))) →
+      P ↔ ((b < length values)
+      × (number (get_or lanes b first) +ℤ number first
+      ≡ number (get_or (take (length lanes - a) (drop a lanes)) b first))) →
       P ↔ ((b < f.order) × IsTight f a b)
   row_of_lanes b P both = (
     λ p. let there = both.0 p in
@@ -80,7 +92,8 @@ module _ {L : Type 0} (number : L → ℤ) (least : ℤ) (bound : ℕ) (f : Func
   )
     where
       tight : b < f.order →
-          (number (get_or lanes b first) +ℤ number first ≡ number (get_or (take (length lanes - a) (drop a lanes)) b first)) ↔ IsTight f a b
+          (number (get_or lanes b first) +ℤ number first
+          ≡ number (get_or (take (length lanes - a) (drop a lanes)) b first)) ↔ IsTight f a b
       tight inside =
           let len = count in
           let at_a = first_value in

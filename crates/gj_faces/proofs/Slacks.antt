@@ -14,7 +14,8 @@ zero_slack : (x y s : ℤ) → (slack_from x y s ≡ pos 0) ↔ (x +ℤ y ≡ s)
 zero_slack x y s = (λ h. omega (arith, ints), λ h. omega (arith, ints))
 
 -- the limit at a corner is the slack there
-limit_is : (f : FunctionData) (kind : FaceKind) (a b k : ℕ) → IsContinuous f → k < length (corners_of kind 0 0) →
+limit_is : (f : FunctionData) (kind : FaceKind) (a b k : ℕ) → IsContinuous f →
+    k < length (corners_of kind 0 0) →
     get_or (limits_of f kind a b) k (pos 0) ≡ slack_at f (get_or (corners_of kind a b) k (0, 0))
 limit_is f kind a b k continuous below =
     let count = corner_count kind a b in
@@ -40,7 +41,8 @@ limits_of_additive f kind a b k continuous below additive =
     let corner = get_or (corners_of kind a b) k (0, 0) in
     limit_is f kind a b k continuous below
     ∙ (zero_slack (at f.value corner.0) (at f.value corner.1) (at f.value (corner.0 + corner.1))).1
-    (All-get_or (λ corner. IsTight f corner.0 corner.1) (corners_of kind a b) k (0, 0) (omega arith) additive)
+    (All-get_or (λ corner. IsTight f corner.0 corner.1) (corners_of kind a b) k (0, 0)
+    (omega arith) additive)
 
 -- a number of 53 bits that is 0, as the code tests it
 pub zero_bits : (x : ℤ) → unsigned_abs x < 2 ^ 53 → (of_z w64 x ≡ 0) ↔ (x ≡ pos 0)

@@ -10,7 +10,8 @@ use Rattle.gj_faces.specs.Listed.{AreMaximalFaces, IsInListed, IsMaximalIn, Tell
 use Rattle.gj_faces.proofs.Held.{additive_in_listed}
 use Rattle.gj_faces.proofs.PickedFaces.{picked_all}
 
-pub listed_tell_tight : (f : FunctionData) (faces : List Face) → IsWithinBounds f → IsContinuous f → IsMinimal f →
+pub listed_tell_tight : (f : FunctionData) (faces : List Face) → IsWithinBounds f → IsContinuous f →
+    IsMinimal f →
     AreMaximalFaces f faces → TellTightPairs f faces
 listed_tell_tight f faces limits continuous minimal picked m i j some = (to, from)
   where
@@ -22,5 +23,7 @@ listed_tell_tight f faces limits continuous minimal picked m i j some = (to, fro
     from : IsInListed f m faces i j → IsTightOnGrid f m i j
     from listed =
         let face = listed.1 in
-        let maximal = subst (IsMaximalIn f) listed.3 (picked_all (IsMaximalIn f) picked listed.0 face listed.2) in
-        tight_on_grid f m face.kind face.a face.b i j limits continuous some maximal.additive listed.4
+        let maximal = subst (IsMaximalIn f) listed.3
+        (picked_all (IsMaximalIn f) picked listed.0 face listed.2) in
+        tight_on_grid f m face.kind face.a face.b i j limits continuous some maximal.additive
+        listed.4

@@ -23,11 +23,15 @@ set_of alone Upper = alone.upper
 pub record AreAlone (f : FunctionData) (a : ℕ) (alone : Alone) : Type 0 where
   pub each : (kind : FaceKind) (b : ℕ) → b < f.order →
       IsTrue (has (set_of alone kind) b) ↔ IsMaximalIn f (record { kind = kind; a = a; b = b })
-  pub any : (kind : FaceKind) (b : ℕ) → b < f.order → IsTrue (has (set_of alone kind) b) → IsTrue (has alone.any b)
-  pub edges : (kind : FaceKind) (b : ℕ) → b < f.order → is_triangle kind ≡ false → IsTrue (has (set_of alone kind) b) →
+  pub any : (kind : FaceKind) (b : ℕ) → b < f.order → IsTrue (has (set_of alone kind) b) →
+      IsTrue (has alone.any b)
+  pub edges : (kind : FaceKind) (b : ℕ) → b < f.order → is_triangle kind ≡ false →
+      IsTrue (has (set_of alone kind) b) →
       IsTrue (has alone.edges b)
-  pub rest : (b : ℕ) → IsTrue (has alone.edges b) → has alone.vertex b ≡ false → has alone.horizontal b ≡ false →
+  pub rest : (b : ℕ) → IsTrue (has alone.edges b) → has alone.vertex b ≡ false →
+      has alone.horizontal b ≡ false →
       has alone.vertical b ≡ false → IsTrue (has alone.diagonal b)
-  pub apart : (kind other : FaceKind) (b : ℕ) → is_triangle kind ≡ false → IsMaximalIn f (record { kind = kind; a = a; b = b }) →
+  pub apart : (kind other : FaceKind) (b : ℕ) → is_triangle kind ≡ false →
+      IsMaximalIn f (record { kind = kind; a = a; b = b }) →
       IsMaximalIn f (record { kind = other; a = a; b = b }) → kind ≡ other
   pub within : (b : ℕ) → f.order ≤ b → has alone.any b ≡ false

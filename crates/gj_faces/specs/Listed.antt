@@ -23,7 +23,8 @@ IsInListed f m faces i j = Any (λ face. IsInClosure f m face.kind face.a face.b
 -- the closure of each additive face of the function lies in the closures of the listed ones
 abbrev pub HoldAdditive : FunctionData → List Face → Type 0
 HoldAdditive f faces =
-    (m : ℕ) (kind : FaceKind) (a b i j : ℕ) → IsAdditive (IsTight f) kind a b → IsInClosure f m kind a b i j →
+    (m : ℕ) (kind : FaceKind) (a b i j : ℕ) → IsAdditive (IsTight f) kind a b →
+    IsInClosure f m kind a b i j →
     IsInListed f m faces i j
 
 -- on each grid the pairs at which the table is tight are those in the closures of the listed faces

@@ -25,7 +25,8 @@ EndsBefore r s = (r.a < s.a) ⊎ ((r.a ≡ s.a) × (r.to < s.from))
 -- each run ends before its next
 pub record AreInOrder (q : ℕ) (runs : List Run) : Type 0 where
   pub each : All (IsRunOf q) runs
-  pub ascending : (before : List Run) (r s : Run) (after : List Run) → runs ≡ before ++ r ∷ s ∷ after → EndsBefore r s
+  pub ascending : (before : List Run) (r s : Run) (after : List Run) →
+      runs ≡ before ++ r ∷ s ∷ after → EndsBefore r s
 
 -- the pairs in the runs are the tight ones
 abbrev pub TellTight : ℕ → List Run → (ℕ → ℕ → Type 0) → Type 0

@@ -7,7 +7,8 @@ use Rattle.gj_faces.specs.declared.tight_pairs.TightPairs.{TightPairs}
 
 -- the pair is among them, indices modulo the order
 unfoldable pub IsTightIn : TightPairs → ℕ → ℕ → Type 0
-IsTightIn pairs i j = IsTrue (has (get_or pairs.rows.items (i % pairs.order) no_set) (j % pairs.order))
+IsTightIn pairs i j =
+    IsTrue (has (get_or pairs.rows.items (i % pairs.order) no_set) (j % pairs.order))
 
 -- they are the tight pairs of the function
 pub record AreTightPairsOf (f : FunctionData) (pairs : TightPairs) : Type 0 where

@@ -17,7 +17,8 @@ is_triangle kind = false
 
 -- the face is an additive triangle of the function
 abbrev pub IsAdditiveTriangle : FunctionData → Face → Type 0
-IsAdditiveTriangle f face = IsTrue (is_triangle face.kind) × IsAdditive (IsTight f) face.kind face.a face.b
+IsAdditiveTriangle f face = IsTrue (is_triangle face.kind)
+    × IsAdditive (IsTight f) face.kind face.a face.b
 
 -- the additive triangles of the function, in walk order
 abbrev pub AreAdditiveTriangles : FunctionData → List Face → Type 0

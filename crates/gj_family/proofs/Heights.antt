@@ -7,7 +7,8 @@ use Rattle.std.proofs.lemmas.List.Sums.{count_by_more_yes, count_by_more_no, cou
 use Rattle.gj_family.specs.Signs.{rises, falls, sum_of_steps, height}
 
 -- one more rise
-pub sum_rise : (up down : ℕ) (signs : List Bool) (i : ℕ) (d : Bool) → i < length signs → get_or signs i d ≡ true →
+pub sum_rise : (up down : ℕ) (signs : List Bool) (i : ℕ) (d : Bool) → i < length signs →
+    get_or signs i d ≡ true →
     sum_of_steps up down signs (i + 1) ≡ sum_of_steps up down signs i +ℤ pos up
 sum_rise up down signs i d h e =
     let more = count_by_more_yes (λ sign. sign) signs i d h e in
@@ -17,7 +18,8 @@ sum_rise up down signs i d h e =
     omega (arith, ints)
 
 -- one more fall
-pub sum_fall : (up down : ℕ) (signs : List Bool) (i : ℕ) (d : Bool) → i < length signs → get_or signs i d ≡ false →
+pub sum_fall : (up down : ℕ) (signs : List Bool) (i : ℕ) (d : Bool) → i < length signs →
+    get_or signs i d ≡ false →
     sum_of_steps up down signs (i + 1) ≡ sum_of_steps up down signs i +ℤ neg_ℤ (pos down)
 sum_fall up down signs i d h e =
     let same = count_by_more_no (λ sign. sign) signs i d h e in
@@ -34,7 +36,8 @@ product_small m n hm hn =
     omega arith
 
 -- a sum of steps is at most a million in absolute value
-pub sum_small : (up down : ℕ) (signs : List Bool) (i : ℕ) → up ≤ 1000 → down ≤ 1000 → length signs ≤ 1000 →
+pub sum_small : (up down : ℕ) (signs : List Bool) (i : ℕ) → up ≤ 1000 → down ≤ 1000 →
+    length signs ≤ 1000 →
     unsigned_abs (sum_of_steps up down signs i) ≤ 1000000
 sum_small up down signs i hu hd few =
     let r = count_by-le-length (λ sign. sign) signs in
@@ -52,9 +55,11 @@ height_start signs = omega (arith, ints)
 pub height_end : (signs : List Bool) (i : ℕ) → length signs ≤ i → height signs i ≡ pos 0
 height_end signs i h =
     let same = mul_comm (rises signs) (falls signs) in
-    ap (λ before. pos (rises before * falls signs) -ℤ pos (falls before * rises signs)) (take_all i signs h)
+    ap (λ before. pos (rises before * falls signs) -ℤ pos (falls before * rises signs))
+    (take_all i signs h)
     ∙ omega (arith, ints)
 
 -- there are at most as many rises, and falls, as signs
 pub counts_small : (signs : List Bool) → (rises signs ≤ length signs) × (falls signs ≤ length signs)
-counts_small signs = (count_by-le-length (λ sign. sign) signs, count_by-le-length (λ sign. not sign) signs)
+counts_small signs =
+    (count_by-le-length (λ sign. sign) signs, count_by-le-length (λ sign. not sign) signs)

@@ -26,7 +26,8 @@ table_above n k i below high =
 -- at the place both sides meet
 table_at_place : (n k i : ℕ) → i < n → i ≡ k → gmic_table n k i ≡ k * (n - i)
 table_at_place n k i below e =
-    table_rising n k i below (omega arith) ∙ ap (λ r. (n - k) * r) e ∙ mul_comm (n - k) k ∙ ap (λ r. k * (n - r)) (sym e)
+    table_rising n k i below (omega arith) ∙ ap (λ r. (n - k) * r) e ∙ mul_comm (n - k) k
+    ∙ ap (λ r. k * (n - r)) (sym e)
 
 none_left : (c k : ℕ) → c * 0 ≡ k * 0
 none_left c k = omega arith
@@ -41,7 +42,8 @@ table_at_end n k i some e =
 pub table_falling : (n k i : ℕ) → k < n → k ≤ i → i ≤ n → gmic_table n k i ≡ k * (n - i)
 table_falling n k i place low high =
     ⊎_elim (table_at_end n k i (omega arith))
-    (λ below. ⊎_elim (λ e. table_at_place n k i below (sym e)) (table_above n k i below) (eq-or-lt_of_le low)) (eq-or-lt_of_le high)
+    (λ below. ⊎_elim (λ e. table_at_place n k i below (sym e)) (table_above n k i below)
+    (eq-or-lt_of_le low)) (eq-or-lt_of_le high)
 
 -- each entry is at most the scale
 pub table_high : (n k i : ℕ) → k < n → i < n → gmic_table n k i ≤ gmic_scale n k

@@ -29,4 +29,5 @@ pub record IsTwoSlope (k : ℕ) (signs : List Bool) (f : FunctionData) : Type 0 
   pub order : f.order ≡ length signs
   pub place : f.place ≡ k
   pub continuous : IsContinuous f
-  pub value_is : (i : ℕ) → i ≤ length signs → at f.value i *ℤ height signs k ≡ height signs i *ℤ pos f.scale
+  pub value_is : (i : ℕ) → i ≤ length signs →
+      at f.value i *ℤ height signs k ≡ height signs i *ℤ pos f.scale

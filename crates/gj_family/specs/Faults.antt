@@ -35,11 +35,14 @@ HaveSlopes k signs = (0 < rises signs) × (0 < falls signs) × (pos 0 <ℤ heigh
 abbrev pub HasTwoSlopeFault : ℕ → List Bool → FamilyFault → Type 0
 HasTwoSlopeFault k signs fault.TooManyPieces = greatest_order < length signs
 HasTwoSlopeFault k signs fault.BadSigns = length signs < 2
-HasTwoSlopeFault k signs fault.BadF = (2 ≤ length signs) × (length signs ≤ greatest_order) × (IsPlace (length signs) k → ⊥)
+HasTwoSlopeFault k signs fault.BadF = (2 ≤ length signs) × (length signs ≤ greatest_order)
+    × (IsPlace (length signs) k → ⊥)
 HasTwoSlopeFault k signs fault.NoSlopes =
-    (2 ≤ length signs) × (length signs ≤ greatest_order) × IsPlace (length signs) k × (HaveSlopes k signs → ⊥)
+    (2 ≤ length signs) × (length signs ≤ greatest_order) × IsPlace (length signs) k
+    × (HaveSlopes k signs → ⊥)
 HasTwoSlopeFault k signs (fault.Memory e) = Unit {0}
 
 -- there is none but want of memory
 abbrev pub HasNoTwoSlopeFault : ℕ → List Bool → Type 0
-HasNoTwoSlopeFault k signs = (2 ≤ length signs) × (length signs ≤ greatest_order) × IsPlace (length signs) k × HaveSlopes k signs
+HasNoTwoSlopeFault k signs = (2 ≤ length signs) × (length signs ≤ greatest_order)
+    × IsPlace (length signs) k × HaveSlopes k signs

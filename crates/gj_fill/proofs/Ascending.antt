@@ -25,36 +25,47 @@ IsPlacedAt p b = SameValue (fraction_of b.x) p.x
 -- c is behind b, and below 1
 abbrev IsBehind : Break → Break → Type 0
 IsBehind b c =
-    LessValue (fraction_of b.x) (fraction_of c.x) × LessValue (fraction_of c.x) (record { top = pos 1; bottom = pos 1 })
+    LessValue (fraction_of b.x) (fraction_of c.x)
+    × LessValue (fraction_of c.x) (record { top = pos 1; bottom = pos 1 })
 
 -- by numerators over one denominator
-less_over : (x y : Frac) (n m w : ℤ) → pos 0 <ℤ w → IsRatio x n w → IsRatio y m w → n <ℤ m → LessValue (fraction_of x) (fraction_of y)
+less_over : (x y : Frac) (n m w : ℤ) → pos 0 <ℤ w → IsRatio x n w → IsRatio y m w → n <ℤ m →
+    LessValue (fraction_of x) (fraction_of y)
 less_over x y n m w some first second less =
-    (ratio_less x.num x.den y.num y.den n m w x.lowest.positive y.lowest.positive some first second).1 less
+    (ratio_less x.num x.den y.num y.den n m w x.lowest.positive y.lowest.positive some first
+    second).1 less
 
 below_one : (x : Frac) (n w : ℤ) → pos 0 <ℤ w → IsRatio x n w → n <ℤ w →
     LessValue (fraction_of x) (record { top = pos 1; bottom = pos 1 })
 below_one x n w some first less =
-    (ratio_less x.num x.den (pos 1) (pos 1) n w w x.lowest.positive (omega (arith, ints)) some first (omega (arith, ints))).1 less
+    (ratio_less x.num x.den (pos 1) (pos 1) n w w x.lowest.positive (omega (arith, ints)) some first
+    (omega (arith, ints))).1 less
 
 -- a/q over a finer denominator
-finer : (x : Frac) (a q : ℕ) (w : ℤ) → IsRatio x (pos a) (pos q) → IsRatio x (pos a *ℤ w) (pos q *ℤ w)
+finer : (x : Frac) (a q : ℕ) (w : ℤ) → IsRatio x (pos a) (pos q) →
+    IsRatio x (pos a *ℤ w) (pos q *ℤ w)
 finer x a q w h =
     by_ring (x.num ∷ pos q ∷ w ∷ []) (search ring depth 20) refl ∙ ap (λ z. z *ℤ w) h
     ∙ by_ring (pos a ∷ x.den ∷ w ∷ []) (search ring depth 20) refl
 
 -- breakpoints that ascend from a/q on
 record Climbs (q a : ℕ) (breaks : List Break) : Type 0 where
-  pub first : (b : Break) (rest : List Break) → breaks ≡ b ∷ rest → IsRatio b.x (pos a) (pos q) × (a < q)
+  pub first : (b : Break) (rest : List Break) → breaks ≡ b ∷ rest →
+      IsRatio b.x (pos a) (pos q) × (a < q)
   pub chain : EachNext IsBehind breaks
 
 same_first : (b c : Break) (bs cs : List Break) → b ∷ bs ≡ c ∷ cs → b ≡ c
 same_first b c bs cs e = cc
 
-climb_one : (q a : ℕ) (b : Break) (breaks : List Break) → a < q → IsRatio b.x (pos a) (pos q) → Climbs q (a + 1) breaks →
+climb_one : (q a : ℕ) (b : Break) (breaks : List Break) → a < q → IsRatio b.x (pos a) (pos q) →
+    Climbs q (a + 1) breaks →
     Climbs q a (b ∷ breaks)
 climb_one q a b breaks low at h = record {
-  first = λ c rest e. (subst (λ (d : Break). IsRatio d.x (pos a) (pos q)) (same_first b c breaks rest e) at, low);
+  first = λ c rest e. (
+    subst (λ (d : Break). IsRatio d.x (pos a) (pos q))
+        (same_first b c breaks rest e) at,
+    low,
+  );
   chain = chained breaks h;
 }
   where
@@ -71,14 +82,21 @@ climb_one q a b breaks low at h = record {
         )
 
 -- with a crossing, part of w of the way to the next
-climb_two : (q a : ℕ) (part w : ℤ) (b c : Break) (breaks : List Break) → a < q → pos 0 <ℤ part → part <ℤ w →
-    IsRatio b.x (pos a) (pos q) → IsRatio c.x (pos a *ℤ w +ℤ part) (pos q *ℤ w) → Climbs q (a + 1) breaks →
+climb_two : (q a : ℕ) (part w : ℤ) (b c : Break) (breaks : List Break) → a < q → pos 0 <ℤ part →
+    part <ℤ w →
+    IsRatio b.x (pos a) (pos q) → IsRatio c.x (pos a *ℤ w +ℤ part) (pos q *ℤ w) →
+    Climbs q (a + 1) breaks →
     Climbs q a (b ∷ c ∷ breaks)
 climb_two q a part w b c breaks low some less at crossing h = record {
-  first = λ d rest e. (subst (λ (x : Break). IsRatio x.x (pos a) (pos q)) (same_first b d (c ∷ breaks) rest e) at, low);
+  first = λ d rest e. (
+    subst (λ (x : Break). IsRatio x.x (pos a) (pos q))
+        (same_first b d (c ∷ breaks) rest e) at,
+    low,
+  );
   chain = (
     (
-      less_over b.x c.x (pos a *ℤ w) (pos a *ℤ w +ℤ part) (pos q *ℤ w) wide (finer b.x a q w at) crossing (omega (arith, ints)),
+      less_over b.x c.x (pos a *ℤ w) (pos a *ℤ w +ℤ part) (pos q *ℤ w) wide
+          (finer b.x a q w at) crossing (omega (arith, ints)),
       below_one c.x (pos a *ℤ w +ℤ part) (pos q *ℤ w) wide crossing (before q low),
     ),
     chained breaks h,
@@ -96,7 +114,8 @@ climb_two q a part w b c breaks low some less at crossing h = record {
 
     before : (n : ℕ) → a < n → (pos a *ℤ w +ℤ part) <ℤ (pos n *ℤ w)
     before n l =
-        let up = mul_le_mul_right_z (pos (a + 1)) (pos n) w (omega (arith, ints, w_some)) (omega (arith, ints)) in
+        let up = mul_le_mul_right_z (pos (a + 1)) (pos n) w (omega (arith, ints, w_some))
+        (omega (arith, ints)) in
         omega (arith, ints, more)
 
     chained : (breaks : List Break) → Climbs q (a + 1) breaks → EachNext IsBehind (c ∷ breaks)
@@ -105,9 +124,11 @@ climb_two q a part w b c breaks low some less at crossing h = record {
         let next = k.first d rest refl in
         let plain : pos 0 <ℤ pos q = omega (arith, ints) in (
           (
-            less_over c.x d.x (pos a *ℤ w +ℤ part) (pos (a + 1) *ℤ w) (pos q *ℤ w) wide crossing (finer d.x (a + 1) q w next.0)
+            less_over c.x d.x (pos a *ℤ w +ℤ part) (pos (a + 1) *ℤ w) (pos q *ℤ w) wide crossing
+                (finer d.x (a + 1) q w next.0)
                 (before (a + 1) (omega arith)),
-            below_one d.x (pos (a + 1)) (pos q) plain next.0 (let l = next.1 in omega (arith, ints)),
+            below_one d.x (pos (a + 1)) (pos q) plain next.0 (let l = next.1 in
+                omega (arith, ints)),
           ),
           k.chain,
         )
@@ -116,11 +137,13 @@ climb_two q a part w b c breaks low some less at crossing h = record {
 
 -- the points behind a/order are at the first breakpoints of the list
 climbs : (f : FunctionData) (s t : ℤ) (a n : ℕ) (breaks : List Break) → a + n ≡ f.order →
-    AllZip IsPlacedAt (flat_map (points_from f s t) (range_with_len a n)) breaks → Climbs f.order a breaks
+    AllZip IsPlacedAt (flat_map (points_from f s t) (range_with_len a n)) breaks →
+    Climbs f.order a breaks
 climbs f s t a zero [] end h = record { first = λ b rest e. absurd (cc); chain = tt }
 climbs f s t a zero (b ∷ breaks) end h = absurd h
 climbs f s t a (suc n) breaks end h =
-    by_tests (λ more k. climbs f s t (a + 1) n more (omega arith) k) (int_lt (neg_ℤ t) (rise f a)) (int_lt (rise f a) s) refl refl breaks h
+    by_tests (λ more k. climbs f s t (a + 1) n more (omega arith) k) (int_lt (neg_ℤ t) (rise f a))
+    (int_lt (rise f a) s) refl refl breaks h
   where
     rest : List GraphPoint
     rest = flat_map (points_from f s t) (range_with_len (a + 1) n)
@@ -128,27 +151,34 @@ climbs f s t a (suc n) breaks end h =
     low : a < f.order
     low = omega arith
 
-    by_tests : ((more : List Break) → AllZip IsPlacedAt rest more → Climbs f.order (a + 1) more) → (x y : Bool) → int_lt (neg_ℤ t) (rise f a) ≡ x → int_lt (rise f a) s ≡ y → (breaks : List Break) →
-        AllZip IsPlacedAt (cond (x && y) (value_point f a ∷ crossing_point f s t a ∷ []) (value_point f a ∷ []) ++ rest) breaks →
+    by_tests : ((more : List Break) → AllZip IsPlacedAt rest more → Climbs f.order (a + 1) more) →
+        (x y : Bool) → int_lt (neg_ℤ t) (rise f a) ≡ x → int_lt (rise f a) s ≡ y →
+        (breaks : List Break) →
+        AllZip IsPlacedAt (cond (x && y) (value_point f a ∷ crossing_point f s t a ∷ [])
+        (value_point f a ∷ []) ++ rest) breaks →
         Climbs f.order a breaks
     by_tests later true true e g [] k = absurd k
     by_tests later true true e g (b ∷ []) k = absurd (k.1)
     by_tests later true true e g (b ∷ c ∷ more) k =
-        climb_two f.order a (rise f a +ℤ t) (s +ℤ t) b c more low (omega (arith, ints)) (omega (arith, ints)) k.0 k.1.0 (later more k.1.1)
+        climb_two f.order a (rise f a +ℤ t) (s +ℤ t) b c more low (omega (arith, ints))
+        (omega (arith, ints)) k.0 k.1.0 (later more k.1.1)
     by_tests later true false e g [] k = absurd k
     by_tests later true false e g (b ∷ more) k = climb_one f.order a b more low k.0 (later more k.1)
     by_tests later false y e g [] k = absurd k
     by_tests later false y e g (b ∷ more) k = climb_one f.order a b more low k.0 (later more k.1)
 
-fill_breaks_ascend : (f : FunctionData) (s t : ℤ) (n : ℕ) (breaks : List Break) → 0 < f.order → n ≡ f.order →
-    AllZip IsPlacedAt (flat_map (points_from f s t) (range_with_len 0 n)) breaks → AreAscending breaks
+fill_breaks_ascend : (f : FunctionData) (s t : ℤ) (n : ℕ) (breaks : List Break) → 0 < f.order →
+    n ≡ f.order →
+    AllZip IsPlacedAt (flat_map (points_from f s t) (range_with_len 0 n)) breaks →
+    AreAscending breaks
 fill_breaks_ascend f s t n breaks some end are front b back place =
     let all = climbs f s t 0 n breaks (omega arith) are in
     record {
       first = λ none.
           let here : breaks ≡ b ∷ back = place ∙ ap (λ ps. ps ++ b ∷ back) none in
           let ratio : b.x.num *ℤ pos f.order ≡ pos 0 *ℤ b.x.den = (all.first b back here).0 in
-          zero_factor_z f.order b.x.num some (mul_comm_z (pos f.order) b.x.num ∙ ratio ∙ omega (arith, ints));
+          zero_factor_z f.order b.x.num some (mul_comm_z (pos f.order) b.x.num ∙ ratio
+          ∙ omega (arith, ints));
       further = λ before c split.
           let whole : breaks ≡ before ++ c ∷ b ∷ back =
           place ∙ ap (λ ps. ps ++ b ∷ back) split ∙ append_assoc before (c ∷ []) (b ∷ back) in
@@ -165,4 +195,5 @@ placed (p ∷ points) (pair ∷ pairs) h = (h.0.x, placed points pairs h.1)
 pub fill_points_ascend : (f : FunctionData) (s t : ℤ) (pairs : List (Frac × Frac)) → 0 < f.order →
     AllZip IsPairOf (fill_points f s t) pairs → AreAscending (map even_break pairs)
 fill_points_ascend f s t pairs some h =
-    fill_breaks_ascend f s t f.order (map even_break pairs) some refl (placed (fill_points f s t) pairs h)
+    fill_breaks_ascend f s t f.order (map even_break pairs) some refl
+    (placed (fill_points f s t) pairs h)

@@ -17,7 +17,8 @@ pub record AreExtremes (values : List ℤ) (n : ℕ) (most least : ℤ) : Type 0
   pub most_small : unsigned_abs most < 2 ^ 52
   pub least_small : unsigned_abs least < 2 ^ 52
 
-pub extremes_begun : (values : List ℤ) (x : ℤ) → x ≡ at values (0 + 1) -ℤ at values 0 → unsigned_abs x < 2 ^ 52 → AreExtremes values 1 x x
+pub extremes_begun : (values : List ℤ) (x : ℤ) → x ≡ at values (0 + 1) -ℤ at values 0 →
+    unsigned_abs x < 2 ^ 52 → AreExtremes values 1 x x
 extremes_begun values x is small = record {
   high = λ a low. first a low (λ y. y ≤ℤ x) (omega (arith, ints));
   low = λ a low. first a low (λ y. x ≤ℤ y) (omega (arith, ints));
@@ -27,11 +28,13 @@ extremes_begun values x is small = record {
   least_small = small;
 }
   where
-    first : (a : ℕ) → a < 1 → (P : ℤ → Type 0) → P (at values (0 + 1) -ℤ at values 0) → P (at values (a + 1) -ℤ at values a)
+    first : (a : ℕ) → a < 1 → (P : ℤ → Type 0) → P (at values (0 + 1) -ℤ at values 0) →
+        P (at values (a + 1) -ℤ at values a)
     first a low P h =
         subst (λ (i : ℕ). P (at values (i + 1) -ℤ at values i)) (let e : 0 ≡ a = omega arith in e) h
 
-greater : (x y : ℤ) → (x ≤ℤ int_max x y) × (y ≤ℤ int_max x y) × ((int_max x y ≡ x) ⊎ (int_max x y ≡ y))
+greater : (x y : ℤ) → (x ≤ℤ int_max x y) × (y ≤ℤ int_max x y)
+    × ((int_max x y ≡ x) ⊎ (int_max x y ≡ y))
 greater x y =
     let e = int_max_is x y in (
       omega (arith, ints),
@@ -39,7 +42,8 @@ greater x y =
       by_lt_z x y (λ less. inr (omega (arith, ints))) (λ more. inl (omega (arith, ints))),
     )
 
-lesser : (x y : ℤ) → (int_min x y ≤ℤ x) × (int_min x y ≤ℤ y) × ((int_min x y ≡ x) ⊎ (int_min x y ≡ y))
+lesser : (x y : ℤ) → (int_min x y ≤ℤ x) × (int_min x y ≤ℤ y)
+    × ((int_min x y ≡ x) ⊎ (int_min x y ≡ y))
 lesser x y =
     let e = int_min_is x y in (
       omega (arith, ints),
@@ -47,8 +51,10 @@ lesser x y =
       by_lt_z x y (λ less. inl (omega (arith, ints))) (λ more. inr (omega (arith, ints))),
     )
 
-pub extremes_more : (values : List ℤ) (n : ℕ) (most least x u w : ℤ) → AreExtremes values n most least →
-    x ≡ at values (n + 1) -ℤ at values n → unsigned_abs x < 2 ^ 52 → u ≡ int_max most x → w ≡ int_min least x →
+pub extremes_more : (values : List ℤ) (n : ℕ) (most least x u w : ℤ) →
+    AreExtremes values n most least →
+    x ≡ at values (n + 1) -ℤ at values n → unsigned_abs x < 2 ^ 52 → u ≡ int_max most x →
+    w ≡ int_min least x →
     AreExtremes values (n + 1) u w
 extremes_more values n most least x u w h is small u_is w_is =
     let up = greater most x in
@@ -60,8 +66,16 @@ extremes_more values n most least x u w h is small u_is w_is =
           (λ a low. let before = h.high a low in omega (arith, ints)) (omega (arith, ints));
       low = below_more (λ a. w ≤ℤ (at values (a + 1) -ℤ at values a)) n
           (λ a low. let before = h.low a low in omega (arith, ints)) (omega (arith, ints));
-      highest = elim (up.2) [ inl e ↦ (h.highest.0, h.highest.1 ∙ sym e ∙ sym u_is) | inr e ↦ (n, sym is ∙ sym e ∙ sym u_is) ];
-      lowest = elim (down.2) [ inl e ↦ (h.lowest.0, h.lowest.1 ∙ sym e ∙ sym w_is) | inr e ↦ (n, sym is ∙ sym e ∙ sym w_is) ];
+      highest = elim (up.2) [
+        | inl e ↦ (h.highest.0, h.highest.1 ∙ sym e ∙ sym u_is)
+        | inr e ↦
+            (n, sym is ∙ sym e ∙ sym u_is)
+      ];
+      lowest = elim (down.2) [
+        | inl e ↦ (h.lowest.0, h.lowest.1 ∙ sym e ∙ sym w_is)
+        | inr e ↦
+            (n, sym is ∙ sym e ∙ sym w_is)
+      ];
       most_small = elim (up.2) [ inl e ↦ omega (arith, ints) | inr e ↦ omega (arith, ints) ];
       least_small = elim (down.2) [ inl e ↦ omega (arith, ints) | inr e ↦ omega (arith, ints) ];
     }
@@ -73,7 +87,8 @@ rise_wrapped values n a len some =
     ap₂ (λ x y. x -ℤ y) (at_same values (a + 1) (a % n + 1) n len (sym (mod-add-mod a n 1)))
     (at_same values a (a % n) n len (sym (mod-mod a n)))
 
-pub greatest_are : (values : List ℤ) (n : ℕ) (most least s t : ℤ) → length values ≡ n → 0 < n → AreExtremes values n most least →
+pub greatest_are : (values : List ℤ) (n : ℕ) (most least s t : ℤ) → length values ≡ n → 0 < n →
+    AreExtremes values n most least →
     s ≡ most → t ≡ pos 0 -ℤ least → AreGreatestSteps (at values) s t
 greatest_are values n most least s t len some h s_is t_is = record {
   rises = λ a.
@@ -91,7 +106,8 @@ greatest_are values n most least s t len some h s_is t_is = record {
 -- ---- two slopes
 
 -- of two slopes the greater is the greatest rise, and the lesser the greatest fall turned in sign
-slope_is_one : (x y s t r : ℤ) → (s ≡ x) ⊎ (s ≡ y) → (neg_ℤ t ≡ x) ⊎ (neg_ℤ t ≡ y) → s ≢ neg_ℤ t → (r ≡ x) ⊎ (r ≡ y) →
+slope_is_one : (x y s t r : ℤ) → (s ≡ x) ⊎ (s ≡ y) → (neg_ℤ t ≡ x) ⊎ (neg_ℤ t ≡ y) → s ≢ neg_ℤ t →
+    (r ≡ x) ⊎ (r ≡ y) →
     (r ≡ s) ⊎ (r ≡ neg_ℤ t)
 slope_is_one x y s t r (inl e) (inl g) apart h = absurd (apart (e ∙ sym g))
 slope_is_one x y s t r (inr e) (inr g) apart h = absurd (apart (e ∙ sym g))
@@ -100,21 +116,24 @@ slope_is_one x y s t r (inl e) (inr g) apart (inr h) = inr (h ∙ sym g)
 slope_is_one x y s t r (inr e) (inl g) apart (inl h) = inr (h ∙ sym g)
 slope_is_one x y s t r (inr e) (inl g) apart (inr h) = inl (h ∙ sym e)
 
-pub one_of_steps : (f : FunctionData) (s t : ℤ) (a : ℕ) → AreGreatestSteps (at f.value) s t → s ≢ neg_ℤ t → HasTwoSlopes f →
+pub one_of_steps : (f : FunctionData) (s t : ℤ) (a : ℕ) → AreGreatestSteps (at f.value) s t →
+    s ≢ neg_ℤ t → HasTwoSlopes f →
     (rise f a ≡ s) ⊎ (rise f a ≡ neg_ℤ t)
 one_of_steps f s t a h apart two =
     let x = rise f two.one in
     let y = rise f two.other in
     let low = h.fall.1 in
     let turned : rise f h.fall.0 ≡ neg_ℤ t = omega (arith, ints) in
-    slope_is_one x y s t (rise f a) (along (sym h.rise.1) (two.each h.rise.0)) (along (sym turned) (two.each h.fall.0)) apart (two.each a)
+    slope_is_one x y s t (rise f a) (along (sym h.rise.1) (two.each h.rise.0))
+    (along (sym turned) (two.each h.fall.0)) apart (two.each a)
   where
     along : {z r x y : ℤ} → z ≡ r → (r ≡ x) ⊎ (r ≡ y) → (z ≡ x) ⊎ (z ≡ y)
     along e (inl g) = inl (e ∙ g)
     along e (inr g) = inr (e ∙ g)
 
 -- with one slope no two differ
-pub not_one_slope : (f : FunctionData) (s t : ℤ) → AreGreatestSteps (at f.value) s t → s ≡ neg_ℤ t → HasTwoSlopes f → ⊥
+pub not_one_slope : (f : FunctionData) (s t : ℤ) → AreGreatestSteps (at f.value) s t → s ≡ neg_ℤ t →
+    HasTwoSlopes f → ⊥
 not_one_slope f s t h same two =
     let one_up = h.rises two.one in
     let one_down = h.falls two.one in
@@ -122,7 +141,8 @@ not_one_slope f s t h same two =
     let other_down = h.falls two.other in
     two.different (omega (arith, ints))
 
-pub are_two_slopes : (f : FunctionData) (s t : ℤ) → IsWithinBounds f → IsContinuous f → AreGreatestSteps (at f.value) s t → s ≢ neg_ℤ t →
+pub are_two_slopes : (f : FunctionData) (s t : ℤ) → IsWithinBounds f → IsContinuous f →
+    AreGreatestSteps (at f.value) s t → s ≢ neg_ℤ t →
     ((a : ℕ) → a < f.order → (rise f a ≡ s) ⊎ (rise f a ≡ neg_ℤ t)) → HasTwoSlopes f
 are_two_slopes f s t l continuous h apart each = record {
   continuous = continuous;

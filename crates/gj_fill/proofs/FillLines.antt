@@ -10,15 +10,18 @@ value_cross : (q n m a r : ℕ) (u s : ℤ) →
 value_cross q n m a r u s =
     by_ring (pos q ∷ pos n ∷ pos m ∷ pos a ∷ pos r ∷ u ∷ s ∷ []) (search ring depth 60) refl
 
-pub value_line : (q n m a r i : ℕ) (u s slope filled : ℤ) → i ≡ a * m + r → slope ≡ pos q *ℤ s → filled ≡ pos m *ℤ u +ℤ pos r *ℤ s →
+pub value_line : (q n m a r i : ℕ) (u s slope filled : ℤ) → i ≡ a * m + r → slope ≡ pos q *ℤ s →
+    filled ≡ pos m *ℤ u +ℤ pos r *ℤ s →
     IsOnLine (record { top = slope; bottom = pos n })
     (record { x = record { top = pos a; bottom = pos q }; y = record { top = u; bottom = pos n } })
     (record { top = pos i; bottom = pos (q * m) }) (record { top = filled; bottom = pos (n * m) })
 value_line q n m a r i u s slope filled place slope_is is =
     ap (λ z. (z *ℤ pos n -ℤ u *ℤ pos (n * m)) *ℤ (pos n *ℤ (pos (q * m) *ℤ pos q))) is
     ∙ value_cross q n m a r u s
-    ∙ ap (λ z. (z *ℤ (pos (a * m + r) *ℤ pos q -ℤ pos a *ℤ pos (q * m))) *ℤ (pos (n * m) *ℤ pos n)) (sym slope_is)
-    ∙ ap (λ k. (slope *ℤ (pos k *ℤ pos q -ℤ pos a *ℤ pos (q * m))) *ℤ (pos (n * m) *ℤ pos n)) (sym place)
+    ∙ ap (λ z. (z *ℤ (pos (a * m + r) *ℤ pos q -ℤ pos a *ℤ pos (q * m))) *ℤ (pos (n * m) *ℤ pos n))
+    (sym slope_is)
+    ∙ ap (λ k. (slope *ℤ (pos k *ℤ pos q -ℤ pos a *ℤ pos (q * m))) *ℤ (pos (n * m) *ℤ pos n))
+    (sym place)
 
 -- to the next value
 next_cross : (q n a : ℕ) (u s : ℤ) →
@@ -40,18 +43,23 @@ pub crossing_line : (q n a : ℕ) (u s t c : ℤ) →
     (record { x = record { top = pos a; bottom = pos q }; y = record { top = u; bottom = pos n } })
     (record { top = pos a *ℤ (s +ℤ t) +ℤ c; bottom = pos q *ℤ (s +ℤ t) })
     (record { top = u *ℤ (s +ℤ t) +ℤ s *ℤ c; bottom = pos n *ℤ (s +ℤ t) })
-crossing_line q n a u s t c = by_ring (pos q ∷ pos n ∷ pos a ∷ u ∷ s ∷ t ∷ c ∷ []) (search ring depth 80 fits 4000) refl
+crossing_line q n a u s t c = by_ring (pos q ∷ pos n ∷ pos a ∷ u ∷ s ∷ t ∷ c ∷ [])
+    (search ring depth 80 fits 4000) refl
 
 -- from the crossing
 behind_cross : (q n m a r : ℕ) (u s t c : ℤ) →
-    ((pos m *ℤ u +ℤ pos m *ℤ c -ℤ pos r *ℤ t) *ℤ (pos n *ℤ (s +ℤ t)) -ℤ (u *ℤ (s +ℤ t) +ℤ s *ℤ c) *ℤ pos (n * m))
+    ((pos m *ℤ u +ℤ pos m *ℤ c -ℤ pos r *ℤ t) *ℤ (pos n *ℤ (s +ℤ t)) -ℤ (u *ℤ (s +ℤ t) +ℤ s *ℤ c)
+    *ℤ pos (n * m))
     *ℤ (pos n *ℤ (pos (q * m) *ℤ (pos q *ℤ (s +ℤ t))))
-    ≡ (neg_ℤ (pos q *ℤ t) *ℤ (pos (a * m + r) *ℤ (pos q *ℤ (s +ℤ t)) -ℤ (pos a *ℤ (s +ℤ t) +ℤ c) *ℤ pos (q * m)))
+    ≡ (neg_ℤ (pos q *ℤ t)
+    *ℤ (pos (a * m + r) *ℤ (pos q *ℤ (s +ℤ t)) -ℤ (pos a *ℤ (s +ℤ t) +ℤ c) *ℤ pos (q * m)))
     *ℤ (pos (n * m) *ℤ (pos n *ℤ (s +ℤ t)))
 behind_cross q n m a r u s t c =
-    by_ring (pos q ∷ pos n ∷ pos m ∷ pos a ∷ pos r ∷ u ∷ s ∷ t ∷ c ∷ []) (search ring depth 100 fits 4000) refl
+    by_ring (pos q ∷ pos n ∷ pos m ∷ pos a ∷ pos r ∷ u ∷ s ∷ t ∷ c ∷ [])
+    (search ring depth 100 fits 4000) refl
 
-pub behind_line : (q n m a r i : ℕ) (u s t c filled : ℤ) → i ≡ a * m + r → filled ≡ pos m *ℤ u +ℤ pos m *ℤ c -ℤ pos r *ℤ t →
+pub behind_line : (q n m a r i : ℕ) (u s t c filled : ℤ) → i ≡ a * m + r →
+    filled ≡ pos m *ℤ u +ℤ pos m *ℤ c -ℤ pos r *ℤ t →
     IsOnLine (record { top = neg_ℤ (pos q *ℤ t); bottom = pos n })
     (record {
       x = record { top = pos a *ℤ (s +ℤ t) +ℤ c; bottom = pos q *ℤ (s +ℤ t) };
@@ -62,15 +70,19 @@ behind_line q n m a r i u s t c filled place is =
     ap (λ z. (z *ℤ (pos n *ℤ (s +ℤ t)) -ℤ (u *ℤ (s +ℤ t) +ℤ s *ℤ c) *ℤ pos (n * m))
     *ℤ (pos n *ℤ (pos (q * m) *ℤ (pos q *ℤ (s +ℤ t))))) is
     ∙ behind_cross q n m a r u s t c
-    ∙ ap (λ k. (neg_ℤ (pos q *ℤ t) *ℤ (pos k *ℤ (pos q *ℤ (s +ℤ t)) -ℤ (pos a *ℤ (s +ℤ t) +ℤ c) *ℤ pos (q * m)))
+    ∙ ap (λ k. (neg_ℤ (pos q *ℤ t)
+    *ℤ (pos k *ℤ (pos q *ℤ (s +ℤ t)) -ℤ (pos a *ℤ (s +ℤ t) +ℤ c) *ℤ pos (q * m)))
     *ℤ (pos (n * m) *ℤ (pos n *ℤ (s +ℤ t)))) (sym place)
 
 -- from the crossing to the next value
 last_cross : (q n a : ℕ) (u s t c : ℤ) →
-    ((u +ℤ c -ℤ t) *ℤ (pos n *ℤ (s +ℤ t)) -ℤ (u *ℤ (s +ℤ t) +ℤ s *ℤ c) *ℤ pos n) *ℤ (pos n *ℤ (pos q *ℤ (pos q *ℤ (s +ℤ t))))
-    ≡ (neg_ℤ (pos q *ℤ t) *ℤ (pos (a + 1) *ℤ (pos q *ℤ (s +ℤ t)) -ℤ (pos a *ℤ (s +ℤ t) +ℤ c) *ℤ pos q))
+    ((u +ℤ c -ℤ t) *ℤ (pos n *ℤ (s +ℤ t)) -ℤ (u *ℤ (s +ℤ t) +ℤ s *ℤ c) *ℤ pos n)
+    *ℤ (pos n *ℤ (pos q *ℤ (pos q *ℤ (s +ℤ t))))
+    ≡ (neg_ℤ (pos q *ℤ t)
+    *ℤ (pos (a + 1) *ℤ (pos q *ℤ (s +ℤ t)) -ℤ (pos a *ℤ (s +ℤ t) +ℤ c) *ℤ pos q))
     *ℤ (pos n *ℤ (pos n *ℤ (s +ℤ t)))
-last_cross q n a u s t c = by_ring (pos q ∷ pos n ∷ pos a ∷ u ∷ s ∷ t ∷ c ∷ []) (search ring depth 100 fits 4000) refl
+last_cross q n a u s t c = by_ring (pos q ∷ pos n ∷ pos a ∷ u ∷ s ∷ t ∷ c ∷ [])
+    (search ring depth 100 fits 4000) refl
 
 pub last_line : (q n a : ℕ) (u w s t c : ℤ) → w ≡ u +ℤ c -ℤ t →
     IsOnLine (record { top = neg_ℤ (pos q *ℤ t); bottom = pos n })
@@ -80,5 +92,6 @@ pub last_line : (q n a : ℕ) (u w s t c : ℤ) → w ≡ u +ℤ c -ℤ t →
     })
     (record { top = pos (a + 1); bottom = pos q }) (record { top = w; bottom = pos n })
 last_line q n a u w s t c is =
-    ap (λ z. (z *ℤ (pos n *ℤ (s +ℤ t)) -ℤ (u *ℤ (s +ℤ t) +ℤ s *ℤ c) *ℤ pos n) *ℤ (pos n *ℤ (pos q *ℤ (pos q *ℤ (s +ℤ t))))) is
+    ap (λ z. (z *ℤ (pos n *ℤ (s +ℤ t)) -ℤ (u *ℤ (s +ℤ t) +ℤ s *ℤ c) *ℤ pos n)
+    *ℤ (pos n *ℤ (pos q *ℤ (pos q *ℤ (s +ℤ t))))) is
     ∙ last_cross q n a u s t c

@@ -19,7 +19,8 @@ turned f i j h =
     omega (arith, ints)
 
 -- nor has one with a lesser second place
-none_before : (f : FunctionData) (a i j : ℕ) → NonePairs f a → i < a → a ≤ f.order → j < f.order → IsSuperadditivePair f i j → ⊥
+none_before : (f : FunctionData) (a i j : ℕ) → NonePairs f a → i < a → a ≤ f.order → j < f.order →
+    IsSuperadditivePair f i j → ⊥
 none_before f a i j none i_low within j_low h = elim (cases_lt j i) [
   | inl less ↦ none j i (omega arith) (omega arith) (omega arith) (turned f i j h)
   | inr more ↦ none i j i_low more j_low h
@@ -53,7 +54,8 @@ none_more f a none here i j i_low up j_low h = elim (cases_lt i a) [
       here j (omega arith) j_low (subst (λ (k : ℕ). IsSuperadditivePair f k j) same h)
 ]
 
-pub subadditive_from_none : (f : FunctionData) (n : ℕ) → IsWithinBounds f → f.order ≤ n → n ≤ f.order → NonePairs f n →
+pub subadditive_from_none : (f : FunctionData) (n : ℕ) → IsWithinBounds f → f.order ≤ n →
+    n ≤ f.order → NonePairs f n →
     IsSubadditiveTable (at f.value)
 subadditive_from_none f n l high low none i j =
     let q = f.order in
@@ -63,7 +65,8 @@ subadditive_from_none f n l high low none i j =
     let second = value j (j % q) (sym (mod-mod j q)) in
     let sum = value (i + j) (i % q + j % q) (add-mod i j q) in
     by_lt_z (at f.value (i % q) +ℤ at f.value (j % q)) (at f.value (i % q + j % q))
-    (λ above. absurd (none_before f n (i % q) (j % q) none (let h = mod-lt i some in omega arith) low (mod-lt j some) above))
+    (λ above. absurd (none_before f n (i % q) (j % q) none (let h = mod-lt i some in
+    omega arith) low (mod-lt j some) above))
     (λ fine. omega (arith, ints))
 
 -- ---- a row, read up to one place more
@@ -75,13 +78,17 @@ false_is_not_true : IsTrue false → ⊥
 false_is_not_true h = search rules
 
 pub one_more : (values : List ℤ) (a start b : ℕ) (before after : Bool) →
-    (IsTrue before → (i : ℕ) → start ≤ i → i < b → (at values a +ℤ at values i) <ℤ at values (a + i) → ⊥) →
+    (IsTrue before → (i : ℕ) → start ≤ i → i < b →
+    (at values a +ℤ at values i) <ℤ at values (a + i) → ⊥) →
     (after ≡ false) ⊎ ((after ≡ before) × ((at values a +ℤ at values b) <ℤ at values (a + b) → ⊥)) →
-    IsTrue after → (i : ℕ) → start ≤ i → i < b + 1 → (at values a +ℤ at values i) <ℤ at values (a + i) → ⊥
-one_more values a start b before after passed (inl none) passes i low high less = false_is_not_true (subst IsTrue none passes)
-one_more values a start b before after passed (inr step) passes i low high less = elim (cases_lt i b) [
-  | inl earlier ↦ passed (subst IsTrue step.0 passes) i low earlier less
-  | inr last ↦
-      let same : i ≡ b = omega arith in
-      step.1 (subst (IsLess values a) same less)
-]
+    IsTrue after → (i : ℕ) → start ≤ i → i < b + 1 →
+    (at values a +ℤ at values i) <ℤ at values (a + i) → ⊥
+one_more values a start b before after passed (inl none) passes i low high less =
+    false_is_not_true (subst IsTrue none passes)
+one_more values a start b before after passed (inr step) passes i low high less =
+    elim (cases_lt i b) [
+      | inl earlier ↦ passed (subst IsTrue step.0 passes) i low earlier less
+      | inr last ↦
+          let same : i ≡ b = omega arith in
+          step.1 (subst (IsLess values a) same less)
+    ]

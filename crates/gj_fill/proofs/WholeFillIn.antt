@@ -6,7 +6,8 @@ use Rattle.gj_fill.specs.FillPoints.{IsFillIn}
 use Rattle.gj_fill.proofs.FillIns.{at_place, filled_subadditive}
 use Rattle.gj_fill.proofs.FillPoints.{affine_between}
 
-pub fill_in_of : (f : FunctionData) (s t : ℤ) → 0 < f.order → IsSubadditiveTable (at f.value) → AreGreatestSteps (at f.value) s t →
+pub fill_in_of : (f : FunctionData) (s t : ℤ) → 0 < f.order → IsSubadditiveTable (at f.value) →
+    AreGreatestSteps (at f.value) s t →
     IsFillIn f s t
 fill_in_of f s t some table h = record {
   value = λ m a positive. at_place (at f.value) s t m a h positive;

@@ -17,7 +17,8 @@ pub record AreGreatestSteps (v : ℕ → ℤ) (s t : ℤ) : Type 0 where
 
 -- r of m parts of the way from the place a to the next, over m times the scale
 abbrev pub filled_between : (ℕ → ℤ) → ℤ → ℤ → ℕ → ℕ → ℕ → ℤ
-filled_between v s t m a r = int_min (pos m *ℤ v a +ℤ pos r *ℤ s) (pos m *ℤ v (a + 1) +ℤ pos (m - r) *ℤ t)
+filled_between v s t m a r =
+    int_min (pos m *ℤ v a +ℤ pos r *ℤ s) (pos m *ℤ v (a + 1) +ℤ pos (m - r) *ℤ t)
 
 -- the fill-in on the grid with m parts from each place to the next
 unfoldable pub filled : (ℕ → ℤ) → ℤ → ℤ → ℕ → ℕ → ℤ

@@ -25,7 +25,11 @@ value_point f a = record {
 abbrev pub crossing_point : FunctionData → ℤ → ℤ → ℕ → GraphPoint
 crossing_point f s t a = record {
   x = record { top = pos a *ℤ (s +ℤ t) +ℤ (rise f a +ℤ t); bottom = pos f.order *ℤ (s +ℤ t) };
-  y = record { top = at f.value a *ℤ (s +ℤ t) +ℤ s *ℤ (rise f a +ℤ t); bottom = pos f.scale *ℤ (s +ℤ t) };
+  y = record {
+    top = at f.value a *ℤ (s +ℤ t) +ℤ s *ℤ (rise f a +ℤ t);
+    bottom =
+        pos f.scale *ℤ (s +ℤ t);
+  };
 }
 
 -- the points from a/order up to the next: if the function goes by neither slope there, the crossing
@@ -48,9 +52,11 @@ IsOnLine slope p x y = SameValue (difference_of y p.y) (product_of slope (differ
 
 -- from p to q the fill-in goes along the line of this slope: on it lie q and, at each i/(order m)
 -- between the two, the filled value
-pub record GoesAlong (f : FunctionData) (s t : ℤ) (slope : Fraction) (p q : GraphPoint) : Type 0 where
+pub record GoesAlong (f : FunctionData) (s t : ℤ) (slope : Fraction) (p q : GraphPoint) :
+    Type 0 where
   pub end : IsOnLine slope p q.x q.y
-  pub between : (m i : ℕ) → 0 < m → AtMostValue p.x (record { top = pos i; bottom = pos (f.order * m) }) →
+  pub between : (m i : ℕ) → 0 < m →
+      AtMostValue p.x (record { top = pos i; bottom = pos (f.order * m) }) →
       AtMostValue (record { top = pos i; bottom = pos (f.order * m) }) q.x →
       IsOnLine slope p (record { top = pos i; bottom = pos (f.order * m) })
       (record { top = filled (at f.value) s t m i; bottom = pos (f.scale * m) })
@@ -68,7 +74,8 @@ pub record IsFillIn (f : FunctionData) (s t : ℤ) : Type 0 where
   pub value : (m a : ℕ) → 0 < m → filled (at f.value) s t m (a * m) ≡ pos m *ℤ at f.value a
   pub subadditive : (m : ℕ) → 0 < m → IsSubadditiveTable (filled (at f.value) s t m)
   pub affine : (front : List GraphPoint) (p q : GraphPoint) (back : List GraphPoint) →
-      fill_points f s t ++ value_point f f.order ∷ [] ≡ front ++ p ∷ q ∷ back → HasFillSlope f s t p q
+      fill_points f s t ++ value_point f f.order ∷ [] ≡ front ++ p ∷ q ∷ back →
+      HasFillSlope f s t p q
 
 -- ---- the points as pairs of fractions
 

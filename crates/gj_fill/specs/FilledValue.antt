@@ -13,8 +13,10 @@ pub record IsFilledValue (f : FunctionData) (x y : Frac) : Type 0 where
   pub rise : ℤ
   pub fall : ℤ
   pub greatest : AreGreatestSteps (at f.value) rise fall
-  pub value : (i : ℕ) → IsCongruent (pos i) (numerator x *ℤ pos f.order) (f.order * unsigned_abs (denominator x)) →
-      IsRatio y (filled (at f.value) rise fall (unsigned_abs (denominator x)) i) (pos (f.scale * unsigned_abs (denominator x)))
+  pub value : (i : ℕ) →
+      IsCongruent (pos i) (numerator x *ℤ pos f.order) (f.order * unsigned_abs (denominator x)) →
+      IsRatio y (filled (at f.value) rise fall (unsigned_abs (denominator x)) i)
+      (pos (f.scale * unsigned_abs (denominator x)))
 
 -- x lies at this place modulo 1, for the order q
 pub record IsPlaceOf (q : ℕ) (x : Frac) (p : Place) : Type 0 where
@@ -24,4 +26,5 @@ pub record IsPlaceOf (q : ℕ) (x : Frac) (p : Place) : Type 0 where
   pub parts_are : p.parts ≡ pos (unsigned_abs (denominator x))
   pub before_next : part < unsigned_abs (denominator x)
   pub index_below : p.index < q
-  pub place : IsCongruent (numerator x *ℤ pos q) (pos (p.index * unsigned_abs (denominator x) + part)) (q * unsigned_abs (denominator x))
+  pub place : IsCongruent (numerator x *ℤ pos q)
+      (pos (p.index * unsigned_abs (denominator x) + part)) (q * unsigned_abs (denominator x))

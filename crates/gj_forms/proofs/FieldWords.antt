@@ -54,7 +54,9 @@ word_is_plain (whole n) h = whole_is_plain n h
 pub words_are_plain : (fs : List Field) → AreGood fs → All IsPlain (words_of fs)
 words_are_plain [] h = absurd h
 words_are_plain (f ∷ []) h = All-cons IsPlain (word_of f) [] (word_is_plain f h) (All-nil IsPlain)
-words_are_plain (f ∷ g ∷ fs) h = All-cons IsPlain (word_of f) (words_of (g ∷ fs)) (word_is_plain f h.0) (words_are_plain (g ∷ fs) h.1)
+words_are_plain (f ∷ g ∷ fs) h =
+    All-cons IsPlain (word_of f) (words_of (g ∷ fs)) (word_is_plain f h.0)
+    (words_are_plain (g ∷ fs) h.1)
 
 -- ---- and tell the fields
 
@@ -62,14 +64,17 @@ words_are_plain (f ∷ g ∷ fs) h = All-cons IsPlain (word_of f) (words_of (g �
 pub head_and_tail : {A : Type 0} (a b : A) (xs ys : List A) → a ∷ xs ≡ b ∷ ys → (a ≡ b) × (xs ≡ ys)
 head_and_tail a b xs ys e = (cc, cc)
 
-same_field : (f g : Field) (P : Type 0) → IfAlike f g P → IsGood f → IsGood g → word_of f ≡ word_of g → (f ≡ g) × P
+same_field : (f g : Field) (P : Type 0) → IfAlike f g P → IsGood f → IsGood g →
+    word_of f ≡ word_of g → (f ≡ g) × P
 same_field (word v) (word w) P k h i e = (ap word e, k)
 same_field (fraction x) (fraction y) P k h i e = (ap fraction (same_from_fraction_text x y e), k)
-same_field (count m) (count n) P k h i e = (ap count (same_from_decimal m n (omega (arith, h)) (omega (arith, i)) e), k)
+same_field (count m) (count n) P k h i e =
+    (ap count (same_from_decimal m n (omega (arith, h)) (omega (arith, i)) e), k)
 same_field (whole m) (whole n) P k h i e = (ap whole (same_from_whole m n h i e), k)
 same_field f g P k h i e = absurd k
 
-pub same_fields : (fs gs : List Field) → AreAlike fs gs → AreGood fs → AreGood gs → words_of fs ≡ words_of gs → fs ≡ gs
+pub same_fields : (fs gs : List Field) → AreAlike fs gs → AreGood fs → AreGood gs →
+    words_of fs ≡ words_of gs → fs ≡ gs
 same_fields [] gs k h i e = absurd h
 same_fields fs [] k h i e = absurd i
 same_fields (f ∷ []) (g ∷ []) k h i e =

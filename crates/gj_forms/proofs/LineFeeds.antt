@@ -16,8 +16,10 @@ no_feeds (b ∷ bs) h =
     let other : (b == 10) ≡ false = ne_eqb b 10 (All-head (λ c. c ≢ 10) b bs h) in
     rw other (no_feeds bs (All-tail (λ c. c ≢ 10) b bs h))
 
-pub one_feed : {A : Type 0} (form : LineForm A) → IsClear form → (a : A) → form.HasLine a → line_feeds (line_of form a) ≡ 1
+pub one_feed : {A : Type 0} (form : LineForm A) → IsClear form → (a : A) → form.HasLine a →
+    line_feeds (line_of form a) ≡ 1
 one_feed form clear a has =
     let line = join_with_byte 32 (words_of (form.fields a)) in
     let none = no_feeds line (strict_no_feed _ _ [] (strict_line form clear a [] has)) in
-    ap line_feeds (joined_words (form.fields a)) ∙ line_feeds_append line (10 ∷ []) ∙ ap (λ n. n + 1) none
+    ap line_feeds (joined_words (form.fields a)) ∙ line_feeds_append line (10 ∷ [])
+    ∙ ap (λ n. n + 1) none

@@ -20,7 +20,8 @@ no_words line h =
     (λ b. not_false (is_blank b)) line (no_place is_word_byte line h))
 
 -- the bytes up to the first blank
-whole_word : (rest : List ℕ) → All (λ b. is_blank b ≡ false) (take (position_or_len is_blank rest) rest)
+whole_word : (rest : List ℕ) →
+    All (λ b. is_blank b ≡ false) (take (position_or_len is_blank rest) rest)
 whole_word rest =
     let end = position_or_len is_blank rest in
     All-from_get_or (λ b. is_blank b ≡ false) (take end rest) 0
@@ -37,7 +38,8 @@ word_ended rest h =
     ∙ passes_at_first is_blank rest 0 (omega (arith, length-drop end rest))
 
 -- it is not empty if it begins with no blank
-word_some : (b : ℕ) (bs : List ℕ) → is_blank b ≡ false → 0 < length (take (position_or_len is_blank (b ∷ bs)) (b ∷ bs))
+word_some : (b : ℕ) (bs : List ℕ) → is_blank b ≡ false →
+    0 < length (take (position_or_len is_blank (b ∷ bs)) (b ∷ bs))
 word_some b bs h =
     let at : position_or_len is_blank (b ∷ bs) ≡ 1 + position_or_len is_blank bs = rw h refl in
     omega (arith, length-take (position_or_len is_blank (b ∷ bs)) (b ∷ bs))
@@ -54,7 +56,8 @@ word_at_front b bs rest end h is at =
     (whole_word (b ∷ bs)) (word_ended (b ∷ bs)))
 
 -- the first word of a line, and the words behind it
-pub first_word : (line rest : List ℕ) (k end : ℕ) → position is_word_byte line ≡ Some k → rest ≡ drop k line →
+pub first_word : (line rest : List ℕ) (k end : ℕ) → position is_word_byte line ≡ Some k →
+    rest ≡ drop k line →
     end ≡ position_or_len is_blank rest →
     word_texts line ≡ take end rest ∷ word_texts (drop end rest)
 first_word line rest k end h is at =
@@ -64,17 +67,21 @@ first_word line rest k end h is at =
     ∙ skip_blanks (take k line) rest
     (All-weaker (λ b. is_word_byte b ≡ false) (λ b. is_blank b ≡ true) (λ b. not_false (is_blank b))
     (take k line) place.3)
-    ∙ word_at_front (get_or line k 0) (drop (k + 1) line) rest end (not_true (is_blank (get_or line k 0)) place.2)
+    ∙ word_at_front (get_or line k 0) (drop (k + 1) line) rest end
+    (not_true (is_blank (get_or line k 0)) place.2)
     same at
 
 -- and the line is the blanks before it, the word, and what stands behind it
-pub word_parts : (line rest : List ℕ) (k end : ℕ) → position is_word_byte line ≡ Some k → rest ≡ drop k line →
+pub word_parts : (line rest : List ℕ) (k end : ℕ) → position is_word_byte line ≡ Some k →
+    rest ≡ drop k line →
     HasAtFront line (take end rest) (drop end rest)
 word_parts line rest k end h is =
     let place = first_place is_word_byte line k h in (
       take k line,
-      All-weaker (λ b. is_word_byte b ≡ false) (λ b. is_blank b ≡ true) (λ b. not_false (is_blank b)) (take k line) place.3,
-      sym (take-append-drop k line) ∙ ap (λ t. take k line ++ t) (sym is ∙ sym (take-append-drop end rest)),
+      All-weaker (λ b. is_word_byte b ≡ false) (λ b. is_blank b ≡ true)
+          (λ b. not_false (is_blank b)) (take k line) place.3,
+      sym (take-append-drop k line)
+          ∙ ap (λ t. take k line ++ t) (sym is ∙ sym (take-append-drop end rest)),
     )
 
 -- the first byte that is no blank is the first of the first word
@@ -86,12 +93,14 @@ first_word_begins line k h =
     let bs = drop (k + 1) line in
     let rest : drop k line ≡ b ∷ bs = drop_more line k 0 place.0 in
     let blank = not_true (is_blank b) place.2 in
-    let end : position_or_len is_blank (b ∷ bs) ≡ suc (position_or_len is_blank bs) = rw blank (omega arith) in
+    let end : position_or_len is_blank (b ∷ bs) ≡ suc (position_or_len is_blank bs) =
+    rw blank (omega arith) in
     let at = ap (position_or_len is_blank) rest ∙ end in (
       take (position_or_len is_blank bs) bs,
       word_texts (drop (suc (position_or_len is_blank bs)) (drop k line)),
       first_word line (drop k line) k (suc (position_or_len is_blank bs)) h refl (sym at)
-          ∙ ap (λ t. take (suc (position_or_len is_blank bs)) t ∷ word_texts (drop (suc (position_or_len is_blank bs)) (drop k line))) rest,
+          ∙ ap (λ t. take (suc (position_or_len is_blank bs)) t ∷ word_texts
+          (drop (suc (position_or_len is_blank bs)) (drop k line))) rest,
     )
 
 -- it tells whether the line is skipped

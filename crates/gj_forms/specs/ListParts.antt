@@ -22,7 +22,8 @@ abbrev pub until_part : {A : Type 0} → (List ℕ → Type 0) → Part A → Li
 until_part Begins p = loop_part (next_until Begins p)
 
 -- the part reads what is printed of a thing, where such a rest follows, and nothing else
-pub record IsPrinted {A : Type 0} (p : Part A) (Follows : List ℕ → Type 0) (print : A → List ℕ) (Has : A → Type 0) : Type 0 where
+pub record IsPrinted {A : Type 0} (p : Part A) (Follows : List ℕ → Type 0) (print : A → List ℕ)
+    (Has : A → Type 0) : Type 0 where
   pub reads : (a : A) (rest : List ℕ) → Has a → Follows rest → p.Reads (print a ++ rest) a rest
   pub found : (text rest : List ℕ) (a : A) → p.Reads text a rest → (text ≡ print a ++ rest) × Has a
 

@@ -16,7 +16,11 @@ pub record LineRule (A : Type 0) : Type 1 where
 
 -- these words and no others
 abbrev pub words_rule : List (List ℕ) → LineRule (Unit {0})
-words_rule wanted = record { Spells = λ words a. words ≡ wanted; Breaks = λ words e. (e ≡ Form) × (words ≢ wanted) }
+words_rule wanted = record {
+  Spells = λ words a. words ≡ wanted;
+  Breaks = λ words e. (e ≡ Form)
+      × (words ≢ wanted);
+}
 
 -- a part of a text: the text begins with it, spells this, and the rest follows; or it does not, and
 -- the line from `start` on is the first at fault, for this reason
@@ -29,9 +33,11 @@ pub record Part (A : Type 0) : Type 1 where
 -- one line: at fault if its words break the rule, and as `form` if there is none
 abbrev pub line_part : {A : Type 0} → Spelling → LineRule A → Part A
 line_part s rule = record {
-  Reads = λ text a rest. (start : List ℕ) × (words : List (List ℕ)) × HasLine s text start words rest × rule.Spells words a;
+  Reads = λ text a rest. (start : List ℕ) × (words : List (List ℕ))
+      × HasLine s text start words rest × rule.Spells words a;
   Faults = λ text start e.
-      ((words : List (List ℕ)) × (rest : List ℕ) × HasLine s text start words rest × rule.Breaks words e)
+      ((words : List (List ℕ)) × (rest : List ℕ) × HasLine s text start words rest
+      × rule.Breaks words e)
       ⊎ (HasNoLine s text start × (e ≡ Form));
 }
 
@@ -42,19 +48,23 @@ empty_part a = record { Reads = λ text b rest. (b ≡ a) × (text ≡ rest); Fa
 -- a part, and behind it one that may depend on what the first spells
 abbrev pub then_part : {A B : Type 0} → Part A → (A → Part B) → Part B
 then_part {A} p next = record {
-  Reads = λ text b rest. (a : A) × (middle : List ℕ) × p.Reads text a middle × (next a).Reads middle b rest;
+  Reads = λ text b rest. (a : A) × (middle : List ℕ) × p.Reads text a middle
+      × (next a).Reads middle b rest;
   Faults = λ text start e.
-      p.Faults text start e ⊎ ((a : A) × (middle : List ℕ) × p.Reads text a middle × (next a).Faults middle start e);
+      p.Faults text start e
+      ⊎ ((a : A) × (middle : List ℕ) × p.Reads text a middle × (next a).Faults middle start e);
 }
 
 -- a part that spells something of which another thing is made
 abbrev pub made_part : {A B : Type 0} → (A → B → Type 0) → Part A → Part B
-made_part {A} Makes p = record { Reads = λ text b rest. (a : A) × p.Reads text a rest × Makes a b; Faults = p.Faults }
+made_part {A} Makes p =
+    record { Reads = λ text b rest. (a : A) × p.Reads text a rest × Makes a b; Faults = p.Faults }
 
 -- a line of the title's words, a part, and a line of the end's words
 abbrev pub framed_part : {A : Type 0} → Spelling → List (List ℕ) → Part A → List (List ℕ) → Part A
 framed_part s title p end =
-    then_part (line_part s (words_rule title)) (λ t. then_part p (λ a. then_part (line_part s (words_rule end)) (λ t. empty_part a)))
+    then_part (line_part s (words_rule title))
+    (λ t. then_part p (λ a. then_part (line_part s (words_rule end)) (λ t. empty_part a)))
 
 -- the next line of the text has these words
 abbrev pub BeginsWithLine : Spelling → List (List ℕ) → List ℕ → Type 0
@@ -67,19 +77,23 @@ BeginsWithWord s word text = (words : List (List ℕ)) × BeginsWithLine s (word
 -- the one part if the text begins so, and the other if it does not
 abbrev pub where_part : {A : Type 0} → (List ℕ → Type 0) → Part A → Part A → Part A
 where_part Begins p q = record {
-  Reads = λ text a rest. (Begins text × p.Reads text a rest) ⊎ ((Begins text → ⊥) × q.Reads text a rest);
-  Faults = λ text start e. (Begins text × p.Faults text start e) ⊎ ((Begins text → ⊥) × q.Faults text start e);
+  Reads = λ text a rest. (Begins text × p.Reads text a rest)
+      ⊎ ((Begins text → ⊥) × q.Reads text a rest);
+  Faults = λ text start e. (Begins text × p.Faults text start e)
+      ⊎ ((Begins text → ⊥) × q.Faults text start e);
 }
 
 -- the part of each state is read in turn: it leads to a next state, or ends with what the whole
 -- spells
-pub data ReadsInTurn {S A : Type 0} (Reads : S → List ℕ → S ⊎ A → List ℕ → Type 0) (a : A) (rest : List ℕ) : S → List ℕ → Type 0 where
+pub data ReadsInTurn {S A : Type 0} (Reads : S → List ℕ → S ⊎ A → List ℕ → Type 0) (a : A)
+    (rest : List ℕ) : S → List ℕ → Type 0 where
   last : (s : S) (text : List ℕ) → Reads s text (inr a) rest → ReadsInTurn Reads a rest s text
   onward : (s : S) (text : List ℕ) (next : S) (middle : List ℕ) → Reads s text (inl next) middle →
       ReadsInTurn Reads a rest next middle → ReadsInTurn Reads a rest s text
 
 -- and the first that has a fault is at fault
-pub data FaultsInTurn {S A : Type 0} (Reads : S → List ℕ → S ⊎ A → List ℕ → Type 0) (Faults : S → List ℕ → List ℕ → Reason → Type 0)
+pub data FaultsInTurn {S A : Type 0} (Reads : S → List ℕ → S ⊎ A → List ℕ → Type 0) (Faults : S →
+    List ℕ → List ℕ → Reason → Type 0)
     (start : List ℕ) (e : Reason) : S → List ℕ → Type 0 where
   here : (s : S) (text : List ℕ) → Faults s text start e → FaultsInTurn Reads Faults start e s text
   later : (s : S) (text : List ℕ) (next : S) (middle : List ℕ) → Reads s text (inl next) middle →
@@ -101,19 +115,26 @@ end_part s a = record {
 -- ---- what is asked of a rule and of a part, and holds of all that are made of such
 
 -- words spell one thing or break one rule first, and not both
-pub record IsExactRule {A : Type 0} (Spells : List (List ℕ) → A → Type 0) (Breaks : List (List ℕ) → Reason → Type 0) : Type 0 where
+pub record IsExactRule {A : Type 0} (Spells : List (List ℕ) → A → Type 0) (Breaks : List (List ℕ) →
+    Reason → Type 0) : Type 0 where
   pub one_thing : (words : List (List ℕ)) (a b : A) → Spells words a → Spells words b → a ≡ b
   pub one_reason : (words : List (List ℕ)) (e d : Reason) → Breaks words e → Breaks words d → e ≡ d
   pub not_both : (words : List (List ℕ)) (a : A) (e : Reason) → Spells words a → Breaks words e → ⊥
 
 -- a text spells one thing and goes on at one place, or is at fault first in one line for one
 -- reason, and not both; what follows, and the line at fault with what follows it, end the text
-pub record IsExactPart {A : Type 0} (Reads : List ℕ → A → List ℕ → Type 0) (Faults : List ℕ → List ℕ → Reason → Type 0) : Type 0 where
-  pub one_thing : (text : List ℕ) (a b : A) (r t : List ℕ) → Reads text a r → Reads text b t → (a ≡ b) × (r ≡ t)
-  pub one_fault : (text r t : List ℕ) (e d : Reason) → Faults text r e → Faults text t d → (r ≡ t) × (e ≡ d)
-  pub not_both : (text : List ℕ) (a : A) (r t : List ℕ) (e : Reason) → Reads text a r → Faults text t e → ⊥
-  pub rest_ends : (text : List ℕ) (a : A) (r : List ℕ) → Reads text a r → (front : List ℕ) × (text ≡ front ++ r)
-  pub fault_ends : (text t : List ℕ) (e : Reason) → Faults text t e → (front : List ℕ) × (text ≡ front ++ t)
+pub record IsExactPart {A : Type 0} (Reads : List ℕ → A → List ℕ → Type 0) (Faults : List ℕ →
+    List ℕ → Reason → Type 0) : Type 0 where
+  pub one_thing : (text : List ℕ) (a b : A) (r t : List ℕ) → Reads text a r → Reads text b t →
+      (a ≡ b) × (r ≡ t)
+  pub one_fault : (text r t : List ℕ) (e d : Reason) → Faults text r e → Faults text t d →
+      (r ≡ t) × (e ≡ d)
+  pub not_both : (text : List ℕ) (a : A) (r t : List ℕ) (e : Reason) → Reads text a r →
+      Faults text t e → ⊥
+  pub rest_ends : (text : List ℕ) (a : A) (r : List ℕ) → Reads text a r →
+      (front : List ℕ) × (text ≡ front ++ r)
+  pub fault_ends : (text t : List ℕ) (e : Reason) → Faults text t e →
+      (front : List ℕ) × (text ≡ front ++ t)
 
 -- ---- what readers answer
 
@@ -130,12 +151,14 @@ IsRefusal (Memory a) = ⊥
 
 -- the fault is that the text has no next line
 abbrev pub IsNoLine : Spelling → List ℕ → PartFault → Type 0
-IsNoLine s text (Refused left e) = (start : List ℕ) × (left ≡ length start) × HasNoLine s text start × (e ≡ Form)
+IsNoLine s text (Refused left e) = (start : List ℕ) × (left ≡ length start) × HasNoLine s text start
+    × (e ≡ Form)
 IsNoLine s text (Memory a) = ⊥
 
 -- the fault is that something follows
 abbrev pub IsTail : Spelling → List ℕ → PartFault → Type 0
-IsTail s text (Refused left e) = (start : List ℕ) × (left ≡ length start) × HasSomething s text start × (e ≡ Tail)
+IsTail s text (Refused left e) = (start : List ℕ) × (left ≡ length start)
+    × HasSomething s text start × (e ≡ Tail)
 IsTail s text (Memory a) = ⊥
 
 -- the n-th line of the text is the first at fault, for this reason

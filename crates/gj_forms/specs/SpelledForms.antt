@@ -36,7 +36,8 @@ rule_in {A} s form = record {
 }
 
 -- a line whose thing makes another; a thing that makes none is refused for a reason of its own
-abbrev pub made_rule : {A B : Type 0} → (A → B → Type 0) → (A → Reason → Type 0) → LineRule A → LineRule B
+abbrev pub made_rule : {A B : Type 0} → (A → B → Type 0) → (A → Reason → Type 0) → LineRule A →
+    LineRule B
 made_rule {A} Makes Refused rule = record {
   Spells = λ words b. (a : A) × rule.Spells words a × Makes a b;
   Breaks = λ words e. rule.Breaks words e ⊎ ((a : A) × rule.Spells words a × Refused a e);
@@ -50,5 +51,6 @@ turned_rule make rule = made_rule (λ a b. b ≡ make a) (λ a e. ⊥) rule
 abbrev pub barred_rule : {A : Type 0} → (List (List ℕ) → Type 0) → LineRule A → LineRule A
 barred_rule AreBarred rule = record {
   Spells = λ words a. (AreBarred words → ⊥) × rule.Spells words a;
-  Breaks = λ words e. ((e ≡ reason.Form) × AreBarred words) ⊎ ((AreBarred words → ⊥) × rule.Breaks words e);
+  Breaks = λ words e. ((e ≡ reason.Form) × AreBarred words)
+      ⊎ ((AreBarred words → ⊥) × rule.Breaks words e);
 }

@@ -11,12 +11,15 @@ use Rattle.gj_lex.specs.declared.spelling.Spelling.TheVariants.{Lenient, Strict}
 -- then all of it is the line
 pub data IsFirstLine (text line rest : List ℕ) : Type 0 where
   ended : All (λ b. b ≢ 10) line → text ≡ line ++ 10 ∷ rest → IsFirstLine text line rest
-  unended : All (λ b. b ≢ 10) line → text ≡ line → line ≢ [] → rest ≡ [] → IsFirstLine text line rest
+  unended : All (λ b. b ≢ 10) line → text ≡ line → line ≢ [] → rest ≡ [] →
+      IsFirstLine text line rest
 
 -- the bytes that count: without the CR that stands before the LF, if one does
 pub data AreBytesOf (text line bytes : List ℕ) : Type 0 where
-  dropped : (rest : List ℕ) → text ≡ bytes ++ 13 ∷ 10 ∷ rest → line ≡ bytes ++ 13 ∷ [] → AreBytesOf text line bytes
-  kept : ((front rest : List ℕ) → line ≡ front ++ 13 ∷ [] → text ≡ line ++ 10 ∷ rest → ⊥) → bytes ≡ line → AreBytesOf text line bytes
+  dropped : (rest : List ℕ) → text ≡ bytes ++ 13 ∷ 10 ∷ rest → line ≡ bytes ++ 13 ∷ [] →
+      AreBytesOf text line bytes
+  kept : ((front rest : List ℕ) → line ≡ front ++ 13 ∷ [] → text ≡ line ++ 10 ∷ rest → ⊥) →
+      bytes ≡ line → AreBytesOf text line bytes
 
 -- the first line of the text has these words, and the rest follows it
 pub record HasFirstWords (text : List ℕ) (words : List (List ℕ)) (rest : List ℕ) : Type 0 where
@@ -33,15 +36,19 @@ IsSkipped (word ∷ words) = (more : List ℕ) × (word ≡ 35 ∷ more)
 
 -- behind lines that are skipped, the text goes on from `start` with a line of these words that is
 -- not, and the rest follows it
-pub data HasNextLine (start : List ℕ) (words : List (List ℕ)) (rest : List ℕ) : List ℕ → Type 0 where
-  here : (text : List ℕ) → start ≡ text → HasFirstWords text words rest → (IsSkipped words → ⊥) → HasNextLine start words rest text
-  further : (text : List ℕ) (skipped : List (List ℕ)) (next : List ℕ) → HasFirstWords text skipped next → IsSkipped skipped →
+pub data HasNextLine (start : List ℕ) (words : List (List ℕ)) (rest : List ℕ) : List ℕ →
+    Type 0 where
+  here : (text : List ℕ) → start ≡ text → HasFirstWords text words rest → (IsSkipped words → ⊥) →
+      HasNextLine start words rest text
+  further : (text : List ℕ) (skipped : List (List ℕ)) (next : List ℕ) →
+      HasFirstWords text skipped next → IsSkipped skipped →
       HasNextLine start words rest next → HasNextLine start words rest text
 
 -- all lines of the text are skipped
 pub data IsSkippedText : List ℕ → Type 0 where
   nothing : (text : List ℕ) → text ≡ [] → IsSkippedText text
-  more : (text : List ℕ) (skipped : List (List ℕ)) (next : List ℕ) → HasFirstWords text skipped next → IsSkipped skipped →
+  more : (text : List ℕ) (skipped : List (List ℕ)) (next : List ℕ) →
+      HasFirstWords text skipped next → IsSkipped skipped →
       IsSkippedText next → IsSkippedText text
 
 -- ---- strict lines
@@ -76,7 +83,8 @@ HasLine Strict text start words rest = (start ≡ text) × HasStrictLine text wo
 -- line is none
 abbrev pub HasNoLine : Spelling → List ℕ → List ℕ → Type 0
 HasNoLine Lenient text start = (start ≡ []) × IsSkippedText text
-HasNoLine Strict text start = (start ≡ text) × ((words : List (List ℕ)) (rest : List ℕ) → HasStrictLine text words rest → ⊥)
+HasNoLine Strict text start = (start ≡ text)
+    × ((words : List (List ℕ)) (rest : List ℕ) → HasStrictLine text words rest → ⊥)
 
 -- nothing follows, but lines that are skipped
 abbrev pub HasNothing : Spelling → List ℕ → Type 0
@@ -85,14 +93,16 @@ HasNothing Strict text = text ≡ []
 
 -- something follows, which shows at `start`
 abbrev pub HasSomething : Spelling → List ℕ → List ℕ → Type 0
-HasSomething Lenient text start = (words : List (List ℕ)) × (rest : List ℕ) × HasNextLine start words rest text
+HasSomething Lenient text start = (words : List (List ℕ)) × (rest : List ℕ)
+    × HasNextLine start words rest text
 HasSomething Strict text start = (start ≡ text) × (text ≢ [])
 
 -- the text has lines with these words, one after the other; the rest follows
 abbrev pub HasLines : Spelling → List ℕ → List (List (List ℕ)) → List ℕ → Type 0
 HasLines s text [] rest = text ≡ rest
 HasLines s text (words ∷ lines) rest =
-    (start : List ℕ) × (next : List ℕ) × HasLine s text start words next × HasLines s next lines rest
+    (start : List ℕ) × (next : List ℕ) × HasLine s text start words next
+    × HasLines s next lines rest
 
 -- ---- the number of a line
 

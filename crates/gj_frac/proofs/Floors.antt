@@ -60,7 +60,8 @@ quotient_is_floor x = record {
 }
 
 -- a multiple of d that is at most n is below each multiple that is above n
-floor_below : (n d k m : ℤ) → pos 0 <ℤ d → (k *ℤ d) ≤ℤ n → n <ℤ ((m +ℤ pos 1) *ℤ d) → k <ℤ (m +ℤ pos 1)
+floor_below : (n d k m : ℤ) → pos 0 <ℤ d → (k *ℤ d) ≤ℤ n → n <ℤ ((m +ℤ pos 1) *ℤ d) →
+    k <ℤ (m +ℤ pos 1)
 floor_below n d k m some h l = mul_lt_cancel_right_z k (m +ℤ pos 1) d some (omega (arith, ints))
 
 -- a fraction has one floor
@@ -74,14 +75,17 @@ same_from_IsFloor x n m h k =
 
 -- the absolute value of a sum is the sum or the difference of the absolute values
 abs_sum_cases : (x y : ℤ) → (unsigned_abs (x +ℤ y) ≡ unsigned_abs x + unsigned_abs y)
-    ⊎ ((unsigned_abs (x +ℤ y) ≡ unsigned_abs x - unsigned_abs y) ⊎ (unsigned_abs (x +ℤ y) ≡ unsigned_abs y - unsigned_abs x))
+    ⊎ ((unsigned_abs (x +ℤ y) ≡ unsigned_abs x - unsigned_abs y)
+    ⊎ (unsigned_abs (x +ℤ y) ≡ unsigned_abs y - unsigned_abs x))
 abs_sum_cases x y = grind (arith, ints)
 
 -- a divisor of two whole numbers divides their sum
-divides_sum : (d : ℕ) (x y : ℤ) → d ∣ unsigned_abs x → d ∣ unsigned_abs y → d ∣ unsigned_abs (x +ℤ y)
+divides_sum : (d : ℕ) (x y : ℤ) → d ∣ unsigned_abs x → d ∣ unsigned_abs y →
+    d ∣ unsigned_abs (x +ℤ y)
 divides_sum d x y p q =
     ⊎_elim (λ e. subst (λ (n : ℕ). d ∣ n) (sym e) (dvd-add d p q))
-    (⊎_elim (λ e. subst (λ (n : ℕ). d ∣ n) (sym e) (dvd-sub d p q)) (λ e. subst (λ (n : ℕ). d ∣ n) (sym e) (dvd-sub d q p)))
+    (⊎_elim (λ e. subst (λ (n : ℕ). d ∣ n) (sym e) (dvd-sub d p q))
+    (λ e. subst (λ (n : ℕ). d ∣ n) (sym e) (dvd-sub d q p)))
     (abs_sum_cases x y)
 
 -- the rest has no more in common with the divisor than the number has
@@ -90,11 +94,18 @@ rest_coprime : (n d q r : ℤ) → IsGcd (unsigned_abs n) (unsigned_abs d) 1 →
 rest_coprime n d q r h e =
     let whole : n ≡ r +ℤ q *ℤ d = omega (arith, ints) in
     let multiple : (c : ℕ) → c ∣ unsigned_abs d → c ∣ unsigned_abs (q *ℤ d) = λ c v.
-    subst (λ (m : ℕ). c ∣ m) (sym (unsigned_abs-mul q d)) (dvd_trans c v (dvd-mul_left (unsigned_abs d) (unsigned_abs q))) in
-    (one-dvd _, one-dvd _, λ c u v. h.2 c (subst (λ (z : ℤ). c ∣ unsigned_abs z) (sym whole) (divides_sum c r (q *ℤ d) u (multiple c v))) v)
+    subst (λ (m : ℕ). c ∣ m) (sym (unsigned_abs-mul q d))
+    (dvd_trans c v (dvd-mul_left (unsigned_abs d) (unsigned_abs q))) in (
+      one-dvd _,
+      one-dvd _,
+      λ c u v. h.2 c
+          (subst (λ (z : ℤ). c ∣ unsigned_abs z) (sym whole)
+          (divides_sum c r (q *ℤ d) u (multiple c v))) v,
+    )
 
 -- the rest over the divisor is in lowest terms, if the number over it is
-pub rest_lowest : (n d r : ℤ) → IsLowest n d → r ≡ int_rem_euclid n d → pos 0 ≤ℤ r → unsigned_abs r < unsigned_abs d →
+pub rest_lowest : (n d r : ℤ) → IsLowest n d → r ≡ int_rem_euclid n d → pos 0 ≤ℤ r →
+    unsigned_abs r < unsigned_abs d →
     IsLowest r d
 rest_lowest n d r h e low high =
     let size = h.den_fits in
@@ -109,7 +120,8 @@ rest_lowest n d r h e low high =
 pub complement_lowest : (n d : ℤ) → IsLowest n d → pos 0 ≤ℤ n → n ≤ℤ d → IsLowest (d -ℤ n) d
 complement_lowest n d h low high =
     let size = h.den_fits in
-    let apart : IsGcd (unsigned_abs (n -ℤ d)) (unsigned_abs d) 1 = rest_coprime n d (pos 1) (n -ℤ d) h.coprime (omega (arith, ints)) in
+    let apart : IsGcd (unsigned_abs (n -ℤ d)) (unsigned_abs d) 1 =
+    rest_coprime n d (pos 1) (n -ℤ d) h.coprime (omega (arith, ints)) in
     let turned : unsigned_abs (n -ℤ d) ≡ unsigned_abs (d -ℤ n) = omega (arith, ints) in
     record {
       positive = h.positive;
@@ -119,7 +131,8 @@ complement_lowest n d h low high =
     }
 
 -- it is the number minus any floor
-pub rest_from_floor : (x : Frac) (n : ℤ) → IsFloor x n → int_rem_euclid x.num x.den ≡ x.num -ℤ n *ℤ x.den
+pub rest_from_floor : (x : Frac) (n : ℤ) → IsFloor x n →
+    int_rem_euclid x.num x.den ≡ x.num -ℤ n *ℤ x.den
 rest_from_floor x n h =
     rest_is x.num x.den x.lowest.positive
     ∙ ap (λ q. x.num -ℤ q *ℤ x.den) (same_from_IsFloor x _ n (quotient_is_floor x) h)

@@ -12,7 +12,8 @@ use mir.Syntax.{w128}
 -- ---- one step
 
 -- if the number that i128 gives is tested for the one that does not fit a part, all is tested
-pub step_fits : {E : Type 0} → (number : Option ℤ) (result : Result ℤ E) (v : ℤ) → SomeIff number (FitsSigned w128 v) v →
+pub step_fits : {E : Type 0} → (number : Option ℤ) (result : Result ℤ E) (v : ℤ) →
+    SomeIff number (FitsSigned w128 v) v →
     MatchOption number (IsErr result) (λ n. OkIff result (Fits n) n) → OkIff result (Fits v) v
 step_fits (Some n) (Ok r) v given tested =
     let same = given.1 in
@@ -27,12 +28,14 @@ on_err (Ok x) P h = tt
 on_err (Err e) P h = h
 
 -- what follows from a fact of each value, or of each error
-pub on_ok_along : {T E : Type 0} → (result : Result T E) (P Q : T → Type 0) → ((x : T) → P x → Q x) → IfOk result P →
+pub on_ok_along : {T E : Type 0} → (result : Result T E) (P Q : T → Type 0) →
+    ((x : T) → P x → Q x) → IfOk result P →
     IfOk result Q
 on_ok_along (Ok x) P Q f h = f x h
 on_ok_along (Err e) P Q f h = h
 
-pub on_err_along : {T E : Type 0} → (result : Result T E) (P Q : Type 0) → (P → Q) → OnErr result P → OnErr result Q
+pub on_err_along : {T E : Type 0} → (result : Result T E) (P Q : Type 0) → (P → Q) →
+    OnErr result P → OnErr result Q
 on_err_along (Ok x) P Q f h = h
 on_err_along (Err e) P Q f h = f h
 
@@ -51,7 +54,8 @@ difference_together x y fits g h =
 
 -- with it the sum of the numerators is all that is left
 pub sum_from : (x y : Frac) → FitsTogether x y →
-    ((g : ℕ) → IsDenominatorGcd x y g → Fits (scaled_numerator x y g +ℤ scaled_numerator y x g)) → FitsSum x y
+    ((g : ℕ) → IsDenominatorGcd x y g → Fits (scaled_numerator x y g +ℤ scaled_numerator y x g)) →
+    FitsSum x y
 sum_from x y fits total g h =
     let over = fits g h in
     record { first = over.first; second = over.second; total = total g h; bottom = over.bottom }
@@ -61,4 +65,10 @@ pub difference_from : (x y : Frac) → FitsTogether x y →
     FitsDifference x y
 difference_from x y fits difference g h =
     let over = fits g h in
-    record { first = over.first; second = over.second; difference = difference g h; bottom = over.bottom }
+    record {
+      first = over.first;
+      second = over.second;
+      difference = difference g h;
+      bottom =
+          over.bottom;
+    }

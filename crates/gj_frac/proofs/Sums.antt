@@ -18,27 +18,34 @@ use Rattle.gj_lemmas.proofs.Ratios.{ratio_along, ratio_sum, ratio_difference}
 -- a factor of a number that is not 0 is not 0
 pub factor_some : (p d n : ℤ) → p *ℤ d ≡ n → unsigned_abs n ≢ 0 → unsigned_abs p ≢ 0
 factor_some p d n e some h =
-    some (sym (ap unsigned_abs e) ∙ unsigned_abs-mul p d ∙ ap (λ m. m * unsigned_abs d) h ∙ zero-mul (unsigned_abs d))
+    some (sym (ap unsigned_abs e) ∙ unsigned_abs-mul p d ∙ ap (λ m. m * unsigned_abs d) h
+    ∙ zero-mul (unsigned_abs d))
 
 -- the quotient of a positive number by a positive divisor
-pub quotient_is : (n d q : ℤ) → pos 0 <ℤ n → pos 0 <ℤ d → q *ℤ d ≡ n → q ≡ pos (unsigned_abs n / unsigned_abs d)
+pub quotient_is : (n d q : ℤ) → pos 0 <ℤ n → pos 0 <ℤ d → q *ℤ d ≡ n →
+    q ≡ pos (unsigned_abs n / unsigned_abs d)
 quotient_is n d q some d_some e =
-    let sizes : unsigned_abs q * unsigned_abs d ≡ unsigned_abs n = sym (unsigned_abs-mul q d) ∙ ap unsigned_abs e in
+    let sizes : unsigned_abs q * unsigned_abs d ≡ unsigned_abs n = sym (unsigned_abs-mul q d)
+    ∙ ap unsigned_abs e in
     let size : unsigned_abs n / unsigned_abs d ≡ unsigned_abs q =
-    ap (λ m. m / unsigned_abs d) (sym sizes) ∙ mul-div_cancel (unsigned_abs q) (abs_positive_z d d_some) in
+    ap (λ m. m / unsigned_abs d) (sym sizes)
+    ∙ mul-div_cancel (unsigned_abs q) (abs_positive_z d d_some) in
     let above : pos 0 <ℤ q = mul_lt_cancel_right_z (pos 0) q d d_some (omega (arith, ints)) in
     sym (pos_abs_z q (omega (arith, ints))) ∙ ap pos (sym size)
 
 -- the same by any name of the greatest common divisor
 pub quotient_by_gcd : (n d e q : ℤ) (g : ℕ) → pos 0 <ℤ n → pos 0 <ℤ d → q *ℤ d ≡ n →
-    IsGcd (unsigned_abs n) (unsigned_abs e) (unsigned_abs d) → IsGcd (unsigned_abs n) (unsigned_abs e) g →
+    IsGcd (unsigned_abs n) (unsigned_abs e) (unsigned_abs d) →
+    IsGcd (unsigned_abs n) (unsigned_abs e) g →
     q ≡ pos (unsigned_abs n / g)
 quotient_by_gcd n d e q g some d_some is h k =
-    quotient_is n d q some d_some is ∙ ap (λ (m : ℕ). pos (unsigned_abs n / m)) (same_from_IsGcd _ _ _ _ h k)
+    quotient_is n d q some d_some is
+    ∙ ap (λ (m : ℕ). pos (unsigned_abs n / m)) (same_from_IsGcd _ _ _ _ h k)
 
 -- the quotients of the denominators of x and y as the code reads them
 pub first_quotient : (x y : Frac) (r : ℤ) → FitsSigned w128 r →
-    ((g : ℕ) → IsGcd (unsigned_abs (to_z w128 (of_z w128 x.den))) (unsigned_abs (to_z w128 (of_z w128 y.den))) g →
+    ((g : ℕ) → IsGcd (unsigned_abs (to_z w128 (of_z w128 x.den)))
+    (unsigned_abs (to_z w128 (of_z w128 y.den))) g →
     r ≡ pos (unsigned_abs (to_z w128 (of_z w128 x.den)) / g)) →
     (g : ℕ) → IsDenominatorGcd x y g → to_z w128 (of_z w128 r) ≡ pos (unsigned_abs x.den / g)
 first_quotient x y r fits is =
@@ -47,7 +54,8 @@ first_quotient x y r fits is =
     λ g h. to_z-of_z w128 r fits ∙ (simp (first, second) at is) g h
 
 pub second_quotient : (x y : Frac) (r : ℤ) → FitsSigned w128 r →
-    ((g : ℕ) → IsGcd (unsigned_abs (to_z w128 (of_z w128 x.den))) (unsigned_abs (to_z w128 (of_z w128 y.den))) g →
+    ((g : ℕ) → IsGcd (unsigned_abs (to_z w128 (of_z w128 x.den)))
+    (unsigned_abs (to_z w128 (of_z w128 y.den))) g →
     r ≡ pos (unsigned_abs (to_z w128 (of_z w128 y.den)) / g)) →
     (g : ℕ) → IsDenominatorGcd x y g → to_z w128 (of_z w128 r) ≡ pos (unsigned_abs y.den / g)
 second_quotient x y r fits is =
@@ -67,10 +75,12 @@ pub second_is : (x y : Frac) (g : ℕ) → IsRatio y (scaled_numerator y x g) (c
 second_is x y g = sym (mul_assoc_z y.num (pos (unsigned_abs x.den / g)) y.den)
 
 -- the common denominator is not 0
-pub common_some : (x y : Frac) (g : ℕ) → IsDenominatorGcd x y g → unsigned_abs (common_denominator x y g) ≢ 0
+pub common_some : (x y : Frac) (g : ℕ) → IsDenominatorGcd x y g →
+    unsigned_abs (common_denominator x y g) ≢ 0
 common_some x y g h =
     let p = pos (unsigned_abs x.den / g) in
-    let p_some = factor_some p (pos g) x.den (quotient_times x.den g x.lowest.positive h.0) (positive_some_z x.den x.lowest.positive) in
+    let p_some = factor_some p (pos g) x.den (quotient_times x.den g x.lowest.positive h.0)
+    (positive_some_z x.den x.lowest.positive) in
     mul_some_z p y.den p_some (positive_some_z y.den y.lowest.positive)
 
 -- ---- sums over the common denominator

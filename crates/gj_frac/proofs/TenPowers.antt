@@ -45,7 +45,8 @@ pub ten_at : (p n i d : ℕ) → i < n → get_or (tens_from p n) i d ≡ p * 10
 ten_at p zero i d l = absurd (omega arith)
 ten_at p (suc n) zero d l = omega arith
 ten_at p (suc n) (suc i) d l =
-    ten_at (p * 10) n i d (omega arith) ∙ mul_assoc p 10 (10 ^ i) ∙ ap (λ k. p * k) (mul_comm 10 (10 ^ i) ∙ sym (pow-suc 10 i))
+    ten_at (p * 10) n i d (omega arith) ∙ mul_assoc p 10 (10 ^ i)
+    ∙ ap (λ k. p * k) (mul_comm 10 (10 ^ i) ∙ sym (pow-suc 10 i))
 
 -- ---- the factors of 10
 
@@ -53,9 +54,11 @@ ten_at p (suc n) (suc i) d l =
 below_five : (r : ℕ) → r ≢ 0 → r < 5 → IsGcd 5 r 1
 below_five zero some low = absurd (some refl)
 below_five (suc zero) some low = IsGcd-from_mod 5 1 1 (IsGcd-from_zero 1 (5 % 1) refl)
-below_five (suc (suc zero)) some low = IsGcd-from_mod 5 2 1 (IsGcd-from_mod 2 1 1 (IsGcd-from_zero 1 (2 % 1) refl))
+below_five (suc (suc zero)) some low =
+    IsGcd-from_mod 5 2 1 (IsGcd-from_mod 2 1 1 (IsGcd-from_zero 1 (2 % 1) refl))
 below_five (suc (suc (suc zero))) some low =
-    IsGcd-from_mod 5 3 1 (IsGcd-from_mod 3 2 1 (IsGcd-from_mod 2 1 1 (IsGcd-from_zero 1 (2 % 1) refl)))
+    IsGcd-from_mod 5 3 1
+    (IsGcd-from_mod 3 2 1 (IsGcd-from_mod 2 1 1 (IsGcd-from_zero 1 (2 % 1) refl)))
 below_five (suc (suc (suc (suc zero)))) some low =
     IsGcd-from_mod 5 4 1 (IsGcd-from_mod 4 1 1 (IsGcd-from_zero 1 (4 % 1) refl))
 below_five (suc (suc (suc (suc (suc r))))) some low = absurd (omega arith)
@@ -81,28 +84,34 @@ short_tens f t few few' =
 
 -- a number with none of the fives and none of the twos below it is in lowest terms over their
 -- product
-pub lowest_over_tens : (a f t : ℕ) → a < 2 ^ 64 → f ≤ 19 → t ≤ 19 → (f ≡ 0) ⊎ (a % 5 ≢ 0) → (t ≡ 0) ⊎ (a % 2 ≡ 1) →
+pub lowest_over_tens : (a f t : ℕ) → a < 2 ^ 64 → f ≤ 19 → t ≤ 19 → (f ≡ 0) ⊎ (a % 5 ≢ 0) →
+    (t ≡ 0) ⊎ (a % 2 ≡ 1) →
     IsLowest (pos a) (pos (5 ^ f * 2 ^ t))
 lowest_over_tens a f t small few few' fives twos =
-    let some : 0 < 5 ^ f * 2 ^ t = mul-pos (one-le-pow f 5 (omega arith)) (one-le-pow t 2 (omega arith)) in
+    let some : 0 < 5 ^ f * 2 ^ t =
+    mul-pos (one-le-pow f 5 (omega arith)) (one-le-pow t 2 (omega arith)) in
     let below = short_tens f t few few' in
     record {
       positive = omega (arith, ints);
       num_fits = omega arith;
       den_fits = omega arith;
-      coprime = coprime_product a (5 ^ f) (2 ^ t) (apart_from_fives a f fives) (apart_from_twos a t twos);
+      coprime = coprime_product a (5 ^ f) (2 ^ t) (apart_from_fives a f fives)
+          (apart_from_twos a t twos);
     }
 
 -- that product as shifts make it of a power of 10
-pub shifted_ten : (power f t : ℕ) → power ≡ 10 ^ f → f ≤ 19 → t ≤ 19 → power / 2 ^ f * 2 ^ t % 2 ^ 64 ≡ 5 ^ f * 2 ^ t
+pub shifted_ten : (power f t : ℕ) → power ≡ 10 ^ f → f ≤ 19 → t ≤ 19 →
+    power / 2 ^ f * 2 ^ t % 2 ^ 64 ≡ 5 ^ f * 2 ^ t
 shifted_ten power f t is few few' =
-    let fives : power / 2 ^ f ≡ 5 ^ f = ap (λ n. n / 2 ^ f) (is ∙ mul-pow 5 2 f) ∙ mul-div_cancel (5 ^ f) (pow_pos f) in
+    let fives : power / 2 ^ f ≡ 5 ^ f = ap (λ n. n / 2 ^ f) (is ∙ mul-pow 5 2 f)
+    ∙ mul-div_cancel (5 ^ f) (pow_pos f) in
     ap (λ m. m * 2 ^ t % 2 ^ 64) fives ∙ mod-eq_of_lt (short_tens f t few few')
 
 -- ---- factors taken out of a fraction
 
 -- one more five taken out of a multiple of 5
-pub one_five_out : (rest fives left top : ℕ) → 0 < left → left ≤ fives → rest % 5 ≡ 0 → rest * 5 ^ (fives - left) ≡ top →
+pub one_five_out : (rest fives left top : ℕ) → 0 < left → left ≤ fives → rest % 5 ≡ 0 →
+    rest * 5 ^ (fives - left) ≡ top →
     rest / 5 * 5 ^ (fives - (left - 1)) ≡ top
 one_five_out rest fives left top some fewer multiple is =
     let out = fives - left in
@@ -118,7 +127,8 @@ fives_out rest left top fives t fewer is =
     let out = fives - left in
     let all : fives ≡ out + left = omega arith in
     ap (λ m. rest * (m * 2 ^ t)) (ap (λ i. 5 ^ i) all ∙ pow-add 5 out left)
-    ∙ ap (λ m. rest * m) (mul_assoc (5 ^ out) (5 ^ left) (2 ^ t)) ∙ sym (mul_assoc rest (5 ^ out) (5 ^ left * 2 ^ t))
+    ∙ ap (λ m. rest * m) (mul_assoc (5 ^ out) (5 ^ left) (2 ^ t))
+    ∙ sym (mul_assoc rest (5 ^ out) (5 ^ left * 2 ^ t))
     ∙ ap (λ m. m * (5 ^ left * 2 ^ t)) is
 
 -- n/d is a number over a power of 10, if without t twos of both it is
@@ -128,14 +138,19 @@ twos_out n d size top places t is fewer =
     let all : places - t + t ≡ places = omega arith in
     let tens : 5 ^ places * 2 ^ (places - t) * 2 ^ t ≡ 10 ^ places =
     mul_assoc (5 ^ places) (2 ^ (places - t)) (2 ^ t)
-    ∙ ap (λ m. 5 ^ places * m) (sym (pow-add 2 (places - t) t) ∙ ap (λ i. 2 ^ i) all) ∙ sym (mul-pow 5 2 places) in
-    same_from_multiples n d (pos top) (pos (5 ^ places * 2 ^ (places - t))) (pos (2 ^ t)) (pos size) (pos (10 ^ places)) (ap pos is) (ap pos tens)
+    ∙ ap (λ m. 5 ^ places * m) (sym (pow-add 2 (places - t) t) ∙ ap (λ i. 2 ^ i) all)
+    ∙ sym (mul-pow 5 2 places) in
+    same_from_multiples n d (pos top) (pos (5 ^ places * 2 ^ (places - t))) (pos (2 ^ t)) (pos size)
+    (pos (10 ^ places)) (ap pos is) (ap pos tens)
 
 -- the same of a number without as many of its twos as it has, but at most those of the power
-pub decimal_is : (n d : ℤ) (size twos places : ℕ) → 0 < size → size < 2 ^ 64 → twos ≡ min (trailing_zeros w64 size) places →
-    n *ℤ pos (5 ^ places * 2 ^ (places - twos)) ≡ pos (size / 2 ^ twos) *ℤ d → n *ℤ pos (10 ^ places) ≡ pos size *ℤ d
+pub decimal_is : (n d : ℤ) (size twos places : ℕ) → 0 < size → size < 2 ^ 64 →
+    twos ≡ min (trailing_zeros w64 size) places →
+    n *ℤ pos (5 ^ places * 2 ^ (places - twos)) ≡ pos (size / 2 ^ twos) *ℤ d →
+    n *ℤ pos (10 ^ places) ≡ pos size *ℤ d
 decimal_is n d size twos places some fits least =
-    twos_out n d size (size / 2 ^ twos) places twos (twos_part size twos some fits (omega arith)) (omega arith)
+    twos_out n d size (size / 2 ^ twos) places twos (twos_part size twos some fits (omega arith))
+    (omega arith)
 
 -- ---- numbers with a sign
 
@@ -152,22 +167,27 @@ lowest_with_sign true n d h =
     }
 
 -- equal cross products stay equal with a sign
-pub product_with_sign : (s : Bool) (m n a b : ℕ) → m * a ≡ n * b → with_sign s m *ℤ pos a ≡ with_sign s n *ℤ pos b
+pub product_with_sign : (s : Bool) (m n a b : ℕ) → m * a ≡ n * b →
+    with_sign s m *ℤ pos a ≡ with_sign s n *ℤ pos b
 product_with_sign false m n a b is = ap pos is
 product_with_sign true m n a b is =
     neg_mul_z (pos m) (pos a) ∙ ap (λ k. neg_ℤ (pos k)) is ∙ sym (neg_mul_z (pos n) (pos b))
 
 -- the same of a number with a sign
-pub signed_decimal_is : (s : Bool) (n d : ℤ) (size twos places : ℕ) → 0 < size → size < 2 ^ 64 → twos ≡ min (trailing_zeros w64 size) places →
-    n *ℤ pos (5 ^ places * 2 ^ (places - twos)) ≡ with_sign s (size / 2 ^ twos) *ℤ d → n *ℤ pos (10 ^ places) ≡ with_sign s size *ℤ d
-signed_decimal_is false n d size twos places some fits least is = decimal_is n d size twos places some fits least is
+pub signed_decimal_is : (s : Bool) (n d : ℤ) (size twos places : ℕ) → 0 < size → size < 2 ^ 64 →
+    twos ≡ min (trailing_zeros w64 size) places →
+    n *ℤ pos (5 ^ places * 2 ^ (places - twos)) ≡ with_sign s (size / 2 ^ twos) *ℤ d →
+    n *ℤ pos (10 ^ places) ≡ with_sign s size *ℤ d
+signed_decimal_is false n d size twos places some fits least is =
+    decimal_is n d size twos places some fits least is
 signed_decimal_is true n d size twos places some fits least is =
     let rest = size / 2 ^ twos in
     let tens = pos (5 ^ places * 2 ^ (places - twos)) in
     let turned : neg_ℤ n *ℤ tens ≡ pos rest *ℤ d =
     neg_mul_z n tens ∙ ap neg_ℤ (is ∙ neg_mul_z (pos rest) d) ∙ neg_ℤ-neg_ℤ (pos rest *ℤ d) in
     let value = decimal_is (neg_ℤ n) d size twos places some fits least turned in
-    sym (neg_ℤ-neg_ℤ (n *ℤ pos (10 ^ places))) ∙ ap neg_ℤ (sym (neg_mul_z n (pos (10 ^ places))) ∙ value) ∙ sym (neg_mul_z (pos size) d)
+    sym (neg_ℤ-neg_ℤ (n *ℤ pos (10 ^ places)))
+    ∙ ap neg_ℤ (sym (neg_mul_z n (pos (10 ^ places))) ∙ value) ∙ sym (neg_mul_z (pos size) d)
 
 -- a whole number is its absolute value with its sign
 pub sign_and_size : (z : ℤ) → with_sign (lt_z z (pos 0)) (unsigned_abs z) ≡ z
@@ -175,4 +195,9 @@ sign_and_size z = by (lt_z z (pos 0)) refl
   where
     by : (t : Bool) → lt_z z (pos 0) ≡ t → with_sign t (unsigned_abs z) ≡ z
     by true e = omega (arith, ints, lt_z_yes {a = z} {b = pos 0} (subst T (sym e) tt))
-    by false e = omega (arith, ints, lt_z_no {a = z} {b = pos 0} (subst (λ t. T (not t)) (sym e) tt))
+    by false e = omega (
+      arith,
+      ints,
+      lt_z_no {a = z} {b = pos 0}
+          (subst (λ t. T (not t)) (sym e) tt),
+    )

@@ -31,18 +31,22 @@ can_add_swapped x y fits g h =
       first = over.second;
       second = over.first;
       total = subst Fits (add_comm_z (scaled_numerator x y g) (scaled_numerator y x g)) over.total;
-      bottom = subst Fits (crossed_quotients x.den y.den g x.lowest.positive y.lowest.positive turned) over.bottom;
+      bottom = subst Fits (crossed_quotients x.den y.den g x.lowest.positive y.lowest.positive
+          turned) over.bottom;
     }
 
 -- x + y and y + x are equal
 pub add_swapped : (x y s t : Frac) → IsSum x y s → IsSum y x t → s ≡ t
-add_swapped x y s t s_is t_is = same_value_same s t (sums_swapped (ratio x) (ratio y) (ratio s) (ratio t) s_is t_is)
+add_swapped x y s t s_is t_is =
+    same_value_same s t (sums_swapped (ratio x) (ratio y) (ratio s) (ratio t) s_is t_is)
 
 -- (x + y) + z and x + (y + z) are equal
-pub add_regrouped : (x y z s t u v : Frac) → IsSum x y s → IsSum s z t → IsSum y z u → IsSum x u v → t ≡ v
+pub add_regrouped : (x y z s t u v : Frac) → IsSum x y s → IsSum s z t → IsSum y z u → IsSum x u v →
+    t ≡ v
 add_regrouped x y z s t u v s_is t_is u_is v_is =
     same_value_same t v
-    (sums_regrouped (ratio x) (ratio y) (ratio z) (ratio s) (ratio t) (ratio u) (ratio v) s_is t_is u_is v_is)
+    (sums_regrouped (ratio x) (ratio y) (ratio z) (ratio s) (ratio t) (ratio u)
+    (ratio v) s_is t_is u_is v_is)
 
 -- if x y can be computed, y x can
 pub can_mul_swapped : (x y : Frac) → FitsProduct x y → FitsProduct y x
@@ -55,22 +59,28 @@ mul_swapped x y s t s_is t_is =
     same_value_same s t (products_swapped (ratio x) (ratio y) (ratio s) (ratio t) s_is t_is)
 
 -- (x y) z and x (y z) are equal
-pub mul_regrouped : (x y z s t u v : Frac) → IsProduct x y s → IsProduct s z t → IsProduct y z u → IsProduct x u v → t ≡ v
+pub mul_regrouped : (x y z s t u v : Frac) → IsProduct x y s → IsProduct s z t → IsProduct y z u →
+    IsProduct x u v → t ≡ v
 mul_regrouped x y z s t u v s_is t_is u_is v_is =
     same_value_same t v
-    (products_regrouped (ratio x) (ratio y) (ratio z) (ratio s) (ratio t) (ratio u) (ratio v) s_is t_is u_is v_is)
+    (products_regrouped (ratio x) (ratio y) (ratio z) (ratio s) (ratio t) (ratio u)
+    (ratio v) s_is t_is u_is v_is)
 
 -- x (y + z) and x y + x z are equal
-pub mul_over_add : (x y z s t u v w : Frac) → IsSum y z s → IsProduct x s t → IsProduct x y u → IsProduct x z v →
+pub mul_over_add : (x y z s t u v w : Frac) → IsSum y z s → IsProduct x s t → IsProduct x y u →
+    IsProduct x z v →
     IsSum u v w → t ≡ w
 mul_over_add x y z s t u v w s_is t_is u_is v_is w_is =
     same_value_same t w
-    (products_over_sums (ratio x) (ratio y) (ratio z) (ratio s) (ratio t) (ratio u) (ratio v) (ratio w)
+    (products_over_sums (ratio x) (ratio y) (ratio z) (ratio s) (ratio t) (ratio u) (ratio v)
+    (ratio w)
     s_is t_is u_is v_is w_is)
 
 -- if x < y, also x + z < y + z
 pub sums_keep_order : (x y z s t : Frac) → compare_values x y ≡ Less → IsSum x z s → IsSum y z t →
     compare_values s t ≡ Less
 sums_keep_order x y z s t less s_is t_is =
-    let below : IsLess x y = subst (λ r. MatchOrdering r (IsLess x y) (x ≡ y) (IsLess y x)) less (compare_values_ranks x y) in
-    sym (int_cmp_is _ _ Less (sums_below (ratio x) (ratio y) (ratio z) (ratio s) (ratio t) below s_is t_is))
+    let below : IsLess x y = subst (λ r. MatchOrdering r (IsLess x y) (x ≡ y) (IsLess y x)) less
+    (compare_values_ranks x y) in
+    sym (int_cmp_is _ _ Less
+    (sums_below (ratio x) (ratio y) (ratio z) (ratio s) (ratio t) below s_is t_is))

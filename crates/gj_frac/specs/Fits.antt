@@ -50,7 +50,8 @@ FitsDifference x y = (g : ℕ) → IsDenominatorGcd x y g → FitsDifferenceOver
 
 -- x * y can be computed: some fraction, in lowest terms and within the limit, has its value
 abbrev pub FitsProduct : Frac → Frac → Type 0
-FitsProduct x y = (z : Frac) × SameValue (fraction_of z) (product_of (fraction_of x) (fraction_of y))
+FitsProduct x y = (z : Frac)
+    × SameValue (fraction_of z) (product_of (fraction_of x) (fraction_of y))
 
 -- x / y can be computed: y is not 0, and some fraction, in lowest terms and within the limit, has
 -- its value
@@ -61,6 +62,7 @@ pub record FitsQuotient (x y : Frac) : Type 0 where
 -- two fractions over one denominator d of at most 2^125, with numerators over d of at most 2^125 in
 -- absolute value, can be added and subtracted
 abbrev pub FitsOverOneDenominator : Type 0
-FitsOverOneDenominator = (x y : Frac) (n m d : ℤ) → IsRatio x n d → IsRatio y m d → unsigned_abs d ≢ 0 →
+FitsOverOneDenominator = (x y : Frac) (n m d : ℤ) → IsRatio x n d → IsRatio y m d →
+    unsigned_abs d ≢ 0 →
     unsigned_abs d ≤ 2 ^ 125 → unsigned_abs n ≤ 2 ^ 125 → unsigned_abs m ≤ 2 ^ 125 →
     FitsSum x y × FitsDifference x y

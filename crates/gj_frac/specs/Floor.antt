@@ -14,4 +14,5 @@ rest_above x w = record { top = numerator x -ℤ w *ℤ denominator x; bottom = 
 
 -- the fractional part of x, what its floor leaves of it, is n/d
 abbrev pub HasFractionalPart : Frac → ℤ → ℤ → Type 0
-HasFractionalPart x n d = (w : ℤ) → IsFloor x w → SameValue (rest_above x w) (record { top = n; bottom = d })
+HasFractionalPart x n d = (w : ℤ) → IsFloor x w →
+    SameValue (rest_above x w) (record { top = n; bottom = d })

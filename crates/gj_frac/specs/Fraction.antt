@@ -24,7 +24,11 @@ abbrev pub sum_of : Fraction → Fraction → Fraction
 sum_of x y = record { top = x.top *ℤ y.bottom +ℤ y.top *ℤ x.bottom; bottom = x.bottom *ℤ y.bottom }
 
 abbrev pub difference_of : Fraction → Fraction → Fraction
-difference_of x y = record { top = x.top *ℤ y.bottom -ℤ y.top *ℤ x.bottom; bottom = x.bottom *ℤ y.bottom }
+difference_of x y = record {
+  top = x.top *ℤ y.bottom -ℤ y.top *ℤ x.bottom;
+  bottom =
+      x.bottom *ℤ y.bottom;
+}
 
 abbrev pub product_of : Fraction → Fraction → Fraction
 product_of x y = record { top = x.top *ℤ y.top; bottom = x.bottom *ℤ y.bottom }

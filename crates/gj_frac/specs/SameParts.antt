@@ -22,14 +22,18 @@ pub same_parts_same : (x y : Frac) → x.num ≡ y.num → x.den ≡ y.den → x
 same_parts_same x y e f = λ i. record {
   num = e i;
   den = f i;
-  lowest = is_prop→PathP (λ j. IsLowest (e j) (f j)) (λ j. IsLowest_prop (e j) (f j)) x.lowest y.lowest i;
+  lowest = is_prop→PathP (λ j. IsLowest (e j) (f j)) (λ j. IsLowest_prop (e j) (f j)) x.lowest
+      y.lowest i;
 }
 
 -- equal values have equal parts
-pub same_value_same_parts : (x y : Frac) → SameValue (fraction_of x) (fraction_of y) → (x.num ≡ y.num) × (x.den ≡ y.den)
+pub same_value_same_parts : (x y : Frac) → SameValue (fraction_of x) (fraction_of y) →
+    (x.num ≡ y.num) × (x.den ≡ y.den)
 same_value_same_parts x y h =
-    same_ratio x.num x.den y.num y.den x.lowest.coprime y.lowest.coprime x.lowest.positive y.lowest.positive h
+    same_ratio x.num x.den y.num y.den x.lowest.coprime y.lowest.coprime x.lowest.positive
+    y.lowest.positive h
 
 -- fractions of equal value are one
 pub same_value_same : (x y : Frac) → SameValue (fraction_of x) (fraction_of y) → x ≡ y
-same_value_same x y h = let parts = same_value_same_parts x y h in same_parts_same x y parts.0 parts.1
+same_value_same x y h = let parts = same_value_same_parts x y h in
+    same_parts_same x y parts.0 parts.1

@@ -15,13 +15,19 @@ abbrev pub words_of_break : Break → List (List ℕ)
 words_of_break b = words_of (break_form.fields (b.x, numbers_of (point_at b)))
 
 -- the line has them
-pub break_is_read : (b : Break) (rest : List ℕ) → HasLine Lenient (break_line b ++ rest) (break_line b ++ rest) (words_of_break b) rest
+pub break_is_read : (b : Break) (rest : List ℕ) →
+    HasLine Lenient (break_line b ++ rest) (break_line b ++ rest) (words_of_break b) rest
 break_is_read b rest =
     let n = numbers_of (point_at b) in
-    has_its_line Lenient (break_form.fields (b.x, n)) (break_line b ++ rest) rest (good_break b.x n) (λ z. omega arith) refl
+    has_its_line Lenient (break_form.fields (b.x, n)) (break_line b ++ rest) rest (good_break b.x n)
+    (λ z. omega arith) refl
 
 -- and they spell the breakpoint
 pub break_is_spelled : (b : Break) → spelled_break_rule.Spells (words_of_break b) b
 break_is_spelled b =
-    let n = numbers_of (point_at b) in
-    ((b.x, n), spells_its_thing Lenient break_form (b.x, n) (good_break b.x n) tt, ap (break_at b.x) (sym (told_point (point_at b))))
+    let n = numbers_of (point_at b) in (
+      (b.x, n),
+      spells_its_thing Lenient break_form (b.x, n) (good_break b.x n) tt,
+      ap (break_at b.x)
+          (sym (told_point (point_at b))),
+    )

@@ -33,7 +33,8 @@ pub place_is_clear : IsClearForm place_form
 place_is_clear = clear_form place_form.fields (λ a b words e. tt) (λ a b e. cc)
 
 -- numbers with the same words in their places are as many, and the fields tell them
-alike_numbers : (a b : PointNumbers) (words : List (List ℕ)) → with_numbers (number_fields a) words ≡ with_numbers (number_fields b) words →
+alike_numbers : (a b : PointNumbers) (words : List (List ℕ)) →
+    with_numbers (number_fields a) words ≡ with_numbers (number_fields b) words →
     AreAlike (number_fields a) (number_fields b)
 alike_numbers (one x) (one y) words e = tt
 alike_numbers (three p) (three q) words e = tt
@@ -52,11 +53,14 @@ one_numbers (three p) (one y) e = absurd cc
 
 pub point_is_clear : IsClearForm point_form
 point_is_clear =
-    clear_form point_form.fields (λ a b words e. alike_numbers a b _ (head_and_tail _ _ _ _ e).1) (λ a b e. one_numbers a b (head_and_tail _ _ _ _ e).1)
+    clear_form point_form.fields (λ a b words e. alike_numbers a b _ (head_and_tail _ _ _ _ e).1)
+    (λ a b e. one_numbers a b (head_and_tail _ _ _ _ e).1)
 
 pub break_is_clear : IsClearForm break_form
 break_is_clear =
-    clear_form break_form.fields (λ a b words e. alike_numbers a.1 b.1 _ (head_and_tail _ _ _ _ (head_and_tail _ _ _ _ e).1).1) one_break
+    clear_form break_form.fields
+    (λ a b words e. alike_numbers a.1 b.1 _
+    (head_and_tail _ _ _ _ (head_and_tail _ _ _ _ e).1).1) one_break
   where
     one_break : (a b : Frac × PointNumbers) → break_form.fields a ≡ break_form.fields b → a ≡ b
     one_break a b e =
@@ -82,7 +86,8 @@ good_break x (one y) = (known (codes "point") refl, (tt, tt))
 good_break x (three p) = (known (codes "point") refl, (tt, (tt, (tt, tt))))
 
 -- the bytes of a field before the numbers of a point
-pub bytes_before : (f : Field) (n : PointNumbers) → bytes_of (f ∷ number_fields n) ≡ word_of f ++ 32 ∷ bytes_of (number_fields n)
+pub bytes_before : (f : Field) (n : PointNumbers) →
+    bytes_of (f ∷ number_fields n) ≡ word_of f ++ 32 ∷ bytes_of (number_fields n)
 bytes_before f (one x) = refl
 bytes_before f (three p) = refl
 
@@ -91,7 +96,8 @@ bytes_before f (three p) = refl
 -- fractions with the same parts are one
 same_from_is_same : (x y : Frac) → is_same x y ≡ true → x ≡ y
 same_from_is_same x y h =
-    let parts = and_parts (int_eq (numerator x) (numerator y)) (int_eq (denominator x) (denominator y)) h in
+    let parts = and_parts (int_eq (numerator x) (numerator y))
+    (int_eq (denominator x) (denominator y)) h in
     same_parts_same x y ((Decides-int_eq (numerator x) (numerator y)).0 parts.0)
     ((Decides-int_eq (denominator x) (denominator y)).0 parts.1)
 
@@ -131,23 +137,31 @@ told_point p = by (has_no_jump p) refl
     by : (b : Bool) → has_no_jump p ≡ b → point_of (numbers_of p) ≡ p
     by true e =
         let same = same_where_no_jump p e in
-        ap point_of (number_of_even p e) ∙ same_points (point_of (one p.value)) p (sym same.0) refl same.1
+        ap point_of (number_of_even p e)
+        ∙ same_points (point_of (one p.value)) p (sym same.0) refl same.1
     by false e = ap point_of (numbers_of_jump p e)
 
 -- three words that are all the same are the words of no point
-three_same : (n : PointNumbers) (w : List ℕ) → words_of (point_form.fields n) ≡ codes "point" ∷ w ∷ w ∷ w ∷ [] →
+three_same : (n : PointNumbers) (w : List ℕ) →
+    words_of (point_form.fields n) ≡ codes "point" ∷ w ∷ w ∷ w ∷ [] →
     (p : Point) × (n ≡ three p) × (has_no_jump p ≡ true)
 three_same (one x) w e = absurd cc
 three_same (three p) w e =
     let first : fraction_text p.left ≡ fraction_text p.value = cc in
-    let second : fraction_text p.value ≡ fraction_text p.right = cc in
-    (p, refl, no_jump_where_same p (same_from_fraction_text p.left p.value first) (same_from_fraction_text p.value p.right second))
+    let second : fraction_text p.value ≡ fraction_text p.right = cc in (
+      p,
+      refl,
+      no_jump_where_same p (same_from_fraction_text p.left p.value first)
+          (same_from_fraction_text p.value p.right second),
+    )
 
-pub not_three_same : (s : Spelling) (p : Point) → AreThreeSame s (words_of (point_form.fields (numbers_of p))) → ⊥
+pub not_three_same : (s : Spelling) (p : Point) →
+    AreThreeSame s (words_of (point_form.fields (numbers_of p))) → ⊥
 not_three_same s p (strict, w, e) =
     let (q, is, even) = three_same (numbers_of p) w e in by q is even (has_no_jump p) refl
   where
-    by : (q : Point) → numbers_of p ≡ three q → has_no_jump q ≡ true → (b : Bool) → has_no_jump p ≡ b → ⊥
+    by : (q : Point) → numbers_of p ≡ three q → has_no_jump q ≡ true → (b : Bool) →
+        has_no_jump p ≡ b → ⊥
     by q is even true h = let other : one p.value ≡ three q = sym (number_of_even p h) ∙ is in cc
     by q is even false h =
         let threes : three p ≡ three q = sym (numbers_of_jump p h) ∙ is in
@@ -155,9 +169,11 @@ not_three_same s p (strict, w, e) =
         false≢true (sym h ∙ ap has_no_jump same ∙ even)
 
 -- so what a strict line spells is what is printed of its point
-pub strict_numbers_are : (words : List (List ℕ)) (n : PointNumbers) → (AreThreeSame Strict words → ⊥) → Spell Strict point_form words n →
+pub strict_numbers_are : (words : List (List ℕ)) (n : PointNumbers) →
+    (AreThreeSame Strict words → ⊥) → Spell Strict point_form words n →
     numbers_of (point_of n) ≡ n
-strict_numbers_are words (one x) not h = number_of_even (point_of (one x)) (no_jump_where_same (point_of (one x)) refl refl)
+strict_numbers_are words (one x) not h =
+    number_of_even (point_of (one x)) (no_jump_where_same (point_of (one x)) refl refl)
 strict_numbers_are words (three p) not h = by (has_no_jump p) refl
   where
     by : (b : Bool) → has_no_jump p ≡ b → numbers_of p ≡ three p
@@ -166,5 +182,10 @@ strict_numbers_are words (three p) not h = by (has_no_jump p) refl
         let first = ap fraction_text same.0 in
         let second = ap fraction_text (sym same.1) in
         let are = strict_words_are point_form words (three p) (good_point (three p)) h in
-        absurd (not (refl, fraction_text p.value, are ∙ (λ i. codes "point" ∷ first i ∷ fraction_text p.value ∷ second i ∷ [])))
+        absurd (not (
+          refl,
+          fraction_text p.value,
+          are
+              ∙ (λ i. codes "point" ∷ first i ∷ fraction_text p.value ∷ second i ∷ []),
+        ))
     by false e = numbers_of_jump p e

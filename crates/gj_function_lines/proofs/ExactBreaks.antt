@@ -10,4 +10,5 @@ use Rattle.gj_function_lines.proofs.ClearLines.{break_is_clear}
 
 pub spelled_break_is_exact : IsExactRule spelled_break_rule.Spells spelled_break_rule.Breaks
 spelled_break_is_exact =
-    turned_rule_is_exact (λ b. break_at b.0 (point_of b.1)) (rule_in Lenient break_form) (rule_in_is_exact Lenient break_form break_is_clear)
+    turned_rule_is_exact (λ b. break_at b.0 (point_of b.1)) (rule_in Lenient break_form)
+    (rule_in_is_exact Lenient break_form break_is_clear)

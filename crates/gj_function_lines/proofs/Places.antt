@@ -41,18 +41,22 @@ parts_of_place n d order k some some_order h e =
       place_is = place;
     }
 
-pub place_parts : (num den : ℤ) (order k : ℕ) → IsLowest num den → 0 < order → num *ℤ pos order ≡ pos k *ℤ den →
+pub place_parts : (num den : ℤ) (order k : ℕ) → IsLowest num den → 0 < order →
+    num *ℤ pos order ≡ pos k *ℤ den →
     IsPlaceOf num den order k
 place_parts (pos n) (pos d) order k low some e =
     parts_of_place n d order k (omega (arith, ints, low.positive)) some
-    (whole_multiple (pos n) (pos k) d order low.coprime (mul_comm_z (pos order) (pos n) ∙ e)) (omega (arith, ints, e))
+    (whole_multiple (pos n) (pos k) d order low.coprime (mul_comm_z (pos order) (pos n) ∙ e))
+    (omega (arith, ints, e))
 place_parts (negsuc n) (pos d) order k low some e =
-    let below = mul_lt_mul_right_z (negsuc n) (pos 0) (pos order) (omega (arith, ints)) (omega (arith, ints)) in
+    let below = mul_lt_mul_right_z (negsuc n) (pos 0) (pos order) (omega (arith, ints))
+    (omega (arith, ints)) in
     absurd (omega (arith, ints, e))
 place_parts num (negsuc d) order k low some e = absurd (omega (arith, ints, low.positive))
 
 -- the number read for the place is the place
-pub place_found : (num den : ℤ) (n d order k : ℕ) → num ≡ pos n → den ≡ pos d → order % d ≡ 0 → k ≡ n * (order / d) →
+pub place_found : (num den : ℤ) (n d order k : ℕ) → num ≡ pos n → den ≡ pos d → order % d ≡ 0 →
+    k ≡ n * (order / d) →
     num *ℤ pos order ≡ pos k *ℤ den
 place_found num den n d order k num_is den_is divides k_is =
     let whole : d * (order / d) ≡ order = mul-div_cancel' d (dvd_of_mod-eq-zero d divides) in
@@ -65,7 +69,8 @@ pub some_order : (order : ℕ) → IsOrder order → 0 < order
 some_order order h = omega (arith, h.0)
 
 -- the product that is computed for the place is the place
-pub product_is : (num den : ℤ) (n d order k : ℕ) → num ≡ pos n → den ≡ pos d → IsPlaceOf num den order k →
+pub product_is : (num den : ℤ) (n d order k : ℕ) → num ≡ pos n → den ≡ pos d →
+    IsPlaceOf num den order k →
     n * (order / d) ≡ k
 product_is num den n d order k num_is den_is p =
     let same_n : n ≡ p.n = omega (arith, ints, num_is, p.num_is) in

@@ -24,7 +24,8 @@ face_text face = face_word face.kind ++ codes " " ++ decimal face.a ++ codes " "
 -- the two
 abbrev pub cover_fields : CoverLine → List Field
 cover_fields l =
-    word (codes "cover") ∷ count l.interval ∷ count l.from ∷ word (face_word l.face.kind) ∷ count l.face.a ∷ count l.face.b ∷ []
+    word (codes "cover") ∷ count l.interval ∷ count l.from ∷ word (face_word l.face.kind)
+    ∷ count l.face.a ∷ count l.face.b ∷ []
 
 abbrev pub cover_line : CoverLine → List ℕ
 cover_line l = bytes_of (cover_fields l)

@@ -18,12 +18,14 @@ use Rattle.gj_function_lines.specs.PlaceFraction.{IsPlaceFraction}
 -- `order Q`, with Q from 2 to 1,000
 abbrev pub order_rule : Spelling → LineRule ℕ
 order_rule s =
-    made_rule (λ n q. (q ≡ n) × IsOrder n) (λ n e. (e ≡ reason.Order) × (IsOrder n → ⊥)) (rule_in s order_form)
+    made_rule (λ n q. (q ≡ n) × IsOrder n) (λ n e. (e ≡ reason.Order) × (IsOrder n → ⊥))
+    (rule_in s order_form)
 
 -- `f F`, with F equal to k/q for a k from 1 to q - 1
 abbrev pub place_rule : Spelling → ℕ → LineRule ℕ
 place_rule s q =
-    made_rule (λ x k. IsPlace q k × IsRatio x (pos k) (pos q)) (λ x e. (e ≡ reason.Place) × (IsPlaceFraction q x → ⊥))
+    made_rule (λ x k. IsPlace q k × IsRatio x (pos k) (pos q))
+    (λ x e. (e ≡ reason.Place) × (IsPlaceFraction q x → ⊥))
     (rule_in s place_form)
 
 -- ---- `point V` or `point L V R`
@@ -44,13 +46,15 @@ spelled_point_rule s = turned_rule point_of (barred_rule (AreThreeSame s) (rule_
 abbrev pub point_rule : Spelling → List Point → LineRule Point
 point_rule s points =
     made_rule (λ p q. (q ≡ p) × AreWithinBounds (all_fractions (points ++ p ∷ [])))
-    (λ p e. ((e ≡ reason.Large) × IsPointFault points p Large) ⊎ ((e ≡ reason.Fine) × IsPointFault points p Fine))
+    (λ p e. ((e ≡ reason.Large) × IsPointFault points p Large)
+    ⊎ ((e ≡ reason.Fine) × IsPointFault points p Fine))
     (spelled_point_rule s)
 
 -- so many points behind these; with them they are all the points
 abbrev pub points_part : Spelling → ℕ → List Point → Part (List Point)
 points_part s zero points = empty_part points
-points_part s (suc n) points = then_part (line_part s (point_rule s points)) (λ p. points_part s n (points ++ p ∷ []))
+points_part s (suc n) points =
+    then_part (line_part s (point_rule s points)) (λ p. points_part s n (points ++ p ∷ []))
 
 -- ---- the lines of a function
 
@@ -58,4 +62,5 @@ abbrev pub function_part : Spelling → Part FunctionData
 function_part s =
     then_part (line_part s (order_rule s)) (λ q.
     then_part (line_part s (place_rule s q)) (λ k.
-    made_part (λ points f. IsGivenBy q k (lefts points) (values points) (rights points) f) (points_part s q [])))
+    made_part (λ points f. IsGivenBy q k (lefts points) (values points) (rights points) f)
+    (points_part s q [])))

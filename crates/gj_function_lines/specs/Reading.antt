@@ -38,7 +38,8 @@ point_of_printed (Jump p) = p
 
 -- the next line of the text begins at `start` and spells the point, and the rest follows it
 abbrev pub IsPointLine : Spelling → List ℕ → List ℕ → List ℕ → Point → Type 0
-IsPointLine s text start rest p = (words : List (List ℕ)) × HasLine s text start words rest × (spelled_point_rule s).Spells words p
+IsPointLine s text start rest p = (words : List (List ℕ)) × HasLine s text start words rest
+    × (spelled_point_rule s).Spells words p
 
 -- the refusal of a line, with so many bytes left, whose point cannot follow
 abbrev pub refusal_of : PointFault → ℕ → PartFault

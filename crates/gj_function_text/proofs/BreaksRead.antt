@@ -24,50 +24,79 @@ use Rattle.gj_function_text.proofs.ExactBreaks.{last_of, more_of}
 -- ---- the line of a breakpoint
 
 -- the breakpoint of a line cannot follow
-pub break_refused : (text start rest : List ℕ) (words : List (List ℕ)) (s : BreakList) (b : Break) (f : BreakFault) →
+pub break_refused : (text start rest : List ℕ) (words : List (List ℕ)) (s : BreakList) (b : Break)
+    (f : BreakFault) →
     HasLine Lenient text start words rest → spelled_break_rule.Spells words b → IsBreakFault s b f →
     IsFaultOf (line_part Lenient (break_rule s)) text (refusal_of f (length start))
-break_refused text start rest words s b fault.Break line spelled h = (start, refl, inl (words, rest, line, inr (b, spelled, (fault.Break, h, refl))))
-break_refused text start rest words s b fault.Pieces line spelled h = (start, refl, inl (words, rest, line, inr (b, spelled, (fault.Pieces, h, refl))))
-break_refused text start rest words s b fault.Large line spelled h = (start, refl, inl (words, rest, line, inr (b, spelled, (fault.Large, h, refl))))
-break_refused text start rest words s b fault.Fine line spelled h = (start, refl, inl (words, rest, line, inr (b, spelled, (fault.Fine, h, refl))))
+break_refused text start rest words s b fault.Break line spelled h =
+    (start, refl, inl (words, rest, line, inr (b, spelled, (fault.Break, h, refl))))
+break_refused text start rest words s b fault.Pieces line spelled h =
+    (start, refl, inl (words, rest, line, inr (b, spelled, (fault.Pieces, h, refl))))
+break_refused text start rest words s b fault.Large line spelled h =
+    (start, refl, inl (words, rest, line, inr (b, spelled, (fault.Large, h, refl))))
+break_refused text start rest words s b fault.Fine line spelled h =
+    (start, refl, inl (words, rest, line, inr (b, spelled, (fault.Fine, h, refl))))
 break_refused text start rest words s b (fault.Memory a) line spelled h = tt
 
 -- ---- the line `end`
 
 -- there is no function behind the line
-pub end_refused : (text start rest : List ℕ) (words : List (List ℕ)) (s : BreakList) (f : ShapeFault) →
-    HasLine Lenient text start words rest → words ≡ end_words → IsTooFineOf (AreListsOfBreaks s.order s.breaks) f →
+pub end_refused : (text start rest : List ℕ) (words : List (List ℕ)) (s : BreakList)
+    (f : ShapeFault) →
+    HasLine Lenient text start words rest → words ≡ end_words →
+    IsTooFineOf (AreListsOfBreaks s.order s.breaks) f →
     IsFaultOf (line_part Lenient (end_rule s)) text (end_refusal f (length start))
 end_refused text start rest words s (shape.Memory a) line is h = tt
 end_refused text start rest words s shape.Order line is h = absurd h
 end_refused text start rest words s shape.Place line is h = absurd h
 end_refused text start rest words s shape.Count line is h = absurd h
 end_refused text start rest words s (shape.TooLarge i) line is h = absurd h
-end_refused text start rest words s (shape.TooFine i) line is (left, value, right, (points, grid, left_is, value_is, right_is), fine) =
-    (start, refl, inl (words, rest, line, inr (tt, is, (refl, (points, i, grid, rw (← left_is, ← value_is, ← right_is) fine)))))
+end_refused text start rest words s (shape.TooFine i) line is
+    (left, value, right, (points, grid, left_is, value_is, right_is), fine) = (
+      start,
+      refl,
+      inl (
+        words,
+        rest,
+        line,
+        inr
+            (tt, is, (refl, (points, i, grid, rw (← left_is, ← value_is, ← right_is) fine))),
+      ),
+    )
 
 -- ---- the lines in turn
 
 module _ (first : BreakList) (text : List ℕ) where
-  pub break_on : (s t : BreakList) (rest behind : List ℕ) → LeadsOn next_break first text s rest → (EndsHere s rest → ⊥) →
-      (line_part Lenient (break_rule s)).Reads rest t behind → LeadsOn next_break first text t behind
-  break_on s t rest behind h not line = leads_on next_break first text s t rest behind h (inr (not, (t, line, refl)))
+  pub break_on : (s t : BreakList) (rest behind : List ℕ) → LeadsOn next_break first text s rest →
+      (EndsHere s rest → ⊥) →
+      (line_part Lenient (break_rule s)).Reads rest t behind →
+      LeadsOn next_break first text t behind
+  break_on s t rest behind h not line =
+      leads_on next_break first text s t rest behind h (inr (not, (t, line, refl)))
 
-  pub breaks_end : (s : BreakList) (rest end : List ℕ) (f : FunctionData) → LeadsOn next_break first text s rest → EndsHere s rest →
-      (line_part Lenient (end_rule s)).Reads rest f end → (loop_part next_break first).Reads text f end
-  breaks_end s rest end f h ends line = leads_to_end next_break first text s rest f end h (inl (ends, (f, line, refl)))
+  pub breaks_end : (s : BreakList) (rest end : List ℕ) (f : FunctionData) →
+      LeadsOn next_break first text s rest → EndsHere s rest →
+      (line_part Lenient (end_rule s)).Reads rest f end →
+      (loop_part next_break first).Reads text f end
+  breaks_end s rest end f h ends line =
+      leads_to_end next_break first text s rest f end h (inl (ends, (f, line, refl)))
 
-  pub fault_in_break : (s : BreakList) (rest : List ℕ) (e : PartFault) → LeadsOn next_break first text s rest → (EndsHere s rest → ⊥) →
-      IsFaultOf (line_part Lenient (break_rule s)) rest e → IsFaultOf (loop_part next_break first) text e
+  pub fault_in_break : (s : BreakList) (rest : List ℕ) (e : PartFault) →
+      LeadsOn next_break first text s rest → (EndsHere s rest → ⊥) →
+      IsFaultOf (line_part Lenient (break_rule s)) rest e →
+      IsFaultOf (loop_part next_break first) text e
   fault_in_break s rest e h not fault =
       leads_to_fault next_break first text s rest e h
       (fault_else (EndsHere s) (last_of s) (more_of s) rest e not
-      (fault_in_made {B = BreakList ⊎ FunctionData} (λ (t : BreakList) next. next ≡ inl t) (line_part Lenient (break_rule s)) rest e fault))
+      (fault_in_made {B = BreakList ⊎ FunctionData} (λ (t : BreakList) next. next ≡ inl t)
+      (line_part Lenient (break_rule s)) rest e fault))
 
-  pub fault_at_end : (s : BreakList) (rest : List ℕ) (e : PartFault) → LeadsOn next_break first text s rest → EndsHere s rest →
-      IsFaultOf (line_part Lenient (end_rule s)) rest e → IsFaultOf (loop_part next_break first) text e
+  pub fault_at_end : (s : BreakList) (rest : List ℕ) (e : PartFault) →
+      LeadsOn next_break first text s rest → EndsHere s rest →
+      IsFaultOf (line_part Lenient (end_rule s)) rest e →
+      IsFaultOf (loop_part next_break first) text e
   fault_at_end s rest e h ends fault =
       leads_to_fault next_break first text s rest e h
       (fault_where (EndsHere s) (last_of s) (more_of s) rest e ends
-      (fault_in_made {B = BreakList ⊎ FunctionData} (λ (f : FunctionData) next. next ≡ inr f) (line_part Lenient (end_rule s)) rest e fault))
+      (fault_in_made {B = BreakList ⊎ FunctionData} (λ (f : FunctionData) next. next ≡ inr f)
+      (line_part Lenient (end_rule s)) rest e fault))

@@ -29,8 +29,10 @@ use Rattle.gj_function_text.specs.FunctionText.{breaks_title_words, breaks_text}
 
 start_rule_is_exact : IsExactRule start_rule.Spells start_rule.Breaks
 start_rule_is_exact =
-    made_rule_is_exact (λ x s. IsInside x × (unsigned_abs (denominator x) ≤ greatest_order) × (s ≡ no_breaks x)) Refused
-    (rule_in Lenient place_form) (rule_in_is_exact Lenient place_form place_is_clear) (λ x s t h k. h.2 ∙ sym k.2) one_reason not_both
+    made_rule_is_exact (λ x s. IsInside x × (unsigned_abs (denominator x) ≤ greatest_order)
+    × (s ≡ no_breaks x)) Refused
+    (rule_in Lenient place_form) (rule_in_is_exact Lenient place_form place_is_clear)
+    (λ x s t h k. h.2 ∙ sym k.2) one_reason not_both
   where
     Refused : Frac → Reason → Type 0
     Refused x e = ((e ≡ reason.Place) × (IsInside x → ⊥))
@@ -42,7 +44,8 @@ start_rule_is_exact =
     one_reason x e d (inr h) (inl k) = absurd (k.1 h.1)
     one_reason x e d (inr h) (inr k) = h.0 ∙ sym k.0
 
-    not_both : (x : Frac) (s : BreakList) (e : Reason) → IsInside x × (unsigned_abs (denominator x) ≤ greatest_order) × (s ≡ no_breaks x) →
+    not_both : (x : Frac) (s : BreakList) (e : Reason) →
+        IsInside x × (unsigned_abs (denominator x) ≤ greatest_order) × (s ≡ no_breaks x) →
         Refused x e → ⊥
     not_both x s e h (inl k) = k.1 h.0
     not_both x s e h (inr k) = k.2 h.1
@@ -56,7 +59,8 @@ no_memory fault.Large e is = tt
 no_memory fault.Fine e is = tt
 no_memory (fault.Memory a) e is = is
 
-one_reason_of_fault : (f : BreakFault) (e d : Reason) → IsReasonOfBreak f e → IsReasonOfBreak f d → e ≡ d
+one_reason_of_fault : (f : BreakFault) (e d : Reason) → IsReasonOfBreak f e → IsReasonOfBreak f d →
+    e ≡ d
 one_reason_of_fault fault.Break e d h k = h ∙ sym k
 one_reason_of_fault fault.Pieces e d h k = h ∙ sym k
 one_reason_of_fault fault.Large e d h k = h ∙ sym k
@@ -65,7 +69,8 @@ one_reason_of_fault (fault.Memory a) e d h k = absurd h
 
 pub break_rule_is_exact : (s : BreakList) → IsExactRule (break_rule s).Spells (break_rule s).Breaks
 break_rule_is_exact s =
-    made_rule_is_exact (Follows s) Refused spelled_break_rule spelled_break_is_exact (one_following s) one_reason not_both
+    made_rule_is_exact (Follows s) Refused spelled_break_rule spelled_break_is_exact
+    (one_following s) one_reason not_both
   where
     Refused : Break → Reason → Type 0
     Refused b e = (f : BreakFault) × IsBreakFault s b f × IsReasonOfBreak f e
@@ -82,8 +87,10 @@ break_rule_is_exact s =
 
 end_rule_is_exact : (s : BreakList) → IsExactRule (end_rule s).Spells (end_rule s).Breaks
 end_rule_is_exact s =
-    made_rule_is_exact (λ (t : Unit {0}) (f : FunctionData). IsOfBreaks s f) (λ t e. (e ≡ reason.Fine) × AreTooFine s.order s.breaks)
-    (words_rule end_words) (words_rule_is_exact end_words) (λ t f g h k. one_function_of_list s f g h k) (λ t e d h k. h.0 ∙ sym k.0)
+    made_rule_is_exact (λ (t : Unit {0}) (f : FunctionData). IsOfBreaks s f)
+    (λ t e. (e ≡ reason.Fine) × AreTooFine s.order s.breaks)
+    (words_rule end_words) (words_rule_is_exact end_words)
+    (λ t f g h k. one_function_of_list s f g h k) (λ t e d h k. h.0 ∙ sym k.0)
     (λ t f e of fine. given_or_too_fine s.order of.0 s.breaks f of.2 fine.1)
 
 -- ---- the lines
@@ -97,17 +104,21 @@ more_of s = made_part (λ (t : BreakList) next. next ≡ inl t) (line_part Lenie
 next_break_is_exact : (s : BreakList) → IsExactPart (next_break s).Reads (next_break s).Faults
 next_break_is_exact s =
     where_part_is_exact (EndsHere s) (last_of s) (more_of s)
-    (made_part_is_exact (λ (f : FunctionData) next. next ≡ inr f) (λ f m n h k. h ∙ sym k) (line_part Lenient (end_rule s))
+    (made_part_is_exact (λ (f : FunctionData) next. next ≡ inr f) (λ f m n h k. h ∙ sym k)
+    (line_part Lenient (end_rule s))
     (line_part_is_exact Lenient (end_rule s) (end_rule_is_exact s)))
-    (made_part_is_exact (λ (t : BreakList) next. next ≡ inl t) (λ t m n h k. h ∙ sym k) (line_part Lenient (break_rule s))
+    (made_part_is_exact (λ (t : BreakList) next. next ≡ inl t) (λ t m n h k. h ∙ sym k)
+    (line_part Lenient (break_rule s))
     (line_part_is_exact Lenient (break_rule s) (break_rule_is_exact s)))
 
 breaks_part_is_exact : IsExactPart breaks_part.Reads breaks_part.Faults
 breaks_part_is_exact =
     then_part_is_exact (line_part Lenient start_rule) (λ s. loop_part next_break s)
-    (line_part_is_exact Lenient start_rule start_rule_is_exact) (loop_part_is_exact next_break next_break_is_exact)
+    (line_part_is_exact Lenient start_rule start_rule_is_exact)
+    (loop_part_is_exact next_break next_break_is_exact)
 
 pub breaks_text_is_exact : IsExactPart breaks_text.Reads breaks_text.Faults
 breaks_text_is_exact =
     then_part_is_exact (line_part Lenient (words_rule breaks_title_words)) (λ t. breaks_part)
-    (line_part_is_exact Lenient (words_rule breaks_title_words) (words_rule_is_exact breaks_title_words)) (λ t. breaks_part_is_exact)
+    (line_part_is_exact Lenient (words_rule breaks_title_words)
+    (words_rule_is_exact breaks_title_words)) (λ t. breaks_part_is_exact)

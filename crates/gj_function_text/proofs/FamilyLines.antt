@@ -49,7 +49,8 @@ second_words a b c v w e = cc
 gmic_or_half : codes "gmic" ≡ codes "half" → ⊥
 gmic_or_half = apart (codes "gmic") (codes "half") refl
 
-alike_families : (a b : Family) (words : List (List ℕ)) → with_numbers (family_fields a) words ≡ with_numbers (family_fields b) words →
+alike_families : (a b : Family) (words : List (List ℕ)) →
+    with_numbers (family_fields a) words ≡ with_numbers (family_fields b) words →
     AreAlike (family_fields a) (family_fields b)
 alike_families (gmic f) (gmic g) words e = tt
 alike_families (half f) (half g) words e = tt
@@ -71,21 +72,26 @@ told_family a b e = absurd cc
 
 -- ---- functions and faults of a family
 
-one_of_family : (a : Family) (f g : FunctionData) → IsOfFamily a f → IsOfFamily a g → IsWithinBounds f → IsWithinBounds g → f ≡ g
+one_of_family : (a : Family) (f g : FunctionData) → IsOfFamily a f → IsOfFamily a g →
+    IsWithinBounds f → IsWithinBounds g → f ≡ g
 one_of_family (gmic x) f g h k in_f in_g = one_gmic _ _ f g h.1 k.1 in_f in_g
 one_of_family (half x) f g h k in_f in_g = one_half_function _ _ f g h.1 k.1 in_f in_g
 one_of_family (two_slope n w) f g (s, are, none, is) (t, are', none', is') in_f in_g =
-    one_two_slope n t f g none'.3.2 (subst (λ signs. IsTwoSlope n signs f) (one_signs s t (sym are ∙ are')) is) is' in_f in_g
+    one_two_slope n t f g none'.3.2
+    (subst (λ signs. IsTwoSlope n signs f) (one_signs s t (sym are ∙ are')) is) is' in_f in_g
 
 -- no test fails if there is a function
-no_family_fault : (f : Frac) (x : FamilyFault) (e : Reason) → HasNoFamilyFault f → HasFamilyFault f x → IsReasonOf x e → ⊥
-no_family_fault f fault.TooManyPieces e none h is = let low = none.1 in let high = h.1 in omega arith
+no_family_fault : (f : Frac) (x : FamilyFault) (e : Reason) → HasNoFamilyFault f →
+    HasFamilyFault f x → IsReasonOf x e → ⊥
+no_family_fault f fault.TooManyPieces e none h is = let low = none.1 in let high = h.1 in
+    omega arith
 no_family_fault f fault.BadSigns e none h is = h
 no_family_fault f fault.BadF e none h is = h none.0
 no_family_fault f fault.NoSlopes e none h is = h
 no_family_fault f (fault.Memory a) e none h is = is
 
-no_two_slope_fault : (k : ℕ) (s : List Bool) (x : FamilyFault) (e : Reason) → HasNoTwoSlopeFault k s → HasTwoSlopeFault k s x →
+no_two_slope_fault : (k : ℕ) (s : List Bool) (x : FamilyFault) (e : Reason) →
+    HasNoTwoSlopeFault k s → HasTwoSlopeFault k s x →
     IsReasonOf x e → ⊥
 no_two_slope_fault k s fault.TooManyPieces e none h is = let few = none.1 in omega arith
 no_two_slope_fault k s fault.BadSigns e none h is = let some = none.0 in omega arith
@@ -93,14 +99,17 @@ no_two_slope_fault k s fault.BadF e none h is = h.2 none.2
 no_two_slope_fault k s fault.NoSlopes e none h is = h.3 none.3
 no_two_slope_fault k s (fault.Memory a) e none h is = is
 
-no_fault : (a : Family) (g : FunctionData) (x : FamilyFault) (e : Reason) → IsOfFamily a g → IsFaultOfFamily a x → IsReasonOf x e → ⊥
+no_fault : (a : Family) (g : FunctionData) (x : FamilyFault) (e : Reason) → IsOfFamily a g →
+    IsFaultOfFamily a x → IsReasonOf x e → ⊥
 no_fault (gmic f) g x e of h is = no_family_fault f x e of.0 h is
 no_fault (half f) g x e of h is = no_family_fault f x e of.0 h is
 no_fault (two_slope k w) g x e (s, are, none, of) (t, are', h) is =
-    no_two_slope_fault k t x e (subst (HasNoTwoSlopeFault k) (one_signs s t (sym are ∙ are')) none) h is
+    no_two_slope_fault k t x e (subst (HasNoTwoSlopeFault k) (one_signs s t (sym are ∙ are')) none)
+    h is
 
 -- one test fails first
-one_family_reason : (f : Frac) (x y : FamilyFault) (e d : Reason) → HasFamilyFault f x → HasFamilyFault f y → IsReasonOf x e →
+one_family_reason : (f : Frac) (x y : FamilyFault) (e d : Reason) → HasFamilyFault f x →
+    HasFamilyFault f y → IsReasonOf x e →
     IsReasonOf y d → e ≡ d
 one_family_reason f fault.TooManyPieces fault.TooManyPieces e d h k is is' = is ∙ sym is'
 one_family_reason f fault.TooManyPieces fault.BadF e d h k is is' = absurd (k h.0)
@@ -116,35 +125,46 @@ one_family_reason f fault.BadSigns y e d h k is is' = absurd h
 one_family_reason f fault.NoSlopes y e d h k is is' = absurd h
 one_family_reason f (fault.Memory a) y e d h k is is' = absurd is
 
-one_two_slope_reason : (n : ℕ) (s : List Bool) (x y : FamilyFault) (e d : Reason) → HasTwoSlopeFault n s x → HasTwoSlopeFault n s y →
+one_two_slope_reason : (n : ℕ) (s : List Bool) (x y : FamilyFault) (e d : Reason) →
+    HasTwoSlopeFault n s x → HasTwoSlopeFault n s y →
     IsReasonOf x e → IsReasonOf y d → e ≡ d
 one_two_slope_reason n s fault.TooManyPieces fault.TooManyPieces e d h k is is' = is ∙ sym is'
 one_two_slope_reason n s fault.TooManyPieces fault.BadSigns e d h k is is' = absurd (omega arith)
-one_two_slope_reason n s fault.TooManyPieces fault.BadF e d h k is is' = absurd (let few = k.1 in omega arith)
-one_two_slope_reason n s fault.TooManyPieces fault.NoSlopes e d h k is is' = absurd (let few = k.1 in omega arith)
+one_two_slope_reason n s fault.TooManyPieces fault.BadF e d h k is is' =
+    absurd (let few = k.1 in omega arith)
+one_two_slope_reason n s fault.TooManyPieces fault.NoSlopes e d h k is is' =
+    absurd (let few = k.1 in omega arith)
 one_two_slope_reason n s fault.TooManyPieces (fault.Memory a) e d h k is is' = absurd is'
 one_two_slope_reason n s fault.BadSigns fault.TooManyPieces e d h k is is' = absurd (omega arith)
 one_two_slope_reason n s fault.BadSigns fault.BadSigns e d h k is is' = is ∙ sym is'
-one_two_slope_reason n s fault.BadSigns fault.BadF e d h k is is' = absurd (let some = k.0 in omega arith)
-one_two_slope_reason n s fault.BadSigns fault.NoSlopes e d h k is is' = absurd (let some = k.0 in omega arith)
+one_two_slope_reason n s fault.BadSigns fault.BadF e d h k is is' =
+    absurd (let some = k.0 in omega arith)
+one_two_slope_reason n s fault.BadSigns fault.NoSlopes e d h k is is' =
+    absurd (let some = k.0 in omega arith)
 one_two_slope_reason n s fault.BadSigns (fault.Memory a) e d h k is is' = absurd is'
-one_two_slope_reason n s fault.BadF fault.TooManyPieces e d h k is is' = absurd (let few = h.1 in omega arith)
-one_two_slope_reason n s fault.BadF fault.BadSigns e d h k is is' = absurd (let some = h.0 in omega arith)
+one_two_slope_reason n s fault.BadF fault.TooManyPieces e d h k is is' =
+    absurd (let few = h.1 in omega arith)
+one_two_slope_reason n s fault.BadF fault.BadSigns e d h k is is' =
+    absurd (let some = h.0 in omega arith)
 one_two_slope_reason n s fault.BadF fault.BadF e d h k is is' = is ∙ sym is'
 one_two_slope_reason n s fault.BadF fault.NoSlopes e d h k is is' = absurd (h.2 k.2)
 one_two_slope_reason n s fault.BadF (fault.Memory a) e d h k is is' = absurd is'
-one_two_slope_reason n s fault.NoSlopes fault.TooManyPieces e d h k is is' = absurd (let few = h.1 in omega arith)
-one_two_slope_reason n s fault.NoSlopes fault.BadSigns e d h k is is' = absurd (let some = h.0 in omega arith)
+one_two_slope_reason n s fault.NoSlopes fault.TooManyPieces e d h k is is' =
+    absurd (let few = h.1 in omega arith)
+one_two_slope_reason n s fault.NoSlopes fault.BadSigns e d h k is is' =
+    absurd (let some = h.0 in omega arith)
 one_two_slope_reason n s fault.NoSlopes fault.BadF e d h k is is' = absurd (k.2 h.2)
 one_two_slope_reason n s fault.NoSlopes fault.NoSlopes e d h k is is' = is ∙ sym is'
 one_two_slope_reason n s fault.NoSlopes (fault.Memory a) e d h k is is' = absurd is'
 one_two_slope_reason n s (fault.Memory a) y e d h k is is' = absurd is
 
-one_fault_reason : (a : Family) (x y : FamilyFault) (e d : Reason) → IsFaultOfFamily a x → IsFaultOfFamily a y → IsReasonOf x e → IsReasonOf y d → e ≡ d
+one_fault_reason : (a : Family) (x y : FamilyFault) (e d : Reason) → IsFaultOfFamily a x →
+    IsFaultOfFamily a y → IsReasonOf x e → IsReasonOf y d → e ≡ d
 one_fault_reason (gmic f) x y e d h k is is' = one_family_reason f x y e d h k is is'
 one_fault_reason (half f) x y e d h k is is' = one_family_reason f x y e d h k is is'
 one_fault_reason (two_slope n w) x y e d (s, are, h) (t, are', k) is is' =
-    one_two_slope_reason n t x y e d (subst (λ signs. HasTwoSlopeFault n signs x) (one_signs s t (sym are ∙ are')) h) k is is'
+    one_two_slope_reason n t x y e d
+    (subst (λ signs. HasTwoSlopeFault n signs x) (one_signs s t (sym are ∙ are')) h) k is is'
 
 -- a family without signs has no function, and no fault but that
 no_signs_no_function : (a : Family) (g : FunctionData) → HasNoSigns a → IsOfFamily a g → ⊥
@@ -161,12 +181,14 @@ no_signs_no_fault (two_slope k w) x none (s, are, h) = none s are
 
 pub family_rule_is_exact : IsExactRule family_rule.Spells family_rule.Breaks
 family_rule_is_exact =
-    made_rule_is_exact (λ family g. IsOfFamily family g × IsWithinBounds g) Refused (rule_in Lenient family_form)
+    made_rule_is_exact (λ family g. IsOfFamily family g × IsWithinBounds g) Refused
+    (rule_in Lenient family_form)
     (rule_in_is_exact Lenient family_form (clear_form family_fields alike_families told_family))
     (λ a f g h k. one_of_family a f g h.0 k.0 h.1 k.1) one_reason not_both
   where
     Refused : Family → Reason → Type 0
-    Refused a e = ((e ≡ reason.Signs) × HasNoSigns a) ⊎ ((x : FamilyFault) × IsFaultOfFamily a x × IsReasonOf x e)
+    Refused a e = ((e ≡ reason.Signs) × HasNoSigns a)
+        ⊎ ((x : FamilyFault) × IsFaultOfFamily a x × IsReasonOf x e)
 
     one_reason : (a : Family) (e d : Reason) → Refused a e → Refused a d → e ≡ d
     one_reason a e d (inl h) (inl k) = h.0 ∙ sym k.0
@@ -174,7 +196,8 @@ family_rule_is_exact =
     one_reason a e d (inr (x, h, is)) (inl k) = absurd (no_signs_no_fault a x k.1 h)
     one_reason a e d (inr (x, h, is)) (inr (y, k, is')) = one_fault_reason a x y e d h k is is'
 
-    not_both : (a : Family) (g : FunctionData) (e : Reason) → IsOfFamily a g × IsWithinBounds g → Refused a e → ⊥
+    not_both : (a : Family) (g : FunctionData) (e : Reason) → IsOfFamily a g × IsWithinBounds g →
+        Refused a e → ⊥
     not_both a g e h (inl k) = no_signs_no_function a g k.1 h.0
     not_both a g e h (inr (x, k, is)) = no_fault a g x e h.0 k is
 

@@ -33,21 +33,29 @@ behind_title t = then_part body_part end_of
 pub fault_in_body : (text middle : List ℕ) (fault : PartFault) → title_part.Reads text tt middle →
     IsFaultOf body_part middle fault → IsFaultOf points_text text fault
 fault_in_body text middle fault title h =
-    fault_in_next title_part behind_title text tt middle fault title (fault_in_first body_part end_of middle fault h)
+    fault_in_next title_part behind_title text tt middle fault title
+    (fault_in_first body_part end_of middle fault h)
 
-pub fault_in_end : (text middle rest : List ℕ) (f : FunctionData) (fault : PartFault) → title_part.Reads text tt middle →
-    body_part.Reads middle f rest → IsFaultOf last_part rest fault → IsFaultOf points_text text fault
+pub fault_in_end : (text middle rest : List ℕ) (f : FunctionData) (fault : PartFault) →
+    title_part.Reads text tt middle →
+    body_part.Reads middle f rest → IsFaultOf last_part rest fault →
+    IsFaultOf points_text text fault
 fault_in_end text middle rest f fault title lines h =
     fault_in_next title_part behind_title text tt middle fault title
-    (fault_in_next body_part end_of middle f rest fault lines (fault_in_first last_part (λ t. empty_part f) rest fault h))
+    (fault_in_next body_part end_of middle f rest fault lines
+    (fault_in_first last_part (λ t. empty_part f) rest fault h))
 
 -- the lines of a function begin with no line of a family
-pub no_family_line : (text : List ℕ) (f : FunctionData) (rest : List ℕ) → (function_part Lenient).Reads text f rest →
+pub no_family_line : (text : List ℕ) (f : FunctionData) (rest : List ℕ) →
+    (function_part Lenient).Reads text f rest →
     BeginsWithWord Lenient (codes "family") text → ⊥
 no_family_line text f rest (q, next, (start, words, line, (n, (spelled, t), order)), h) =
-    other_word Lenient text start words (codes "family") next line (λ more e. not_both more _ (sym e ∙ spelled_words Lenient (order_form.fields n) words spelled))
+    other_word Lenient text start words (codes "family") next line
+    (λ more e. not_both more _
+    (sym e ∙ spelled_words Lenient (order_form.fields n) words spelled))
   where
-    not_both : (more : List (List ℕ)) (word : List ℕ) → codes "family" ∷ more ≡ codes "order" ∷ word ∷ [] → ⊥
+    not_both : (more : List (List ℕ)) (word : List ℕ) →
+        codes "family" ∷ more ≡ codes "order" ∷ word ∷ [] → ⊥
     not_both more word e = cc
 
 -- the title of text 1 is not that of text 2
@@ -58,39 +66,54 @@ pub one_title : title_words ≡ breaks_title_words → ⊥
 one_title e = let bytes = second_bytes _ _ _ e in omega arith
 
 -- so a text with the one as its first line does not begin with the other
-pub no_other_title : (text rest : List ℕ) → title_part.Reads text tt rest → BeginsWithLine Lenient breaks_title_words text → ⊥
+pub no_other_title : (text rest : List ℕ) → title_part.Reads text tt rest →
+    BeginsWithLine Lenient breaks_title_words text → ⊥
 no_other_title text rest (start, words, line, is) begins =
-    other_line Lenient text start words breaks_title_words rest line (λ e. one_title (sym is ∙ e)) begins
+    other_line Lenient text start words breaks_title_words rest line
+    (λ e. one_title (sym is ∙ e)) begins
 
-pub whole_text : (text rest : List ℕ) (f : FunctionData) → IsFunctionText text f rest → HasNothing Lenient rest → IsWholeFunctionText text f
+pub whole_text : (text rest : List ℕ) (f : FunctionData) → IsFunctionText text f rest →
+    HasNothing Lenient rest → IsWholeFunctionText text f
 whole_text text rest f h nothing = (rest, (f, rest, h, (refl, refl, nothing)))
 
 -- what tells a function, and that it is within bounds
-body_is_within : (text : List ℕ) (f : FunctionData) (rest : List ℕ) → body_part.Reads text f rest → IsWithinBounds f
-body_is_within text f rest (inl (is, (start, words, line, (family, spelled, (of, within))))) = within
+body_is_within : (text : List ℕ) (f : FunctionData) (rest : List ℕ) → body_part.Reads text f rest →
+    IsWithinBounds f
+body_is_within text f rest (inl (is, (start, words, line, (family, spelled, (of, within))))) =
+    within
 body_is_within text f rest (inr (not, h)) = within_bounds Lenient text f rest h
 
-points_are_within : (text : List ℕ) (f : FunctionData) (rest : List ℕ) → points_text.Reads text f rest → IsWithinBounds f
+points_are_within : (text : List ℕ) (f : FunctionData) (rest : List ℕ) →
+    points_text.Reads text f rest → IsWithinBounds f
 points_are_within text f rest (t, m, title, (g, n, lines, (t', r, end, (same, at)))) =
     subst IsWithinBounds (sym same) (body_is_within m g n lines)
 
 -- or breakpoints
-in_turn_within : (f : FunctionData) (rest : List ℕ) (s : BreakList) (text : List ℕ) → ReadsInTurn (λ t. (next_break t).Reads) f rest s text →
+in_turn_within : (f : FunctionData) (rest : List ℕ) (s : BreakList) (text : List ℕ) →
+    ReadsInTurn (λ t. (next_break t).Reads) f rest s text →
     IsWithinBounds f
-in_turn_within f rest s text (last _ _ (inl (ends, (g, (start, words, line, (t, is, (k, place, (points, grid, given)))), same)))) =
+in_turn_within f rest s text
+    (last _ _ (inl (
+      ends,
+      (g, (start, words, line, (t, is, (k, place, (points, grid, given)))), same),
+    ))) =
     subst IsWithinBounds (sym (right_is f g same)) given.within
   where
     right_is : (f g : FunctionData) → ◌≡◌ {A = BreakList ⊎ FunctionData} (inr f) (inr g) → f ≡ g
     right_is f g e = cc
 in_turn_within f rest s text (last _ _ (inr (not, (t, reads, same)))) = absurd (apart t f same)
   where
-    apart : (t : BreakList) (f : FunctionData) → ◌≡◌ {A = BreakList ⊎ FunctionData} (inr f) (inl t) → ⊥
+    apart : (t : BreakList) (f : FunctionData) →
+        ◌≡◌ {A = BreakList ⊎ FunctionData} (inr f) (inl t) → ⊥
     apart t f e = cc
-in_turn_within f rest s text (onward _ _ next middle reads more) = in_turn_within f rest next middle more
+in_turn_within f rest s text (onward _ _ next middle reads more) =
+    in_turn_within f rest next middle more
 
-breaks_are_within : (text : List ℕ) (f : FunctionData) (rest : List ℕ) → breaks_text.Reads text f rest → IsWithinBounds f
+breaks_are_within : (text : List ℕ) (f : FunctionData) (rest : List ℕ) →
+    breaks_text.Reads text f rest → IsWithinBounds f
 breaks_are_within text f rest (t, m, title, (s, n, start, more)) = in_turn_within f rest s n more
 
-pub function_is_within : (text : List ℕ) (f : FunctionData) (rest : List ℕ) → IsFunctionText text f rest → IsWithinBounds f
+pub function_is_within : (text : List ℕ) (f : FunctionData) (rest : List ℕ) →
+    IsFunctionText text f rest → IsWithinBounds f
 function_is_within text f rest (inl (is, h)) = breaks_are_within text f rest h
 function_is_within text f rest (inr (not, h)) = points_are_within text f rest h

@@ -33,22 +33,30 @@ rule_text_is_exact =
 pub one_end : (text a b : List ℕ) → IsRuleText text a → IsRuleText text b → a ≡ b
 one_end text a b h k = (rule_text_is_exact.one_thing text tt tt a b h k).1
 
-pub no_fault_of_rule : (text rest : List ℕ) (n : ℕ) (e : Reason) → IsRuleText text rest → IsFirstFaultOfRule text n e → ⊥
-no_fault_of_rule text rest n e h fault = numbers.no_first_fault rule_text rule_text_is_exact text tt rest n e h fault
+pub no_fault_of_rule : (text rest : List ℕ) (n : ℕ) (e : Reason) → IsRuleText text rest →
+    IsFirstFaultOfRule text n e → ⊥
+no_fault_of_rule text rest n e h fault =
+    numbers.no_first_fault rule_text rule_text_is_exact text tt rest n e h fault
 
-pub one_fault_of_rule : (text : List ℕ) (n m : ℕ) (e d : Reason) → IsFirstFaultOfRule text n e → IsFirstFaultOfRule text m d →
+pub one_fault_of_rule : (text : List ℕ) (n m : ℕ) (e d : Reason) → IsFirstFaultOfRule text n e →
+    IsFirstFaultOfRule text m d →
     (n ≡ m) × (e ≡ d)
-one_fault_of_rule text n m e d h k = numbers.one_first_fault rule_text rule_text_is_exact text n m e d h k
+one_fault_of_rule text n m e d h k =
+    numbers.one_first_fault rule_text rule_text_is_exact text n m e d h k
 
 -- ---- its lines
 
-pub fault_in_name : (text first : List ℕ) (fault : PartFault) → title_part.Reads text tt first → IsFaultOf name_part first fault →
+pub fault_in_name : (text first : List ℕ) (fault : PartFault) → title_part.Reads text tt first →
+    IsFaultOf name_part first fault →
     IsFaultOf rule_text text fault
 fault_in_name text first fault title h =
-    fault_in_next title_part behind_title text tt first fault title (fault_in_first name_part behind_name first fault h)
+    fault_in_next title_part behind_title text tt first fault title
+    (fault_in_first name_part behind_name first fault h)
 
-pub fault_in_last : (text first second : List ℕ) (fault : PartFault) → title_part.Reads text tt first → name_part.Reads first tt second →
+pub fault_in_last : (text first second : List ℕ) (fault : PartFault) →
+    title_part.Reads text tt first → name_part.Reads first tt second →
     IsFaultOf last_part second fault → IsFaultOf rule_text text fault
 fault_in_last text first second fault title name h =
     fault_in_next title_part behind_title text tt first fault title
-    (fault_in_next name_part behind_name first tt second fault name (fault_in_first last_part (λ t. empty_part {A = Unit {0}} tt) second fault h))
+    (fault_in_next name_part behind_name first tt second fault name
+    (fault_in_first last_part (λ t. empty_part {A = Unit {0}} tt) second fault h))

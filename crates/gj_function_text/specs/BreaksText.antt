@@ -23,7 +23,8 @@ end_words = codes "end" ∷ []
 -- `f F`, with F between 0 and 1 and a denominator of at most 1,000
 abbrev pub start_rule : LineRule BreakList
 start_rule =
-    made_rule (λ x s. IsInside x × (unsigned_abs (denominator x) ≤ greatest_order) × (s ≡ no_breaks x))
+    made_rule (λ x s. IsInside x × (unsigned_abs (denominator x) ≤ greatest_order)
+    × (s ≡ no_breaks x))
     (λ x e. ((e ≡ reason.Place) × (IsInside x → ⊥))
     ⊎ ((e ≡ reason.Pieces) × IsInside x × (unsigned_abs (denominator x) ≤ greatest_order → ⊥)))
     (rule_in Lenient place_form)
@@ -40,12 +41,14 @@ IsReasonOfBreak (fault.Memory a) e = ⊥
 
 abbrev pub break_rule : BreakList → LineRule BreakList
 break_rule s =
-    made_rule (Follows s) (λ b e. (f : BreakFault) × IsBreakFault s b f × IsReasonOfBreak f e) spelled_break_rule
+    made_rule (Follows s) (λ b e. (f : BreakFault) × IsBreakFault s b f × IsReasonOfBreak f e)
+    spelled_break_rule
 
 -- `end`, of a function whose fractions on the grid have a common denominator
 abbrev pub end_rule : BreakList → LineRule FunctionData
 end_rule s =
-    made_rule (λ t f. IsOfBreaks s f) (λ t e. (e ≡ reason.Fine) × AreTooFine s.order s.breaks) (words_rule end_words)
+    made_rule (λ t f. IsOfBreaks s f) (λ t e. (e ≡ reason.Fine) × AreTooFine s.order s.breaks)
+    (words_rule end_words)
 
 -- ---- the lines
 

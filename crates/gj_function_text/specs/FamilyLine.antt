@@ -24,7 +24,8 @@ pub data Family : Type 0 where
 abbrev pub family_fields : Family → List Field
 family_fields (gmic f) = word (codes "family") ∷ word (codes "gmic") ∷ fraction f ∷ []
 family_fields (half f) = word (codes "family") ∷ word (codes "half") ∷ fraction f ∷ []
-family_fields (two_slope k signs) = word (codes "family") ∷ word (codes "two-slope") ∷ count k ∷ word signs ∷ []
+family_fields (two_slope k signs) = word (codes "family") ∷ word (codes "two-slope") ∷ count k
+    ∷ word signs ∷ []
 
 abbrev pub family_form : LineForm Family
 family_form = form_of family_fields
@@ -41,7 +42,8 @@ AreSigns bytes signs = bytes ≡ map sign_byte signs
 abbrev pub IsOfFamily : Family → FunctionData → Type 0
 IsOfFamily (gmic f) g = HasNoFamilyFault f × IsGmic (order_of f) (place_of f) g
 IsOfFamily (half f) g = HasNoFamilyFault f × IsHalf (order_of f) (place_of f) g
-IsOfFamily (two_slope k bytes) g = (signs : List Bool) × AreSigns bytes signs × HasNoTwoSlopeFault k signs × IsTwoSlope k signs g
+IsOfFamily (two_slope k bytes) g = (signs : List Bool) × AreSigns bytes signs
+    × HasNoTwoSlopeFault k signs × IsTwoSlope k signs g
 
 -- its signs are none
 abbrev pub HasNoSigns : Family → Type 0
@@ -52,7 +54,8 @@ HasNoSigns family = ⊥
 abbrev pub IsFaultOfFamily : Family → FamilyFault → Type 0
 IsFaultOfFamily (gmic f) x = HasFamilyFault f x
 IsFaultOfFamily (half f) x = HasFamilyFault f x
-IsFaultOfFamily (two_slope k bytes) x = (signs : List Bool) × AreSigns bytes signs × HasTwoSlopeFault k signs x
+IsFaultOfFamily (two_slope k bytes) x = (signs : List Bool) × AreSigns bytes signs
+    × HasTwoSlopeFault k signs x
 
 -- how a line is refused for it
 abbrev pub IsReasonOf : FamilyFault → Reason → Type 0

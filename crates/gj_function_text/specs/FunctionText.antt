@@ -62,7 +62,8 @@ pub record IsCanonicalText (text : List ℕ) (f : FunctionData) : Type 0 where
 -- one space between words, canonical numbers, and one fraction if the three are equal
 abbrev pub canonical_breaks_text : Frac → List Break → List ℕ
 canonical_breaks_text place breaks =
-    line (codes "gj-function 2") ++ place_line place ++ flat_map break_line breaks ++ line (codes "end")
+    line (codes "gj-function 2") ++ place_line place ++ flat_map break_line breaks ++ line
+    (codes "end")
 
 -- the breakpoint where the first lies, at which the limits are the value, the second
 abbrev pub even_break : Frac × Frac → Break

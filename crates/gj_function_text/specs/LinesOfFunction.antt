@@ -38,7 +38,8 @@ pub record HasLinesOfFunction (text : List ℕ) (f : FunctionData) (rest : List 
   pub place_is : IsRatio fraction (pos f.place) (pos f.order)
   pub points_spelled : AllZip SpellPoint point_lines points
   pub points_are : ArePointsOf f points
-  pub has_lines : HasLines Lenient text (title_words ∷ order ∷ place ∷ point_lines ++ end_words ∷ []) rest
+  pub has_lines : HasLines Lenient text
+      (title_words ∷ order ∷ place ∷ point_lines ++ end_words ∷ []) rest
 
 -- ---- functions of families
 
@@ -56,7 +57,8 @@ pub record HasLinesOfFamily (text : List ℕ) (f : FunctionData) (rest : List �
 
 -- the words spell the breakpoint
 abbrev pub SpellBreak : List (List ℕ) → Break → Type 0
-SpellBreak words b = (t : Frac × PointNumbers) × Spell Lenient break_form words t × (b ≡ break_at t.0 (point_of t.1))
+SpellBreak words b = (t : Frac × PointNumbers) × Spell Lenient break_form words t
+    × (b ≡ break_at t.0 (point_of t.1))
 
 -- the text has the lines `gj-function 2`, `f F` with F between 0 and 1, a line `point X V` or
 -- `point X L V R` for each of one or more breakpoints, and `end`, and the rest follows; f is the

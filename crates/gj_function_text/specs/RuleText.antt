@@ -14,7 +14,8 @@ rule_name_words = codes "gmic" ∷ []
 
 -- a rule text: the lines `gj-rule 1`, `gmic` and `end`
 abbrev pub rule_text : Part (Unit {0})
-rule_text = framed_part Lenient rule_title_words (line_part Lenient (words_rule rule_name_words)) end_words
+rule_text = framed_part Lenient rule_title_words (line_part Lenient (words_rule rule_name_words))
+    end_words
 
 -- the text begins with a rule text, and the rest follows the line `end`
 abbrev pub IsRuleText : List ℕ → List ℕ → Type 0

@@ -7,10 +7,12 @@ use Rattle.gj_group.specs.RowsToCome.{tight_in_row, rows_from, pair_rows}
 
 -- ---- the pairs with one a
 
-pub tight_found : (t : ℕ → ℤ) (n a b : ℕ) → b < n → is_tight_pair t a b ≡ true → tight_in_row t n a b ≡ b ∷ tight_in_row t n a (b + 1)
+pub tight_found : (t : ℕ → ℤ) (n a b : ℕ) → b < n → is_tight_pair t a b ≡ true →
+    tight_in_row t n a b ≡ b ∷ tight_in_row t n a (b + 1)
 tight_found t n a b below is = ap (filter (is_tight_pair t a)) (range_step b n below) ∙ rw is refl
 
-pub tight_passed : (t : ℕ → ℤ) (n a b : ℕ) → b < n → is_tight_pair t a b ≡ false → tight_in_row t n a b ≡ tight_in_row t n a (b + 1)
+pub tight_passed : (t : ℕ → ℤ) (n a b : ℕ) → b < n → is_tight_pair t a b ≡ false →
+    tight_in_row t n a b ≡ tight_in_row t n a (b + 1)
 tight_passed t n a b below is = ap (filter (is_tight_pair t a)) (range_step b n below) ∙ rw is refl
 
 pub tight_end : (t : ℕ → ℤ) (n a b : ℕ) → n ≤ b → tight_in_row t n a b ≡ []
@@ -24,9 +26,11 @@ pairs_begin t n a below = ap (flat_map (sum_rows_with t n)) (range_step a n belo
 pub pairs_end : (t : ℕ → ℤ) (n a : ℕ) → n ≤ a → rows_from t n a ≡ []
 pairs_end t n a past = ap (flat_map (sum_rows_with t n)) (range_end a n past)
 
-pub pair_found : (t : ℕ → ℤ) (n a from b : ℕ) → tight_in_row t n a from ≡ b ∷ tight_in_row t n a (b + 1) →
+pub pair_found : (t : ℕ → ℤ) (n a from b : ℕ) →
+    tight_in_row t n a from ≡ b ∷ tight_in_row t n a (b + 1) →
     pair_rows t n a from ≡ sum_row n a b ∷ pair_rows t n a (b + 1)
 pair_found t n a from b is = ap (λ bs. map (sum_row n a) bs ++ rows_from t n (a + 1)) is
 
-pub no_pair : (t : ℕ → ℤ) (n a from : ℕ) → tight_in_row t n a from ≡ [] → pair_rows t n a from ≡ rows_from t n (a + 1)
+pub no_pair : (t : ℕ → ℤ) (n a from : ℕ) → tight_in_row t n a from ≡ [] →
+    pair_rows t n a from ≡ rows_from t n (a + 1)
 no_pair t n a from is = ap (λ bs. map (sum_row n a) bs ++ rows_from t n (a + 1)) is

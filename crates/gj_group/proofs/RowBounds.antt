@@ -13,16 +13,19 @@ use Rattle.gj_group.specs.GroupRows.{one_at, entry_row, sum_row, is_tight_pair, 
 
 -- ---- of each row
 
-all_rows : (P : List ℤ → Type 0) (t : ℕ → ℤ) (n k : ℕ) → P (entry_row n 0) → P (entry_row n k) → ((a b : ℕ) → P (sum_row n a b)) →
+all_rows : (P : List ℤ → Type 0) (t : ℕ → ℤ) (n k : ℕ) → P (entry_row n 0) → P (entry_row n k) →
+    ((a b : ℕ) → P (sum_row n a b)) →
     All P (group_rows t n k)
 all_rows P t n k start place pair =
     let pairs = made_of_pairs (sum_row n) (is_tight_pair t) n in
     All-cons P (entry_row n 0) (entry_row n k ∷ pairs) start
-    (All-cons P (entry_row n k) pairs place (all_pairs P (sum_row n) (is_tight_pair t) n (λ a b low high tight. pair a b)))
+    (All-cons P (entry_row n k) pairs place
+    (all_pairs P (sum_row n) (is_tight_pair t) n (λ a b low high tight. pair a b)))
 
 pub rows_length : (t : ℕ → ℤ) (n k : ℕ) → All (λ row. length row ≡ n) (group_rows t n k)
 rows_length t n k =
-    all_rows (λ row. length row ≡ n) t n k (length-map-range_with_len (one_at 0) 0 n) (length-map-range_with_len (one_at k) 0 n)
+    all_rows (λ row. length row ≡ n) t n k (length-map-range_with_len (one_at 0) 0 n)
+    (length-map-range_with_len (one_at k) 0 n)
     (λ a b. length-map-range_with_len (λ i. one_at a i +ℤ one_at b i -ℤ one_at ((a + b) % n) i) 0 n)
 
 one_fits : (b : Bool) → Fits (if b then pos 1 else pos 0)
@@ -30,7 +33,8 @@ one_fits true = omega arith
 one_fits false = omega arith
 
 sum_fits : (a b c : Bool) →
-    Fits ((if a then pos 1 else pos 0) +ℤ (if b then pos 1 else pos 0) -ℤ (if c then pos 1 else pos 0))
+    Fits ((if a then pos 1 else pos 0) +ℤ (if b then pos 1 else pos 0)
+    -ℤ (if c then pos 1 else pos 0))
 sum_fits true true true = omega arith
 sum_fits true true false = omega arith
 sum_fits true false true = omega arith
@@ -59,7 +63,8 @@ with_short t n a =
     let len = length-range_with_len a (n - a) in
     simp length-map (omega arith)
 
-joined_short : (g : ℕ → List (List ℤ)) (m : ℕ) (xs : List ℕ) → ((x : ℕ) → length (g x) ≤ m) → length (flat_map g xs) ≤ length xs * m
+joined_short : (g : ℕ → List (List ℤ)) (m : ℕ) (xs : List ℕ) → ((x : ℕ) → length (g x) ≤ m) →
+    length (flat_map g xs) ≤ length xs * m
 joined_short g m [] h = omega arith
 joined_short g m (x ∷ xs) h =
     let here = h x in
@@ -73,5 +78,6 @@ rows_few t n k high =
     let most = joined_short (sum_rows_with t n) n range (with_short t n) in
     let len = length-range_with_len 1 (n - 1) in
     let product : length (range_with_len 1 (n - 1)) * n ≤ 1000 * 1000 =
-    mul-le-mul {n₁ = length (range_with_len 1 (n - 1))} {m₁ = n} {n₂ = 1000} {m₂ = 1000} (omega arith) high in
+    mul-le-mul {n₁ = length (range_with_len 1 (n - 1))} {m₁ = n} {n₂ = 1000} {m₂ = 1000}
+    (omega arith) high in
     omega arith

@@ -33,7 +33,8 @@ pub record SplitTable (f : FunctionData) (h : Halves) : Type 0 where
   pub factor : ℕ
   pub order : h.order ≡ f.order
   pub scale : h.scale ≡ pos (factor * (f.scale * 1))
-  pub halves : AreDifferentHalves (table f 1) (f.order * 1) (f.place * 1) (f.scale * 1) factor (at h.first) (at h.second)
+  pub halves : AreDifferentHalves (table f 1) (f.order * 1) (f.place * 1) (f.scale * 1) factor
+      (at h.first) (at h.second)
 
 -- the table is not minimal, and the function breaks the definition as the violation shows; or it is
 -- extreme; or it is minimal and not extreme, as the halves show
@@ -65,5 +66,6 @@ IsFound f (NotExtreme h) = AreGroupHalves f h
 -- the rows are too wide, or the halves of their kernel are
 pub data IsTooWideGroup (f : FunctionData) : Type 0 where
   rows_too_wide : AreRowsTooWide f.order (own_rows f) → IsTooWideGroup f
-  halves_too_wide : (numbers : List ℤ) → IsKernel f.order (own_rows f) numbers → IsWide f (record { times = 1; values = numbers }) →
+  halves_too_wide : (numbers : List ℤ) → IsKernel f.order (own_rows f) numbers →
+      IsWide f (record { times = 1; values = numbers }) →
       IsTooWideGroup f

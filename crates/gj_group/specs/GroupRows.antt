@@ -28,7 +28,8 @@ sum_rows_with t n a = map (sum_row n a) (filter (is_tight_pair t a) (range_with_
 -- the rows in their order: the entries at 0 and at k, and the tight pairs (a, b) with 1 ≤ a ≤ b <
 -- n, a ascending, inside it b
 abbrev pub group_rows : (ℕ → ℤ) → ℕ → ℕ → List (List ℤ)
-group_rows t n k = entry_row n 0 ∷ entry_row n k ∷ flat_map (sum_rows_with t n) (range_with_len 1 (n - 1))
+group_rows t n k = entry_row n 0 ∷ entry_row n k ∷ flat_map (sum_rows_with t n)
+    (range_with_len 1 (n - 1))
 
 -- the numbers solve all rows
 abbrev pub SolveGroupRows : (ℕ → ℤ) → ℕ → ℕ → List ℤ → Type 0

@@ -25,7 +25,8 @@ pair_rows t n a from = map (sum_row n a) (tight_in_row t n a from) ++ rows_from 
 abbrev pub IsNextPair : (ℕ → ℤ) → ℕ → ℕ → ℕ → Option (ℕ × ℕ) → Type 0
 IsNextPair t n a from None = pair_rows t n a from ≡ []
 IsNextPair t n a from (Some p) =
-    (1 ≤ p.0) × (p.0 ≤ p.1) × (p.1 < n) × (pair_rows t n a from ≡ sum_row n p.0 p.1 ∷ pair_rows t n p.0 (p.1 + 1))
+    (1 ≤ p.0) × (p.0 ≤ p.1) × (p.1 < n)
+    × (pair_rows t n a from ≡ sum_row n p.0 p.1 ∷ pair_rows t n p.0 (p.1 + 1))
 
 -- the rows from the next one on
 abbrev pub upcoming_rows : (ℕ → ℤ) → ℕ → ℕ → Upcoming → List (List ℤ)

@@ -20,7 +20,8 @@ use Rattle.gj_json.specs.declared.faults.JsonFault.TheVariants.{Refused, Memory}
 
 -- ---- one value
 
-pub names_weaker : (P Q : JsonReason → Type 0) (fault : JsonFault) → ((e : JsonReason) → P e → Q e) → NamesJsonReason P fault →
+pub names_weaker : (P Q : JsonReason → Type 0) (fault : JsonFault) →
+    ((e : JsonReason) → P e → Q e) → NamesJsonReason P fault →
     NamesJsonReason Q fault
 names_weaker P Q (Refused e) f p = f e p
 names_weaker P Q (Memory a) f p = tt
@@ -34,17 +35,21 @@ string_or_integer (string s) w e = refl
 string_or_integer (array ds) w e = refl
 string_or_integer (object ms) w e = refl
 
-pub no_word : (d : Data) (w : List ℕ) → as_str d ≡ Some w → ((x : Frac) → IsFractionWord Lenient w x → ⊥) →
+pub no_word : (d : Data) (w : List ℕ) → as_str d ≡ Some w →
+    ((x : Frac) → IsFractionWord Lenient w x → ⊥) →
     (x : Frac) → SpellsNumber d x → ⊥
-no_word d w is none x (inl (v, e, h)) = none x (subst (λ u. IsFractionWord Lenient u x) (same_some v w (sym e ∙ is)) h)
+no_word d w is none x (inl (v, e, h)) =
+    none x (subst (λ u. IsFractionWord Lenient u x) (same_some v w (sym e ∙ is)) h)
 no_word d w is none x (inr (z, e, h)) = none-some z (sym (string_or_integer d w is) ∙ e)
 
 -- ---- the form
 
 pub no_limits : (d : Data) (values : List Data) → Some values ≡ list_at (codes "value") d →
-    ((ls rs : List Data) → HasSideLimits d ls values rs → ⊥) → (p : Data) (ls vs rs : List Data) → HasForm d p ls vs rs → ⊥
+    ((ls rs : List Data) → HasSideLimits d ls values rs → ⊥) → (p : Data) (ls vs rs : List Data) →
+    HasForm d p ls vs rs → ⊥
 no_limits d values is none p ls vs rs h =
-    none ls rs (subst (λ v. HasSideLimits d ls v rs) (same_some vs values (sym h.value_is ∙ sym is)) h.limits)
+    none ls rs (subst (λ v. HasSideLimits d ls v rs) (same_some vs values (sym h.value_is ∙ sym is))
+    h.limits)
 
 -- ---- the fractions
 
@@ -52,13 +57,16 @@ pub place_none : (p : Data) (ls vs rs : List Data) → ((x : Frac) → SpellsNum
     (place : Frac) (left value right : List Frac) → SpellsForm p ls vs rs place left value right → ⊥
 place_none p ls vs rs none place left value right h = none place h.place_spelled
 
-pub left_none : (p : Data) (ls vs rs : List Data) (e : JsonReason) → SpellsNone ls e → SpellsNoForm p ls vs rs e
+pub left_none : (p : Data) (ls vs rs : List Data) (e : JsonReason) → SpellsNone ls e →
+    SpellsNoForm p ls vs rs e
 left_none p ls vs rs e h = (h.0, λ place left value right s. h.1 left s.left_spelled)
 
-pub value_none : (p : Data) (ls vs rs : List Data) (e : JsonReason) → SpellsNone vs e → SpellsNoForm p ls vs rs e
+pub value_none : (p : Data) (ls vs rs : List Data) (e : JsonReason) → SpellsNone vs e →
+    SpellsNoForm p ls vs rs e
 value_none p ls vs rs e h = (h.0, λ place left value right s. h.1 value s.value_spelled)
 
-pub right_none : (p : Data) (ls vs rs : List Data) (e : JsonReason) → SpellsNone rs e → SpellsNoForm p ls vs rs e
+pub right_none : (p : Data) (ls vs rs : List Data) (e : JsonReason) → SpellsNone rs e →
+    SpellsNoForm p ls vs rs e
 right_none p ls vs rs e h = (h.0, λ place left value right s. h.1 right s.right_spelled)
 
 -- ---- one form
@@ -74,18 +82,23 @@ pub record SameForm (p q : Data) (ls ms vs ws rs ts : List Data) : Type 0 where
 no_list : (key : List ℕ) (d : Data) → get key d ≡ None → list_at key d ≡ None
 no_list key d e = ap (λ o. option_map list_of (option_and_then as_array o)) e
 
-same_limits : (d : Data) (ls ms vs rs ts : List Data) → HasSideLimits d ls vs rs → HasSideLimits d ms vs ts → (ls ≡ ms) × (rs ≡ ts)
+same_limits : (d : Data) (ls ms vs rs ts : List Data) → HasSideLimits d ls vs rs →
+    HasSideLimits d ms vs ts → (ls ≡ ms) × (rs ≡ ts)
 same_limits d ls ms vs rs ts (inl (a, b)) (inl (f, g)) =
     (same_some ls ms (sym a ∙ f), same_some rs ts (sym b ∙ g))
-same_limits d ls ms vs rs ts (inl (a, b)) (inr (f, g, i, j)) = absurd (none-some ls (sym (no_list (codes "left") d f) ∙ a))
-same_limits d ls ms vs rs ts (inr (f, g, i, j)) (inl (a, b)) = absurd (none-some ms (sym (no_list (codes "left") d f) ∙ a))
+same_limits d ls ms vs rs ts (inl (a, b)) (inr (f, g, i, j)) =
+    absurd (none-some ls (sym (no_list (codes "left") d f) ∙ a))
+same_limits d ls ms vs rs ts (inr (f, g, i, j)) (inl (a, b)) =
+    absurd (none-some ms (sym (no_list (codes "left") d f) ∙ a))
 same_limits d ls ms vs rs ts (inr (a, b, i, j)) (inr (f, g, k, l)) = (i ∙ sym k, j ∙ sym l)
 
-pub one_form : (d p q : Data) (ls ms vs ws rs ts : List Data) → HasForm d p ls vs rs → HasForm d q ms ws ts →
+pub one_form : (d p q : Data) (ls ms vs ws rs ts : List Data) → HasForm d p ls vs rs →
+    HasForm d q ms ws ts →
     SameForm p q ls ms vs ws rs ts
 one_form d p q ls ms vs ws rs ts h j =
     let value = same_some vs ws (sym h.value_is ∙ j.value_is) in
-    let limits = same_limits d ls ms ws rs ts (subst (λ v. HasSideLimits d ls v rs) value h.limits) j.limits in
+    let limits = same_limits d ls ms ws rs ts (subst (λ v. HasSideLimits d ls v rs) value h.limits)
+    j.limits in
     record {
       place = same_some p q (sym h.place_is ∙ j.place_is);
       left = limits.0;
@@ -94,7 +107,8 @@ one_form d p q ls ms vs ws rs ts h j =
     }
 
 -- other parts of a form are these
-pub with_form : (d p q : Data) (ls ms vs ws rs ts : List Data) (place : Frac) (left value right : List Frac) →
+pub with_form : (d p q : Data) (ls ms vs ws rs ts : List Data) (place : Frac)
+    (left value right : List Frac) →
     HasForm d p ls vs rs → HasForm d q ms ws ts → SpellsForm q ms ws ts place left value right →
     SpellsForm p ls vs rs place left value right
 with_form d p q ls ms vs ws rs ts place left value right h j s =
@@ -117,32 +131,54 @@ number_refused d p ls vs rs form e h =
           (with_form d p s.p ls s.ls vs s.vs rs s.rs place left value right form s.form s.spelled),
     )
 
-pub fractions_read : (d p : Data) (ls vs rs : List Data) (place : Frac) (left l value v right r : List Frac) →
-    HasForm d p ls vs rs → SpellsForm p ls vs rs place left value right → l ≡ left → v ≡ value → r ≡ right →
+pub fractions_read : (d p : Data) (ls vs rs : List Data) (place : Frac)
+    (left l value v right r : List Frac) →
+    HasForm d p ls vs rs → SpellsForm p ls vs rs place left value right → l ≡ left → v ≡ value →
+    r ≡ right →
     HasFractions d place l v r
 fractions_read d p ls vs rs place left l value v right r form s a b c =
     let first = subst (λ x. SpellsForm p ls vs rs place x value right) (sym a) s in
     let next = subst (λ x. SpellsForm p ls vs rs place l x right) (sym b) first in
-    record { p = p; ls = ls; vs = vs; rs = rs; form = form; spelled = subst (λ x. SpellsForm p ls vs rs place l v x) (sym c) next }
+    record {
+      p = p;
+      ls = ls;
+      vs = vs;
+      rs = rs;
+      form = form;
+      spelled =
+          subst (λ x. SpellsForm p ls vs rs place l v x) (sym c) next;
+    }
 
-pub left_long : (d : Data) (place : Frac) (left value right : List Frac) → HasFractions d place left value right →
+pub left_long : (d : Data) (place : Frac) (left value right : List Frac) →
+    HasFractions d place left value right →
     length left ≡ length value
 left_long d place left value right h =
     AllZip-long SpellsNumber h.ls left h.spelled.left_spelled ∙ h.form.left_entries.0
     ∙ sym (AllZip-long SpellsNumber h.vs value h.spelled.value_spelled)
 
-pub right_long : (d : Data) (place : Frac) (left value right : List Frac) → HasFractions d place left value right →
+pub right_long : (d : Data) (place : Frac) (left value right : List Frac) →
+    HasFractions d place left value right →
     length right ≡ length value
 right_long d place left value right h =
     AllZip-long SpellsNumber h.rs right h.spelled.right_spelled ∙ h.form.right_entries.0
     ∙ sym (AllZip-long SpellsNumber h.vs value h.spelled.value_spelled)
 
-pub function_said : (d : Data) (place : Frac) (left value right : List Frac) → HasFractions d place left value right →
+pub function_said : (d : Data) (place : Frac) (left value right : List Frac) →
+    HasFractions d place left value right →
     (f : FunctionData) → GivesFunction place left value right f → SaysFunction d f
 function_said d place left value right h f gives =
-    record { place = place; left = left; value = value; right = right; fractions = h; gives = gives }
+    record {
+      place = place;
+      left = left;
+      value = value;
+      right = right;
+      fractions = h;
+      gives =
+          gives;
+    }
 
-pub fractions_refused : (d : Data) (place : Frac) (left value right : List Frac) → HasFractions d place left value right →
+pub fractions_refused : (d : Data) (place : Frac) (left value right : List Frac) →
+    HasFractions d place left value right →
     (e : JsonReason) → RefusesFractions place left value right e → RefusesValue d e
 fractions_refused d place left value right h Syntax r = absurd r
 fractions_refused d place left value right h Form r = absurd r

@@ -25,7 +25,8 @@ number_byte_small b h = grind arith
 pub fraction_is_utf8 : (x : Frac) → IsUtf8 (fraction_text x)
 fraction_is_utf8 x =
     IsUtf8-from_ascii (fraction_text x)
-    (IsAscii-from_all (fraction_text x) (λ k d within. number_byte_small _ (fraction_bytes x k d within)))
+    (IsAscii-from_all (fraction_text x)
+    (λ k d within. number_byte_small _ (fraction_bytes x k d within)))
 
 -- ---- the strings so far
 
@@ -42,7 +43,8 @@ abbrev rest_of_items : Items → Items
 rest_of_items no_items = no_items
 rest_of_items (item b bs) = bs
 
-pub strings_more : (texts : List (List ℕ)) (text : List ℕ) (ds : List Data) (d : Data) → items_of ds ≡ strings texts → d ≡ string text →
+pub strings_more : (texts : List (List ℕ)) (text : List ℕ) (ds : List Data) (d : Data) →
+    items_of ds ≡ strings texts → d ≡ string text →
     items_of (ds ++ d ∷ []) ≡ strings (texts ++ text ∷ [])
 strings_more [] text [] d e is = ap (λ y. item y no_items) is
 strings_more [] text (c ∷ ds) d e is = absurd (cc)
@@ -51,23 +53,30 @@ strings_more (t ∷ texts) text (c ∷ ds) d e is =
     ap (λ i. item (first_of_items c i) (items_of (ds ++ d ∷ []))) e
     ∙ ap (item (string t)) (strings_more texts text ds d (ap rest_of_items e) is)
 
-pub one_more : (scale : ℕ) (ns : List ℤ) (n : ℕ) (z : ℤ) (vs ws : List Value) (v : Value) (x : Frac) → n < length ns →
-    z ≡ get_or ns n z → StringsSoFar scale ns n vs → IsRatio x z (pos scale) → view v ≡ string (fraction_text x) →
+pub one_more : (scale : ℕ) (ns : List ℤ) (n : ℕ) (z : ℤ) (vs ws : List Value) (v : Value)
+    (x : Frac) → n < length ns →
+    z ≡ get_or ns n z → StringsSoFar scale ns n vs → IsRatio x z (pos scale) →
+    view v ≡ string (fraction_text x) →
     ws ≡ vs ++ v ∷ [] → StringsSoFar scale ns (n + 1) ws
 one_more scale ns n z vs ws v x some at so_far is text more =
-    let next : take (n + 1) ns ≡ take n ns ++ z ∷ [] = take_more ns n z some ∙ ap (λ y. take n ns ++ y ∷ []) (sym at) in
+    let next : take (n + 1) ns ≡ take n ns ++ z ∷ [] = take_more ns n z some
+    ∙ ap (λ y. take n ns ++ y ∷ []) (sym at) in
     record {
       fractions = so_far.fractions ++ x ∷ [];
       ratios = subst (AreRatios scale (so_far.fractions ++ x ∷ [])) (sym next)
-          (all_zipped_more (λ y m. IsRatio y m (pos scale)) so_far.fractions (take n ns) x z so_far.ratios is);
+          (all_zipped_more (λ y m. IsRatio y m (pos scale)) so_far.fractions
+          (take n ns) x z so_far.ratios is);
       are = ap items_view more ∙ ap items_of (map-append view vs (v ∷ []))
-          ∙ strings_more (map fraction_text so_far.fractions) (fraction_text x) (map view vs) (view v) so_far.are text
+          ∙ strings_more (map fraction_text so_far.fractions) (fraction_text x) (map view vs)
+          (view v) so_far.are text
           ∙ ap strings (sym (map-append fraction_text so_far.fractions (x ∷ [])));
     }
 
-pub all_so_far : (scale : ℕ) (ns : List ℤ) (n : ℕ) (vs : List Value) → length ns ≤ n → StringsSoFar scale ns n vs →
+pub all_so_far : (scale : ℕ) (ns : List ℤ) (n : ℕ) (vs : List Value) → length ns ≤ n →
+    StringsSoFar scale ns n vs →
     (xs : List Frac) × AreRatios scale xs ns × (items_view vs ≡ fraction_strings xs)
-all_so_far scale ns n vs most h = (h.fractions, subst (AreRatios scale h.fractions) (take_all n ns most) h.ratios, h.are)
+all_so_far scale ns n vs most h =
+    (h.fractions, subst (AreRatios scale h.fractions) (take_all n ns most) h.ratios, h.are)
 
 -- ---- the value has no float, and is shallow
 
@@ -75,9 +84,15 @@ pub strings_have_no_float : (texts : List (List ℕ)) → items_have_float (stri
 strings_have_no_float [] = refl
 strings_have_no_float (t ∷ texts) = strings_have_no_float texts
 
-no_float : (order : ℕ) (p : Frac) (l v r : List Frac) → has_float (function_value order p l v r) ≡ false
+no_float : (order : ℕ) (p : Frac) (l v r : List Frac) → has_float (function_value order p l v r)
+    ≡ false
 no_float order p l v r =
-    rw (strings_have_no_float (map fraction_text l), strings_have_no_float (map fraction_text v), strings_have_no_float (map fraction_text r)) refl
+    rw (
+      strings_have_no_float (map fraction_text l),
+      strings_have_no_float
+          (map fraction_text v),
+      strings_have_no_float (map fraction_text r),
+    ) refl
 
 strings_are_shallow : (texts : List (List ℕ)) → items_depth (strings texts) ≡ 0
 strings_are_shallow [] = refl
@@ -85,10 +100,16 @@ strings_are_shallow (t ∷ texts) = rw (strings_are_shallow texts) refl
 
 shallow : (order : ℕ) (p : Frac) (l v r : List Frac) → depth (function_value order p l v r) ≡ 2
 shallow order p l v r =
-    rw (strings_are_shallow (map fraction_text l), strings_are_shallow (map fraction_text v), strings_are_shallow (map fraction_text r)) refl
+    rw (
+      strings_are_shallow (map fraction_text l),
+      strings_are_shallow
+          (map fraction_text v),
+      strings_are_shallow (map fraction_text r),
+    ) refl
 
 pub value_has_no_float : (f : FunctionData) (d : Data) → IsJsonOf f d → has_float d ≡ false
 value_has_no_float f d h = ap has_float h.is ∙ no_float f.order h.place h.left h.value h.right
 
 pub value_is_shallow : (f : FunctionData) (d : Data) → IsJsonOf f d → depth d ≤ max_depth
-value_is_shallow f d h = omega (arith, ap depth h.is ∙ shallow f.order h.place h.left h.value h.right)
+value_is_shallow f d h =
+    omega (arith, ap depth h.is ∙ shallow f.order h.place h.left h.value h.right)

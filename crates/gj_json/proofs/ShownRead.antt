@@ -35,20 +35,27 @@ shown_spell (x ∷ xs) = (inl (fraction_text x, refl, canonical_fraction Lenient
 
 shown_entries : (xs : List Frac) → All IsEntry (shown xs)
 shown_entries [] = All-nil IsEntry
-shown_entries (x ∷ xs) = All-cons IsEntry (string (fraction_text x)) (shown xs) (inl refl) (shown_entries xs)
+shown_entries (x ∷ xs) = All-cons IsEntry (string (fraction_text x)) (shown xs) (inl refl)
+    (shown_entries xs)
 
 shown_are_entries : (n : ℕ) (xs : List Frac) → length xs ≡ n → AreEntries n (shown xs)
-shown_are_entries n xs long = (length-map xs (λ x. string (fraction_text x)) ∙ long, shown_entries xs)
+shown_are_entries n xs long =
+    (length-map xs (λ x. string (fraction_text x)) ∙ long, shown_entries xs)
 
 -- ---- the form
 
-keys_are_keys : All IsKey (codes "f" ∷ codes "left" ∷ codes "order" ∷ codes "right" ∷ codes "value" ∷ [])
+keys_are_keys : All IsKey
+    (codes "f" ∷ codes "left" ∷ codes "order" ∷ codes "right" ∷ codes "value" ∷ [])
 keys_are_keys =
     let value = All-cons IsKey (codes "value") [] (inr (inr (inr (inr refl)))) (All-nil IsKey) in
-    let right = All-cons IsKey (codes "right") (codes "value" ∷ []) (inr (inr (inr (inl refl)))) value in
-    let order = All-cons IsKey (codes "order") (codes "right" ∷ codes "value" ∷ []) (inr (inr (inl refl))) right in
-    let left = All-cons IsKey (codes "left") (codes "order" ∷ codes "right" ∷ codes "value" ∷ []) (inr (inl refl)) order in
-    All-cons IsKey (codes "f") (codes "left" ∷ codes "order" ∷ codes "right" ∷ codes "value" ∷ []) (inl refl) left
+    let right = All-cons IsKey (codes "right") (codes "value" ∷ [])
+    (inr (inr (inr (inl refl)))) value in
+    let order = All-cons IsKey (codes "order") (codes "right" ∷ codes "value" ∷ [])
+    (inr (inr (inl refl))) right in
+    let left = All-cons IsKey (codes "left") (codes "order" ∷ codes "right" ∷ codes "value" ∷ [])
+    (inr (inl refl)) order in
+    All-cons IsKey (codes "f") (codes "left" ∷ codes "order" ∷ codes "right" ∷ codes "value" ∷ [])
+    (inl refl) left
 
 shown_form : (q : ℕ) (p : Frac) (l v r : List Frac) → length l ≡ q → length v ≡ q → length r ≡ q →
     HasForm (function_value q p l v r) (string (fraction_text p)) (shown l) (shown v) (shown r)
@@ -66,7 +73,8 @@ shown_form q p l v r a b c =
       right_entries = shown_are_entries (length (shown v)) r (c ∙ sym long);
     }
 
-shown_fractions : (q : ℕ) (p : Frac) (l v r : List Frac) → length l ≡ q → length v ≡ q → length r ≡ q →
+shown_fractions : (q : ℕ) (p : Frac) (l v r : List Frac) → length l ≡ q → length v ≡ q →
+    length r ≡ q →
     HasFractions (function_value q p l v r) p l v r
 shown_fractions q p l v r a b c = record {
   p = string (fraction_text p);
@@ -84,8 +92,10 @@ shown_fractions q p l v r a b c = record {
 
 -- ---- the function
 
-given_by_ratios : (f : FunctionData) (l v r : List Frac) → IsWithinBounds f → length l ≡ f.order → length v ≡ f.order →
-    length r ≡ f.order → AreRatios f.scale l f.left → AreRatios f.scale v f.value → AreRatios f.scale r f.right →
+given_by_ratios : (f : FunctionData) (l v r : List Frac) → IsWithinBounds f → length l ≡ f.order →
+    length v ≡ f.order →
+    length r ≡ f.order → AreRatios f.scale l f.left → AreRatios f.scale v f.value →
+    AreRatios f.scale r f.right →
     IsGivenBy (length v) f.place l v r f
 given_by_ratios f l v r within a b c left value right =
     let points = points_of l v r in
@@ -95,12 +105,14 @@ given_by_ratios f l v r within a b c left value right =
       value_are = subst (λ xs. AreRatios f.scale xs f.value) (sym lists.value_are) value;
       right_are = subst (λ xs. AreRatios f.scale xs f.right) (sym lists.right_are) right;
     } in
-    given_as f.order (length v) f.place f.place (lefts points) l (values points) v (rights points) r f (sym b) refl
+    given_as f.order (length v) f.place f.place (lefts points) l (values points) v
+    (rights points) r f (sym b) refl
     lists.left_are lists.value_are lists.right_are (given_by_points points f within are)
 
 pub value_says : (f : FunctionData) (d : Data) → IsWithinBounds f → IsJsonOf f d → SaysFunction d f
 value_says f d within h =
-    let long = λ (xs : List Frac) (ns : List ℤ) (are : AreRatios f.scale xs ns). sym (AllZip-long (λ x n. IsRatio x n (pos f.scale)) xs ns are) in
+    let long = λ (xs : List Frac) (ns : List ℤ) (are : AreRatios f.scale xs ns). sym
+    (AllZip-long (λ x n. IsRatio x n (pos f.scale)) xs ns are) in
     let a : length h.left ≡ f.order = long h.left f.left h.left_are ∙ within.left_length in
     let b : length h.value ≡ f.order = long h.value f.value h.value_are ∙ within.value_length in
     let c : length h.right ≡ f.order = long h.right f.right h.right_are ∙ within.right_length in
@@ -117,7 +129,8 @@ value_says f d within h =
         order_fits = subst IsOrder (sym b) order;
         place_fits = subst (λ q. IsPlace q f.place) (sym b) place;
         place_is = subst (λ q. IsRatio h.place (pos f.place) (pos q)) (sym b) h.place_is;
-        given = given_by_ratios f h.left h.value h.right within a b c h.left_are h.value_are h.right_are;
+        given = given_by_ratios f h.left h.value h.right within a b c h.left_are h.value_are
+            h.right_are;
       };
     })
 
@@ -127,12 +140,16 @@ value_says f d within h =
 abbrev pub AreShown : ℕ → List ℤ → Data → Type 0
 AreShown scale ns d = (xs : List Frac) × AreRatios scale xs ns × (d ≡ array (fraction_strings xs))
 
-pub value_from_parts : (f : FunctionData) (q s : ℕ) (ls vs rs : List ℤ) (p : Frac) (place l v r d : Data) → q ≡ f.order → s ≡ f.scale →
-    ls ≡ f.left → vs ≡ f.value → rs ≡ f.right → IsRatio p (pos f.place) (pos f.order) → place ≡ string (fraction_text p) →
+pub value_from_parts : (f : FunctionData) (q s : ℕ) (ls vs rs : List ℤ) (p : Frac)
+    (place l v r d : Data) → q ≡ f.order → s ≡ f.scale →
+    ls ≡ f.left → vs ≡ f.value → rs ≡ f.right → IsRatio p (pos f.place) (pos f.order) →
+    place ≡ string (fraction_text p) →
     AreShown s ls l → AreShown s vs v → AreShown s rs r →
-    d ≡ object (member (codes "f") place (member (codes "left") l (member (codes "order") (number (unsigned q))
+    d ≡ object (member (codes "f") place
+    (member (codes "left") l (member (codes "order") (number (unsigned q))
     (member (codes "right") r (member (codes "value") v no_members))))) → IsJsonOf f d
-value_from_parts f q s ls vs rs p place l v r d q_is s_is ls_is vs_is rs_is p_is place_is (xs, are_l, l_is) (ys, are_v, v_is) (zs, are_r, r_is) is =
+value_from_parts f q s ls vs rs p place l v r d q_is s_is ls_is vs_is rs_is p_is place_is
+    (xs, are_l, l_is) (ys, are_v, v_is) (zs, are_r, r_is) is =
     record {
       place = p;
       left = xs;

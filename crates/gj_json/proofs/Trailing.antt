@@ -28,7 +28,8 @@ quoted_first : (s r : List ℕ) → lex between (quoted s ++ r) ≡ token (strin
 unfolding lex
 quoted_first s r =
     let e = append_assoc (escape s) (34 ∷ []) r in
-    ap (λ l. lex between (34 ∷ l)) e ∙ ap₂ (λ o l. token (string_token o) ∷ l) (content-escape s r) (lex-escape s r)
+    ap (λ l. lex between (34 ∷ l)) e ∙ ap₂ (λ o l. token (string_token o) ∷ l) (content-escape s r)
+    (lex-escape s r)
 
 token_first : (t : Token) (r : List ℕ) → IsPrintableOrBad t → (ends t ≡ true → ends_word r ≡ true) →
     lex between (token_text t ++ r) ≡ lexemes t ++ lex between r
@@ -37,15 +38,20 @@ token_first begin_object r h ended = refl
 token_first end_object r h ended = refl
 token_first begin_array r h ended = refl
 token_first end_array r h ended = refl
-token_first (key s) r h ended = ap (lex between) (append_assoc (quoted s) (58 ∷ []) r) ∙ quoted_first s (58 ∷ r)
+token_first (key s) r h ended = ap (lex between) (append_assoc (quoted s) (58 ∷ []) r)
+    ∙ quoted_first s (58 ∷ r)
 token_first (string s) r h ended = quoted_first s r
 token_first (number s) r h ended = lex-number s r h (ended refl)
-token_first (boolean true) r h ended = ap₂ (λ b l. token (cond b (boolean true) bad) ∷ l) (ended refl) (in_word-ended r (ended refl))
-token_first (boolean false) r h ended = ap₂ (λ b l. token (cond b (boolean false) bad) ∷ l) (ended refl) (in_word-ended r (ended refl))
-token_first null r h ended = ap₂ (λ b l. token (cond b null bad) ∷ l) (ended refl) (in_word-ended r (ended refl))
+token_first (boolean true) r h ended =
+    ap₂ (λ b l. token (cond b (boolean true) bad) ∷ l) (ended refl) (in_word-ended r (ended refl))
+token_first (boolean false) r h ended = ap₂ (λ b l. token (cond b (boolean false) bad) ∷ l)
+    (ended refl) (in_word-ended r (ended refl))
+token_first null r h ended = ap₂ (λ b l. token (cond b null bad) ∷ l) (ended refl)
+    (in_word-ended r (ended refl))
 token_first bad r h ended = refl
 
-comma_first : (b : Bool) (r : List ℕ) → lex between (cond b (44 ∷ []) [] ++ r) ≡ cond b (comma ∷ []) [] ++ lex between r
+comma_first : (b : Bool) (r : List ℕ) →
+    lex between (cond b (44 ∷ []) [] ++ r) ≡ cond b (comma ∷ []) [] ++ lex between r
 unfolding lex
 comma_first true r = refl
 comma_first false r = refl
@@ -80,7 +86,8 @@ line_feed_passed c (t ∷ ts) h =
     let b = c && begins t in
     let text = token_text t in
     let r = print_from (ends t) ts in
-    let ended : ends t ≡ true → ends_word r ≡ true = λ e. ap (λ x. ends_word (print_from x ts)) e ∙ value_ends ts in
+    let ended : ends t ≡ true → ends_word r ≡ true = λ e. ap (λ x. ends_word (print_from x ts)) e
+    ∙ value_ends ts in
     append_then b text r (10 ∷ [])
     ∙ comma_first b (text ++ (r ++ 10 ∷ []))
     ∙ ap (λ l. cond b (comma ∷ []) [] ++ l)
@@ -90,14 +97,19 @@ line_feed_passed c (t ∷ ts) h =
     ∙ sym (comma_first b (text ++ r))
   where
     append_then : (b : Bool) (x r y : List ℕ) →
-        lex between ((cond b (44 ∷ []) [] ++ (x ++ r)) ++ y) ≡ lex between (cond b (44 ∷ []) [] ++ (x ++ (r ++ y)))
+        lex between ((cond b (44 ∷ []) [] ++ (x ++ r)) ++ y)
+        ≡ lex between (cond b (44 ∷ []) [] ++ (x ++ (r ++ y)))
     append_then b x r y =
-        ap (lex between) (append_assoc (cond b (44 ∷ []) []) (x ++ r) y ∙ ap (λ l. cond b (44 ∷ []) [] ++ l) (append_assoc x r y))
+        ap (lex between) (append_assoc (cond b (44 ∷ []) []) (x ++ r) y
+        ∙ ap (λ l. cond b (44 ∷ []) [] ++ l) (append_assoc x r y))
 
 -- compact JSON with a line feed behind it has the same value
-pub read_with_line_feed : (text : List ℕ) → text ≡ print (tokens text) → read (text ++ 10 ∷ []) ≡ read text
+pub read_with_line_feed : (text : List ℕ) → text ≡ print (tokens text) →
+    read (text ++ 10 ∷ []) ≡ read text
 read_with_line_feed text compact =
     let same : lex between (text ++ 10 ∷ []) ≡ lex between text =
     subst (λ x. lex between (x ++ 10 ∷ []) ≡ lex between x) (sym compact)
     (line_feed_passed false (tokens text) (ArePrintableOrBad-tokens text)) in
-    ap (λ ls. option_and_then of_json (option_and_then (λ p. json.if_last p.0 p.1) (json.value max_depth (punctuate fresh ls)))) same
+    ap (λ ls. option_and_then of_json
+    (option_and_then (λ p. json.if_last p.0 p.1) (json.value max_depth (punctuate fresh ls))))
+    same

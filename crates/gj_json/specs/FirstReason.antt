@@ -26,20 +26,25 @@ RefusesFractions place left value right Syntax = ⊥
 RefusesFractions place left value right Form = ⊥
 RefusesFractions place left value right Number = ⊥
 RefusesFractions place left value right Order = IsOrder (length value) → ⊥
-RefusesFractions place left value right Place = IsOrder (length value) × (IsPlaceFraction (length value) place → ⊥)
+RefusesFractions place left value right Place = IsOrder (length value)
+    × (IsPlaceFraction (length value) place → ⊥)
 RefusesFractions place left value right Large =
-    IsOrder (length value) × IsPlaceFraction (length value) place × ((i : ℕ) × IsTooLarge left value right i)
+    IsOrder (length value) × IsPlaceFraction (length value) place
+    × ((i : ℕ) × IsTooLarge left value right i)
 RefusesFractions place left value right Fine =
-    IsOrder (length value) × IsPlaceFraction (length value) place × ((i : ℕ) × IsTooFine left value right i)
+    IsOrder (length value) × IsPlaceFraction (length value) place
+    × ((i : ℕ) × IsTooFine left value right i)
 
 -- the value is of the form, and its fractions give no function
 abbrev pub HasRefusedFractions : Data → JsonReason → Type 0
-HasRefusedFractions d e = (place : Frac) × (left : List Frac) × (value : List Frac) × (right : List Frac)
+HasRefusedFractions d e = (place : Frac) × (left : List Frac) × (value : List Frac)
+    × (right : List Frac)
     × HasFractions d place left value right × RefusesFractions place left value right e
 
 -- the value is of the form
 abbrev pub IsOfForm : Data → Type 0
-IsOfForm d = (p : Data) × (ls : List Data) × (vs : List Data) × (rs : List Data) × HasForm d p ls vs rs
+IsOfForm d = (p : Data) × (ls : List Data) × (vs : List Data) × (rs : List Data)
+    × HasForm d p ls vs rs
 
 -- why the value says no function: it is not of the form; an entry spells no fraction; the fractions
 -- give none
@@ -47,7 +52,8 @@ abbrev pub RefusesValue : Data → JsonReason → Type 0
 RefusesValue d Syntax = ⊥
 RefusesValue d Form = IsOfForm d → ⊥
 RefusesValue d Number =
-    IsOfForm d × ((place : Frac) (left value right : List Frac) → HasFractions d place left value right → ⊥)
+    IsOfForm d × ((place : Frac) (left value right : List Frac) →
+    HasFractions d place left value right → ⊥)
 RefusesValue d Order = HasRefusedFractions d Order
 RefusesValue d Place = HasRefusedFractions d Place
 RefusesValue d Large = HasRefusedFractions d Large
@@ -56,7 +62,8 @@ RefusesValue d Fine = HasRefusedFractions d Fine
 -- the first test that the text fails: it has no value, or its value says no function for this
 -- reason
 abbrev pub HasFirstReason : List ℕ → JsonReason → Type 0
-HasFirstReason text e = ((e ≡ Syntax) × ((d : Data) → HasValue text d → ⊥)) ⊎ ((d : Data) × HasValue text d × RefusesValue d e)
+HasFirstReason text e = ((e ≡ Syntax) × ((d : Data) → HasValue text d → ⊥))
+    ⊎ ((d : Data) × HasValue text d × RefusesValue d e)
 
 -- ---- what the reader answers
 

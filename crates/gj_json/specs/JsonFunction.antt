@@ -37,7 +37,8 @@ IsEntry d = IsSome (as_str d) ⊎ IsSome (integer d)
 
 -- a key of a function
 abbrev pub IsKey : List ℕ → Type 0
-IsKey key = (key ≡ codes "f") ⊎ (key ≡ codes "left") ⊎ (key ≡ codes "order") ⊎ (key ≡ codes "right") ⊎ (key ≡ codes "value")
+IsKey key = (key ≡ codes "f") ⊎ (key ≡ codes "left") ⊎ (key ≡ codes "order") ⊎ (key ≡ codes "right")
+    ⊎ (key ≡ codes "value")
 
 -- an object with no other key
 abbrev pub HasOnlyKeys : Data → Type 0
@@ -47,7 +48,8 @@ HasOnlyKeys d = (ms : Members) × (as_object d ≡ Some ms) × All IsKey (keys_o
 abbrev pub HasSideLimits : Data → List Data → List Data → List Data → Type 0
 HasSideLimits d left value right =
     ((list_at (codes "left") d ≡ Some left) × (list_at (codes "right") d ≡ Some right))
-    ⊎ ((get (codes "left") d ≡ None) × (get (codes "right") d ≡ None) × (left ≡ value) × (right ≡ value))
+    ⊎ ((get (codes "left") d ≡ None) × (get (codes "right") d ≡ None) × (left ≡ value)
+    × (right ≡ value))
 
 -- as many entries
 abbrev pub AreEntries : ℕ → List Data → Type 0
@@ -75,7 +77,8 @@ SpellsNumber d x =
     ⊎ ((z : ℤ) × (integer d ≡ Some z) × IsRatio x z (pos 1))
 
 -- the entries of the form spell these fractions
-pub record SpellsForm (p : Data) (ls vs rs : List Data) (place : Frac) (left value right : List Frac) : Type 0 where
+pub record SpellsForm (p : Data) (ls vs rs : List Data) (place : Frac)
+    (left value right : List Frac) : Type 0 where
   pub place_spelled : SpellsNumber p place
   pub left_spelled : AllZip SpellsNumber ls left
   pub value_spelled : AllZip SpellsNumber vs value
@@ -93,7 +96,8 @@ pub record HasFractions (d : Data) (place : Frac) (left value right : List Frac)
 -- ---- the function
 
 -- the function whose order is the number of values, and whose f is the place
-pub record GivesFunction (place : Frac) (left value right : List Frac) (f : FunctionData) : Type 0 where
+pub record GivesFunction (place : Frac) (left value right : List Frac) (f : FunctionData) :
+    Type 0 where
   pub k : ℕ
   pub order_fits : IsOrder (length value)
   pub place_fits : IsPlace (length value) k

@@ -74,8 +74,10 @@ pub record HasJsonLines (text : List ℕ) (lines : List (List ℕ)) : Type 0 whe
 -- the value of a report: the lines of the proof as strings, and the verdict
 abbrev pub report_value : List (List ℕ) → List ℕ → Data
 report_value lines verdict =
-    object (member (codes "proof") (array (strings lines)) (member (codes "verdict") (string verdict) no_members))
+    object (member (codes "proof") (array (strings lines))
+    (member (codes "verdict") (string verdict) no_members))
 
 -- the text is the report of the verdict and of the proof text
 abbrev pub IsReport : List ℕ → List ℕ → List ℕ → Type 0
-IsReport verdict proof text = (lines : List (List ℕ)) × HasJsonLines proof lines × (text ≡ json_line (report_value lines verdict))
+IsReport verdict proof text = (lines : List (List ℕ)) × HasJsonLines proof lines
+    × (text ≡ json_line (report_value lines verdict))

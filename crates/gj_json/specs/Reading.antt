@@ -16,7 +16,8 @@ SpellsNone ds e = (e ≡ Number) × ((xs : List Frac) → AllZip SpellsNumber ds
 -- the same of all entries of the form
 abbrev pub SpellsNoForm : Data → List Data → List Data → List Data → JsonReason → Type 0
 SpellsNoForm p ls vs rs e =
-    (e ≡ Number) × ((place : Frac) (left value right : List Frac) → SpellsForm p ls vs rs place left value right → ⊥)
+    (e ≡ Number) × ((place : Frac) (left value right : List Frac) →
+    SpellsForm p ls vs rs place left value right → ⊥)
 
 -- why a text has no value
 abbrev pub fault_of_text : Bool → JsonFault

@@ -89,7 +89,8 @@ rows_at f a b = rows_of_kind f a b Vertex ++ rows_from_horizontal f a b
 -- the rows of all limits, and that of the value at f
 abbrev pub limit_rows : FunctionData → List (List ℤ)
 limit_rows f =
-    unit_row (column f.order (on there f.place)) ∷ upto f.order (λ a. upto f.order (λ b. rows_at f a b))
+    unit_row (column f.order (on there f.place)) ∷ upto f.order
+    (λ a. upto f.order (λ b. rows_at f a b))
 
 of_square : (P : List ℤ → Type 0) (f : FunctionData) (a b : ℕ) → Each P (rows_at f a b) →
     (kind : FaceKind) → Each P (rows_of f (sums_of kind a b))
@@ -119,7 +120,8 @@ to_square P f a b h =
     (each-append P (rows Diagonal) (rows_from_lower f a b) (h Diagonal)
     (each-append P (rows Lower) (rows Upper) (h Lower) (h Upper)))))
 
-of_row : (P : List ℤ → Type 0) (f : FunctionData) (t : Sum) → whole_sum f t ≡ pos 0 → P (row_of f t) →
+of_row : (P : List ℤ → Type 0) (f : FunctionData) (t : Sum) → whole_sum f t ≡ pos 0 →
+    P (row_of f t) →
     P (pair_row (column f.order t.first) (column f.order t.second) (column f.order t.third))
 of_row P f t tight =
     elim (same_or_apart_z (whole_sum f t) (pos 0))
@@ -166,13 +168,15 @@ module _ {R : Type 0} (K : OrderedField R) where
       ∙ ring K (x i ∷ x j ∷ x k ∷ []) ((nil ⊕ unit) ⊗ ((nil ⊕ unit) ⊗ var 0 ⊕ (nil ⊕ unit) ⊗ var 1)
       ⊕ neg (nil ⊕ unit) ⊗ var 2) (var 0 ⊕ var 1 ⊕ neg (var 2)) refl
 
-  dot_of_whole : (row : List ℤ) (z : ℕ → ℤ) → dot K row (λ i. whole K (z i)) ≡ whole K (dot_whole row z)
+  dot_of_whole : (row : List ℤ) (z : ℕ → ℤ) →
+      dot K row (λ i. whole K (z i)) ≡ whole K (dot_whole row z)
   dot_of_whole [] z = refl
   dot_of_whole (c ∷ cs) z =
       ap₂ plus (sym (whole_times K c (z 0))) (dot_of_whole cs (λ i. z (suc i)))
       ∙ sym (whole_plus K (c *ℤ z 0) (dot_whole cs (λ i. z (suc i))))
 
-  pub rows_of_whole : (z : ℕ → ℤ) (rows : List (List ℤ)) → Each (λ row. dot_whole row z ≡ pos 0) rows →
+  pub rows_of_whole : (z : ℕ → ℤ) (rows : List (List ℤ)) →
+      Each (λ row. dot_whole row z ≡ pos 0) rows →
       Each (λ row. dot K row (λ i. whole K (z i)) ≡ o) rows
   rows_of_whole z [] h = tt
   rows_of_whole z (row ∷ rows) h = (dot_of_whole row z ∙ ap (whole K) h.0, rows_of_whole z rows h.1)
@@ -209,7 +213,8 @@ module _ {R : Type 0} (K : OrderedField R) (f : FunctionData) (bounds : IsWithin
     λ tight. ap₂ (λ s r. plus s (negative r))
         (ap₂ plus (read_is x t.first.side t.first.index) (read_is x t.second.side t.second.index))
         (read_is x t.third.side t.third.index)
-        ∙ sym (pair_is K (column f.order t.first) (column f.order t.second) (column f.order t.third) x)
+        ∙ sym (pair_is K (column f.order t.first) (column f.order t.second)
+        (column f.order t.third) x)
         ∙ of_row (Zero x) f t tight h.0,
     fit_of_rows x ts h.1,
   )
@@ -255,7 +260,8 @@ module _ {R : Type 0} (K : OrderedField R) (f : FunctionData) (bounds : IsWithin
     entry_high : (n : ℕ) → f.order * 3 ≤ n → entry n ≡ o
     unfolding entry
     entry_high n high =
-        ap (λ t. elim t as (λ _. R) [ true ↦ at_column n | false ↦ o ]) (le-ltb n (f.order * 3) high)
+        ap (λ t. elim t as (λ _. R) [ true ↦ at_column n | false ↦ o ])
+        (le-ltb n (f.order * 3) high)
 
     entry_is : (s : Side) (i : ℕ) →
         entry (column f.order (on s i)) ≡ read w.left w.value w.right (on s i)
@@ -263,14 +269,16 @@ module _ {R : Type 0} (K : OrderedField R) (f : FunctionData) (bounds : IsWithin
         let n = column f.order (on s i) in
         let parts = parts_of_place n (i % f.order) 3 (number_of_side s) refl (side_low s) in
         entry_low n (column_low f.order (on s i) some)
-        ∙ ap₂ (λ a b. read w.left w.value w.right (on a b)) (ap side_of parts.1 ∙ side_back s) parts.0
+        ∙ ap₂ (λ a b. read w.left w.value w.right (on a b))
+        (ap side_of parts.1 ∙ side_back s) parts.0
         ∙ read_reduced K f w bounds solves.left_period solves.value_period solves.right_period s i
 
     rows_zero : (ts : List Sum) → Fit K f w ts → Each (Zero entry) (rows_of f ts)
     rows_zero [] h = tt
     rows_zero (t ∷ ts) h = (
       to_row (Zero entry) f t refl (λ tight.
-          pair_is K (column f.order t.first) (column f.order t.second) (column f.order t.third) entry
+          pair_is K (column f.order t.first) (column f.order t.second)
+          (column f.order t.third) entry
           ∙ ap₂ (λ s r. plus s (negative r))
           (ap₂ plus (entry_is t.first.side t.first.index) (entry_is t.second.side t.second.index))
           (entry_is t.third.side t.third.index)
@@ -280,7 +288,8 @@ module _ {R : Type 0} (K : OrderedField R) (f : FunctionData) (bounds : IsWithin
 
     entries_solve : Each (Zero entry) (limit_rows f)
     entries_solve = (
-      unit_is K (column f.order (on there f.place)) entry ∙ entry_is there f.place ∙ solves.zero_at_place,
+      unit_is K (column f.order (on there f.place)) entry ∙ entry_is there f.place
+          ∙ solves.zero_at_place,
       each_upto (Zero entry) f.order (λ a. upto f.order (λ b. rows_at f a b)) (λ a a_low.
           each_upto (Zero entry) f.order (λ b. rows_at f a b) (λ b b_low.
           to_square (Zero entry) f a b (λ kind.
@@ -328,11 +337,13 @@ module _ {R : Type 0} (K : OrderedField R) (f : FunctionData) (bounds : IsWithin
       (only (limits_from x) (rows_solve x (rows_of_whole K h.z (limit_rows f) h.solves)))
 
 -- only 0 in one field, only 0 in another
-pub same_in_each_field : {R S : Type 0} (K : OrderedField R) (L : OrderedField S) (f : FunctionData) →
+pub same_in_each_field : {R S : Type 0} (K : OrderedField R) (L : OrderedField S)
+    (f : FunctionData) →
     IsWithinBounds f → HasOnlyZeroLimits K f → HasOnlyZeroLimits L f
 same_in_each_field K L f bounds only w solves =
     zero_by_rows L f bounds w solves
-    (⊎_elim (λ solution. absurd (no_whole_solution K f bounds only solution)) (λ zero_alone. zero_alone)
+    (⊎_elim (λ solution. absurd (no_whole_solution K f bounds only solution))
+    (λ zero_alone. zero_alone)
     (whole_or_zero L (f.order * 3) (limit_rows f)))
 
 -- by rows of whole numbers, and decided
@@ -342,7 +353,8 @@ module _ {R : Type 0} (K : OrderedField R) (f : FunctionData) (bounds : IsWithin
 
   pub rows_by_only_zero : HasOnlyZeroLimits K f → HasOnlyZero K (f.order * 3) (limit_rows f)
   rows_by_only_zero only =
-      ⊎_elim (λ solution. absurd (no_whole_solution K f bounds only solution)) (λ zero_alone. zero_alone)
+      ⊎_elim (λ solution. absurd (no_whole_solution K f bounds only solution))
+      (λ zero_alone. zero_alone)
       (whole_or_zero K (f.order * 3) (limit_rows f))
 
   pub system_decided : HasOnlyZeroLimits K f ⊎ (HasOnlyZeroLimits K f → ⊥)

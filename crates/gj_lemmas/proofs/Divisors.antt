@@ -27,7 +27,8 @@ gcd_within_is zero a b h = IsGcd-from_zero a b (omega arith)
 gcd_within_is (suc steps) a zero h = IsGcd-from_zero a zero refl
 gcd_within_is (suc steps) a (suc b) h =
     let small : a % suc b ≤ steps = omega arith in
-    IsGcd-from_mod a (suc b) (gcd_within steps (suc b) (a % suc b)) (gcd_within_is steps (suc b) (a % suc b) small)
+    IsGcd-from_mod a (suc b) (gcd_within steps (suc b) (a % suc b))
+    (gcd_within_is steps (suc b) (a % suc b) small)
 
 pub gcd_of_is : (a b : ℕ) → IsGcd a b (gcd_of a b)
 unfolding gcd_of
@@ -55,7 +56,8 @@ scaled_greatest a b g k h some d p q =
     let is : c ≡ m * k = e ∙ mul_comm k m in
     let first : m ∣ a = dvd_of_mul-dvd-mul_right m some (subst (λ n. n ∣ a * k) is common.0) in
     let second : m ∣ b = dvd_of_mul-dvd-mul_right m some (subst (λ n. n ∣ b * k) is common.1) in
-    let all : c ∣ g * k = subst (λ n. n ∣ g * k) (sym is) (mul-dvd-mul_right m (h.2 m first second) k) in
+    let all : c ∣ g * k =
+    subst (λ n. n ∣ g * k) (sym is) (mul-dvd-mul_right m (h.2 m first second) k) in
     dvd_trans d (common.2 d p q) all
 
 -- both numbers times k have k times the greatest common divisor
@@ -73,15 +75,18 @@ gcd_quotients a b g h some = (
   one-dvd a,
   one-dvd b,
   λ d p q. dvd_of_mul-dvd-mul_right d some
-      (subst (λ n. d * g ∣ n) (sym (one-mul g)) (h.2 (d * g) (mul-dvd-mul_right d p g) (mul-dvd-mul_right d q g))),
+      (subst (λ n. d * g ∣ n) (sym (one-mul g))
+      (h.2 (d * g) (mul-dvd-mul_right d p g) (mul-dvd-mul_right d q g))),
 )
 
 -- a positive number is its quotient by a divisor, times the divisor
-pub quotient_times : (n : ℤ) (g : ℕ) → pos 0 <ℤ n → g ∣ unsigned_abs n → pos (unsigned_abs n / g) *ℤ pos g ≡ n
+pub quotient_times : (n : ℤ) (g : ℕ) → pos 0 <ℤ n → g ∣ unsigned_abs n →
+    pos (unsigned_abs n / g) *ℤ pos g ≡ n
 quotient_times n g some h = ap pos (div-mul_cancel g h) ∙ pos_abs_z n (omega (arith, ints))
 
 -- each of two positive numbers times the other's quotient by the greatest common divisor
-pub crossed_quotients : (n m : ℤ) (g : ℕ) → pos 0 <ℤ n → pos 0 <ℤ m → IsGcd (unsigned_abs n) (unsigned_abs m) g →
+pub crossed_quotients : (n m : ℤ) (g : ℕ) → pos 0 <ℤ n → pos 0 <ℤ m →
+    IsGcd (unsigned_abs n) (unsigned_abs m) g →
     pos (unsigned_abs n / g) *ℤ m ≡ pos (unsigned_abs m / g) *ℤ n
 crossed_quotients n m g n_some m_some h =
     let p = pos (unsigned_abs n / g) in
@@ -113,12 +118,15 @@ coprime_product a b c h k =
     (one-dvd a, one-dvd (b * c), λ d u v. k.2 d u (gauss d b c (coprime_divisor a b d h u) v))
 
 -- the denominator in lowest terms divides each multiplier that makes the fraction whole
-pub denominator_divides : (n : ℤ) (d k : ℕ) → IsGcd (unsigned_abs n) d 1 → d ∣ k * unsigned_abs n → d ∣ k
+pub denominator_divides : (n : ℤ) (d k : ℕ) → IsGcd (unsigned_abs n) d 1 → d ∣ k * unsigned_abs n →
+    d ∣ k
 denominator_divides n d k h p =
-    gauss d (unsigned_abs n) k (IsGcd-swap (unsigned_abs n) d 1 h) (subst (λ m. d ∣ m) (mul_comm k (unsigned_abs n)) p)
+    gauss d (unsigned_abs n) k (IsGcd-swap (unsigned_abs n) d 1 h)
+    (subst (λ m. d ∣ m) (mul_comm k (unsigned_abs n)) p)
 
 -- if n/d is in lowest terms and k n/d is the whole number q, d divides k
-pub whole_multiple : (n q : ℤ) (d k : ℕ) → IsGcd (unsigned_abs n) d 1 → pos k *ℤ n ≡ q *ℤ pos d → d ∣ k
+pub whole_multiple : (n q : ℤ) (d k : ℕ) → IsGcd (unsigned_abs n) d 1 → pos k *ℤ n ≡ q *ℤ pos d →
+    d ∣ k
 whole_multiple n q d k h e =
     let sizes : k * unsigned_abs n ≡ unsigned_abs q * d =
     sym (unsigned_abs-mul (pos k) n) ∙ ap unsigned_abs e ∙ unsigned_abs-mul q (pos d) in
@@ -127,10 +135,13 @@ whole_multiple n q d k h e =
 -- ---- lowest terms
 
 -- equal fractions in lowest terms have equal parts
-pub same_ratio_nat : (a b c d : ℕ) → IsGcd a b 1 → IsGcd c d 1 → 0 < b → 0 < d → a * d ≡ c * b → (a ≡ c) × (b ≡ d)
+pub same_ratio_nat : (a b c d : ℕ) → IsGcd a b 1 → IsGcd c d 1 → 0 < b → 0 < d → a * d ≡ c * b →
+    (a ≡ c) × (b ≡ d)
 same_ratio_nat a b c d h k b_some d_some e =
-    let first : b ∣ d = gauss b a d (IsGcd-swap a b 1 h) (subst (λ n. b ∣ n) (sym e) (dvd-mul_left b c)) in
-    let second : d ∣ b = gauss d c b (IsGcd-swap c d 1 k) (subst (λ n. d ∣ n) e (dvd-mul_left d a)) in
+    let first : b ∣ d = gauss b a d (IsGcd-swap a b 1 h)
+    (subst (λ n. b ∣ n) (sym e) (dvd-mul_left b c)) in
+    let second : d ∣ b =
+    gauss d c b (IsGcd-swap c d 1 k) (subst (λ n. d ∣ n) e (dvd-mul_left d a)) in
     let same : b ≡ d = dvd_antisymm first second in
     (eq_of_mul-eq-mul_right d d_some a c (e ∙ ap (λ n. c * n) same), same)
 
@@ -140,7 +151,8 @@ pub same_ratio : (n d m e : ℤ) → IsGcd (unsigned_abs n) (unsigned_abs d) 1 �
     (n ≡ m) × (d ≡ e)
 same_ratio n d m e h k d_some e_some same =
     let sizes = sym (unsigned_abs-mul n e) ∙ ap unsigned_abs same ∙ unsigned_abs-mul m d in
-    let parts = same_ratio_nat _ _ _ _ h k (abs_positive_z d d_some) (abs_positive_z e e_some) sizes in
+    let parts = same_ratio_nat _ _ _ _ h k (abs_positive_z d d_some)
+    (abs_positive_z e e_some) sizes in
     let abs_same = parts.1 in
     let below : d ≡ e = omega (arith, ints) in
     let some = abs_positive_z e e_some in
@@ -155,19 +167,23 @@ common_multiple a b g c h some p q =
     let c_is : c ≡ y * g = from ∙ mul_comm g y in
     let first : a ∣ y = dvd_of_mul-dvd-mul_right a some (subst (λ n. a * g ∣ n) c_is p) in
     let second : b ∣ y = dvd_of_mul-dvd-mul_right b some (subst (λ n. b * g ∣ n) c_is q) in
-    subst (λ n. a * b * g ∣ n) (sym c_is) (mul-dvd-mul_right (a * b) (coprime_divisors a b y h first second) g)
+    subst (λ n. a * b * g ∣ n) (sym c_is)
+    (mul-dvd-mul_right (a * b) (coprime_divisors a b y h first second) g)
 
 -- it is the one number times the other's quotient by the greatest common divisor
 pub lcm_from_gcd : (a b g a' : ℕ) → IsGcd a b g → a ≡ a' * g → 0 < g → IsLcm a b (a' * b)
 lcm_from_gcd a b g a' h a_is some =
     let (b', b_from) = cofactor g b h.1 in
     let b_is : b ≡ b' * g = b_from ∙ mul_comm g b' in
-    let apart : IsGcd a' b' 1 = gcd_quotients a' b' g (subst₂ (λ m n. IsGcd m n g) a_is b_is h) some in
+    let apart : IsGcd a' b' 1 =
+    gcd_quotients a' b' g (subst₂ (λ m n. IsGcd m n g) a_is b_is h) some in
     let product : a' * b ≡ a' * b' * g = ap (λ n. a' * n) b_is ∙ sym (mul_assoc a' b' g) in (
-      divides_product a (a' * b) b' (product ∙ mul_right_comm a' b' g ∙ ap (λ n. n * b') (sym a_is)),
+      divides_product a (a' * b) b' (product ∙ mul_right_comm a' b' g
+          ∙ ap (λ n. n * b') (sym a_is)),
       dvd-mul_left b a',
       λ c p q. subst (λ n. n ∣ c) (sym product)
-          (common_multiple a' b' g c apart some (subst (λ n. n ∣ c) a_is p) (subst (λ n. n ∣ c) b_is q)),
+          (common_multiple a' b' g c apart some (subst (λ n. n ∣ c) a_is p)
+          (subst (λ n. n ∣ c) b_is q)),
     )
 
 -- it is positive if both are

@@ -14,14 +14,17 @@ abbrev pub IsPrefixClosed : {A : Type 0} → (List A → Type 0) → Type 0
 IsPrefixClosed {A} Good = (xs ys : List A) → Good (xs ++ ys) → Good xs
 
 -- the whole list is not good
-pub first_failing_denies : {A : Type 0} (Good : List A → Type 0) → IsPrefixClosed Good → (xs before : List A) (x : A) →
+pub first_failing_denies : {A : Type 0} (Good : List A → Type 0) → IsPrefixClosed Good →
+    (xs before : List A) (x : A) →
     IsFirstFailing Good xs before x → Good xs → ⊥
 first_failing_denies Good closed xs before x h all =
     let split = h.place ∙ sym (append_assoc before (x ∷ []) h.after) in
     h.bad (closed (before ++ x ∷ []) h.after (subst Good split all))
 
-one_place : {A : Type 0} (Good : List A → Type 0) → IsPrefixClosed Good → (b c : List A) (x y : A) (xs ys : List A) →
-    b ++ x ∷ xs ≡ c ++ y ∷ ys → Good b → Good c → (Good (b ++ x ∷ []) → ⊥) → (Good (c ++ y ∷ []) → ⊥) →
+one_place : {A : Type 0} (Good : List A → Type 0) → IsPrefixClosed Good →
+    (b c : List A) (x y : A) (xs ys : List A) →
+    b ++ x ∷ xs ≡ c ++ y ∷ ys → Good b → Good c → (Good (b ++ x ∷ []) → ⊥) →
+    (Good (c ++ y ∷ []) → ⊥) →
     (b ≡ c) × (x ≡ y)
 one_place Good closed [] [] x y xs ys e b_good c_good x_bad y_bad = (refl, cc)
 one_place Good closed [] (z ∷ c) x y xs ys e b_good c_good x_bad y_bad =
@@ -33,7 +36,8 @@ one_place Good closed (z ∷ b) [] x y xs ys e b_good c_good x_bad y_bad =
 one_place Good closed (z ∷ b) (w ∷ c) x y xs ys e b_good c_good x_bad y_bad =
     let heads : w ≡ z = cc in
     let tails : b ++ x ∷ xs ≡ c ++ y ∷ ys = cc in
-    let rest = one_place (λ l. Good (z ∷ l)) (λ us vs. closed (z ∷ us) vs) b c x y xs ys tails b_good
+    let rest = one_place (λ l. Good (z ∷ l)) (λ us vs. closed (z ∷ us) vs) b c x y xs ys tails
+    b_good
     (subst (λ u. Good (u ∷ c)) heads c_good) x_bad
     (λ g. y_bad (subst (λ u. Good (u ∷ c ++ y ∷ [])) (sym heads) g)) in
     let same : b ≡ c = rest.0 in
@@ -41,7 +45,8 @@ one_place Good closed (z ∷ b) (w ∷ c) x y xs ys e b_good c_good x_bad y_bad 
     (whole, rest.1)
 
 -- a list has one first element that fails, behind the same elements
-pub one_first_failing : {A : Type 0} (Good : List A → Type 0) → IsPrefixClosed Good → (xs b c : List A) (x y : A) →
+pub one_first_failing : {A : Type 0} (Good : List A → Type 0) → IsPrefixClosed Good →
+    (xs b c : List A) (x y : A) →
     IsFirstFailing Good xs b x → IsFirstFailing Good xs c y → (b ≡ c) × (x ≡ y)
 one_first_failing Good closed xs b c x y h k =
     one_place Good closed b c x y h.after k.after (sym h.place ∙ k.place) h.good k.good h.bad k.bad
@@ -59,7 +64,8 @@ first_failing_in_front Good xs ys before x h = record {
 -- ---- if each element is tested alone
 
 -- the first element that fails a test, behind elements that pass
-pub first_failing : {A : Type 0} (P : A → Type 0) (xs before after : List A) (x : A) → xs ≡ before ++ x ∷ after →
+pub first_failing : {A : Type 0} (P : A → Type 0) (xs before after : List A) (x : A) →
+    xs ≡ before ++ x ∷ after →
     All P before → (P x → ⊥) → IsFirstFailing (All P) xs before x
 first_failing P xs before after x place passed fails = record {
   after = after;
@@ -79,7 +85,8 @@ pub first_failing_denies_all : {A : Type 0} (P : A → Type 0) (xs before : List
 first_failing_denies_all P = first_failing_denies (All P) (All-front P)
 
 -- more elements before it, which pass
-pub first_failing_in_back : {A : Type 0} (P : A → Type 0) (xs ys before : List A) (x : A) → All P xs →
+pub first_failing_in_back : {A : Type 0} (P : A → Type 0) (xs ys before : List A) (x : A) →
+    All P xs →
     IsFirstFailing (All P) ys before x → IsFirstFailing (All P) (xs ++ ys) (xs ++ before) x
 first_failing_in_back P xs ys before x all h =
     first_failing P (xs ++ ys) (xs ++ before) h.after x
@@ -87,28 +94,34 @@ first_failing_in_back P xs ys before x all h =
     (All-append P xs before all h.good) (first_failing_fails P ys before x h)
 
 -- if f y is tested for y
-pub first_failing_in_map : {A B : Type 0} (P : B → Type 0) (f : A → B) (ys before : List A) (y : A) →
-    IsFirstFailing (All (λ z. P (f z))) ys before y → IsFirstFailing (All P) (map f ys) (map f before) (f y)
+pub first_failing_in_map : {A B : Type 0} (P : B → Type 0) (f : A → B) (ys before : List A)
+    (y : A) →
+    IsFirstFailing (All (λ z. P (f z))) ys before y →
+    IsFirstFailing (All P) (map f ys) (map f before) (f y)
 first_failing_in_map P f ys before y h =
     first_failing P (map f ys) (map f before) (map f h.after) (f y)
     (ap (map f) h.place ∙ map-append f before (y ∷ h.after))
     (All-map P f before h.good) (first_failing_fails (λ z. P (f z)) ys before y h)
 
 -- in the lists of all elements, if those of the elements before y pass
-pub first_failing_in_joined : {A B : Type 0} (P : B → Type 0) (f : A → List B) (ys earlier : List A) (y : A)
+pub first_failing_in_joined : {A B : Type 0} (P : B → Type 0) (f : A → List B) (ys earlier : List A)
+    (y : A)
     (before : List B) (x : B) → IsFirstFailing (All (λ z. All P (f z))) ys earlier y →
-    IsFirstFailing (All P) (f y) before x → IsFirstFailing (All P) (flat_map f ys) (flat_map f earlier ++ before) x
+    IsFirstFailing (All P) (f y) before x →
+    IsFirstFailing (All P) (flat_map f ys) (flat_map f earlier ++ before) x
 first_failing_in_joined P f ys earlier y before x h k =
     let later = flat_map f h.after in
     let split = ap (flat_map f) h.place ∙ flat_map-append f earlier (y ∷ h.after) in
     subst (λ l. IsFirstFailing (All P) l (flat_map f earlier ++ before) x) (sym split)
-    (first_failing_in_back P (flat_map f earlier) (f y ++ later) before x (All-flat_map P f earlier h.good)
+    (first_failing_in_back P (flat_map f earlier) (f y ++ later) before x
+    (All-flat_map P f earlier h.good)
     (first_failing_in_front (All P) (f y) later before x k))
 
 -- ---- at an index
 
 -- a number below n, if those below it pass
-pub first_failing_in_range : (P : ℕ → Type 0) (i n : ℕ) → i < n → ((j : ℕ) → j < i → P j) → (P i → ⊥) →
+pub first_failing_in_range : (P : ℕ → Type 0) (i n : ℕ) → i < n → ((j : ℕ) → j < i → P j) →
+    (P i → ⊥) →
     IsFirstFailing (All P) (range_with_len 0 n) (range_with_len 0 i) i
 first_failing_in_range P i n below passed fails =
     first_failing P (range_with_len 0 n) (range_with_len 0 i) (range_with_len (i + 1) (n - suc i)) i

@@ -151,7 +151,8 @@ pub mul_nonnegative_z : (x y : ℤ) → pos 0 ≤ℤ x → pos 0 ≤ℤ y → po
 mul_nonnegative_z x y p q = let h = mul_le_mul_right_z (pos 0) x y q p in omega (arith, ints)
 
 -- from all large multiples, up to a fixed difference, to the numbers themselves
-pub le_from_multiples_z : (x y d : ℤ) → ((k : ℕ) → 0 < k → (pos k *ℤ x) ≤ℤ (pos k *ℤ y +ℤ d)) → x ≤ℤ y
+pub le_from_multiples_z : (x y d : ℤ) → ((k : ℕ) → 0 < k → (pos k *ℤ x) ≤ℤ (pos k *ℤ y +ℤ d)) →
+    x ≤ℤ y
 le_from_multiples_z x y d h = by_lt_z y x (λ l. absurd (too_large l)) (λ l. l)
   where
     too_large : y <ℤ x → ⊥
@@ -207,7 +208,8 @@ same_or_apart_z x y = elim (ℤ_discrete x y) [ yes e ↦ inl e | no n ↦ inr n
 
 -- a number is 0 if a positive multiple of it is
 pub zero_factor_z : (m : ℕ) (x : ℤ) → 0 < m → pos m *ℤ x ≡ pos 0 → x ≡ pos 0
-zero_factor_z m x some e = mul_cancel_left_z x (pos 0) (pos m) (e ∙ omega (arith, ints)) (omega arith)
+zero_factor_z m x some e = mul_cancel_left_z x (pos 0) (pos m) (e ∙ omega (arith, ints))
+    (omega arith)
 
 -- a sum keeps under a weight
 pub weighted_sum_z : (m : ℕ) (x y z : ℤ) → x +ℤ y ≡ z → pos m *ℤ x +ℤ pos m *ℤ y ≡ pos m *ℤ z

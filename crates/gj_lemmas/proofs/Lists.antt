@@ -9,10 +9,12 @@ use Rattle.std.proofs.lemmas.List.{map-append}
 -- ---- both parts of a joined list
 
 pub All-front : {X : Type 0} (P : X → Type 0) (xs ys : List X) → All P (xs ++ ys) → All P xs
-All-front P xs ys h = subst (All P) (take_at xs ys (length xs) refl) (All-take P (length xs) (xs ++ ys) h)
+All-front P xs ys h =
+    subst (All P) (take_at xs ys (length xs) refl) (All-take P (length xs) (xs ++ ys) h)
 
 pub All-back : {X : Type 0} (P : X → Type 0) (xs ys : List X) → All P (xs ++ ys) → All P ys
-All-back P xs ys h = subst (All P) (drop_at xs ys (length xs) refl) (All-drop P (length xs) (xs ++ ys) h)
+All-back P xs ys h =
+    subst (All P) (drop_at xs ys (length xs) refl) (All-drop P (length xs) (xs ++ ys) h)
 
 -- ---- each element of a short list
 
@@ -28,19 +30,22 @@ All-three P x y z h k l = All-cons P x (y ∷ z ∷ []) h (All-two P y z k l)
 -- ---- each element of a list made by a range
 
 -- what holds of each index below a + n, holds of each number of the range of n numbers from a on
-pub All-range : (P : ℕ → Type 0) (a n : ℕ) → ((i : ℕ) → i < a + n → P i) → All P (range_with_len a n)
+pub All-range : (P : ℕ → Type 0) (a n : ℕ) → ((i : ℕ) → i < a + n → P i) →
+    All P (range_with_len a n)
 All-range P a zero h = All-nil P
 All-range P a (suc n) h =
     All-cons P a (range_with_len (a + 1) n) (h a (omega arith))
     (All-range P (a + 1) n (λ i below. h i (omega arith)))
 
 -- the same of each element made from the numbers
-pub All-made : {X : Type 0} (P : X → Type 0) (g : ℕ → X) (a n : ℕ) → ((i : ℕ) → i < a + n → P (g i)) →
+pub All-made : {X : Type 0} (P : X → Type 0) (g : ℕ → X) (a n : ℕ) →
+    ((i : ℕ) → i < a + n → P (g i)) →
     All P (map g (range_with_len a n))
 All-made P g a n h = All-map P g (range_with_len a n) (All-range (λ i. P (g i)) a n h)
 
 -- the lists of all elements joined
-pub All-flat_map : {X Y : Type 0} (P : X → Type 0) (g : Y → List X) (ys : List Y) → All (λ y. All P (g y)) ys →
+pub All-flat_map : {X Y : Type 0} (P : X → Type 0) (g : Y → List X) (ys : List Y) →
+    All (λ y. All P (g y)) ys →
     All P (flat_map g ys)
 All-flat_map P g [] h = All-nil P
 All-flat_map P g (y ∷ ys) h =
@@ -48,14 +53,17 @@ All-flat_map P g (y ∷ ys) h =
     (All-flat_map P g ys (All-tail (λ z. All P (g z)) y ys h))
 
 -- if each number makes a list
-pub All-joined : {X : Type 0} (P : X → Type 0) (g : ℕ → List X) (a n : ℕ) → ((i : ℕ) → i < a + n → All P (g i)) →
+pub All-joined : {X : Type 0} (P : X → Type 0) (g : ℕ → List X) (a n : ℕ) →
+    ((i : ℕ) → i < a + n → All P (g i)) →
     All P (flat_map g (range_with_len a n))
 All-joined P g a n h = All-flat_map P g (range_with_len a n) (All-range (λ i. All P (g i)) a n h)
 
 -- ---- a range up to an end
 
-pub range_step : (a n : ℕ) → a < n → range_with_len a (n - a) ≡ a ∷ range_with_len (a + 1) (n - (a + 1))
-range_step a n below = let more : n - a ≡ suc (n - (a + 1)) = omega arith in ap (range_with_len a) more
+pub range_step : (a n : ℕ) → a < n →
+    range_with_len a (n - a) ≡ a ∷ range_with_len (a + 1) (n - (a + 1))
+range_step a n below = let more : n - a ≡ suc (n - (a + 1)) = omega arith in
+    ap (range_with_len a) more
 
 pub range_end : (a n : ℕ) → n ≤ a → range_with_len a (n - a) ≡ []
 range_end a n above = let none : n - a ≡ 0 = omega arith in ap (range_with_len a) none
@@ -63,7 +71,8 @@ range_end a n above = let none : n - a ≡ 0 = omega arith in ap (range_with_len
 -- ---- where an index stands
 
 -- a range of m + n numbers is one of m numbers and then one of n
-pub range_split : (a m n : ℕ) → range_with_len a (m + n) ≡ range_with_len a m ++ range_with_len (a + m) n
+pub range_split : (a m n : ℕ) →
+    range_with_len a (m + n) ≡ range_with_len a m ++ range_with_len (a + m) n
 range_split a zero n =
     let len : zero + n ≡ n = omega arith in
     let from : a + zero ≡ a = omega arith in
@@ -74,7 +83,8 @@ range_split a (suc m) n =
     rw (len, from, range_split (a + 1) m n) refl
 
 -- an index below n splits the range of n numbers
-pub range_at : (i n : ℕ) → i < n → range_with_len 0 n ≡ range_with_len 0 i ++ i ∷ range_with_len (i + 1) (n - suc i)
+pub range_at : (i n : ℕ) → i < n →
+    range_with_len 0 n ≡ range_with_len 0 i ++ i ∷ range_with_len (i + 1) (n - suc i)
 range_at i n h =
     let len : n ≡ i + suc (n - suc i) = omega arith in
     ap (range_with_len 0) len ∙ range_split 0 i (suc (n - suc i))
@@ -82,16 +92,19 @@ range_at i n h =
 
 -- the list made by a range, split at an index
 pub made_at : {X : Type 0} (g : ℕ → X) (i n : ℕ) → i < n →
-    map g (range_with_len 0 n) ≡ map g (range_with_len 0 i) ++ g i ∷ map g (range_with_len (i + 1) (n - suc i))
+    map g (range_with_len 0 n) ≡ map g (range_with_len 0 i) ++ g i ∷ map g
+    (range_with_len (i + 1) (n - suc i))
 made_at g i n h =
-    ap (map g) (range_at i n h) ∙ map-append g (range_with_len 0 i) (i ∷ range_with_len (i + 1) (n - suc i))
+    ap (map g) (range_at i n h)
+    ∙ map-append g (range_with_len 0 i) (i ∷ range_with_len (i + 1) (n - suc i))
 
 -- the same if each index makes a list
 pub joined_at : {X : Type 0} (g : ℕ → List X) (i n : ℕ) → i < n →
     flat_map g (range_with_len 0 n)
     ≡ flat_map g (range_with_len 0 i) ++ (g i ++ flat_map g (range_with_len (i + 1) (n - suc i)))
 joined_at g i n h =
-    ap (flat_map g) (range_at i n h) ∙ flat_map-append g (range_with_len 0 i) (i ∷ range_with_len (i + 1) (n - suc i))
+    ap (flat_map g) (range_at i n h)
+    ∙ flat_map-append g (range_with_len 0 i) (i ∷ range_with_len (i + 1) (n - suc i))
 
 -- ---- from all elements back to each
 

@@ -21,7 +21,8 @@ from_same_remainder a b q e =
 -- ---- functions with a period
 
 -- a function with the period q has it any number of times
-pub periods : {A : Type 0} (p : ℕ → A) (q : ℕ) → ((i : ℕ) → p (i + q) ≡ p i) → (i k : ℕ) → p (i + k * q) ≡ p i
+pub periods : {A : Type 0} (p : ℕ → A) (q : ℕ) → ((i : ℕ) → p (i + q) ≡ p i) → (i k : ℕ) →
+    p (i + k * q) ≡ p i
 periods p q step i zero = ap p (omega arith)
 periods p q step i (suc k) =
     let is : i + suc k * q ≡ i + k * q + q = omega arith in
@@ -31,7 +32,8 @@ periods p q step i (suc k) =
 pub same_at_remainder : {A : Type 0} (p : ℕ → A) (q : ℕ) → ((i : ℕ) → p (i + q) ≡ p i) →
     (a b : ℕ) → a % q ≡ b % q → p a ≡ p b
 same_at_remainder p q step a b e =
-    sym (periods p q step a (b / q)) ∙ ap p (from_same_remainder a b q e) ∙ periods p q step b (a / q)
+    sym (periods p q step a (b / q)) ∙ ap p (from_same_remainder a b q e)
+    ∙ periods p q step b (a / q)
 
 -- ---- places: a m + r with r below m
 

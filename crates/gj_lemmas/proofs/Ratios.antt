@@ -7,10 +7,12 @@ use Rattle.gj_lemmas.proofs.Ring.{by_ring, ring}
 -- ---- ratios with bottoms of any sign
 
 -- n/d has no other value than m/e, so what is n/d is m/e
-pub ratio_along : (a b n d m e : ℤ) → unsigned_abs d ≢ 0 → a *ℤ d ≡ n *ℤ b → n *ℤ e ≡ m *ℤ d → a *ℤ e ≡ m *ℤ b
+pub ratio_along : (a b n d m e : ℤ) → unsigned_abs d ≢ 0 → a *ℤ d ≡ n *ℤ b → n *ℤ e ≡ m *ℤ d →
+    a *ℤ e ≡ m *ℤ b
 ratio_along a b n d m e some h same =
     mul_cancel_right_z (a *ℤ e) (m *ℤ b) d
-    (swap_last_z a e d ∙ ap (λ z. z *ℤ e) h ∙ swap_last_z n b e ∙ ap (λ z. z *ℤ b) same ∙ swap_last_z m d b) some
+    (swap_last_z a e d ∙ ap (λ z. z *ℤ e) h ∙ swap_last_z n b e ∙ ap (λ z. z *ℤ b) same
+    ∙ swap_last_z m d b) some
 
 sum_left : (a b c d w : ℤ) → (a *ℤ d +ℤ c *ℤ b) *ℤ w ≡ (a *ℤ w) *ℤ d +ℤ (c *ℤ w) *ℤ b
 sum_left a b c d w = by_ring (a ∷ b ∷ c ∷ d ∷ w ∷ []) (search ring depth 30) refl
@@ -29,7 +31,8 @@ pub ratio_difference : (a b c d n m w : ℤ) → a *ℤ w ≡ n *ℤ b → c *�
     (a *ℤ d -ℤ c *ℤ b) *ℤ w ≡ (n -ℤ m) *ℤ (b *ℤ d)
 ratio_difference a b c d n m w h k =
     let turned : neg_ℤ c *ℤ w ≡ neg_ℤ m *ℤ d = neg_mul_z c w ∙ ap neg_ℤ k ∙ sym (neg_mul_z m d) in
-    ap (λ z. (a *ℤ d +ℤ z) *ℤ w) (sym (neg_mul_z c b)) ∙ ratio_sum a b (neg_ℤ c) d n (neg_ℤ m) w h turned
+    ap (λ z. (a *ℤ d +ℤ z) *ℤ w) (sym (neg_mul_z c b))
+    ∙ ratio_sum a b (neg_ℤ c) d n (neg_ℤ m) w h turned
 
 -- the product of n/w and m/v is n m/(w v)
 pub ratio_product : (a b c d n w m v : ℤ) → a *ℤ w ≡ n *ℤ b → c *ℤ v ≡ m *ℤ d →
@@ -38,17 +41,20 @@ ratio_product a b c d n w m v h k =
     mul_mul_comm_z a c w v ∙ (λ i. h i *ℤ k i) ∙ sym (mul_mul_comm_z n m b d)
 
 -- with bottoms above 0, n/w is less than m/w exactly if n is less than m
-pub ratio_less : (a b c d n m w : ℤ) → pos 0 <ℤ b → pos 0 <ℤ d → pos 0 <ℤ w → a *ℤ w ≡ n *ℤ b → c *ℤ w ≡ m *ℤ d →
+pub ratio_less : (a b c d n m w : ℤ) → pos 0 <ℤ b → pos 0 <ℤ d → pos 0 <ℤ w → a *ℤ w ≡ n *ℤ b →
+    c *ℤ w ≡ m *ℤ d →
     ((a *ℤ d) <ℤ (c *ℤ b)) ↔ (n <ℤ m)
 ratio_less a b c d n m w b_some d_some w_some h k =
     let both = mul_positive_z b d b_some d_some in
-    let left : (a *ℤ d) *ℤ w ≡ n *ℤ (b *ℤ d) = swap_last_z a d w ∙ ap (λ z. z *ℤ d) h ∙ mul_assoc_z n b d in
+    let left : (a *ℤ d) *ℤ w ≡ n *ℤ (b *ℤ d) = swap_last_z a d w ∙ ap (λ z. z *ℤ d) h
+    ∙ mul_assoc_z n b d in
     let right : (c *ℤ b) *ℤ w ≡ m *ℤ (b *ℤ d) =
     swap_last_z c b w ∙ ap (λ z. z *ℤ b) k ∙ swap_last_z m d b ∙ mul_assoc_z m b d in (
       λ less. mul_lt_cancel_right_z n m (b *ℤ d) both
           (subst₂ (λ x y. x <ℤ y) left right (mul_lt_mul_right_z (a *ℤ d) (c *ℤ b) w w_some less)),
       λ less. mul_lt_cancel_right_z (a *ℤ d) (c *ℤ b) w w_some
-          (subst₂ (λ x y. x <ℤ y) (sym left) (sym right) (mul_lt_mul_right_z n m (b *ℤ d) both less)),
+          (subst₂ (λ x y. x <ℤ y) (sym left) (sym right)
+          (mul_lt_mul_right_z n m (b *ℤ d) both less)),
     )
 
 -- ---- ratios with bottoms above 0, and the laws of their sums, products and order
@@ -75,14 +81,17 @@ abbrev pub IsProduct : Ratio → Ratio → Ratio → Type 0
 IsProduct x y p = IsOver p (x.top *ℤ y.top) (x.bottom *ℤ y.bottom)
 
 -- two ratios that are n/w are equal
-equal_over : (x y : Ratio) (n w : ℤ) → unsigned_abs w ≢ 0 → IsOver x n w → IsOver y n w → IsEqual x y
+equal_over : (x y : Ratio) (n w : ℤ) → unsigned_abs w ≢ 0 → IsOver x n w → IsOver y n w →
+    IsEqual x y
 equal_over x y n w some h k = ratio_along x.top x.bottom n w y.top y.bottom some h (sym k)
 
 both_some : (x y : Ratio) → unsigned_abs (x.bottom *ℤ y.bottom) ≢ 0
-both_some x y = positive_some_z (x.bottom *ℤ y.bottom) (mul_positive_z x.bottom y.bottom x.positive y.positive)
+both_some x y = positive_some_z (x.bottom *ℤ y.bottom)
+    (mul_positive_z x.bottom y.bottom x.positive y.positive)
 
 -- what is the sum of n/w and m/w is (n + m)/w
-pub sum_over : (x y s : Ratio) (n m w : ℤ) → IsOver x n w → IsOver y m w → IsSum x y s → IsOver s (n +ℤ m) w
+pub sum_over : (x y s : Ratio) (n m w : ℤ) → IsOver x n w → IsOver y m w → IsSum x y s →
+    IsOver s (n +ℤ m) w
 sum_over x y s n m w h k is =
     ratio_along s.top s.bottom _ (x.bottom *ℤ y.bottom) (n +ℤ m) w (both_some x y) is
     (ratio_sum x.top x.bottom y.top y.bottom n m w h k)
@@ -132,10 +141,12 @@ over_one_bottom x y z =
 pub sums_swapped : (x y s t : Ratio) → IsSum x y s → IsSum y x t → IsEqual s t
 sums_swapped x y s t s_is t_is =
     equal_over s t _ _ (both_some x y) s_is
-    (subst₂ (IsOver t) (add_comm_z (y.top *ℤ x.bottom) (x.top *ℤ y.bottom)) (mul_comm_z y.bottom x.bottom) t_is)
+    (subst₂ (IsOver t) (add_comm_z (y.top *ℤ x.bottom) (x.top *ℤ y.bottom))
+    (mul_comm_z y.bottom x.bottom) t_is)
 
 -- (x + y) + z and x + (y + z) are equal
-pub sums_regrouped : (x y z s t u v : Ratio) → IsSum x y s → IsSum s z t → IsSum y z u → IsSum x u v → IsEqual t v
+pub sums_regrouped : (x y z s t u v : Ratio) → IsSum x y s → IsSum s z t → IsSum y z u →
+    IsSum x u v → IsEqual t v
 sums_regrouped x y z s t u v s_is t_is u_is v_is =
     let o = over_one_bottom x y z in
     let first = sum_over x y s o.first o.second o.bottom o.x_is o.y_is s_is in
@@ -152,17 +163,21 @@ products_swapped x y s t s_is t_is =
     (subst₂ (IsOver t) (mul_comm_z y.top x.top) (mul_comm_z y.bottom x.bottom) t_is)
 
 -- (x y) z and x (y z) are equal
-pub products_regrouped : (x y z s t u v : Ratio) → IsProduct x y s → IsProduct s z t → IsProduct y z u → IsProduct x u v →
+pub products_regrouped : (x y z s t u v : Ratio) → IsProduct x y s → IsProduct s z t →
+    IsProduct y z u → IsProduct x u v →
     IsEqual t v
 products_regrouped x y z s t u v s_is t_is u_is v_is =
     equal_over t v ((x.top *ℤ y.top) *ℤ z.top) ((x.bottom *ℤ y.bottom) *ℤ z.bottom)
-    (mul_some_z (x.bottom *ℤ y.bottom) z.bottom (both_some x y) (positive_some_z z.bottom z.positive))
+    (mul_some_z (x.bottom *ℤ y.bottom) z.bottom (both_some x y)
+    (positive_some_z z.bottom z.positive))
     (product_over s z t (x.top *ℤ y.top) (x.bottom *ℤ y.bottom) z.top z.bottom s_is refl t_is)
-    (subst₂ (IsOver v) (sym (mul_assoc_z x.top y.top z.top)) (sym (mul_assoc_z x.bottom y.bottom z.bottom))
+    (subst₂ (IsOver v) (sym (mul_assoc_z x.top y.top z.top))
+    (sym (mul_assoc_z x.bottom y.bottom z.bottom))
     (product_over x u v x.top x.bottom (y.top *ℤ z.top) (y.bottom *ℤ z.bottom) refl u_is v_is))
 
 -- x (y + z) and x y + x z are equal
-pub products_over_sums : (x y z s t u v w : Ratio) → IsSum y z s → IsProduct x s t → IsProduct x y u → IsProduct x z v →
+pub products_over_sums : (x y z s t u v w : Ratio) → IsSum y z s → IsProduct x s t →
+    IsProduct x y u → IsProduct x z v →
     IsSum u v w → IsEqual t w
 products_over_sums x y z s t u v w s_is t_is u_is v_is w_is =
     let o = over_one_bottom x y z in
@@ -171,7 +186,8 @@ products_over_sums x y z s t u v w s_is t_is u_is v_is w_is =
     let sum = sum_over y z s o.second o.third o.bottom o.y_is o.z_is s_is in
     let first = product_over x y u o.first o.bottom o.second o.bottom o.x_is o.y_is u_is in
     let second = product_over x z v o.first o.bottom o.third o.bottom o.x_is o.z_is v_is in
-    equal_over t w (o.first *ℤ o.second +ℤ o.first *ℤ o.third) both (mul_some_z o.bottom o.bottom some some)
+    equal_over t w (o.first *ℤ o.second +ℤ o.first *ℤ o.third) both
+    (mul_some_z o.bottom o.bottom some some)
     (subst (λ n. IsOver t n both) (mul_add_z o.first o.second o.third)
     (product_over x s t o.first o.bottom (o.second +ℤ o.third) o.bottom o.x_is sum t_is))
     (sum_over u v w (o.first *ℤ o.second) (o.first *ℤ o.third) both first second w_is)
@@ -181,8 +197,10 @@ pub not_below_itself : (x : Ratio) → IsBelow x x → ⊥
 not_below_itself x h = omega (arith, ints)
 
 -- n/w is below m/w exactly if n is less than m
-pub below_over : (x y : Ratio) (n m w : ℤ) → pos 0 <ℤ w → IsOver x n w → IsOver y m w → IsBelow x y ↔ (n <ℤ m)
-below_over x y n m w some h k = ratio_less x.top x.bottom y.top y.bottom n m w x.positive y.positive some h k
+pub below_over : (x y : Ratio) (n m w : ℤ) → pos 0 <ℤ w → IsOver x n w → IsOver y m w →
+    IsBelow x y ↔ (n <ℤ m)
+below_over x y n m w some h k =
+    ratio_less x.top x.bottom y.top y.bottom n m w x.positive y.positive some h k
 
 -- x < y and y < z give x < z
 pub below_chain : (x y z : Ratio) → IsBelow x y → IsBelow y z → IsBelow x z

@@ -152,7 +152,8 @@ not_same false e = cc
 
 order_step : (i j : ℕ) (is js : List ℕ) → (order is js ≡ same → is ≡ js) →
     (b : Bool) → eqb i j ≡ b →
-    elim b [ true ↦ order is js | false ↦ elim (ltb i j) [ true ↦ before | false ↦ after ] ] ≡ same →
+    elim b [ true ↦ order is js | false ↦ elim (ltb i j) [ true ↦ before | false ↦ after ] ]
+    ≡ same →
     i ∷ is ≡ j ∷ js
 order_step i j is js h true b e = ap₂ (λ k ks. k ∷ ks) (eqb→eq i j (subst T (sym b) tt)) (h e)
 order_step i j is js h false b e = absurd (not_same (ltb i j) e)
@@ -185,7 +186,8 @@ term_step atoms z is y js p h same e =
     plus_some_is atoms (z +ℤ y) js p
     ∙ ap (λ w. w +ℤ total atoms p) (add_mul_z z y (product_of atoms js))
     ∙ add_assoc_z (z *ℤ product_of atoms js) (y *ℤ product_of atoms js) (total atoms p)
-    ∙ ap (λ ks. z *ℤ product_of atoms ks +ℤ (y *ℤ product_of atoms js +ℤ total atoms p)) (sym (order_same is js e))
+    ∙ ap (λ ks. z *ℤ product_of atoms ks +ℤ (y *ℤ product_of atoms js +ℤ total atoms p))
+    (sym (order_same is js e))
 term_step atoms z is y js p h after e =
     ap (λ w. y *ℤ product_of atoms js +ℤ w) h
     ∙ add_left_comm_z (y *ℤ product_of atoms js) (z *ℤ product_of atoms is) (total atoms p)
@@ -196,7 +198,8 @@ with_term_is atoms z is none = refl
 with_term_is atoms z is (plus y js p) =
     term_step atoms z is y js p (with_term_is atoms z is p) (order is js) refl
 
-sum_of_is : (atoms : List ℤ) (p q : Poly) → total atoms (sum_of p q) ≡ total atoms p +ℤ total atoms q
+sum_of_is : (atoms : List ℤ) (p q : Poly) →
+    total atoms (sum_of p q) ≡ total atoms p +ℤ total atoms q
 sum_of_is atoms none q = sym (+ℤ_idl (total atoms q))
 sum_of_is atoms (plus z is p) q =
     with_term_is atoms z is (sum_of p q)
@@ -231,9 +234,11 @@ normal_is : (atoms : List ℤ) (e : Expr) → total atoms (normal e) ≡ value a
 normal_is atoms (var i) = omega (arith, ints)
 normal_is atoms (num z) = plus_some_is atoms z [] none ∙ omega (arith, ints)
 normal_is atoms (add e f) =
-    sum_of_is atoms (normal e) (normal f) ∙ ap₂ (λ v w. v +ℤ w) (normal_is atoms e) (normal_is atoms f)
+    sum_of_is atoms (normal e) (normal f)
+    ∙ ap₂ (λ v w. v +ℤ w) (normal_is atoms e) (normal_is atoms f)
 normal_is atoms (mul e f) =
-    times_is atoms (normal e) (normal f) ∙ ap₂ (λ v w. v *ℤ w) (normal_is atoms e) (normal_is atoms f)
+    times_is atoms (normal e) (normal f)
+    ∙ ap₂ (λ v w. v *ℤ w) (normal_is atoms e) (normal_is atoms f)
 normal_is atoms (neg e) = opposite_is atoms (normal e) ∙ ap neg_ℤ (normal_is atoms e)
 
 -- ---- reading an expression off a number
@@ -243,10 +248,12 @@ pub data Reading (atoms : List ℤ) (x : ℤ) : Type 0 where
   reading : (e : Expr) → value atoms e ≡ x → Reading atoms x
 
 -- a sum, a product, a number turned in sign
-abbrev pub read_add : {atoms : List ℤ} {x y : ℤ} → Reading atoms x → Reading atoms y → Reading atoms (x +ℤ y)
+abbrev pub read_add : {atoms : List ℤ} {x y : ℤ} → Reading atoms x → Reading atoms y →
+    Reading atoms (x +ℤ y)
 read_add (reading e p) (reading f q) = reading (add e f) (ap₂ (λ v w. v +ℤ w) p q)
 
-abbrev pub read_mul : {atoms : List ℤ} {x y : ℤ} → Reading atoms x → Reading atoms y → Reading atoms (x *ℤ y)
+abbrev pub read_mul : {atoms : List ℤ} {x y : ℤ} → Reading atoms x → Reading atoms y →
+    Reading atoms (x *ℤ y)
 read_mul (reading e p) (reading f q) = reading (mul e f) (ap₂ (λ v w. v *ℤ w) p q)
 
 abbrev pub read_neg : {atoms : List ℤ} {x : ℤ} → Reading atoms x → Reading atoms (neg_ℤ x)
@@ -260,16 +267,20 @@ abbrev pub read_negsuc : {atoms : List ℤ} {n : ℕ} → eqb n n ≡ true → R
 read_negsuc {n} h = reading (num (negsuc n)) refl
 
 -- a sum, a product and a successor of naturals, which stand under `pos`
-abbrev pub read_pos_add : {atoms : List ℤ} {m n : ℕ} → Reading atoms (pos m) → Reading atoms (pos n) →
+abbrev pub read_pos_add : {atoms : List ℤ} {m n : ℕ} → Reading atoms (pos m) →
+    Reading atoms (pos n) →
     Reading atoms (pos (m + n))
 read_pos_add (reading e p) (reading f q) = reading (add e f) (ap₂ (λ v w. v +ℤ w) p q)
 
-abbrev pub read_pos_mul : {atoms : List ℤ} {m n : ℕ} → Reading atoms (pos m) → Reading atoms (pos n) →
+abbrev pub read_pos_mul : {atoms : List ℤ} {m n : ℕ} → Reading atoms (pos m) →
+    Reading atoms (pos n) →
     Reading atoms (pos (m * n))
 read_pos_mul (reading e p) (reading f q) = reading (mul e f) (ap₂ (λ v w. v *ℤ w) p q)
 
-abbrev pub read_pos_suc : {atoms : List ℤ} {n : ℕ} → Reading atoms (pos n) → Reading atoms (pos (suc n))
-read_pos_suc {n} (reading e p) = reading (add e (num (pos 1))) (ap (λ v. v +ℤ pos 1) p ∙ ap pos (add-one n))
+abbrev pub read_pos_suc : {atoms : List ℤ} {n : ℕ} → Reading atoms (pos n) →
+    Reading atoms (pos (suc n))
+read_pos_suc {n} (reading e p) =
+    reading (add e (num (pos 1))) (ap (λ v. v +ℤ pos 1) p ∙ ap pos (add-one n))
 
 -- an atom, by its number
 abbrev pub read_0 : {atoms : List ℤ} {x : ℤ} → Reading (x ∷ atoms) x
@@ -287,7 +298,8 @@ read_3 = reading (var 3) refl
 abbrev pub read_4 : {atoms : List ℤ} {y0 y1 y2 y3 x : ℤ} → Reading (y0 ∷ y1 ∷ y2 ∷ y3 ∷ x ∷ atoms) x
 read_4 = reading (var 4) refl
 
-abbrev pub read_5 : {atoms : List ℤ} {y0 y1 y2 y3 y4 x : ℤ} → Reading (y0 ∷ y1 ∷ y2 ∷ y3 ∷ y4 ∷ x ∷ atoms) x
+abbrev pub read_5 : {atoms : List ℤ} {y0 y1 y2 y3 y4 x : ℤ} →
+    Reading (y0 ∷ y1 ∷ y2 ∷ y3 ∷ y4 ∷ x ∷ atoms) x
 read_5 = reading (var 5) refl
 
 abbrev pub read_6 : {atoms : List ℤ} {y0 y1 y2 y3 y4 y5 x : ℤ} →
@@ -327,24 +339,30 @@ abbrev pub read_14 : {atoms : List ℤ} {y0 y1 y2 y3 y4 y5 y6 y7 y8 y9 y10 y11 y
 read_14 = reading (var 14) refl
 
 abbrev pub read_15 : {atoms : List ℤ} {y0 y1 y2 y3 y4 y5 y6 y7 y8 y9 y10 y11 y12 y13 y14 x : ℤ} →
-    Reading (y0 ∷ y1 ∷ y2 ∷ y3 ∷ y4 ∷ y5 ∷ y6 ∷ y7 ∷ y8 ∷ y9 ∷ y10 ∷ y11 ∷ y12 ∷ y13 ∷ y14 ∷ x ∷ atoms) x
+    Reading (y0 ∷ y1 ∷ y2 ∷ y3 ∷ y4 ∷ y5 ∷ y6 ∷ y7 ∷ y8 ∷ y9 ∷ y10 ∷ y11 ∷ y12 ∷ y13 ∷ y14 ∷ x
+    ∷ atoms) x
 read_15 = reading (var 15) refl
 
-abbrev pub read_16 : {atoms : List ℤ} {y0 y1 y2 y3 y4 y5 y6 y7 y8 y9 y10 y11 y12 y13 y14 y15 x : ℤ} →
-    Reading (y0 ∷ y1 ∷ y2 ∷ y3 ∷ y4 ∷ y5 ∷ y6 ∷ y7 ∷ y8 ∷ y9 ∷ y10 ∷ y11 ∷ y12 ∷ y13 ∷ y14 ∷ y15 ∷ x ∷ atoms) x
+abbrev pub read_16 : {atoms : List ℤ}
+    {y0 y1 y2 y3 y4 y5 y6 y7 y8 y9 y10 y11 y12 y13 y14 y15 x : ℤ} →
+    Reading (y0 ∷ y1 ∷ y2 ∷ y3 ∷ y4 ∷ y5 ∷ y6 ∷ y7 ∷ y8 ∷ y9 ∷ y10 ∷ y11 ∷ y12 ∷ y13 ∷ y14 ∷ y15 ∷ x
+    ∷ atoms) x
 read_16 = reading (var 16) refl
 
-abbrev pub read_17 : {atoms : List ℤ} {y0 y1 y2 y3 y4 y5 y6 y7 y8 y9 y10 y11 y12 y13 y14 y15 y16 x : ℤ} →
+abbrev pub read_17 : {atoms : List ℤ}
+    {y0 y1 y2 y3 y4 y5 y6 y7 y8 y9 y10 y11 y12 y13 y14 y15 y16 x : ℤ} →
     Reading (y0 ∷ y1 ∷ y2 ∷ y3 ∷ y4 ∷ y5 ∷ y6 ∷ y7 ∷ y8 ∷ y9 ∷
     y10 ∷ y11 ∷ y12 ∷ y13 ∷ y14 ∷ y15 ∷ y16 ∷ x ∷ atoms) x
 read_17 = reading (var 17) refl
 
-abbrev pub read_18 : {atoms : List ℤ} {y0 y1 y2 y3 y4 y5 y6 y7 y8 y9 y10 y11 y12 y13 y14 y15 y16 y17 x : ℤ} →
+abbrev pub read_18 : {atoms : List ℤ}
+    {y0 y1 y2 y3 y4 y5 y6 y7 y8 y9 y10 y11 y12 y13 y14 y15 y16 y17 x : ℤ} →
     Reading (y0 ∷ y1 ∷ y2 ∷ y3 ∷ y4 ∷ y5 ∷ y6 ∷ y7 ∷ y8 ∷ y9 ∷
     y10 ∷ y11 ∷ y12 ∷ y13 ∷ y14 ∷ y15 ∷ y16 ∷ y17 ∷ x ∷ atoms) x
 read_18 = reading (var 18) refl
 
-abbrev pub read_19 : {atoms : List ℤ} {y0 y1 y2 y3 y4 y5 y6 y7 y8 y9 y10 y11 y12 y13 y14 y15 y16 y17 y18 x : ℤ} →
+abbrev pub read_19 : {atoms : List ℤ}
+    {y0 y1 y2 y3 y4 y5 y6 y7 y8 y9 y10 y11 y12 y13 y14 y15 y16 y17 y18 x : ℤ} →
     Reading (y0 ∷ y1 ∷ y2 ∷ y3 ∷ y4 ∷ y5 ∷ y6 ∷ y7 ∷ y8 ∷ y9 ∷
     y10 ∷ y11 ∷ y12 ∷ y13 ∷ y14 ∷ y15 ∷ y16 ∷ y17 ∷ y18 ∷ x ∷ atoms) x
 read_19 = reading (var 19) refl
@@ -353,11 +371,42 @@ read_19 = reading (var 19) refl
 pub data Readings (atoms : List ℤ) (x y : ℤ) : Type 0 where
   readings : (e f : Expr) → value atoms e ≡ x → value atoms f ≡ y → Readings atoms x y
 
-abbrev pub read_both : {atoms : List ℤ} {x y : ℤ} → Reading atoms x → Reading atoms y → Readings atoms x y
+abbrev pub read_both : {atoms : List ℤ} {x y : ℤ} → Reading atoms x → Reading atoms y →
+    Readings atoms x y
 read_both (reading e p) (reading f q) = readings e f p q
 
 -- for `search`: how the two sides of an equation are read
-pub ruleset ring = (read_both, read_add, read_mul, read_neg, read_pos, read_negsuc, read_pos_add, read_pos_mul, read_pos_suc, read_0, read_1, read_2, read_3, read_4, read_5, read_6, read_7, read_8, read_9, read_10, read_11, read_12, read_13, read_14, read_15, read_16, read_17, read_18, read_19)
+pub ruleset ring = (
+  read_both,
+  read_add,
+  read_mul,
+  read_neg,
+  read_pos,
+  read_negsuc,
+  read_pos_add,
+  read_pos_mul,
+  read_pos_suc,
+  read_0,
+  read_1,
+  read_2,
+  read_3,
+  read_4,
+  read_5,
+  read_6,
+  read_7,
+  read_8,
+  read_9,
+  read_10,
+  read_11,
+  read_12,
+  read_13,
+  read_14,
+  read_15,
+  read_16,
+  read_17,
+  read_18,
+  read_19,
+)
 
 -- that the two have one normal form
 abbrev pub SameForm : {atoms : List ℤ} {x y : ℤ} → Readings atoms x y → Type 0

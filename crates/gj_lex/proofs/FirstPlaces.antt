@@ -10,17 +10,21 @@ use Rattle.memchr.specs.Find.{IsFirst, IsFirstByte, TakesFirst, first_of, places
 use Rattle.memchr.proofs.lemmas.ValueLemmas.{IsFirstByte-value}
 
 -- the place where the test first passes
-pub position_is : (p : ℕ → Bool) (xs : List ℕ) (k : ℕ) → position_or_len p xs ≡ k → k < length xs → position p xs ≡ Some k
+pub position_is : (p : ℕ → Bool) (xs : List ℕ) (k : ℕ) → position_or_len p xs ≡ k → k < length xs →
+    position p xs ≡ Some k
 position_is p xs k e h =
-    subst (λ j. cond (nat_lt j (length xs)) (Some j) None ≡ Some k) (sym e) (rw (lt-ltb k (length xs) h) refl)
+    subst (λ j. cond (nat_lt j (length xs)) (Some j) None ≡ Some k) (sym e)
+    (rw (lt-ltb k (length xs) h) refl)
 
 -- it passes nowhere
-pub position_none : (p : ℕ → Bool) (xs : List ℕ) → length xs ≤ position_or_len p xs → position p xs ≡ None
+pub position_none : (p : ℕ → Bool) (xs : List ℕ) → length xs ≤ position_or_len p xs →
+    position p xs ≡ None
 position_none p xs h = rw (le-ltb (position_or_len p xs) (length xs) h) refl
 
 -- the first element that passes, and what stands before and behind it
 pub first_place : (p : ℕ → Bool) (xs : List ℕ) (k : ℕ) → position p xs ≡ Some k →
-    (k < length xs) × (xs ≡ take k xs ++ get_or xs k 0 ∷ drop (k + 1) xs) × (p (get_or xs k 0) ≡ true)
+    (k < length xs) × (xs ≡ take k xs ++ get_or xs k 0 ∷ drop (k + 1) xs)
+    × (p (get_or xs k 0) ≡ true)
     × All (λ x. p x ≡ false) (take k xs)
 first_place p xs k h =
     let at = position-Some p xs k 0 h in (
@@ -56,17 +60,27 @@ position_is_first : (p : ℕ → Bool) (xs : List ℕ) → position p xs ≡ fir
 position_is_first p xs = IsFirstByte-value p xs (position p xs) (searched (position p xs) refl)
   where
     searched : (q : Option ℕ) → position p xs ≡ q → IsFirstByte p xs q
-    searched None e = λ k low high yes. false≢true (sym (All-get_or (λ x. p x ≡ false) xs k 0 high (no_place p xs e)) ∙ yes)
+    searched None e = λ k low high yes. false≢true
+        (sym (All-get_or (λ x. p x ≡ false) xs k 0 high (no_place p xs e)) ∙ yes)
     searched (Some k) e =
-        let at = position-Some p xs k 0 e in
-        (record { low = omega arith; high = at.0; before = λ j low high yes. false≢true (sym (at.2 j high) ∙ yes) }, at.1)
+        let at = position-Some p xs k 0 e in (
+          record {
+            low = omega arith;
+            high = at.0;
+            before =
+                λ j low high yes. false≢true (sym (at.2 j high) ∙ yes);
+          },
+          at.1,
+        )
 
 -- as a search tells it
-pub position_of_first : (p : ℕ → Bool) (xs : List ℕ) (r : Option ℕ) → IsFirstByte p xs r → r ≡ position p xs
+pub position_of_first : (p : ℕ → Bool) (xs : List ℕ) (r : Option ℕ) → IsFirstByte p xs r →
+    r ≡ position p xs
 position_of_first p xs r h = IsFirstByte-value p xs r h ∙ sym (position_is_first p xs)
 
 -- as an iterator over the places tells it
-pub position_of_next : (p : ℕ → Bool) (xs places_left : List ℕ) (r : Option ℕ) → TakesFirst (places p xs) r places_left → r ≡ position p xs
+pub position_of_next : (p : ℕ → Bool) (xs places_left : List ℕ) (r : Option ℕ) →
+    TakesFirst (places p xs) r places_left → r ≡ position p xs
 position_of_next p xs rest r h = first_is r h ∙ sym (position_is_first p xs)
   where
     first_is : (r : Option ℕ) → TakesFirst (places p xs) r rest → r ≡ first_of (places p xs)
@@ -74,7 +88,8 @@ position_of_next p xs rest r h = first_is r h ∙ sym (position_is_first p xs)
     first_is (Some k) h = sym (ap first_of h ∙ first_of_some k rest)
 
 -- what is found stays so if the search goes on further
-pub first_wider : (P : ℕ → Type 0) (a b c k : ℕ) → b ≤ c → IsFirst P a b (Some k) → IsFirst P a c (Some k)
+pub first_wider : (P : ℕ → Type 0) (a b c k : ℕ) → b ≤ c → IsFirst P a b (Some k) →
+    IsFirst P a c (Some k)
 first_wider P a b c k h found = (
   record {
     low = found.0.low;

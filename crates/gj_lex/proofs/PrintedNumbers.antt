@@ -16,24 +16,31 @@ use Rattle.gj_lex.proofs.Decimals.{decimal_leading_zero, decimal_of_value, decim
 use Rattle.gj_lex.proofs.LeadingDigits.{digits_end}
 
 -- the number that few digits spell is small
-pub few_digits_small : (ds : List ℕ) → AllDigits 10 ds → length ds ≤ 18 → digits_value 10 ds < 10 ^ 18
-few_digits_small ds digits few = digits_value_short (numerals_by_value (AllDigits 10) tells_digits) ds 18 digits few
+pub few_digits_small : (ds : List ℕ) → AllDigits 10 ds → length ds ≤ 18 →
+    digits_value 10 ds < 10 ^ 18
+few_digits_small ds digits few =
+    digits_value_short (numerals_by_value (AllDigits 10) tells_digits) ds 18 digits few
 
 -- digits that begin with no zero, or with one alone, are printed for their number
-pub number_printed : (text front rest : List ℕ) (len number : ℕ) → front ≡ take len text → rest ≡ drop len text → AllDigits 10 (take len text) →
-    number ≡ digits_value 10 (take len text) → number < 10 ^ 18 → 0 < length front → (get_or front 0 0 ≡ 48 → length front ≡ 1) →
+pub number_printed : (text front rest : List ℕ) (len number : ℕ) → front ≡ take len text →
+    rest ≡ drop len text → AllDigits 10 (take len text) →
+    number ≡ digits_value 10 (take len text) → number < 10 ^ 18 → 0 < length front →
+    (get_or front 0 0 ≡ 48 → length front ≡ 1) →
     text ≡ decimal number ++ rest
 number_printed text front rest len number front_is rest_is digits value small some lead =
     let digits_of : AllDigits 10 front = subst (AllDigits 10) (sym front_is) digits in
     let value_of : digits_value 10 front ≡ number = ap (digits_value 10) front_is ∙ sym value in
     let printed : decimal number ≡ front =
-    ap decimal (sym value_of) ∙ decimal_of_value front digits_of some lead (omega (arith, value_of, small)) in
-    sym (take-append-drop len text) ∙ ap (λ t. t ++ drop len text) (sym front_is ∙ sym printed) ∙ ap (λ t. decimal number ++ t) (sym rest_is)
+    ap decimal (sym value_of)
+    ∙ decimal_of_value front digits_of some lead (omega (arith, value_of, small)) in
+    sym (take-append-drop len text) ∙ ap (λ t. t ++ drop len text) (sym front_is ∙ sym printed)
+    ∙ ap (λ t. decimal number ++ t) (sym rest_is)
 
 -- ---- a number that stands there is read
 
 -- where a text begins with no digit, so does its front
-no_digit_ahead : (j : ℕ) (rest : List ℕ) → BeginsWithNoDigit rest → 0 < length (take j rest) → 10 ≤ digit_value (get_or (take j rest) 0 0)
+no_digit_ahead : (j : ℕ) (rest : List ℕ) → BeginsWithNoDigit rest → 0 < length (take j rest) →
+    10 ≤ digit_value (get_or (take j rest) 0 0)
 no_digit_ahead zero rest none some = absurd (omega arith)
 no_digit_ahead (suc j) [] none some = absurd (omega arith)
 no_digit_ahead (suc j) (b ∷ rest) none some = elim (cases_lt (digit_value b) 10) [
@@ -43,31 +50,42 @@ no_digit_ahead (suc j) (b ∷ rest) none some = elim (cases_lt (digit_value b) 1
 
 -- the digits at the front of a text are those of the number that stands there, if no more than 18
 -- are read and no digit stands behind them
-pub number_stands : (text front rest : List ℕ) (m k n : ℕ) → front ≡ take m text → m ≡ min (length text) 18 → AllDigits 10 (take k front) →
-    k ≤ length front → (k < length front → 10 ≤ digit_value (get_or front k 0)) → n < 10 ^ 18 → BeginsWithNoDigit rest →
+pub number_stands : (text front rest : List ℕ) (m k n : ℕ) → front ≡ take m text →
+    m ≡ min (length text) 18 → AllDigits 10 (take k front) →
+    k ≤ length front → (k < length front → 10 ≤ digit_value (get_or front k 0)) → n < 10 ^ 18 →
+    BeginsWithNoDigit rest →
     text ≡ decimal n ++ rest → k ≡ length (decimal n)
 number_stands text front rest m k n front_is m_is digits within end small none text_is =
-    let few : length (decimal n) ≤ 18 = length-decimal-le_wide 18 n (omega arith) small (omega (arith, small)) in
+    let few : length (decimal n) ≤ 18 =
+    length-decimal-le_wide 18 n (omega arith) small (omega (arith, small)) in
     let all = length-append (decimal n) rest in
-    let seam : m ≡ length (decimal n) + (m - length (decimal n)) = omega (arith, m_is, few, all, ap length text_is) in
+    let seam : m ≡ length (decimal n) + (m - length (decimal n)) =
+    omega (arith, m_is, few, all, ap length text_is) in
     let ahead = take (m - length (decimal n)) rest in
     let same : front ≡ decimal n ++ ahead =
-    front_is ∙ ap (take m) text_is ∙ ap (λ j. take j (decimal n ++ rest)) seam ∙ take-append-add (decimal n) rest (m - length (decimal n)) in
-    digits_end (decimal n) ahead k (subst (λ w. AllDigits 10 (take k w)) same digits) (subst (λ w. k ≤ length w) same within)
-    (subst (λ w. k < length w → 10 ≤ digit_value (get_or w k 0)) same end) (decimal_is_IsNumeral_wide n (omega (arith, small))).0.1
+    front_is ∙ ap (take m) text_is ∙ ap (λ j. take j (decimal n ++ rest)) seam
+    ∙ take-append-add (decimal n) rest (m - length (decimal n)) in
+    digits_end (decimal n) ahead k (subst (λ w. AllDigits 10 (take k w)) same digits)
+    (subst (λ w. k ≤ length w) same within)
+    (subst (λ w. k < length w → 10 ≤ digit_value (get_or w k 0)) same end)
+    (decimal_is_IsNumeral_wide n (omega (arith, small))).0.1
     (no_digit_ahead (m - length (decimal n)) rest none)
 
-module _ (text rest : List ℕ) (k n : ℕ) (small : n < 10 ^ 18) (text_is : text ≡ decimal n ++ rest) (k_is : k ≡ length (decimal n)) where
+module _ (text rest : List ℕ) (k n : ℕ) (small : n < 10 ^ 18) (text_is : text ≡ decimal n ++ rest)
+    (k_is : k ≡ length (decimal n)) where
   -- they are its digits
   pub digits_taken : take k text ≡ decimal n
-  digits_taken = ap (λ i. take i text) k_is ∙ ap (take (length (decimal n))) text_is ∙ take-append_seam (decimal n) rest
+  digits_taken = ap (λ i. take i text) k_is ∙ ap (take (length (decimal n))) text_is
+      ∙ take-append_seam (decimal n) rest
 
   -- and the rest follows them
   pub digits_dropped : drop k text ≡ rest
-  digits_dropped = ap (λ i. drop i text) k_is ∙ ap (drop (length (decimal n))) text_is ∙ drop-append_seam (decimal n) rest
+  digits_dropped = ap (λ i. drop i text) k_is ∙ ap (drop (length (decimal n))) text_is
+      ∙ drop-append_seam (decimal n) rest
 
   -- there is a digit, and no zero before others
-  pub digits_canonical : (front : List ℕ) → front ≡ take k text → (0 < length front) × (get_or front 0 0 ≡ 48 → length front ≡ 1)
+  pub digits_canonical : (front : List ℕ) → front ≡ take k text →
+      (0 < length front) × (get_or front 0 0 ≡ 48 → length front ≡ 1)
   digits_canonical front front_is =
       let same : front ≡ decimal n = front_is ∙ digits_taken in
       subst (λ ds. (0 < length ds) × (get_or ds 0 0 ≡ 48 → length ds ≡ 1)) (sym same)
@@ -78,7 +96,8 @@ module _ (text rest : List ℕ) (k n : ℕ) (small : n < 10 ^ 18) (text_is : tex
   digits_spell = ap (digits_value 10) digits_taken ∙ value_of_decimal n (omega (arith, small))
 
 -- a `/` and a number from 2 on are printed for that denominator
-pub denominator_printed : (text digits rest : List ℕ) (d : ℕ) → text ≡ 47 ∷ digits → digits ≡ decimal d ++ rest → 2 ≤ d →
+pub denominator_printed : (text digits rest : List ℕ) (d : ℕ) → text ≡ 47 ∷ digits →
+    digits ≡ decimal d ++ rest → 2 ≤ d →
     text ≡ denominator_text d ++ rest
 denominator_printed text digits rest d text_is digits_is two =
     text_is ∙ ap (λ t. 47 ∷ t) digits_is ∙ ap (λ t. t ++ rest) (sym (denominator_more d two))
@@ -98,40 +117,59 @@ number_no_minus n bs rest small e =
     no_minus_before (decimal n) bs rest spelled.0.1 spelled.0.0 e
 
 -- a whole number that begins with a `-` is below 0, and its digits follow
-pub minus_number : (text digits rest : List ℕ) (n : ℤ) → unsigned_abs n < 10 ^ 18 → text ≡ 45 ∷ digits → text ≡ signed_decimal n ++ rest →
-    (n ≡ neg_ℤ (pos (unsigned_abs n))) × (0 < unsigned_abs n) × (digits ≡ decimal (unsigned_abs n) ++ rest)
-minus_number text digits rest (pos n) small minus is = absurd (number_no_minus n digits rest small (sym minus ∙ is))
-minus_number text digits rest (negsuc n) small minus is = (refl, omega arith, ap (drop 1) (sym minus ∙ is))
+pub minus_number : (text digits rest : List ℕ) (n : ℤ) → unsigned_abs n < 10 ^ 18 →
+    text ≡ 45 ∷ digits → text ≡ signed_decimal n ++ rest →
+    (n ≡ neg_ℤ (pos (unsigned_abs n))) × (0 < unsigned_abs n)
+    × (digits ≡ decimal (unsigned_abs n) ++ rest)
+minus_number text digits rest (pos n) small minus is =
+    absurd (number_no_minus n digits rest small (sym minus ∙ is))
+minus_number text digits rest (negsuc n) small minus is =
+    (refl, omega arith, ap (drop 1) (sym minus ∙ is))
 
 -- a denominator that begins with no `/` is 1
-pub plain_denominator : (text rest : List ℕ) (d : ℕ) → 0 < d → ((bs : List ℕ) → text ≢ 47 ∷ bs) → text ≡ denominator_text d ++ rest →
+pub plain_denominator : (text rest : List ℕ) (d : ℕ) → 0 < d → ((bs : List ℕ) → text ≢ 47 ∷ bs) →
+    text ≡ denominator_text d ++ rest →
     (d ≡ 1) × (text ≡ rest)
 plain_denominator text rest zero some other is = absurd (omega arith)
-plain_denominator text rest (suc zero) some other is = (refl, is ∙ ap (λ t. t ++ rest) denominator_one)
+plain_denominator text rest (suc zero) some other is =
+    (refl, is ∙ ap (λ t. t ++ rest) denominator_one)
 plain_denominator text rest (suc (suc d)) some other is =
-    absurd (other (decimal (suc (suc d)) ++ rest) (is ∙ ap (λ t. t ++ rest) (denominator_more (suc (suc d)) (omega arith))))
+    absurd (other (decimal (suc (suc d)) ++ rest)
+    (is ∙ ap (λ t. t ++ rest) (denominator_more (suc (suc d)) (omega arith))))
 
 -- one that begins with a `/` is at least 2, and its digits follow, if no `/` stands behind it
-pub slash_denominator : (text digits rest : List ℕ) (d : ℕ) → 0 < d → get_or rest 0 0 ≢ 47 → text ≡ 47 ∷ digits → text ≡ denominator_text d ++ rest →
+pub slash_denominator : (text digits rest : List ℕ) (d : ℕ) → 0 < d → get_or rest 0 0 ≢ 47 →
+    text ≡ 47 ∷ digits → text ≡ denominator_text d ++ rest →
     (2 ≤ d) × (digits ≡ decimal d ++ rest)
 slash_denominator text digits rest zero some other slash is = absurd (omega arith)
 slash_denominator text digits rest (suc zero) some other slash is =
     absurd (other (ap (λ t. get_or t 0 0) (sym (is ∙ ap (λ t. t ++ rest) denominator_one) ∙ slash)))
-slash_denominator text digits rest (suc (suc d)) some other slash is =
-    (omega arith, ap (drop 1) (sym slash ∙ is ∙ ap (λ t. t ++ rest) (denominator_more (suc (suc d)) (omega arith))))
+slash_denominator text digits rest (suc (suc d)) some other slash is = (
+  omega arith,
+  ap (drop 1)
+      (sym slash ∙ is ∙ ap (λ t. t ++ rest) (denominator_more (suc (suc d)) (omega arith))),
+)
 
 -- no digit stands behind a numerator
-no_digit_behind : (d : ℕ) (rest : List ℕ) → 0 < d → BeginsWithNoDigit rest → BeginsWithNoDigit (denominator_text d ++ rest)
+no_digit_behind : (d : ℕ) (rest : List ℕ) → 0 < d → BeginsWithNoDigit rest →
+    BeginsWithNoDigit (denominator_text d ++ rest)
 no_digit_behind zero rest some none = absurd (omega arith)
-no_digit_behind (suc zero) rest some none = subst (λ t. BeginsWithNoDigit (t ++ rest)) (sym denominator_one) none
+no_digit_behind (suc zero) rest some none =
+    subst (λ t. BeginsWithNoDigit (t ++ rest)) (sym denominator_one) none
 no_digit_behind (suc (suc d)) rest some none =
-    subst (λ t. BeginsWithNoDigit (t ++ rest)) (sym (denominator_more (suc (suc d)) (omega arith))) (λ digit. omega (arith, digit))
+    subst (λ t. BeginsWithNoDigit (t ++ rest)) (sym (denominator_more (suc (suc d)) (omega arith)))
+    (λ digit. omega (arith, digit))
 
 -- a fraction that stands there is its numerator, and then its denominator
-pub fraction_stands : (text rest : List ℕ) (x : Frac) → BeginsWithNoDigit rest → text ≡ fraction_text x ++ rest →
-    (text ≡ signed_decimal x.num ++ (denominator_text (unsigned_abs x.den) ++ rest)) × (0 < unsigned_abs x.den) ×
+pub fraction_stands : (text rest : List ℕ) (x : Frac) → BeginsWithNoDigit rest →
+    text ≡ fraction_text x ++ rest →
+    (text ≡ signed_decimal x.num ++ (denominator_text (unsigned_abs x.den) ++ rest))
+    × (0 < unsigned_abs x.den) ×
     BeginsWithNoDigit (denominator_text (unsigned_abs x.den) ++ rest)
 fraction_stands text rest x none is =
     let positive = x.lowest.positive in
-    let some : 0 < unsigned_abs x.den = omega (arith, ints) in
-    (is ∙ append_assoc (signed_decimal x.num) (denominator_text (unsigned_abs x.den)) rest, some, no_digit_behind (unsigned_abs x.den) rest some none)
+    let some : 0 < unsigned_abs x.den = omega (arith, ints) in (
+      is ∙ append_assoc (signed_decimal x.num) (denominator_text (unsigned_abs x.den)) rest,
+      some,
+      no_digit_behind (unsigned_abs x.den) rest some none,
+    )

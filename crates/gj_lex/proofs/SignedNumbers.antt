@@ -6,9 +6,12 @@ use Rattle.gj_frac.specs.Fraction.{IsRatio, with_sign}
 use Rattle.gj_lex.specs.NumberText.{IsNumberText, IsWritten}
 
 -- what was read behind a sign is spelled so, with the sign
-pub number_found : (word rest : List ℕ) (minus : Bool) (top bottom : ℕ) (x : Frac) → rest ≡ without_leading_sign word →
-    minus ≡ starts_with_minus word → IsWritten rest top bottom → top < 2 ^ 127 → bottom < 2 ^ 127 → 0 < bottom →
-    IsRatio x (with_sign minus top) (pos bottom) → (n : ℤ) × (d : ℕ) × IsNumberText word n d × IsRatio x n (pos d)
+pub number_found : (word rest : List ℕ) (minus : Bool) (top bottom : ℕ) (x : Frac) →
+    rest ≡ without_leading_sign word →
+    minus ≡ starts_with_minus word → IsWritten rest top bottom → top < 2 ^ 127 → bottom < 2 ^ 127 →
+    0 < bottom →
+    IsRatio x (with_sign minus top) (pos bottom) → (n : ℤ) × (d : ℕ) × IsNumberText word n d
+    × IsRatio x n (pos d)
 number_found word rest minus top bottom x rest_is minus_is written small low some is =
     let text : IsNumberText word (with_sign minus top) bottom = record {
       top = top;
@@ -21,7 +24,8 @@ number_found word rest minus top bottom x rest_is minus_is written small low som
     (with_sign minus top, bottom, text, is)
 
 -- what is spelled so was read
-pub number_only : (word : List ℕ) (minus : Bool) (x : Frac) (n : ℤ) (d : ℕ) (t : IsNumberText word n d) → minus ≡ starts_with_minus word →
+pub number_only : (word : List ℕ) (minus : Bool) (x : Frac) (n : ℤ) (d : ℕ)
+    (t : IsNumberText word n d) → minus ≡ starts_with_minus word →
     IsRatio x (with_sign minus t.top) (pos d) → IsRatio x n (pos d)
 number_only word minus x n d t minus_is is =
     subst (λ z. IsRatio x z (pos d)) (ap (λ m. with_sign m t.top) minus_is ∙ sym t.value) is

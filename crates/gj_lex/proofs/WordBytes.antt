@@ -20,7 +20,8 @@ IsPlain w = (0 < length w) × All IsWordByte w
 -- bytes whose values are those of digits are digits
 pub all_from_digits : (ds : List ℕ) → AllDigits 10 ds → All IsAsciiDigit ds
 all_from_digits [] d = All-nil IsAsciiDigit
-all_from_digits (c ∷ cs) d = All-cons IsAsciiDigit c cs (digit_from_value c d.0) (all_from_digits cs d.1)
+all_from_digits (c ∷ cs) d = All-cons IsAsciiDigit c cs (digit_from_value c d.0)
+    (all_from_digits cs d.1)
 
 -- and digits have such values
 pub digits_from_all : (ds : List ℕ) → All IsAsciiDigit ds → AllDigits 10 ds
@@ -38,27 +39,33 @@ decimal_bytes n small = all_from_digits (decimal n) (decimal_is_IsNumeral_wide n
 
 -- and so bytes of a canonical text
 decimal_number_bytes : (n : ℕ) → n < 2 ^ 127 → All IsNumberByte (decimal n)
-decimal_number_bytes n small = All-weaker IsAsciiDigit IsNumberByte (λ b h. inl h) (decimal n) (decimal_bytes n small)
+decimal_number_bytes n small = All-weaker IsAsciiDigit IsNumberByte (λ b h. inl h) (decimal n)
+    (decimal_bytes n small)
 
 -- ---- fractions
 
 -- the bytes of a numerator
 signed_bytes : (n : ℤ) → unsigned_abs n < 2 ^ 127 → All IsNumberByte (signed_decimal n)
 signed_bytes (pos n) small = decimal_number_bytes n (omega arith)
-signed_bytes (negsuc n) small = All-cons IsNumberByte 45 (decimal (suc n)) (inr (inl refl)) (decimal_number_bytes (suc n) (omega arith))
+signed_bytes (negsuc n) small = All-cons IsNumberByte 45 (decimal (suc n)) (inr (inl refl))
+    (decimal_number_bytes (suc n) (omega arith))
 
 -- the bytes of a denominator
 denominator_bytes : (d : ℕ) → d < 2 ^ 127 → All IsNumberByte (denominator_text d)
-denominator_bytes zero small = subst (All IsNumberByte) (sym (denominator_small 0 (omega arith))) (All-nil IsNumberByte)
-denominator_bytes (suc zero) small = subst (All IsNumberByte) (sym (denominator_small 1 (omega arith))) (All-nil IsNumberByte)
+denominator_bytes zero small = subst (All IsNumberByte) (sym (denominator_small 0 (omega arith)))
+    (All-nil IsNumberByte)
+denominator_bytes (suc zero) small =
+    subst (All IsNumberByte) (sym (denominator_small 1 (omega arith))) (All-nil IsNumberByte)
 denominator_bytes (suc (suc d)) small =
     subst (All IsNumberByte) (sym (denominator_more (suc (suc d)) (omega arith)))
-    (All-cons IsNumberByte 47 (decimal (suc (suc d))) (inr (inr refl)) (decimal_number_bytes (suc (suc d)) small))
+    (All-cons IsNumberByte 47 (decimal (suc (suc d))) (inr (inr refl))
+    (decimal_number_bytes (suc (suc d)) small))
 
 -- a canonical text has digits, a `-` and a `/` in it, and nothing else
 pub fraction_bytes : (x : Frac) → All IsNumberByte (fraction_text x)
 fraction_bytes x =
-    All-append IsNumberByte (signed_decimal x.num) (denominator_text (unsigned_abs x.den)) (signed_bytes x.num x.lowest.num_fits)
+    All-append IsNumberByte (signed_decimal x.num) (denominator_text (unsigned_abs x.den))
+    (signed_bytes x.num x.lowest.num_fits)
     (denominator_bytes (unsigned_abs x.den) x.lowest.den_fits)
 
 -- a numerator is not empty
@@ -68,7 +75,12 @@ signed_some (negsuc n) small = omega arith
 
 -- a canonical text is not empty
 pub fraction_some : (x : Frac) → 0 < length (fraction_text x)
-fraction_some x = omega (arith, signed_some x.num x.lowest.num_fits, length-append (signed_decimal x.num) (denominator_text (unsigned_abs x.den)))
+fraction_some x = omega (
+  arith,
+  signed_some x.num x.lowest.num_fits,
+  length-append (signed_decimal x.num)
+      (denominator_text (unsigned_abs x.den)),
+)
 
 -- ---- words
 
@@ -99,8 +111,10 @@ number_byte_in_word b (inr (inr h)) = record {
 
 -- no byte of a number's digits parts words or ends a line
 pub decimal_is_word : (n : ℕ) → n < 2 ^ 127 → All IsWordByte (decimal n)
-decimal_is_word n small = All-weaker IsAsciiDigit IsWordByte digit_in_word (decimal n) (decimal_bytes n small)
+decimal_is_word n small = All-weaker IsAsciiDigit IsWordByte digit_in_word (decimal n)
+    (decimal_bytes n small)
 
 -- nor does one of a canonical text
 pub fraction_is_word : (x : Frac) → All IsWordByte (fraction_text x)
-fraction_is_word x = All-weaker IsNumberByte IsWordByte number_byte_in_word (fraction_text x) (fraction_bytes x)
+fraction_is_word x = All-weaker IsNumberByte IsWordByte number_byte_in_word (fraction_text x)
+    (fraction_bytes x)

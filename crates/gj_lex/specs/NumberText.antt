@@ -39,9 +39,11 @@ pub record IsWordByte (b : ℕ) : Type 0 where
 -- and digits, and all digits are the numerator
 pub data IsWritten (word : List ℕ) (top bottom : ℕ) : Type 0 where
   whole : IsNumeral 10 word → top ≡ digits_value 10 word → bottom ≡ 1 → IsWritten word top bottom
-  ratio : (front back : List ℕ) → word ≡ front ++ 47 ∷ back → IsNumeral 10 front → IsNumeral 10 back →
+  ratio : (front back : List ℕ) → word ≡ front ++ 47 ∷ back → IsNumeral 10 front →
+      IsNumeral 10 back →
       top ≡ digits_value 10 front → bottom ≡ digits_value 10 back → IsWritten word top bottom
-  point : (front back : List ℕ) → word ≡ front ++ 46 ∷ back → IsNumeral 10 front → IsNumeral 10 back →
+  point : (front back : List ℕ) → word ≡ front ++ 46 ∷ back → IsNumeral 10 front →
+      IsNumeral 10 back →
       top ≡ digits_value 10 (front ++ back) → bottom ≡ 10 ^ length back → IsWritten word top bottom
 
 -- the word writes n/d in lenient form: a `-`, a `+` or no sign, and then two numbers that are at

@@ -8,8 +8,11 @@ use Rattle.gj_top.specs.Code.{code_of}
 -- the status whose code this is
 abbrev pub status_at : ℕ → Status
 status_at n =
-    cond (n == 0) Done (cond (n == 1) Rejected (cond (n == 2) Words (cond (n == 3) Input (cond (n == 4) ReadFault (cond (n == 5) WriteFault
-    (cond (n == 6) Memory (cond (n == 7) Wide (cond (n == 8) NotContinuous (cond (n == 9) NoFunction (cond (n == 10) NotSubadditive
+    cond (n == 0) Done (cond (n == 1) Rejected
+    (cond (n == 2) Words (cond (n == 3) Input (cond (n == 4) ReadFault (cond (n == 5) WriteFault
+    (cond (n == 6) Memory
+    (cond (n == 7) Wide (cond (n == 8) NotContinuous
+    (cond (n == 9) NoFunction (cond (n == 10) NotSubadditive
     (cond (n == 11) OrderLimit BadOrder)))))))))))
 
 pub back : (s : Status) → status_at (code_of s) ≡ s

@@ -13,7 +13,8 @@ use Rattle.gj_top.specs.Run.{Run}
 -- the words are the pieces of the bytes between the blanks; bytes that are not UTF-8 are no words
 abbrev pub AreWordsOf : List ℕ → List (String Global) → Type 0
 AreWordsOf bytes words =
-    (IsUtf8 bytes × (map string_bytes words ≡ slice_split (λ b. b == 32) bytes)) ⊎ ((IsUtf8 bytes → ⊥) × (words ≡ []))
+    (IsUtf8 bytes × (map string_bytes words ≡ slice_split (λ b. b == 32) bytes))
+    ⊎ ((IsUtf8 bytes → ⊥) × (words ≡ []))
 
 -- this holds of the words of the bytes
 abbrev pub OfWords : List ℕ → (List (String Global) → Type 0) → Type 0

@@ -17,16 +17,19 @@ problem_word = codes "problem"
 
 -- the input is longer than the limit, or is no problem text, and the text says so
 abbrev pub IsProblemRefusal : List ℕ → List ℕ → Type 0
-IsProblemRefusal input text = ((input_limit < length input) × (text ≡ long_line)) ⊎ RefusesProblem input text
+IsProblemRefusal input text = ((input_limit < length input) × (text ≡ long_line))
+    ⊎ RefusesProblem input text
 
 -- a call that answers what is asked has this code
 abbrev pub IsProblemCode : SafeInput → ℕ → Type 0
-IsProblemCode asked code = (e : End) × (text : List ℕ) × (code ≡ code_of (status_of e)) × IsProblemReply asked e text
+IsProblemCode asked code = (e : End) × (text : List ℕ) × (code ≡ code_of (status_of e))
+    × IsProblemReply asked e text
 
 -- a call over an input, what its output took and its code
 pub record IsProblemCall (input front : List ℕ) (code : ℕ) : Type 0 where
   -- each cut that was written holds at all feasible points of the problem
-  pub headline : code ≡ 0 → (asked : SafeInput) × IsSafeInput input asked × AreProblemCuts asked front
+  pub headline : code ≡ 0 → (asked : SafeInput) × IsSafeInput input asked
+      × AreProblemCuts asked front
   -- what was written is the text of the cuts, or a line that says why there are none
   pub reply : code ≡ 0 → IsReply problem input end.Done front
   pub no_function : code ≡ 9 → IsReply problem input end.NoFunction front

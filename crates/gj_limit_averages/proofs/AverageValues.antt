@@ -58,7 +58,8 @@ module _ {R : Type 0} (K : OrderedField R) (floors : HasFloor K) (f : FunctionDa
 
   -- the place on the coarse grid
   coarse_parts : (g : FunctionData) (pieces : IsPiecewise g) → g.order ≡ f.order * m →
-      (x : R) (z y : ℤ) (l : R) (r : ℕ) → r < m → pos m *ℤ y +ℤ pos r ≡ z → HasParts K floors g pieces x z l →
+      (x : R) (z y : ℤ) (l : R) (r : ℕ) → r < m → pos m *ℤ y +ℤ pos r ≡ z →
+      HasParts K floors g pieces x z l →
       HasParts K floors f bounds x y (times (plus (number K r) l) w)
   coarse_parts g pieces order x z y l r r_low split p =
       let Q = number K f.order in

@@ -76,7 +76,8 @@ left_out_apart f test cover =
     }
 
 -- the zigzag of a chosen interval is 1 at its first quarter point
-pub zigzag_there : (chosen : ℕ → Bool) (i : ℕ) → chosen i ≡ true → zigzag_of chosen (i * 4 + 1) ≡ pos 1
+pub zigzag_there : (chosen : ℕ → Bool) (i : ℕ) → chosen i ≡ true →
+    zigzag_of chosen (i * 4 + 1) ≡ pos 1
 zigzag_there chosen i yes' =
     let parts = parts_of_place (i * 4 + 1) i 4 1 refl (omega arith) in
     ap₂

@@ -25,7 +25,8 @@ pub record AverageToFunction (f : FunctionData) (m c : ℕ) (g h : FunctionData)
 -- a value or a limit of g is not that of h
 abbrev pub Differ : FunctionData → FunctionData → Type 0
 Differ g h =
-    (i : ℕ) × ((at g.left i ≢ at h.left i) ⊎ (at g.value i ≢ at h.value i) ⊎ (at g.right i ≢ at h.right i))
+    (i : ℕ) × ((at g.left i ≢ at h.left i) ⊎ (at g.value i ≢ at h.value i)
+    ⊎ (at g.right i ≢ at h.right i))
 
 -- g and h are two different minimal functions on such a grid that average to f
 pub record AreDifferentParts (f : FunctionData) (m c : ℕ) (g h : FunctionData) : Type 0 where

@@ -16,13 +16,17 @@ HasSome w = (i : ℕ) × ((w.left i ≢ pos 0) ⊎ (w.value i ≢ pos 0) ⊎ (w.
 
 -- g is f plus step/(3 p) times the numbers, on the grid of order m times f's and over 3 p m times
 -- its scale
-pub record IsMovedBy (f : FunctionData) (m p : ℕ) (step : ℤ) (w : Limits ℤ) (g : FunctionData) : Type 0 where
+pub record IsMovedBy (f : FunctionData) (m p : ℕ) (step : ℤ) (w : Limits ℤ) (g : FunctionData) :
+    Type 0 where
   pub order : g.order ≡ f.order * m
   pub place : g.place ≡ f.place * m
   pub scale : g.scale ≡ 3 * p * (f.scale * m)
   pub left_length : length g.left ≡ g.order
   pub value_length : length g.value ≡ g.order
   pub right_length : length g.right ≡ g.order
-  pub left : (i : ℕ) → i < g.order → at g.left i ≡ pos (3 * p) *ℤ refined f f.left m i +ℤ step *ℤ w.left i
-  pub value : (i : ℕ) → i < g.order → at g.value i ≡ pos (3 * p) *ℤ refined f f.value m i +ℤ step *ℤ w.value i
-  pub right : (i : ℕ) → i < g.order → at g.right i ≡ pos (3 * p) *ℤ refined f f.right m i +ℤ step *ℤ w.right i
+  pub left : (i : ℕ) → i < g.order →
+      at g.left i ≡ pos (3 * p) *ℤ refined f f.left m i +ℤ step *ℤ w.left i
+  pub value : (i : ℕ) → i < g.order →
+      at g.value i ≡ pos (3 * p) *ℤ refined f f.value m i +ℤ step *ℤ w.value i
+  pub right : (i : ℕ) → i < g.order →
+      at g.right i ≡ pos (3 * p) *ℤ refined f f.right m i +ℤ step *ℤ w.right i

@@ -18,20 +18,26 @@ use Rattle.gj_limit_check.proofs.PlainClaims.{one_number}
 
 -- ---- one first failure
 
-pub one_failure : (c : LimitClaim) (n m : ℕ) (rule other : CheckRule) → IsFirstLimitFailure c n rule →
+pub one_failure : (c : LimitClaim) (n m : ℕ) (rule other : CheckRule) →
+    IsFirstLimitFailure c n rule →
     IsFirstLimitFailure c m other → (n ≡ m) × (rule ≡ other)
 one_failure c n m rule other h k =
-    let same = (one_first_failing (All (DemandHolds c)) (All-front (DemandHolds c)) (demands_of c) h.before k.before h.demand k.demand h.first k.first).1 in (
-      one_number c (line_of_demand k.demand) n m (subst (λ d. HasNumber c (line_of_demand d) n) same h.number) k.number,
+    let same = (one_first_failing (All (DemandHolds c)) (All-front (DemandHolds c))
+    (demands_of c) h.before k.before h.demand k.demand h.first k.first).1 in (
+      one_number c (line_of_demand k.demand) n m
+          (subst (λ d. HasNumber c (line_of_demand d) n) same h.number) k.number,
       h.rule_is ∙ ap rule_of same ∙ sym k.rule_is,
     )
 
 -- if every rule holds, none fails
-pub no_failure : (c : LimitClaim) (n : ℕ) (rule : CheckRule) → IsFirstLimitFailure c n rule → MeetsLimitRules c → ⊥
-no_failure c n rule h rules = first_failing_denies_all (DemandHolds c) (demands_of c) h.before h.demand h.first rules
+pub no_failure : (c : LimitClaim) (n : ℕ) (rule : CheckRule) → IsFirstLimitFailure c n rule →
+    MeetsLimitRules c → ⊥
+no_failure c n rule h rules =
+    first_failing_denies_all (DemandHolds c) (demands_of c) h.before h.demand h.first rules
 
 -- a check that names the first that fails accepts if every rule holds, unless there is no memory
-pub accepted_unless : {X : Type 0} (c : LimitClaim) (r : Result X CheckFault) → IfErr r (IsLimitFaultOf c) → MeetsLimitRules c →
+pub accepted_unless : {X : Type 0} (c : LimitClaim) (r : Result X CheckFault) →
+    IfErr r (IsLimitFaultOf c) → MeetsLimitRules c →
     MatchResult r (λ _. Unit {0}) (IsWantOfLimitMemory c)
 accepted_unless c (Ok x) h rules = tt
 accepted_unless c (Err (Rejected n rule)) h rules = absurd (no_failure c n rule h rules)
@@ -39,7 +45,8 @@ accepted_unless c (Err (Memory e)) h rules = h
 
 -- ---- the first of some demands that fails: its line and its rule
 
-pub record FirstFails (c : LimitClaim) (demands : List Demand) (l : ProofLine) (r : CheckRule) : Type 0 where
+pub record FirstFails (c : LimitClaim) (demands : List Demand) (l : ProofLine) (r : CheckRule) :
+    Type 0 where
   pub before : List Demand
   pub demand : Demand
   pub first : IsFirstFailing (All (DemandHolds c)) demands before demand
@@ -56,7 +63,8 @@ fails_here c d more fails = record {
   rule_is = refl;
 }
 
-pub fails_behind : (c : LimitClaim) (xs ys : List Demand) (l : ProofLine) (r : CheckRule) → All (DemandHolds c) xs → FirstFails c ys l r →
+pub fails_behind : (c : LimitClaim) (xs ys : List Demand) (l : ProofLine) (r : CheckRule) →
+    All (DemandHolds c) xs → FirstFails c ys l r →
     FirstFails c (xs ++ ys) l r
 fails_behind c xs ys l r all h = record {
   before = xs ++ h.before;
@@ -66,12 +74,14 @@ fails_behind c xs ys l r all h = record {
   rule_is = h.rule_is;
 }
 
-pub fails_next : (c : LimitClaim) (d : Demand) (ys : List Demand) (l : ProofLine) (r : CheckRule) → DemandHolds c d → FirstFails c ys l r →
+pub fails_next : (c : LimitClaim) (d : Demand) (ys : List Demand) (l : ProofLine) (r : CheckRule) →
+    DemandHolds c d → FirstFails c ys l r →
     FirstFails c (d ∷ ys) l r
 fails_next c d ys l r holds h =
     fails_behind c (d ∷ []) ys l r (All-cons (DemandHolds c) d [] holds (All-nil (DemandHolds c))) h
 
-pub fails_in_front : (c : LimitClaim) (xs ys : List Demand) (l : ProofLine) (r : CheckRule) → FirstFails c xs l r →
+pub fails_in_front : (c : LimitClaim) (xs ys : List Demand) (l : ProofLine) (r : CheckRule) →
+    FirstFails c xs l r →
     FirstFails c (xs ++ ys) l r
 fails_in_front c xs ys l r h = record {
   before = h.before;
@@ -81,7 +91,8 @@ fails_in_front c xs ys l r h = record {
   rule_is = h.rule_is;
 }
 
-pub failure_of : (c : LimitClaim) (l : ProofLine) (r : CheckRule) (n : ℕ) → FirstFails c (demands_of c) l r → HasNumber c l n →
+pub failure_of : (c : LimitClaim) (l : ProofLine) (r : CheckRule) (n : ℕ) →
+    FirstFails c (demands_of c) l r → HasNumber c l n →
     IsFirstLimitFailure c n r
 failure_of c l r n h number = record {
   before = h.before;

@@ -48,7 +48,8 @@ rule_named rule (size g r) e = ap rule_on_groups e
 rule_named rule (pivot g) e = ap rule_on_groups e
 rule_named rule _ e = absurd e
 
-module _ (numbers : Numbers) (f : FunctionData) (lines : List CoverLine) (rows : List LimitPivotRow) where
+module _ (numbers : Numbers) (f : FunctionData) (lines : List CoverLine)
+    (rows : List LimitPivotRow) where
   abbrev claim : LimitClaim
   claim = Extreme numbers f lines rows
 
@@ -65,15 +66,18 @@ module _ (numbers : Numbers) (f : FunctionData) (lines : List CoverLine) (rows :
 
   pub extreme_not_minimal : (PassesAll f → ⊥) → IsFirstLimitFailure claim 2 rules.Minimal
   extreme_not_minimal fails =
-      failure_of claim ProofLine.claim rules.Minimal 2 (fails_here claim minimal (covers ++ groups ++ rank ∷ []) fails) (number_of_claim claim)
+      failure_of claim ProofLine.claim rules.Minimal 2
+      (fails_here claim minimal (covers ++ groups ++ rank ∷ []) fails) (number_of_claim claim)
 
-  cover_breaks : (i : ℕ) → IsFirstBroken f lines i → FirstFails claim covers (ProofLine.covered i) rules.Cover
+  cover_breaks : (i : ℕ) → IsFirstBroken f lines i →
+      FirstFails claim covers (ProofLine.covered i) rules.Cover
   cover_breaks i h =
       let split = split_there lines i h.within in
       record {
         before = map cover (range_with_len 0 i);
         demand = cover i;
-        first = first_failing_in_map P cover (range_with_len 0 (length lines)) (range_with_len 0 i) i
+        first = first_failing_in_map P cover (range_with_len 0 (length lines))
+            (range_with_len 0 i) i
             (first_failing_in_range (λ j. P (cover j)) i (length lines) h.within h.before
             (λ meets. h.here split.before split.item split.after split.place split.index
             (meets split.before split.item split.after split.place split.index)));
@@ -81,7 +85,8 @@ module _ (numbers : Numbers) (f : FunctionData) (lines : List CoverLine) (rows :
         rule_is = refl;
       }
 
-  pub extreme_cover_broken : (i : ℕ) → PassesAll f → IsFirstBroken f lines i → IsFirstLimitFailure claim (f.order + 5 + i) rules.Cover
+  pub extreme_cover_broken : (i : ℕ) → PassesAll f → IsFirstBroken f lines i →
+      IsFirstLimitFailure claim (f.order + 5 + i) rules.Cover
   extreme_cover_broken i passes h =
       let l = ProofLine.covered i in
       failure_of claim l rules.Cover (f.order + 5 + i)
@@ -92,7 +97,8 @@ module _ (numbers : Numbers) (f : FunctionData) (lines : List CoverLine) (rows :
 
   -- ---- groups, with the numbers of components
 
-  module _ (c : Components) (bounds : IsWithinBounds f) (passes : PassesAll f) (meet : (i : ℕ) → MeetsCover f lines i)
+  module _ (c : Components) (bounds : IsWithinBounds f) (passes : PassesAll f) (meet : (i : ℕ) →
+      MeetsCover f lines i)
       (are : AreComponentsOf f lines c) where
     abbrev component : ℕ → ℕ
     component = component_in c.number.items
@@ -105,11 +111,13 @@ module _ (numbers : Numbers) (f : FunctionData) (lines : List CoverLine) (rows :
 
     numbering : IsNumbering f lines component c.count
     numbering =
-        let rules_of : MeetLimitCovers f lines = λ before l after place. meet (length before) before l after place refl in
+        let rules_of : MeetLimitCovers f lines =
+        λ before l after place. meet (length before) before l after place refl in
         record {
           numbers = are.numbers;
           only = λ other others i low.
-              one_component f.order (IsTight (zero_function f.order)) lines i (other i) (component i) (plain_rules f lines rules_of)
+              one_component f.order (IsTight (zero_function f.order)) lines i (other i)
+              (component i) (plain_rules f lines rules_of)
               (others i low) (are.numbers i low);
           count = are.count;
         }
@@ -119,7 +127,9 @@ module _ (numbers : Numbers) (f : FunctionData) (lines : List CoverLine) (rows :
 
     pub extreme_group_fails : (failure : GroupFailure) →
         IsFirstLimitGroupFailure numbers f component (columns_for f.order c.count) rows failure →
-        IsFirstLimitFailure claim (f.order + length lines + 5 + length (modulus_lines numbers) + failure.below) (rule_on_groups failure.rule)
+        IsFirstLimitFailure claim
+        (f.order + length lines + 5 + length (modulus_lines numbers) + failure.below)
+        (rule_on_groups failure.rule)
     extreme_group_fails failure h =
         let r = rule_on_groups failure.rule in
         let group = groups_fail numbers f lines component c.count rows numbering some failure h in
@@ -131,27 +141,34 @@ module _ (numbers : Numbers) (f : FunctionData) (lines : List CoverLine) (rows :
           line_is = refl;
           rule_is = rule_named failure.rule group.demand group.rule_is;
         } in
-        failure_of claim l r (f.order + length lines + 5 + length (modulus_lines numbers) + failure.below)
+        failure_of claim l r
+        (f.order + length lines + 5 + length (modulus_lines numbers) + failure.below)
         (fails_next claim minimal (covers ++ groups ++ rank ∷ []) l r passes
-        (fails_in_front claim (covers ++ groups) (rank ∷ []) l r (fails_behind claim covers groups l r covers_hold here)))
+        (fails_in_front claim (covers ++ groups) (rank ∷ []) l r
+        (fails_behind claim covers groups l r covers_hold here)))
         group.number
 
     -- all demands before the last
     groups_met : All H groups → All P (covers ++ groups)
     groups_met h =
-        All-append P covers groups covers_hold (groups_hold numbers f lines component c.count rows numbering some h)
+        All-append P covers groups covers_hold
+        (groups_hold numbers f lines component c.count rows numbering some h)
 
     pub extreme_rank_fails : All H groups → length rows ≢ columns_for f.order c.count →
-        IsFirstLimitFailure claim (f.order + 5 + length lines + length (modulus_lines numbers) + length (group_lines 0 rows)) rules.Rank
+        IsFirstLimitFailure claim
+        (f.order + 5 + length lines + length (modulus_lines numbers) + length
+        (group_lines 0 rows)) rules.Rank
     extreme_rank_fails h other =
         failure_of claim ProofLine.last rules.Rank
         (f.order + 5 + length lines + length (modulus_lines numbers) + length (group_lines 0 rows))
         (fails_next claim minimal (covers ++ groups ++ rank ∷ []) ProofLine.last rules.Rank passes
         (fails_behind claim (covers ++ groups) (rank ∷ []) ProofLine.last rules.Rank (groups_met h)
-        (fails_here claim rank [] (λ full. other (full ∙ ap (columns_for f.order) (sym are.count))))))
+        (fails_here claim rank []
+        (λ full. other (full ∙ ap (columns_for f.order) (sym are.count))))))
         (number_of_end numbers f lines rows)
 
-    pub extreme_meets : All H groups → length rows ≡ columns_for f.order c.count → MeetsLimitRules claim
+    pub extreme_meets : All H groups → length rows ≡ columns_for f.order c.count →
+        MeetsLimitRules claim
     extreme_meets h full =
         All-cons P minimal (covers ++ groups ++ rank ∷ []) passes
         (All-append P (covers ++ groups) (rank ∷ []) (groups_met h)

@@ -41,13 +41,16 @@ use Rattle.gj_limit_check.proofs.SolutionNumbers.{number, row_solved, solution_z
 
 -- ---- the numbers of components
 
-abbrev number_of : (lines : List CoverLine) (q : ℕ) → ((i : ℕ) → i < q → (number : ℕ) × HasComponent lines number i) →
+abbrev number_of : (lines : List CoverLine) (q : ℕ) →
+    ((i : ℕ) → i < q → (number : ℕ) × HasComponent lines number i) →
     (i : ℕ) → (i < q) ⊎ (q ≤ i) → ℕ
 number_of lines q has i (inl low) = (has i low).0
 number_of lines q has i (inr high) = 0
 
-number_is : (lines : List CoverLine) (q : ℕ) (has : (i : ℕ) → i < q → (number : ℕ) × HasComponent lines number i) →
-    (i : ℕ) (place : (i < q) ⊎ (q ≤ i)) → i < q → HasComponent lines (number_of lines q has i place) i
+number_is : (lines : List CoverLine) (q : ℕ) (has : (i : ℕ) → i < q →
+    (number : ℕ) × HasComponent lines number i) →
+    (i : ℕ) (place : (i < q) ⊎ (q ≤ i)) → i < q →
+    HasComponent lines (number_of lines q has i place) i
 number_is lines q has i (inl below) low = (has i below).1
 number_is lines q has i (inr high) low = absurd (omega arith)
 
@@ -58,22 +61,27 @@ record MeetsGroupRow (f : FunctionData) (group : LimitPivotRow) : Type 0 where
   below : IsLimitPivotRowBelow f.order group
   row : MeetsLimitRow f group.name
 
-record MeetGroups (numbers : Numbers) (f : FunctionData) (component : ℕ → ℕ) (n : ℕ) (kept : List KeptRow) (groups : List LimitPivotRow) :
+record MeetGroups (numbers : Numbers) (f : FunctionData) (component : ℕ → ℕ) (n : ℕ)
+    (kept : List KeptRow) (groups : List LimitPivotRow) :
     Type 0 where
   rows : All (MeetsGroupRow f) groups
   pivots : HavePivots f component n numbers kept groups
 
 -- the rows that one more group keeps
-rows_behind_push : (numbers : Numbers) (f : FunctionData) (component : ℕ → ℕ) (n : ℕ) (kept : List KeptRow) (front : List LimitPivotRow)
+rows_behind_push : (numbers : Numbers) (f : FunctionData) (component : ℕ → ℕ) (n : ℕ)
+    (kept : List KeptRow) (front : List LimitPivotRow)
     (one : LimitPivotRow) →
     rows_behind_by (arithmetic_of numbers) f component n kept (front ++ one ∷ [])
     ≡ rows_behind_by (arithmetic_of numbers) f component n kept front
-    ++ row_kept_by (arithmetic_of numbers) f component n (rows_behind_by (arithmetic_of numbers) f component n kept front) one ∷ []
+    ++ row_kept_by (arithmetic_of numbers) f component n
+    (rows_behind_by (arithmetic_of numbers) f component n kept front) one ∷ []
 rows_behind_push numbers f component n kept [] one = refl
 rows_behind_push numbers f component n kept (group ∷ front) one =
-    rows_behind_push numbers f component n (kept ++ row_kept_by (arithmetic_of numbers) f component n kept group ∷ []) front one
+    rows_behind_push numbers f component n
+    (kept ++ row_kept_by (arithmetic_of numbers) f component n kept group ∷ []) front one
 
-module _ (numbers : Numbers) (f : FunctionData) (lines : List CoverLine) (rows : List LimitPivotRow) (component : ℕ → ℕ)
+module _ (numbers : Numbers) (f : FunctionData) (lines : List CoverLine) (rows : List LimitPivotRow)
+    (component : ℕ → ℕ)
     (are : AreNumbersOf f lines component) (below : All (IsLimitPivotRowBelow f.order) rows) where
   abbrev P : Demand → Type 0
   P = DemandHolds (Extreme numbers f lines rows)
@@ -84,38 +92,50 @@ module _ (numbers : Numbers) (f : FunctionData) (lines : List CoverLine) (rows :
   abbrev kept_before : List LimitPivotRow → List KeptRow
   kept_before front = rows_before_by (arithmetic_of numbers) f component n front
 
-  groups_meet : (front rest : List LimitPivotRow) → rows ≡ front ++ rest → All P (group_demands_by numbers (length front) rest) →
+  groups_meet : (front rest : List LimitPivotRow) → rows ≡ front ++ rest →
+      All P (group_demands_by numbers (length front) rest) →
       MeetGroups numbers f component n (kept_before front) rest
   groups_meet front [] place h = record { rows = All-nil (MeetsGroupRow f); pivots = tt }
   groups_meet front (one ∷ rest) place h =
       let g = length front in
       let steps = step_demands_by numbers g 0 one.reduce in
       let later = group_demands_by numbers (g + 1) rest in
-      let behind = All-back P steps (Demand.pivot g ∷ later) (All-tail P (Demand.row g) (steps ++ Demand.pivot g ∷ later) h) in
-      let tight : MeetsLimitRow f one.name = All-head P (Demand.row g) (steps ++ Demand.pivot g ∷ later) h front one rest place refl in
-      let pivot = All-head P (Demand.pivot g) later behind component are front one rest place refl in
+      let behind = All-back P steps (Demand.pivot g ∷ later)
+      (All-tail P (Demand.row g) (steps ++ Demand.pivot g ∷ later) h) in
+      let tight : MeetsLimitRow f one.name =
+      All-head P (Demand.row g) (steps ++ Demand.pivot g ∷ later) h front one rest place refl in
+      let pivot = All-head P (Demand.pivot g) later behind component are front one rest place
+      refl in
       let within : IsLimitPivotRowBelow f.order one =
       All-head (IsLimitPivotRowBelow f.order) one rest
-      (All-back (IsLimitPivotRowBelow f.order) front (one ∷ rest) (subst (All (IsLimitPivotRowBelow f.order)) place below)) in
+      (All-back (IsLimitPivotRowBelow f.order) front (one ∷ rest)
+      (subst (All (IsLimitPivotRowBelow f.order)) place below)) in
       let long : g + 1 ≡ length (front ++ one ∷ []) = sym (length_push front one) in
-      let more = groups_meet (front ++ one ∷ []) rest (place ∙ sym (append_assoc front (one ∷ []) rest))
-      (subst (λ (k : ℕ). All P (group_demands_by numbers k rest)) long (All-tail P (Demand.pivot g) later behind)) in
+      let more = groups_meet (front ++ one ∷ []) rest
+      (place ∙ sym (append_assoc front (one ∷ []) rest))
+      (subst (λ (k : ℕ). All P (group_demands_by numbers k rest)) long
+      (All-tail P (Demand.pivot g) later behind)) in
       record {
-        rows = All-cons (MeetsGroupRow f) one rest (record { below = within; row = tight }) more.rows;
+        rows = All-cons (MeetsGroupRow f) one rest (record { below = within; row = tight })
+            more.rows;
         pivots = (
           pivot,
-          subst (λ (kept : List KeptRow). HavePivots f component n numbers kept rest) (rows_behind_push numbers f component n [] front one)
+          subst (λ (kept : List KeptRow). HavePivots f component n numbers kept rest)
+              (rows_behind_push numbers f component n [] front one)
               more.pivots,
         );
       }
 
 -- ---- only 0 solves the system
 
-module _ (numbers : Numbers) (f : FunctionData) (lines : List CoverLine) (rows : List LimitPivotRow) (component : ℕ → ℕ)
-    (bounds : IsWithinBounds f) (zero_value : at f.value 0 ≡ pos 0) (rules : MeetLimitCovers f lines)
+module _ (numbers : Numbers) (f : FunctionData) (lines : List CoverLine) (rows : List LimitPivotRow)
+    (component : ℕ → ℕ)
+    (bounds : IsWithinBounds f) (zero_value : at f.value 0 ≡ pos 0)
+    (rules : MeetLimitCovers f lines)
     (are : AreNumbersOf f lines component)
     (meets : MeetGroups numbers f component (columns_for f.order (components_in lines)) [] rows)
-    (full : length rows ≡ columns_for f.order (components_in lines)) (w : Limits ℤ) (solves : SolvesWholeLimits f w) where
+    (full : length rows ≡ columns_for f.order (components_in lines)) (w : Limits ℤ)
+    (solves : SolvesWholeLimits f w) where
   abbrev columns : ℕ
   columns = columns_for f.order (components_in lines)
 
@@ -135,30 +155,38 @@ module _ (numbers : Numbers) (f : FunctionData) (lines : List CoverLine) (rows :
   read : (c : ℕ) → c < columns → get_or xs c (pos 0) ≡ x c
   read c low = get_or-map-range_with_len x 0 columns c c (pos 0) low (omega arith)
 
-  each_solved : (groups : List LimitPivotRow) → All (MeetsGroupRow f) groups → All (Solves xs) (rows_of f component columns groups)
+  each_solved : (groups : List LimitPivotRow) → All (MeetsGroupRow f) groups →
+      All (Solves xs) (rows_of f component columns groups)
   each_solved [] h = All-nil (Solves xs)
   each_solved (group ∷ more) h =
       let here = All-head (MeetsGroupRow f) group more h in
       let len = length-map-range_with_len x 0 columns in
-      All-cons (Solves xs) (named_row f component columns group.name) (rows_of f component columns more)
+      All-cons (Solves xs) (named_row f component columns group.name)
+      (rows_of f component columns more)
       (named_products f component (components_in lines) some few group.name xs len
-      ∙ linear_same columns _ (λ c. get_or xs c (pos 0)) x (row_linear f component (components_in lines) some few group.name) read
-      ∙ row_solved f lines component bounds zero_value rules are w solves group.name here.below.name here.row)
+      ∙ linear_same columns _ (λ c. get_or xs c (pos 0)) x
+      (row_linear f component (components_in lines) some few group.name) read
+      ∙ row_solved f lines component bounds zero_value rules are w solves group.name here.below.name
+      here.row)
       (each_solved more (All-tail (MeetsGroupRow f) group more h))
 
   none : (c : ℕ) → c < columns → x c ≡ pos 0
   none c low =
       let len = length-map-range_with_len x 0 columns in
-      let zeros = groups_leave_zero f component columns numbers rows xs meets.pivots full len (each_solved rows meets.rows) in
+      let zeros = groups_leave_zero f component columns numbers rows xs meets.pivots full len
+      (each_solved rows meets.rows) in
       sym (read c low) ∙ All-get_or (λ y. y ≡ pos 0) xs c (pos 0) (omega (arith, low, len)) zeros
 
   only_zero : (i : ℕ) → (w.left i ≡ pos 0) × (w.value i ≡ pos 0) × (w.right i ≡ pos 0)
-  only_zero = solution_zero f lines component bounds zero_value rules are w solves (components_in lines) few none
+  only_zero = solution_zero f lines component bounds zero_value rules are w solves
+      (components_in lines) few none
 
 -- ---- from the demands
 
-pub extreme_meaning : (numbers : Numbers) (f : FunctionData) (lines : List CoverLine) (rows : List LimitPivotRow) → IsWithinBounds f →
-    AreLimitExtremeLines f lines rows → MeetsLimitRules (Extreme numbers f lines rows) → IsExtremeFunction f
+pub extreme_meaning : (numbers : Numbers) (f : FunctionData) (lines : List CoverLine)
+    (rows : List LimitPivotRow) → IsWithinBounds f →
+    AreLimitExtremeLines f lines rows → MeetsLimitRules (Extreme numbers f lines rows) →
+    IsExtremeFunction f
 extreme_meaning numbers f lines rows b text asked =
     let P : Demand → Type 0 = DemandHolds (Extreme numbers f lines rows) in
     let covers = map Demand.cover (range_with_len 0 (length lines)) in
@@ -167,19 +195,25 @@ extreme_meaning numbers f lines rows b text asked =
     let early = All-front P (covers ++ groups) (Demand.rank ∷ []) behind in
     let rules : MeetLimitCovers f lines = λ before l after place.
     let long = ap length place ∙ length-append before (l ∷ after) in
-    made_has P Demand.cover (length before) (length lines) (omega arith) (All-front P covers groups early) before l after place refl in
+    made_has P Demand.cover (length before) (length lines) (omega arith)
+    (All-front P covers groups early) before l after place refl in
     let plain = plain_rules f lines rules in
     let has = λ (i : ℕ) (low : i < f.order).
     component_of_line f.order (IsTight (zero_function f.order)) lines i plain
-    (line_for_each f.order (IsTight (zero_function f.order)) lines plain (λ k d k_low. (text.lines_below k d k_low).interval) text.count i low) in
+    (line_for_each f.order (IsTight (zero_function f.order)) lines plain
+    (λ k d k_low. (text.lines_below k d k_low).interval) text.count i low) in
     let component = λ (i : ℕ). number_of lines f.order has i (cases_lt i f.order) in
-    let are : AreNumbersOf f lines component = λ i low. number_is lines f.order has i (cases_lt i f.order) low in
-    let meets = groups_meet numbers f lines rows component are text.rows_below [] rows refl (All-back P covers groups early) in
-    let full = All-head P Demand.rank [] (All-back P (covers ++ groups) (Demand.rank ∷ []) behind) in
+    let are : AreNumbersOf f lines component =
+    λ i low. number_is lines f.order has i (cases_lt i f.order) low in
+    let meets = groups_meet numbers f lines rows component are text.rows_below [] rows refl
+    (All-back P covers groups early) in
+    let full = All-head P Demand.rank []
+    (All-back P (covers ++ groups) (Demand.rank ∷ []) behind) in
     let passes = All-head P Demand.minimal (covers ++ groups ++ Demand.rank ∷ []) asked in
     let minimal : IsMinimal f = minimal_by_tests f (pieces_of b) passes in
     extreme_from_conditions f b (record {
       minimal = minimal;
       covered = λ i low. covered_by_line f lines rules (component i) i (are i low);
-      only_zero = λ w solves. only_zero numbers f lines rows component b (passes 0 zero_at_zero (omega arith)) rules are meets full w solves;
+      only_zero = λ w solves. only_zero numbers f lines rows component b
+          (passes 0 zero_at_zero (omega arith)) rules are meets full w solves;
     })

@@ -26,11 +26,13 @@ use Rattle.gj_limit_check.proofs.PlainClaims.{number_of_claim, number_of_halves_
 
 -- ---- points
 
-pair_demands-append : (xs ys : List ℕ) → pair_demands (xs ++ ys) ≡ pair_demands xs ++ pair_demands ys
+pair_demands-append : (xs ys : List ℕ) →
+    pair_demands (xs ++ ys) ≡ pair_demands xs ++ pair_demands ys
 pair_demands-append [] ys = refl
 pair_demands-append (i ∷ xs) ys = ap (λ ds. range i ∷ average i ∷ ds) (pair_demands-append xs ys)
 
-pairs_hold : (f : FunctionData) (h : LimitHalves) (a n : ℕ) → ((i : ℕ) → i < a + n → MeetsLimitPair f h i) →
+pairs_hold : (f : FunctionData) (h : LimitHalves) (a n : ℕ) →
+    ((i : ℕ) → i < a + n → MeetsLimitPair f h i) →
     All (DemandHolds (NotExtreme f h)) (pair_demands (range_with_len a n))
 pairs_hold f h a zero meet = All-nil (DemandHolds (NotExtreme f h))
 pairs_hold f h a (suc n) meet =
@@ -38,20 +40,25 @@ pairs_hold f h a (suc n) meet =
     let later = pair_demands (range_with_len (a + 1) n) in
     let here = meet a (omega arith) in
     All-cons P (range a) (average a ∷ later) here.range
-    (All-cons P (average a) later here.average (pairs_hold f h (a + 1) n (λ i below. meet i (omega arith))))
+    (All-cons P (average a) later here.average
+    (pairs_hold f h (a + 1) n (λ i below. meet i (omega arith))))
 
 -- the first of the two demands at a point that fails, behind those at the points before it
-at_point : (f : FunctionData) (h : LimitHalves) (i : ℕ) (r : CheckRule) → i < h.order → ((j : ℕ) → j < i → MeetsLimitPair f h j) →
-    ((more : List Demand) → FirstFails (NotExtreme f h) (range i ∷ average i ∷ more) (ProofLine.pair i) r) →
+at_point : (f : FunctionData) (h : LimitHalves) (i : ℕ) (r : CheckRule) → i < h.order →
+    ((j : ℕ) → j < i → MeetsLimitPair f h j) →
+    ((more : List Demand) →
+    FirstFails (NotExtreme f h) (range i ∷ average i ∷ more) (ProofLine.pair i) r) →
     FirstFails (NotExtreme f h) (pair_demands (range_with_len 0 h.order)) (ProofLine.pair i) r
 at_point f h i r within before here =
     let c = NotExtreme f h in
     let front = range_with_len 0 i in
     let back = range_with_len (i + 1) (h.order - suc i) in
-    let split : pair_demands (range_with_len 0 h.order) ≡ pair_demands front ++ range i ∷ average i ∷ pair_demands back =
+    let split : pair_demands (range_with_len 0 h.order) ≡ pair_demands front ++ range i ∷ average i
+    ∷ pair_demands back =
     ap pair_demands (range_at i h.order within) ∙ pair_demands-append front (i ∷ back) in
     subst (λ ds. FirstFails c ds (ProofLine.pair i) r) (sym split)
-    (fails_behind c (pair_demands front) (range i ∷ average i ∷ pair_demands back) (ProofLine.pair i) r
+    (fails_behind c (pair_demands front) (range i ∷ average i ∷ pair_demands back)
+    (ProofLine.pair i) r
     (pairs_hold f h 0 i (λ j below. before j (omega arith))) (here (pair_demands back)))
 
 -- ---- all demands
@@ -62,50 +69,64 @@ all_pairs h = pair_demands (range_with_len 0 h.order)
 abbrev last_three : List Demand
 last_three = first ∷ second ∷ same ∷ []
 
-pub halves_not_minimal : (f : FunctionData) (h : LimitHalves) → (PassesAll f → ⊥) → IsFirstLimitFailure (NotExtreme f h) 2 rules.Minimal
+pub halves_not_minimal : (f : FunctionData) (h : LimitHalves) → (PassesAll f → ⊥) →
+    IsFirstLimitFailure (NotExtreme f h) 2 rules.Minimal
 halves_not_minimal f h fails =
     let c = NotExtreme f h in
-    failure_of c ProofLine.claim rules.Minimal 2 (fails_here c minimal (scale ∷ all_pairs h ++ last_three) fails) (number_of_claim c)
+    failure_of c ProofLine.claim rules.Minimal 2
+    (fails_here c minimal (scale ∷ all_pairs h ++ last_three) fails) (number_of_claim c)
 
 -- behind the first demand
-halves_fail : (f : FunctionData) (h : LimitHalves) (l : ProofLine) (r : CheckRule) (n : ℕ) → PassesAll f →
-    FirstFails (NotExtreme f h) (scale ∷ all_pairs h ++ last_three) l r → HasNumber (NotExtreme f h) l n →
+halves_fail : (f : FunctionData) (h : LimitHalves) (l : ProofLine) (r : CheckRule) (n : ℕ) →
+    PassesAll f →
+    FirstFails (NotExtreme f h) (scale ∷ all_pairs h ++ last_three) l r →
+    HasNumber (NotExtreme f h) l n →
     IsFirstLimitFailure (NotExtreme f h) n r
 halves_fail f h l r n passes fails number =
     let c = NotExtreme f h in
-    failure_of c l r n (fails_next c minimal (scale ∷ all_pairs h ++ last_three) l r passes fails) number
+    failure_of c l r n (fails_next c minimal (scale ∷ all_pairs h ++ last_three) l r passes fails)
+    number
 
 -- at a point
-pair_fails : (f : FunctionData) (h : LimitHalves) (i : ℕ) (r : CheckRule) → PassesAll f → AreLimitHalvesInBounds h → MeetsLimitScale f h →
+pair_fails : (f : FunctionData) (h : LimitHalves) (i : ℕ) (r : CheckRule) → PassesAll f →
+    AreLimitHalvesInBounds h → MeetsLimitScale f h →
     i < h.order → FirstFails (NotExtreme f h) (all_pairs h) (ProofLine.pair i) r →
     IsFirstLimitFailure (NotExtreme f h) (f.order + 5 + (i + 1)) r
 pair_fails f h i r passes b meets within fails =
     let c = NotExtreme f h in
     let l = ProofLine.pair i in
     halves_fail f h l r (f.order + 5 + (i + 1)) passes
-    (fails_next c scale (all_pairs h ++ last_three) l r meets (fails_in_front c (all_pairs h) last_three l r fails))
+    (fails_next c scale (all_pairs h ++ last_three) l r meets
+    (fails_in_front c (all_pairs h) last_three l r fails))
     (number_of_pair_line f h i b within)
 
 -- behind all points
-last_fails : (f : FunctionData) (h : LimitHalves) (r : CheckRule) → PassesAll f → AreLimitHalvesInBounds h → MeetsLimitScale f h →
-    MeetLimitPairs f h → FirstFails (NotExtreme f h) last_three ProofLine.halves r → IsFirstLimitFailure (NotExtreme f h) (f.order + 5) r
+last_fails : (f : FunctionData) (h : LimitHalves) (r : CheckRule) → PassesAll f →
+    AreLimitHalvesInBounds h → MeetsLimitScale f h →
+    MeetLimitPairs f h → FirstFails (NotExtreme f h) last_three ProofLine.halves r →
+    IsFirstLimitFailure (NotExtreme f h) (f.order + 5) r
 last_fails f h r passes b meets pairs fails =
     let c = NotExtreme f h in
     halves_fail f h ProofLine.halves r (f.order + 5) passes
     (fails_next c scale (all_pairs h ++ last_three) ProofLine.halves r meets
-    (fails_behind c (all_pairs h) last_three ProofLine.halves r (pairs_hold f h 0 h.order (λ i below. pairs i (omega arith))) fails))
+    (fails_behind c (all_pairs h) last_three ProofLine.halves r
+    (pairs_hold f h 0 h.order (λ i below. pairs i (omega arith))) fails))
     (number_of_halves_line f h b)
 
-pub halves_fault : (f : FunctionData) (h : LimitHalves) (failure : HalvesFailure) → PassesAll f → AreLimitHalvesInBounds h →
-    FailsHalves f h failure → IsFirstLimitFailure (NotExtreme f h) (halves_fault_line f failure) (halves_rule failure)
+pub halves_fault : (f : FunctionData) (h : LimitHalves) (failure : HalvesFailure) → PassesAll f →
+    AreLimitHalvesInBounds h →
+    FailsHalves f h failure →
+    IsFirstLimitFailure (NotExtreme f h) (halves_fault_line f failure) (halves_rule failure)
 halves_fault f h failure passes b (at_scale e fails) =
     let c = NotExtreme f h in
     subst (λ x. IsFirstLimitFailure c (halves_fault_line f x) (halves_rule x)) (sym e)
-    (halves_fail f h ProofLine.halves rules.Scale (f.order + 5) passes (fails_here c scale (all_pairs h ++ last_three) fails)
+    (halves_fail f h ProofLine.halves rules.Scale (f.order + 5) passes
+    (fails_here c scale (all_pairs h ++ last_three) fails)
     (number_of_halves_line f h b))
 halves_fault f h (Range i) passes b (at_pair meets at) =
     pair_fails f h i rules.Range passes b meets at.within
-    (at_point f h i rules.Range at.within at.before (λ more. fails_here (NotExtreme f h) (range i) (average i ∷ more) at.here))
+    (at_point f h i rules.Range at.within at.before
+    (λ more. fails_here (NotExtreme f h) (range i) (average i ∷ more) at.here))
 halves_fault f h (Average i) passes b (at_pair meets at) =
     let c = NotExtreme f h in
     pair_fails f h i rules.Average passes b meets at.within
@@ -114,7 +135,8 @@ halves_fault f h (Average i) passes b (at_pair meets at) =
     (fails_here c (average i) more at.here.1)))
 halves_fault f h _ passes b (at_pair meets at) = absurd at
 halves_fault f h First passes b (at_last meets pairs fails) =
-    last_fails f h rules.First passes b meets pairs (fails_here (NotExtreme f h) first (second ∷ same ∷ []) fails)
+    last_fails f h rules.First passes b meets pairs
+    (fails_here (NotExtreme f h) first (second ∷ same ∷ []) fails)
 halves_fault f h Second passes b (at_last meets pairs fails) =
     last_fails f h rules.Second passes b meets pairs
     (fails_next (NotExtreme f h) first (second ∷ same ∷ []) ProofLine.halves rules.Second fails.0
@@ -126,12 +148,14 @@ halves_fault f h Same passes b (at_last meets pairs fails) =
     (fails_here (NotExtreme f h) same [] fails.2)))
 halves_fault f h _ passes b (at_last meets pairs fails) = absurd fails
 
-pub halves_meet : (f : FunctionData) (h : LimitHalves) → PassesAll f → MeetHalvesRules f h → MeetsLimitRules (NotExtreme f h)
+pub halves_meet : (f : FunctionData) (h : LimitHalves) → PassesAll f → MeetHalvesRules f h →
+    MeetsLimitRules (NotExtreme f h)
 halves_meet f h passes meets =
     let P = DemandHolds (NotExtreme f h) in
     let last = meets.last in
     All-cons P minimal (scale ∷ all_pairs h ++ last_three) passes
     (All-cons P scale (all_pairs h ++ last_three) meets.scale
-    (All-append P (all_pairs h) last_three (pairs_hold f h 0 h.order (λ i below. meets.pairs i (omega arith)))
+    (All-append P (all_pairs h) last_three
+    (pairs_hold f h 0 h.order (λ i below. meets.pairs i (omega arith)))
     (All-cons P first (second ∷ same ∷ []) last.first
     (All-cons P second (same ∷ []) last.second (All-cons P same [] last.same (All-nil P))))))

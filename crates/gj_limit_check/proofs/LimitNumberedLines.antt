@@ -14,35 +14,47 @@ use Rattle.gj_limit_check.proofs.PlainRules.{zero_function, plain_rule}
 
 -- the first k lines meet the rule, and these are the intervals that have one of them, and the
 -- numbers of these
-pub record AreNumberedBy (f : FunctionData) (lines : List CoverLine) (k : ℕ) (has_line : List Bool) (number : List ℕ) (count : ℕ) :
+pub record AreNumberedBy (f : FunctionData) (lines : List CoverLine) (k : ℕ) (has_line : List Bool)
+    (number : List ℕ) (count : ℕ) :
     Type 0 where
   pub numbered : AreNumbered (zero_function f.order) lines k has_line number count
   pub meet : (j : ℕ) → j < k → MeetsCover f lines j
 
 -- a line that opens a component
-pub opening : (f : FunctionData) (lines : List CoverLine) (k : ℕ) (has_line : List Bool) (number : List ℕ) (count : ℕ) (l : CoverLine) →
-    AreNumberedBy f lines k has_line number count → k < length lines → l ≡ get_or lines k l → l.interval < f.order →
+pub opening : (f : FunctionData) (lines : List CoverLine) (k : ℕ) (has_line : List Bool)
+    (number : List ℕ) (count : ℕ) (l : CoverLine) →
+    AreNumberedBy f lines k has_line number count → k < length lines → l ≡ get_or lines k l →
+    l.interval < f.order →
     MeetsLimitCover f (take k lines) l → l.from ≡ l.interval →
-    AreNumberedBy f lines (k + 1) (set has_line l.interval true) (set number l.interval count) (count + 1)
+    AreNumberedBy f lines (k + 1) (set has_line l.interval true) (set number l.interval count)
+    (count + 1)
 opening f lines k has_line number count l h below is within meets same = record {
-  numbered = numbered_opening (zero_function f.order) lines k has_line number count l h.numbered below is within
+  numbered = numbered_opening (zero_function f.order) lines k has_line number count l h.numbered
+      below is within
       (plain_rule f (take k lines) l meets) same;
-  meet = below_more (MeetsCover f lines) k h.meet (at_place lines (MeetsLimitCover f) k l below is meets);
+  meet = below_more (MeetsCover f lines) k h.meet
+      (at_place lines (MeetsLimitCover f) k l below is meets);
 }
 
 -- one that joins its interval to another
-pub joining : (f : FunctionData) (lines : List CoverLine) (k : ℕ) (has_line : List Bool) (number : List ℕ) (count : ℕ) (l : CoverLine) →
-    AreNumberedBy f lines k has_line number count → k < length lines → l ≡ get_or lines k l → l.interval < f.order →
+pub joining : (f : FunctionData) (lines : List CoverLine) (k : ℕ) (has_line : List Bool)
+    (number : List ℕ) (count : ℕ) (l : CoverLine) →
+    AreNumberedBy f lines k has_line number count → k < length lines → l ≡ get_or lines k l →
+    l.interval < f.order →
     l.from < f.order → MeetsLimitCover f (take k lines) l → l.from ≢ l.interval →
-    AreNumberedBy f lines (k + 1) (set has_line l.interval true) (set number l.interval (get_or number l.from 0)) count
+    AreNumberedBy f lines (k + 1) (set has_line l.interval true)
+    (set number l.interval (get_or number l.from 0)) count
 joining f lines k has_line number count l h below is within from_within meets other = record {
-  numbered = numbered_joining (zero_function f.order) lines k has_line number count l h.numbered below is within from_within
+  numbered = numbered_joining (zero_function f.order) lines k has_line number count l h.numbered
+      below is within from_within
       (plain_rule f (take k lines) l meets) other;
-  meet = below_more (MeetsCover f lines) k h.meet (at_place lines (MeetsLimitCover f) k l below is meets);
+  meet = below_more (MeetsCover f lines) k h.meet
+      (at_place lines (MeetsLimitCover f) k l below is meets);
 }
 
 -- the first line that breaks the rule
-pub broken : (f : FunctionData) (lines : List CoverLine) (k : ℕ) → k < length lines → ((j : ℕ) → j < k → MeetsCover f lines j) →
+pub broken : (f : FunctionData) (lines : List CoverLine) (k : ℕ) → k < length lines →
+    ((j : ℕ) → j < k → MeetsCover f lines j) →
     (MeetsLimitCover f (take k lines) (get_or lines k zero_line) → ⊥) → IsFirstBroken f lines k
 broken f lines k below meet breaks =
     let l = get_or lines k zero_line in
@@ -54,11 +66,14 @@ broken f lines k below meet breaks =
     }
 
 -- all lines
-pub all_covered : (f : FunctionData) (lines : List CoverLine) (k : ℕ) → k ≡ length lines → (has_line : List Bool) (c : Components) →
-    length lines ≡ f.order → All (IsCoverLineBelow f.order) lines → AreNumberedBy f lines k has_line c.number.items c.count →
+pub all_covered : (f : FunctionData) (lines : List CoverLine) (k : ℕ) → k ≡ length lines →
+    (has_line : List Bool) (c : Components) →
+    length lines ≡ f.order → All (IsCoverLineBelow f.order) lines →
+    AreNumberedBy f lines k has_line c.number.items c.count →
     IsCoverOutcome f lines (Whole c)
 all_covered f lines k all has_line c count below h =
-    let plain = all_numbered (zero_function f.order) lines k all has_line (record { number = c.number; count = c.count }) count below h.numbered in
+    let plain = all_numbered (zero_function f.order) lines k all has_line
+    (record { number = c.number; count = c.count }) count below h.numbered in
     let small = h.numbered.small in (
       each_item lines (MeetsLimitCover f) k (omega arith) h.meet,
       record {

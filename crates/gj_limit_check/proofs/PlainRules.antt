@@ -24,7 +24,8 @@ all_additive : (q : ℕ) (kind : FaceKind) (a b : ℕ) → IsAdditive (IsTight (
 all_additive q kind a b = λ k d low. all_tight q _ _
 
 -- the intervals that a face covers are among its projections
-among_projections : (q : ℕ) (T : FaceKind → ℕ → ℕ → ℕ → Type 0) (kind : FaceKind) (a b i : ℕ) → Covers q T kind a b i →
+among_projections : (q : ℕ) (T : FaceKind → ℕ → ℕ → ℕ → Type 0) (kind : FaceKind) (a b i : ℕ) →
+    Covers q T kind a b i →
     IsOneOf q (triangle_projections kind a b) i
 among_projections q T Vertex a b i h = absurd h
 among_projections q T Horizontal a b i h = absurd h
@@ -43,26 +44,38 @@ AreAmong q kind a b i j =
     IsOneOf q (links_of kind a b ++ triangle_projections kind a b) i
     × IsOneOf q (links_of kind a b ++ triangle_projections kind a b) j
 
-among_links : (q : ℕ) (T : FaceKind → ℕ → ℕ → ℕ → Type 0) (kind : FaceKind) (a b i j : ℕ) → LinksBy q T kind a b i j →
+among_links : (q : ℕ) (T : FaceKind → ℕ → ℕ → ℕ → Type 0) (kind : FaceKind) (a b i j : ℕ) →
+    LinksBy q T kind a b i j →
     AreAmong q kind a b i j
 among_links q T Vertex a b i j h = absurd h
-among_links q T Horizontal a b i j (_, _, e, g) = ((0, a, omega arith, refl, e), (1, a + b, omega arith, refl, g))
-among_links q T Vertical a b i j (_, _, e, g) = ((0, b, omega arith, refl, e), (1, a + b, omega arith, refl, g))
-among_links q T Diagonal a b i j (_, _, e, g) = ((0, a, omega arith, refl, e), (1, b, omega arith, refl, g))
-among_links q T Lower a b i j (inl (_, _, e, g)) = ((0, a, omega arith, refl, e), (2, a + b, omega arith, refl, g))
-among_links q T Lower a b i j (inr (inl (_, _, e, g))) = ((1, b, omega arith, refl, e), (2, a + b, omega arith, refl, g))
-among_links q T Lower a b i j (inr (inr (_, _, e, g))) = ((0, a, omega arith, refl, e), (1, b, omega arith, refl, g))
-among_links q T Upper a b i j (inl (_, _, e, g)) = ((0, a, omega arith, refl, e), (2, a + b + 1, omega arith, refl, g))
-among_links q T Upper a b i j (inr (inl (_, _, e, g))) = ((1, b, omega arith, refl, e), (2, a + b + 1, omega arith, refl, g))
-among_links q T Upper a b i j (inr (inr (_, _, e, g))) = ((0, a, omega arith, refl, e), (1, b, omega arith, refl, g))
+among_links q T Horizontal a b i j (_, _, e, g) =
+    ((0, a, omega arith, refl, e), (1, a + b, omega arith, refl, g))
+among_links q T Vertical a b i j (_, _, e, g) =
+    ((0, b, omega arith, refl, e), (1, a + b, omega arith, refl, g))
+among_links q T Diagonal a b i j (_, _, e, g) =
+    ((0, a, omega arith, refl, e), (1, b, omega arith, refl, g))
+among_links q T Lower a b i j (inl (_, _, e, g)) =
+    ((0, a, omega arith, refl, e), (2, a + b, omega arith, refl, g))
+among_links q T Lower a b i j (inr (inl (_, _, e, g))) =
+    ((1, b, omega arith, refl, e), (2, a + b, omega arith, refl, g))
+among_links q T Lower a b i j (inr (inr (_, _, e, g))) =
+    ((0, a, omega arith, refl, e), (1, b, omega arith, refl, g))
+among_links q T Upper a b i j (inl (_, _, e, g)) =
+    ((0, a, omega arith, refl, e), (2, a + b + 1, omega arith, refl, g))
+among_links q T Upper a b i j (inr (inl (_, _, e, g))) =
+    ((1, b, omega arith, refl, e), (2, a + b + 1, omega arith, refl, g))
+among_links q T Upper a b i j (inr (inr (_, _, e, g))) =
+    ((0, a, omega arith, refl, e), (1, b, omega arith, refl, g))
 
-among_joins : (q : ℕ) (T : FaceKind → ℕ → ℕ → ℕ → Type 0) (kind : FaceKind) (a b i j : ℕ) → Joins q T kind a b i j →
+among_joins : (q : ℕ) (T : FaceKind → ℕ → ℕ → ℕ → Type 0) (kind : FaceKind) (a b i j : ℕ) →
+    Joins q T kind a b i j →
     AreAmong q kind a b i j
 among_joins q T kind a b i j (inl h) = among_links q T kind a b i j h
 among_joins q T kind a b i j (inr h) = let both = among_links q T kind a b j i h in (both.1, both.0)
 
 -- one line
-pub plain_rule : (f : FunctionData) (before : List CoverLine) (l : CoverLine) → MeetsLimitCover f before l →
+pub plain_rule : (f : FunctionData) (before : List CoverLine) (l : CoverLine) →
+    MeetsLimitCover f before l →
     MeetsCoverRule f.order (IsTight (zero_function f.order)) before l
 plain_rule f before l h =
     let q = f.order in
@@ -72,18 +85,21 @@ plain_rule f before l h =
       new = h.new;
       opening = λ same. record {
         additive = additive;
-        projection = among_projections q (IsTightAt f) l.face.kind l.face.a l.face.b l.interval (h.opening same);
+        projection = among_projections q (IsTightAt f) l.face.kind l.face.a l.face.b l.interval
+            (h.opening same);
       };
       earlier = h.earlier;
       joining = λ other.
-          let both = among_joins q (IsTightAt f) l.face.kind l.face.a l.face.b l.interval l.from (h.joining other) in
+          let both = among_joins q (IsTightAt f) l.face.kind l.face.a l.face.b l.interval l.from
+          (h.joining other) in
           record { additive = additive; first = both.0; second = both.1 };
     }
 
 -- each line meets the rule of limits behind those before it
 abbrev pub MeetLimitCovers : FunctionData → List CoverLine → Type 0
 MeetLimitCovers f lines =
-    (before : List CoverLine) (l : CoverLine) (after : List CoverLine) → lines ≡ before ++ l ∷ after →
+    (before : List CoverLine) (l : CoverLine) (after : List CoverLine) →
+    lines ≡ before ++ l ∷ after →
     MeetsLimitCover f before l
 
 pub plain_rules : (f : FunctionData) (lines : List CoverLine) → MeetLimitCovers f lines →

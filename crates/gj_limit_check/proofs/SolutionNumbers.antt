@@ -29,8 +29,10 @@ use Rattle.gj_limit_proof.specs.LimitText.{IsRowWithin}
 use Rattle.gj_limit_check.proofs.LineCovers.{opened_by, slope_of_component}
 use Rattle.gj_limit_check.proofs.PlainRules.{MeetLimitCovers}
 
-module _ (f : FunctionData) (lines : List CoverLine) (comp : ℕ → ℕ) (bounds : IsWithinBounds f) (zero_value : at f.value 0 ≡ pos 0)
-    (rules : MeetLimitCovers f lines) (are : AreNumbersOf f lines comp) (w : Limits ℤ) (solves : SolvesWholeLimits f w) where
+module _ (f : FunctionData) (lines : List CoverLine) (comp : ℕ → ℕ) (bounds : IsWithinBounds f)
+    (zero_value : at f.value 0 ≡ pos 0)
+    (rules : MeetLimitCovers f lines) (are : AreNumbersOf f lines comp) (w : Limits ℤ)
+    (solves : SolvesWholeLimits f w) where
   abbrev q : ℕ
   q = f.order
 
@@ -38,7 +40,12 @@ module _ (f : FunctionData) (lines : List CoverLine) (comp : ℕ → ℕ) (bound
   some = omega (arith, bounds.order_low)
 
   periodic : IsPeriodic f.order w
-  periodic = record { left = solves.left_period; value = solves.value_period; right = solves.right_period }
+  periodic = record {
+    left = solves.left_period;
+    value = solves.value_period;
+    right =
+        solves.right_period;
+  }
 
   -- ---- the numbers
 
@@ -50,31 +57,36 @@ module _ (f : FunctionData) (lines : List CoverLine) (comp : ℕ → ℕ) (bound
   slope_of m = slope f w solves (opened_by lines m)
 
   abbrev pub number : ℕ → ℤ
-  number n = cond (ltb n (2 * f.order - 1)) (by_side_of (n / 2) (n % 2)) (slope_of (n - (2 * f.order - 1)))
+  number n = cond (ltb n (2 * f.order - 1)) (by_side_of (n / 2) (n % 2))
+      (slope_of (n - (2 * f.order - 1)))
 
   number_low : (n k r : ℕ) → n ≡ k * 2 + r → r < 2 → n < 2 * f.order - 1 → number n ≡ by_side_of k r
   number_low n k r e r_low low =
       let parts = parts_of_place n k 2 r e r_low in
-      ap (λ t. cond t (by_side_of (n / 2) (n % 2)) (slope_of (n - (2 * f.order - 1)))) (lt-ltb n (2 * f.order - 1) low)
+      ap (λ t. cond t (by_side_of (n / 2) (n % 2)) (slope_of (n - (2 * f.order - 1))))
+      (lt-ltb n (2 * f.order - 1) low)
       ∙ (λ i. by_side_of (parts.0 i) (parts.1 i))
 
   number_right : (i : ℕ) → i < f.order → number (right_column f.order i) ≡ w.right i
   number_right i low =
       let k = f.order - 1 - i in
       let back : f.order - 1 - k ≡ i = omega (arith, low) in
-      number_low (right_column f.order i) k 0 (omega arith) (omega arith) (omega (arith, low)) ∙ ap w.right back
+      number_low (right_column f.order i) k 0 (omega arith) (omega arith) (omega (arith, low))
+      ∙ ap w.right back
 
   number_value : (i : ℕ) → suc i < f.order → number (value_column f.order (suc i)) ≡ w.value (suc i)
   number_value i low =
       let k = f.order - 1 - suc i in
       let back : f.order - 1 - k ≡ suc i = omega (arith, low) in
-      number_low (value_column f.order (suc i)) k 1 (omega (arith, low)) (omega arith) (omega (arith, low)) ∙ ap w.value back
+      number_low (value_column f.order (suc i)) k 1 (omega (arith, low)) (omega arith)
+      (omega (arith, low)) ∙ ap w.value back
 
   number_slope : (m : ℕ) → number (slope_column f.order m) ≡ slope_of m
   number_slope m =
       let n = slope_column f.order m in
       let back : n - (2 * f.order - 1) ≡ m = omega arith in
-      ap (λ t. cond t (by_side_of (n / 2) (n % 2)) (slope_of (n - (2 * f.order - 1)))) (le-ltb n (2 * f.order - 1) (omega arith))
+      ap (λ t. cond t (by_side_of (n / 2) (n % 2)) (slope_of (n - (2 * f.order - 1))))
+      (le-ltb n (2 * f.order - 1) (omega arith))
       ∙ ap slope_of back
 
   -- ---- their limits and values
@@ -82,8 +94,10 @@ module _ (f : FunctionData) (lines : List CoverLine) (comp : ℕ → ℕ) (bound
   value_at_zero : w.value 0 ≡ pos 0
   value_at_zero =
       let tight : IsTightAt f Vertex 0 0 0 =
-      let twice : slack_from (at f.value 0) (at f.value 0) (at f.value 0) ≡ pos 0 = omega (arith, ints, zero_value) in twice in
-      let twice : slack_from (w.value 0) (w.value 0) (w.value 0) ≡ pos 0 = solves.at_tight Vertex 0 0 0 tight in
+      let twice : slack_from (at f.value 0) (at f.value 0) (at f.value 0) ≡ pos 0 =
+      omega (arith, ints, zero_value) in twice in
+      let twice : slack_from (w.value 0) (w.value 0) (w.value 0) ≡ pos 0 =
+      solves.at_tight Vertex 0 0 0 tight in
       omega (arith, ints, twice)
 
   value_is : (j : ℕ) → j < f.order → value_from f.order number j ≡ w.value j
@@ -91,7 +105,8 @@ module _ (f : FunctionData) (lines : List CoverLine) (comp : ℕ → ℕ) (bound
   value_is (suc j) low = number_value j low
 
   -- the numbers give the solution
-  pub gives : (side : Side) (i : ℕ) → number_on (limits_from f.order comp number) side i ≡ number_on w side i
+  pub gives : (side : Side) (i : ℕ) → number_on (limits_from f.order comp number) side i
+      ≡ number_on w side i
   gives Right i =
       number_right (i % f.order) (mod-lt i some)
       ∙ same_at_remainder w.right f.order solves.right_period (i % f.order) i (mod-mod i f.order)
@@ -102,16 +117,20 @@ module _ (f : FunctionData) (lines : List CoverLine) (comp : ℕ → ℕ) (bound
       let j = interval_before f.order i in
       let low = mod-lt (i + (f.order - 1)) some in
       let right = number_right j low in
-      let rise = number_slope (comp j) ∙ slope_of_component f lines rules w solves (comp j) j (are j low) in
+      let rise = number_slope (comp j) ∙ slope_of_component f lines rules w solves (comp j) j
+      (are j low) in
       let turn : i + (f.order - 1) + 1 ≡ i + f.order = omega (arith, some) in
       let next : (j + 1) % f.order ≡ i % f.order =
-      mod-add-mod (i + (f.order - 1)) f.order 1 ∙ ap (λ n. n % f.order) turn ∙ add-mod_right i f.order in
+      mod-add-mod (i + (f.order - 1)) f.order 1 ∙ ap (λ n. n % f.order) turn
+      ∙ add-mod_right i f.order in
       let end = same_at_remainder w.left f.order solves.left_period (j + 1) i next in
-      let sum : number (right_column f.order j) +ℤ number (slope_column f.order (comp j)) ≡ w.left (j + 1) = omega (arith, ints, right, rise) in
+      let sum : number (right_column f.order j) +ℤ number (slope_column f.order (comp j))
+      ≡ w.left (j + 1) = omega (arith, ints, right, rise) in
       sum ∙ end
 
   -- where the limit of the function is 0, that of the solution is
-  tight_zero : (kind : FaceKind) (c a b : ℕ) → c < length (corners_of kind 0 0) → slack_at (limits_in f) kind c a b ≡ pos 0 →
+  tight_zero : (kind : FaceKind) (c a b : ℕ) → c < length (corners_of kind 0 0) →
+      slack_at (limits_in f) kind c a b ≡ pos 0 →
       slack_at w kind c a b ≡ pos 0
   tight_zero kind c a b low tight =
       let right = right_low kind c in
@@ -124,9 +143,11 @@ module _ (f : FunctionData) (lines : List CoverLine) (comp : ℕ → ℕ) (bound
       let turned_b = ap (λ n. n % f.order) at_b ∙ add-mod_right b f.order in
       let there : IsTightAt f kind u v c =
       limit_at_vertex f kind u v c low
-      ∙ slack_same f.order (limits_in f) (data_periodic f bounds) kind c (u + (terms_at kind c).right) (v + (terms_at kind c).above) a b
+      ∙ slack_same f.order (limits_in f) (data_periodic f bounds) kind c
+      (u + (terms_at kind c).right) (v + (terms_at kind c).above) a b
       turned_a turned_b ∙ tight in
-      sym (slack_same f.order w periodic kind c (u + (terms_at kind c).right) (v + (terms_at kind c).above) a b turned_a turned_b)
+      sym (slack_same f.order w periodic kind c (u + (terms_at kind c).right)
+      (v + (terms_at kind c).above) a b turned_a turned_b)
       ∙ sym (at_vertex w kind c (pos 0) u v low) ∙ solves.at_tight kind u v c there
 
   -- they solve each row that may be named
@@ -137,7 +158,8 @@ module _ (f : FunctionData) (lines : List CoverLine) (comp : ℕ → ℕ) (bound
       let first = gives (terms_at kind corner).x a in
       let second = gives (terms_at kind corner).y b in
       let third = gives (terms_at kind corner).sum (a + b) in
-      (λ i. slack_from (first i) (second i) (third i)) ∙ tight_zero kind corner a b within.corner_is meets
+      (λ i. slack_from (first i) (second i) (third i))
+      ∙ tight_zero kind corner a b within.corner_is meets
 
   -- ---- if all numbers are 0
 
@@ -158,7 +180,8 @@ module _ (f : FunctionData) (lines : List CoverLine) (comp : ℕ → ℕ) (bound
         let right = right_zero j low in
         let component = few j low in
         let rise = none (slope_column f.order (comp j)) (omega (arith, component)) in
-        let sum : number (right_column f.order j) +ℤ number (slope_column f.order (comp j)) ≡ pos 0 = omega (arith, ints, right, rise) in (
+        let sum : number (right_column f.order j) +ℤ number (slope_column f.order (comp j))
+        ≡ pos 0 = omega (arith, ints, right, rise) in (
           sym (gives Left i) ∙ sum,
           sym (gives Value i) ∙ value_zero (i % f.order) (mod-lt i some),
           sym (gives Right i) ∙ right_zero (i % f.order) (mod-lt i some),

@@ -17,7 +17,8 @@ abbrev pub MeetsCover : FunctionData → List CoverLine → ℕ → Type 0
 MeetsCover f lines i = AtIndex lines i (MeetsLimitCover f)
 
 -- the numbers of the components of all intervals, below the number of components
-pub record AreComponentsOf (f : FunctionData) (lines : List CoverLine) (c : Components) : Type 0 where
+pub record AreComponentsOf (f : FunctionData) (lines : List CoverLine) (c : Components) :
+    Type 0 where
   pub length : length c.number.items ≡ f.order
   pub below : All (λ n. n < c.count) c.number.items
   pub few : c.count ≤ f.order

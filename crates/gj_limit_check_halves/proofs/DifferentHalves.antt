@@ -17,7 +17,12 @@ record DifferAt (xs ys : List ℤ) : Type 0 where
   apart : get_or xs index (pos 0) ≢ get_or ys index (pos 0)
 
 behind : (x y : ℤ) (xs ys : List ℤ) → DifferAt xs ys → DifferAt (x ∷ xs) (y ∷ ys)
-behind x y xs ys d = record { index = suc d.index; below = let low = d.below in omega arith; apart = d.apart }
+behind x y xs ys d = record {
+  index = suc d.index;
+  below = let low = d.below in omega arith;
+  apart =
+      d.apart;
+}
 
 differ_at : (xs ys : List ℤ) → length xs ≡ length ys → xs ≢ ys → DifferAt xs ys
 differ_at [] [] len other = absurd (other refl)
@@ -28,11 +33,17 @@ differ_at (x ∷ xs) (y ∷ ys) len other =
       | inl same ↦
           let heads = (Decides-int_eq x y).0 same in
           behind x y xs ys (differ_at xs ys (omega arith) (λ tails. other (λ k. heads k ∷ tails k)))
-      | inr apart ↦ record { index = 0; below = omega arith; apart = not_from_Decides (int_eq x y) (Decides-int_eq x y) apart }
+      | inr apart ↦ record {
+        index = 0;
+        below = omega arith;
+        apart =
+            not_from_Decides (int_eq x y) (Decides-int_eq x y) apart;
+      }
     ]
 
 -- at an index that is read modulo their length
-pub different_at : (xs ys : List ℤ) → length xs ≡ length ys → xs ≢ ys → (i : ℕ) × (at xs i ≢ at ys i)
+pub different_at : (xs ys : List ℤ) → length xs ≡ length ys → xs ≢ ys →
+    (i : ℕ) × (at xs i ≢ at ys i)
 different_at xs ys len other =
     let d = differ_at xs ys len other in
     let below = d.below in (
@@ -63,20 +74,29 @@ equal b xs ys told no' =
 
 -- ---- halves
 
-pub left_differs : (h : LimitHalves) → AreLimitHalvesInBounds h → h.first.left ≢ h.second.left → MeetsLimitSame h
+pub left_differs : (h : LimitHalves) → AreLimitHalvesInBounds h → h.first.left ≢ h.second.left →
+    MeetsLimitSame h
 left_differs h b other =
-    let d = different_at h.first.left h.second.left (b.first.left_length ∙ sym b.second.left_length) other in (d.0, inl d.1)
+    let d = different_at h.first.left h.second.left (b.first.left_length ∙ sym b.second.left_length)
+    other in (d.0, inl d.1)
 
-pub value_differs : (h : LimitHalves) → AreLimitHalvesInBounds h → h.first.value ≢ h.second.value → MeetsLimitSame h
+pub value_differs : (h : LimitHalves) → AreLimitHalvesInBounds h → h.first.value ≢ h.second.value →
+    MeetsLimitSame h
 value_differs h b other =
-    let d = different_at h.first.value h.second.value (b.first.value_length ∙ sym b.second.value_length) other in (d.0, inr (inl d.1))
+    let d = different_at h.first.value h.second.value
+    (b.first.value_length ∙ sym b.second.value_length) other in (d.0, inr (inl d.1))
 
-pub right_differs : (h : LimitHalves) → AreLimitHalvesInBounds h → h.first.right ≢ h.second.right → MeetsLimitSame h
+pub right_differs : (h : LimitHalves) → AreLimitHalvesInBounds h → h.first.right ≢ h.second.right →
+    MeetsLimitSame h
 right_differs h b other =
-    let d = different_at h.first.right h.second.right (b.first.right_length ∙ sym b.second.right_length) other in (d.0, inr (inr d.1))
+    let d = different_at h.first.right h.second.right
+    (b.first.right_length ∙ sym b.second.right_length) other in (d.0, inr (inr d.1))
 
-pub none_differs : (h : LimitHalves) → h.first.left ≡ h.second.left → h.first.value ≡ h.second.value → h.first.right ≡ h.second.right →
+pub none_differs : (h : LimitHalves) → h.first.left ≡ h.second.left →
+    h.first.value ≡ h.second.value → h.first.right ≡ h.second.right →
     MeetsLimitSame h → ⊥
 none_differs h left value right (i, inl other) = same_at h.first.left h.second.left left i other
-none_differs h left value right (i, inr (inl other)) = same_at h.first.value h.second.value value i other
-none_differs h left value right (i, inr (inr other)) = same_at h.first.right h.second.right right i other
+none_differs h left value right (i, inr (inl other)) =
+    same_at h.first.value h.second.value value i other
+none_differs h left value right (i, inr (inr other)) =
+    same_at h.first.right h.second.right right i other

@@ -12,7 +12,8 @@ use Rattle.gj_limit_check_halves.specs.declared.half.Half.{Half}
 use Rattle.gj_limit_check_halves.specs.Half.{AreNumbersOf, IsHalf}
 
 -- a number at an index that was reduced
-pub number_read : (h : Half) (xs : List ℤ) (i k : ℕ) → IsHalf h → AreNumbersOf h xs → k ≡ i % h.order →
+pub number_read : (h : Half) (xs : List ℤ) (i k : ℕ) → IsHalf h → AreNumbersOf h xs →
+    k ≡ i % h.order →
     to_z w128 (of_z w128 (get_or xs k (pos 0))) ≡ at xs i
 number_read h xs i k half numbers is =
     let order = half.order_low in
@@ -37,7 +38,8 @@ number_below h xs i half numbers below =
     omega (arith, ints)
 
 -- the sum of two numbers fits
-pub sum_fits : (h : Half) (xs ys : List ℤ) (i j : ℕ) (x y : ℤ) → IsHalf h → AreNumbersOf h xs → AreNumbersOf h ys →
+pub sum_fits : (h : Half) (xs ys : List ℤ) (i j : ℕ) (x y : ℤ) → IsHalf h → AreNumbersOf h xs →
+    AreNumbersOf h ys →
     x ≡ at xs i → y ≡ at ys j → FitsSigned w128 (x +ℤ y)
 sum_fits h xs ys i j x y half first second x_is y_is =
     let x_low = (first.between i).0 in
@@ -48,23 +50,28 @@ sum_fits h xs ys i j x y half first second x_is y_is =
     omega (arith, ints)
 
 -- and is read as such
-pub sum_read : (h : Half) (xs ys : List ℤ) (i j : ℕ) (x y : ℤ) → IsHalf h → AreNumbersOf h xs → AreNumbersOf h ys →
+pub sum_read : (h : Half) (xs ys : List ℤ) (i j : ℕ) (x y : ℤ) → IsHalf h → AreNumbersOf h xs →
+    AreNumbersOf h ys →
     x ≡ at xs i → y ≡ at ys j → to_z w128 (of_z w128 (x +ℤ y)) ≡ at xs i +ℤ at ys j
 sum_read h xs ys i j x y half first second x_is y_is =
-    to_z-of_z w128 (x +ℤ y) (sum_fits h xs ys i j x y half first second x_is y_is) ∙ ap₂ (λ a b. a +ℤ b) x_is y_is
+    to_z-of_z w128 (x +ℤ y) (sum_fits h xs ys i j x y half first second x_is y_is)
+    ∙ ap₂ (λ a b. a +ℤ b) x_is y_is
 
 -- the numbers on each side
-pub on_side : (h : Half) (side : Side) → IsHalf h → AreNumbersOf h (by_side side h.left.now h.value.now h.right.now)
+pub on_side : (h : Half) (side : Side) → IsHalf h →
+    AreNumbersOf h (by_side side h.left.now h.value.now h.right.now)
 on_side h Left half = half.left
 on_side h Value half = half.value
 on_side h Right half = half.right
 
 pub side_read : (h : Half) (side : Side) (xs : List ℤ) (i k : ℕ) → IsHalf h →
     xs ≡ by_side side h.left.now h.value.now h.right.now → k ≡ i % h.order →
-    to_z w128 (of_z w128 (get_or xs k (pos 0))) ≡ at (by_side side h.left.now h.value.now h.right.now) i
+    to_z w128 (of_z w128 (get_or xs k (pos 0)))
+    ≡ at (by_side side h.left.now h.value.now h.right.now) i
 side_read h side xs i k half is k_is =
     ap (λ ys. to_z w128 (of_z w128 (get_or ys k (pos 0)))) is
-    ∙ number_read h (by_side side h.left.now h.value.now h.right.now) i k half (on_side h side half) k_is
+    ∙ number_read h (by_side side h.left.now h.value.now h.right.now) i k half
+    (on_side h side half) k_is
 
 -- the rest of a sum of rests
 pub rest_of_sum : (x y u v n s : ℕ) → x ≡ u % n → y ≡ v % n → s ≡ (x + y) % n → s ≡ (u + v) % n

@@ -21,13 +21,15 @@ use Rattle.gj_limit_check_halves.proofs.HalfNumbers.{scale_is}
 -- ---- signs
 
 pub none_negative : (h : Half) → IsHalf h → HasNonnegativeValues (data_of h)
-none_negative h half i below = ((half.value.between i).0, (half.right.between i).0, (half.left.between (i + 1)).0)
+none_negative h half i below =
+    ((half.value.between i).0, (half.right.between i).0, (half.left.between (i + 1)).0)
 
 -- ---- symmetry
 
 -- the limits from the right at all points give those from the left
 turned : (xs ys : List ℤ) (n k i : ℕ) (s : ℤ) → length xs ≡ n → length ys ≡ n → i < n →
-    ((j : ℕ) → j < n → at xs j +ℤ at ys (k + (n - j)) ≡ s) → at ys (i + 1) +ℤ at xs (k + (n - (i + 1))) ≡ s
+    ((j : ℕ) → j < n → at xs j +ℤ at ys (k + (n - j)) ≡ s) →
+    at ys (i + 1) +ℤ at xs (k + (n - (i + 1))) ≡ s
 turned xs ys n k i s xs_len ys_len below h =
     let some : 0 < n = omega arith in
     let j = k + (n - (i + 1)) in
@@ -39,11 +41,13 @@ turned xs ys n k i s xs_len ys_len below h =
     omega (arith, ints)
 
 pub symmetric_half : (h : Half) → IsHalf h →
-    (AreOpposite h.value.now h.value.now h.place h.scale × AreOpposite h.right.now h.left.now h.place h.scale)
+    (AreOpposite h.value.now h.value.now h.place h.scale
+    × AreOpposite h.right.now h.left.now h.place h.scale)
     ↔ IsSymmetric (data_of h)
 symmetric_half h half =
     let n = h.order in
-    let Across = λ (xs ys : List ℤ) (m : ℕ) (s : ℤ). (i : ℕ) → i < m → at xs i +ℤ at ys (h.place + (m - i)) ≡ s in
+    let Across = λ (xs ys : List ℤ) (m : ℕ) (s : ℤ). (i : ℕ) → i < m →
+    at xs i +ℤ at ys (h.place + (m - i)) ≡ s in
     let over = λ (xs ys : List ℤ) (len : length xs ≡ n) (all : AreOpposite xs ys h.place h.scale).
     subst (Across xs ys n) (sym (scale_is h half)) (subst (λ m. Across xs ys m h.scale) len all) in
     let back = λ (xs ys : List ℤ) (len : length xs ≡ n) (all : Across xs ys n (pos (data_of h).scale)).
@@ -53,7 +57,8 @@ symmetric_half h half =
             over h.value.now h.value.now half.value.length both.0 i below,
             (
               limits i below,
-              turned h.right.now h.left.now n h.place i (pos (data_of h).scale) half.right.length half.left.length below
+              turned h.right.now h.left.now n h.place i (pos (data_of h).scale) half.right.length
+                  half.left.length below
                   limits,
             ),
           ),
@@ -66,7 +71,8 @@ symmetric_half h half =
 -- ---- limits of the slack
 
 -- a corner of a face has a limit
-limit_there : (f : FunctionData) (kind : FaceKind) (a b corner : ℕ) → corner < length (corners_of kind 0 0) →
+limit_there : (f : FunctionData) (kind : FaceKind) (a b corner : ℕ) →
+    corner < length (corners_of kind 0 0) →
     corner < length (limits_of f kind a b)
 limit_there f Vertex a b corner low = low
 limit_there f Horizontal a b corner low = low
@@ -76,17 +82,20 @@ limit_there f Lower a b corner low = low
 limit_there f Upper a b corner low = low
 
 -- the limits that its terms make are those at the corner
-pub corner_by_terms : (f : FunctionData) (kind : FaceKind) (corner : ℕ) (t : Terms) (a : ℕ) → AreTermsOf kind corner t →
+pub corner_by_terms : (f : FunctionData) (kind : FaceKind) (corner : ℕ) (t : Terms) (a : ℕ) →
+    AreTermsOf kind corner t →
     corner < length (corners_of kind 0 0) → PassesTerms f t a ↔ PassesCorner f kind a corner
 corner_by_terms f kind corner t a is low =
-    let same = λ (b : ℕ). sym (is f a b) ∙ get_or_default (limits_of f kind a b) corner (pos 1) (pos 0) (limit_there f kind a b corner low) in (
+    let same = λ (b : ℕ). sym (is f a b) ∙ get_or_default (limits_of f kind a b) corner (pos 1)
+    (pos 0) (limit_there f kind a b corner low) in (
       λ h b from below. subst (λ x. pos 0 ≤ℤ x) (same b) (h b from below),
       λ h b from below. subst (λ x. pos 0 ≤ℤ x) (sym (same b)) (h b from below),
     )
 
 -- ---- kinds of faces
 
-pub kind_of_row : (f : FunctionData) (a : ℕ) (kind : FaceKind) → IsSubadditiveRow f a → PassesKind f kind a
+pub kind_of_row : (f : FunctionData) (a : ℕ) (kind : FaceKind) → IsSubadditiveRow f a →
+    PassesKind f kind a
 kind_of_row f a Vertex h c low b from below = h b from below Vertex c low
 kind_of_row f a Horizontal h c low b from below = h b from below Horizontal c low
 kind_of_row f a Vertical h c low b from below = h b from below Vertical c low

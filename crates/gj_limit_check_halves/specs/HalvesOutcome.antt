@@ -101,7 +101,8 @@ pub record MeetHalvesRules (f : FunctionData) (h : LimitHalves) : Type 0 where
 pub data FailsHalves (f : FunctionData) (h : LimitHalves) (failure : HalvesFailure) : Type 0 where
   at_scale : failure ≡ Scale → (MeetsLimitScale f h → ⊥) → FailsHalves f h failure
   at_pair : MeetsLimitScale f h → FailsPairs f h failure → FailsHalves f h failure
-  at_last : MeetsLimitScale f h → MeetLimitPairs f h → FailsLast f h failure → FailsHalves f h failure
+  at_last : MeetsLimitScale f h → MeetLimitPairs f h → FailsLast f h failure →
+      FailsHalves f h failure
 
 abbrev pub IsHalvesOutcome : FunctionData → LimitHalves → Option HalvesFailure → Type 0
 IsHalvesOutcome f h None = MeetHalvesRules f h

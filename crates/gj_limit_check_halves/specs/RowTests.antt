@@ -14,8 +14,10 @@ PassesTerms f t a = (b : ℕ) → a ≤ b → b < f.order → pos 0 ≤ℤ limit
 
 -- none is at this corner of the faces of this kind
 abbrev pub PassesCorner : FunctionData → FaceKind → ℕ → ℕ → Type 0
-PassesCorner f kind a corner = (b : ℕ) → a ≤ b → b < f.order → Passes f (subadditive_at kind a b corner)
+PassesCorner f kind a corner = (b : ℕ) → a ≤ b → b < f.order →
+    Passes f (subadditive_at kind a b corner)
 
 -- none is at any corner of them
 abbrev pub PassesKind : FunctionData → FaceKind → ℕ → Type 0
-PassesKind f kind a = (corner : ℕ) → corner < length (corners_of kind 0 0) → PassesCorner f kind a corner
+PassesKind f kind a = (corner : ℕ) → corner < length (corners_of kind 0 0) →
+    PassesCorner f kind a corner

@@ -18,7 +18,8 @@ pub record IsTableOf (f : FunctionData) (t : Table) : Type 0 where
 
 -- besides i itself all intervals in the set are joined to i, and all that are joined to i, free and
 -- not near are in the set
-pub record IsJoinedSet (f : FunctionData) (free near : IndexSet) (i : ℕ) (set : IndexSet) : Type 0 where
+pub record IsJoinedSet (f : FunctionData) (free near : IndexSet) (i : ℕ) (set : IndexSet) :
+    Type 0 where
   pub joined : (j : ℕ) → j < f.order → i ≢ j → IsTrue (has set j) →
       AreJoined f.order (IsTightAt f) i j
   pub whole : (j : ℕ) → j < f.order → i ≢ j → IsTrue (has free j) → has near j ≡ false →
@@ -26,7 +27,8 @@ pub record IsJoinedSet (f : FunctionData) (free near : IndexSet) (i : ℕ) (set 
 
 -- all intervals in the set are joined to i, and with each that is joined to i and not free the set
 -- has this or an earlier one that is not free
-pub record HasLeastLined (f : FunctionData) (free : IndexSet) (i : ℕ) (set : IndexSet) : Type 0 where
+pub record HasLeastLined (f : FunctionData) (free : IndexSet) (i : ℕ) (set : IndexSet) :
+    Type 0 where
   pub within : (j : ℕ) → IsTrue (has set j) → j < f.order
   pub joined : (j : ℕ) → IsTrue (has set j) → AreJoined f.order (IsTightAt f) i j
   pub least : (j : ℕ) → j < f.order → has free j ≡ false → AreJoined f.order (IsTightAt f) i j →

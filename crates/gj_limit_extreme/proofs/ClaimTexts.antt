@@ -72,7 +72,8 @@ halves_have_text h l = record {
 
 -- ---- lines
 
-line_below : (q : ℕ) (T : FaceKind → ℕ → ℕ → ℕ → Type 0) (before : List CoverLine) (l : CoverLine) → IsNextLine q T before l →
+line_below : (q : ℕ) (T : FaceKind → ℕ → ℕ → ℕ → Type 0) (before : List CoverLine) (l : CoverLine) →
+    IsNextLine q T before l →
     IsCoverLineBelow q l
 line_below q T before l next = record {
   interval = interval_within q T before l next;
@@ -90,14 +91,16 @@ line_below q T before l next = record {
     face_below (inr h) = first_face_below q _ l.face h.face
 
 -- there is a line for each interval
-pub lines_count : (f : FunctionData) (cover : Cover) (component : List ℕ) → AreAllCovered f cover component →
+pub lines_count : (f : FunctionData) (cover : Cover) (component : List ℕ) →
+    AreAllCovered f cover component →
     length cover.lines ≡ f.order
 lines_count f cover component h =
     lines_are_all f.order (IsTightAt f) cover.lines h.is_cover.lines
     (λ i low. (component_in component i, has_component f cover component h i low))
 
 -- the rows have fewer than 3,000 columns
-pub columns_few : (f : FunctionData) (cover : Cover) (component : List ℕ) → IsWithinBounds f → AreAllCovered f cover component →
+pub columns_few : (f : FunctionData) (cover : Cover) (component : List ℕ) → IsWithinBounds f →
+    AreAllCovered f cover component →
     columns_of f cover < 3000
 columns_few f cover component bounds h =
     let most = count_by-le-length (λ (l : CoverLine). l.from == l.interval) cover.lines in
@@ -120,9 +123,11 @@ IsOrdered q (Tight kind corner a b) = (a ≤ b) × (b < q)
 names_have_corners : (f : FunctionData) → All HasCorner (limit_rows f)
 names_have_corners f = to_rows f HasCorner tt (λ kind c a b low tight. low)
 
-vertex_ordered : (f : FunctionData) (a b : ℕ) → a ≤ b → b < f.order → All (IsOrdered f.order) (tight_rows_at f a b)
+vertex_ordered : (f : FunctionData) (a b : ℕ) → a ≤ b → b < f.order →
+    All (IsOrdered f.order) (tight_rows_at f a b)
 vertex_ordered f a b low high =
-    All-map (IsOrdered f.order) (row_at a b) (filter (is_tight_at f a b) corners) (λ k d below. (low, high))
+    All-map (IsOrdered f.order) (row_at a b) (filter (is_tight_at f a b) corners)
+    (λ k d below. (low, high))
 
 names_ordered : (f : FunctionData) → All (IsOrdered f.order) (limit_rows f)
 names_ordered f =
@@ -132,7 +137,8 @@ names_ordered f =
     All-flat_map (IsOrdered f.order) (tight_rows_at f a) (range_with_len a (f.order - a))
     (λ k d low.
     let h = range_between a (f.order - a) k d low in
-    vertex_ordered f a (get_or (range_with_len a (f.order - a)) k d) h.0 (let high = h.1 in omega arith))))
+    vertex_ordered f a (get_or (range_with_len a (f.order - a)) k d) h.0 (let high = h.1 in
+    omega arith))))
 
 name_below : (q : ℕ) (name : LimitRow) → HasCorner name → IsOrdered q name → IsLimitRowBelow name q
 name_below q F corner ordered = tt
@@ -141,13 +147,16 @@ name_below q (Tight kind c a b) corner (low, high) = (corner, omega arith, high)
 -- the corners and the points of all names are within their ranges
 pub names_below : (f : FunctionData) → All (λ name. IsLimitRowBelow name f.order) (limit_rows f)
 names_below f k d low =
-    name_below f.order (get_or (limit_rows f) k d) (names_have_corners f k d low) (names_ordered f k d low)
+    name_below f.order (get_or (limit_rows f) k d) (names_have_corners f k d low)
+    (names_ordered f k d low)
 
 -- so are those of one row of vertices
-pub row_names_below : (f : FunctionData) (a : ℕ) → a < f.order → All (λ name. IsLimitRowBelow name f.order) (tight_rows f a)
+pub row_names_below : (f : FunctionData) (a : ℕ) → a < f.order →
+    All (λ name. IsLimitRowBelow name f.order) (tight_rows f a)
 row_names_below f a low =
     let Below = λ (name : LimitRow). IsLimitRowBelow name f.order in
-    joined_has Below (tight_rows f) a f.order low (All-tail Below F (flat_map (tight_rows f) (range_with_len 0 f.order)) (names_below f))
+    joined_has Below (tight_rows f) a f.order low
+    (All-tail Below F (flat_map (tight_rows f) (range_with_len 0 f.order)) (names_below f))
 
 -- a name is one of the form, or that of a value at 0 and another point
 name_within : (q : ℕ) (name : LimitRow) → HasCorner name → IsOrdered q name →
@@ -170,12 +179,16 @@ name_within q (Tight Upper c a b) corner (low, high) =
 -- ---- rows of zeros are not kept
 
 -- that of values at 0 and another point is one
-no_entries : (f : FunctionData) (component : ℕ → ℕ) (n c b : ℕ) → All (λ x. x ≡ pos 0) (named_row f component n (Tight Vertex c 0 b))
+no_entries : (f : FunctionData) (component : ℕ → ℕ) (n c b : ℕ) →
+    All (λ x. x ≡ pos 0) (named_row f component n (Tight Vertex c 0 b))
 no_entries f component n c b =
-    All-made (λ x. x ≡ pos 0) (λ j. row_value f.place (limits_from f.order component (unit_at j)) (Tight Vertex c 0 b)) 0 n
+    All-made (λ x. x ≡ pos 0)
+    (λ j. row_value f.place (limits_from f.order component (unit_at j)) (Tight Vertex c 0 b)) 0
+    n
     (λ j low.
     let w = limits_from f.order component (unit_at j) in
-    let first : value_from f.order (unit_at j) (0 % f.order) ≡ pos 0 = ap (value_from f.order (unit_at j)) (zero-mod f.order) in
+    let first : value_from f.order (unit_at j) (0 % f.order) ≡ pos 0 =
+    ap (value_from f.order (unit_at j)) (zero-mod f.order) in
     nothing (w.value 0) (w.value b) (w.value (0 + b)) first (ap w.value (zero-add b)))
   where
     nothing : (x y s : ℤ) → x ≡ pos 0 → s ≡ y → slack_from x y s ≡ pos 0
@@ -187,18 +200,23 @@ zero_at xs j all = elim (cases_lt j (length xs)) [
   | inr past ↦ get_or_past xs j (pos 0) past
 ]
 
-zero_read : (numbers : Numbers) (xs : List ℤ) (j : ℕ) → All (λ x. x ≡ pos 0) xs → at_column ((arithmetic_of numbers).read xs) j ≡ pos 0
+zero_read : (numbers : Numbers) (xs : List ℤ) (j : ℕ) → All (λ x. x ≡ pos 0) xs →
+    at_column ((arithmetic_of numbers).read xs) j ≡ pos 0
 zero_read Whole xs j all = zero_at xs j all
-zero_read Residues xs j all = at_residues modulus xs j ∙ ap (residue modulus) (zero_at xs j all) ∙ residue_of_zero modulus
+zero_read Residues xs j all = at_residues modulus xs j ∙ ap (residue modulus) (zero_at xs j all)
+    ∙ residue_of_zero modulus
 
-pivot_some : (numbers : Numbers) (n : ℕ) (kept : List KeptRow) (row : List ℤ) (c : ℕ) → MeetsPivotBy numbers n kept row c →
+pivot_some : (numbers : Numbers) (n : ℕ) (kept : List KeptRow) (row : List ℤ) (c : ℕ) →
+    MeetsPivotBy numbers n kept row c →
     at_column row c ≢ pos 0
 pivot_some Whole n kept row c h = h.not_zero
 pivot_some Residues n kept row c h = h.0.not_zero
 
 -- a row that is kept has an entry
-some_entry : (numbers : Numbers) (n : ℕ) (kept : List KeptRow) (row : List ℤ) (reduce : List ℕ) (c : ℕ) →
-    StepsMeet numbers kept row reduce → MeetsPivotBy numbers n kept (present_over numbers kept row reduce) c →
+some_entry : (numbers : Numbers) (n : ℕ) (kept : List KeptRow) (row : List ℤ) (reduce : List ℕ)
+    (c : ℕ) →
+    StepsMeet numbers kept row reduce →
+    MeetsPivotBy numbers n kept (present_over numbers kept row reduce) c →
     ((j : ℕ) → at_column row j ≡ pos 0) → ⊥
 some_entry numbers n kept row [] c steps pivot none = pivot_some numbers n kept row c pivot (none c)
 some_entry numbers n kept row (x ∷ reduce) c steps pivot none = steps.0.not_zero (none x)
@@ -209,22 +227,27 @@ module _ (numbers : Numbers) (f : FunctionData) (component : ℕ → ℕ) (n : �
   abbrev rows : List (List ℤ)
   rows = system_rows f component n
 
-  kept_name : (kept : List KeptRow) (k : KeptRow) → MeetsKept numbers n rows kept k → IsRowWithin f.order (group_of f k).name
+  kept_name : (kept : List KeptRow) (k : KeptRow) → MeetsKept numbers n rows kept k →
+      IsRowWithin f.order (group_of f k).name
   kept_name kept k h =
       let len = length-map (limit_rows f) (named_row f component n) in
       let low : k.number < length (limit_rows f) = (let below = h.low in omega arith) in
       let name = get_or (limit_rows f) k.number F in
       let there : get_or rows k.number [] ≡ named_row f component n name =
       get_or-map (named_row f component n) (limit_rows f) k.number F [] low in
-      elim (name_within f.order name (names_have_corners f k.number F low) (names_ordered f k.number F low)) [
+      elim (name_within f.order name (names_have_corners f k.number F low)
+      (names_ordered f k.number F low)) [
         | inl within ↦ within
         | inr (c, b, is) ↦
-            absurd (some_entry numbers n kept (begun numbers rows k) k.reduce k.pivot h.steps h.pivot
+            absurd (some_entry numbers n kept (begun numbers rows k) k.reduce k.pivot h.steps
+            h.pivot
             (λ j. zero_read numbers (get_or rows k.number []) j
-            (subst (All (λ x. x ≡ pos 0)) (sym (there ∙ ap (named_row f component n) is)) (no_entries f component n c b))))
+            (subst (All (λ x. x ≡ pos 0)) (sym (there ∙ ap (named_row f component n) is))
+            (no_entries f component n c b))))
       ]
 
-  groups_below : (kept more : List KeptRow) → All (λ k. k.pivot < n) kept → AllMeet numbers n rows kept more →
+  groups_below : (kept more : List KeptRow) → All (λ k. k.pivot < n) kept →
+      AllMeet numbers n rows kept more →
       All (IsLimitPivotRowBelow f.order) (map (group_of f) more)
   groups_below kept [] low h = All-nil (IsLimitPivotRowBelow f.order)
   groups_below kept (k ∷ more) low h =
@@ -239,7 +262,8 @@ module _ (numbers : Numbers) (f : FunctionData) (component : ℕ → ℕ) (n : �
       (groups_below (kept ++ k ∷ []) more (All-append (λ r. r.pivot < n) kept (k ∷ []) low
       (All-cons (λ r. r.pivot < n) k [] pivot (All-nil (λ r. r.pivot < n)))) h.1)
 
-pub extreme_has_text : (numbers : Numbers) (f g : FunctionData) (lines : List CoverLine) (rows : List LimitPivotRow) → IsWithinBounds f →
+pub extreme_has_text : (numbers : Numbers) (f g : FunctionData) (lines : List CoverLine)
+    (rows : List LimitPivotRow) → IsWithinBounds f →
     g ≡ f → AreExtremeRows numbers f lines rows → AreLimitExtremeLines g lines rows
 extreme_has_text numbers f g lines rows bounds same h =
     let n = columns_of f h.cover in
@@ -250,9 +274,12 @@ extreme_has_text numbers f g lines rows bounds same h =
       lines_below = subst (All (IsCoverLineBelow f.order)) (sym h.lines_are)
           (each_line (IsCoverLineBelow f.order) h.cover.lines
           (λ before l after place.
-          line_below f.order (IsTightAt f) before l (h.covered.is_cover.lines.in_turn before l after place)));
+          line_below f.order (IsTightAt f) before l
+          (h.covered.is_cover.lines.in_turn before l after place)));
       rows_below = subst (All (IsLimitPivotRowBelow f.order)) (sym h.rows_are)
-          (groups_below numbers f comp n (columns_few f h.cover h.component bounds h.covered) [] (elimination_over numbers f h.component n).kept
+          (groups_below numbers f comp n (columns_few f h.cover h.component bounds h.covered) []
+          (elimination_over numbers f h.component n).kept
           (All-nil (λ k. k.pivot < n))
-          (all_kept_meet numbers n all (system_columns f comp n) (rows_are_narrow numbers f lines rows h)));
+          (all_kept_meet numbers n all (system_columns f comp n)
+          (rows_are_narrow numbers f lines rows h)));
     }

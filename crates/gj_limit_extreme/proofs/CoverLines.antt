@@ -19,7 +19,8 @@ use Rattle.gj_extreme.proofs.ClaimTexts.{each_line}
 
 -- ---- the intervals of a face
 
-intervals_linked : (q : ℕ) (T : FaceKind → ℕ → ℕ → ℕ → Type 0) (kind : FaceKind) (a b i j : ℕ) → LinksBy q T kind a b i j →
+intervals_linked : (q : ℕ) (T : FaceKind → ℕ → ℕ → ℕ → Type 0) (kind : FaceKind) (a b i j : ℕ) →
+    LinksBy q T kind a b i j →
     Intervals q kind a b i × Intervals q kind a b j
 intervals_linked q T Vertex a b i j h = absurd h
 intervals_linked q T Horizontal a b i j (x, y, e, g) = (inl e, inr g)
@@ -32,12 +33,15 @@ intervals_linked q T Upper a b i j (inl (x, y, e, g)) = (inl e, inr (inr g))
 intervals_linked q T Upper a b i j (inr (inl (x, y, e, g))) = (inr (inl e), inr (inr g))
 intervals_linked q T Upper a b i j (inr (inr (x, y, e, g))) = (inl e, inr (inl g))
 
-intervals_joined : (q : ℕ) (T : FaceKind → ℕ → ℕ → ℕ → Type 0) (kind : FaceKind) (a b i j : ℕ) → Joins q T kind a b i j →
+intervals_joined : (q : ℕ) (T : FaceKind → ℕ → ℕ → ℕ → Type 0) (kind : FaceKind) (a b i j : ℕ) →
+    Joins q T kind a b i j →
     Intervals q kind a b i × Intervals q kind a b j
 intervals_joined q T kind a b i j (inl h) = intervals_linked q T kind a b i j h
-intervals_joined q T kind a b i j (inr h) = let both = intervals_linked q T kind a b j i h in (both.1, both.0)
+intervals_joined q T kind a b i j (inr h) = let both = intervals_linked q T kind a b j i h in
+    (both.1, both.0)
 
-intervals_covered : (q : ℕ) (T : FaceKind → ℕ → ℕ → ℕ → Type 0) (kind : FaceKind) (a b i : ℕ) → Covers q T kind a b i →
+intervals_covered : (q : ℕ) (T : FaceKind → ℕ → ℕ → ℕ → Type 0) (kind : FaceKind) (a b i : ℕ) →
+    Covers q T kind a b i →
     IsTriangle kind × Intervals q kind a b i
 intervals_covered q T Vertex a b i h = absurd h
 intervals_covered q T Horizontal a b i h = absurd h
@@ -61,8 +65,10 @@ module _ (q : ℕ) (T : FaceKind → ℕ → ℕ → ℕ → Type 0) (before : L
   line_new (inl h) = h.from.holds.no_line
   line_new (inr h) = h.interval.holds.no_line
 
-  pub line_opening : IsNextLine q T before l → l.from ≡ l.interval → Covers q T l.face.kind l.face.a l.face.b l.interval
-  line_opening (inl h) same = absurd (h.from.holds.no_line (subst (HasCoverLine before) same h.from.holds.line))
+  pub line_opening : IsNextLine q T before l → l.from ≡ l.interval →
+      Covers q T l.face.kind l.face.a l.face.b l.interval
+  line_opening (inl h) same =
+      absurd (h.from.holds.no_line (subst (HasCoverLine before) same h.from.holds.line))
   line_opening (inr h) same = h.face.holds
 
   pub line_earlier : IsNextLine q T before l → l.from ≢ l.interval → HasCoverLine before l.from
@@ -70,8 +76,10 @@ module _ (q : ℕ) (T : FaceKind → ℕ → ℕ → ℕ → Type 0) (before : L
   line_earlier (inr h) other = absurd (other h.from)
 
   -- whichever choice its face is
-  pub line_joining : IsNextLine q T before l → l.from ≢ l.interval → Joins q T l.face.kind l.face.a l.face.b l.interval l.from
-  line_joining (inl h) other = elim h.face [ inl additive ↦ additive.holds.1 | inr any ↦ any.1.holds.1 ]
+  pub line_joining : IsNextLine q T before l → l.from ≢ l.interval →
+      Joins q T l.face.kind l.face.a l.face.b l.interval l.from
+  line_joining (inl h) other =
+      elim h.face [ inl additive ↦ additive.holds.1 | inr any ↦ any.1.holds.1 ]
   line_joining (inr h) other = absurd (other h.from)
 
   -- the rule for lines of a continuous function, if all pairs of points were tight
@@ -80,13 +88,15 @@ module _ (q : ℕ) (T : FaceKind → ℕ → ℕ → ℕ → Type 0) (before : L
     additive = λ k d low. tt;
     new = line_new h;
     opening = λ same.
-        let parts = intervals_covered q T l.face.kind l.face.a l.face.b l.interval (line_opening h same) in record {
+        let parts = intervals_covered q T l.face.kind l.face.a l.face.b l.interval
+        (line_opening h same) in record {
           additive = λ k d low. tt;
           projection = one_covered q l.face.kind l.face.a l.face.b l.interval parts.0 parts.1;
         };
     earlier = line_earlier h;
     joining = λ other.
-        let parts = intervals_joined q T l.face.kind l.face.a l.face.b l.interval l.from (line_joining h other) in record {
+        let parts = intervals_joined q T l.face.kind l.face.a l.face.b l.interval l.from
+        (line_joining h other) in record {
           additive = λ k d low. tt;
           first = one_of q l.face.kind l.face.a l.face.b l.interval parts.0;
           second = one_of q l.face.kind l.face.a l.face.b l.from parts.1;
@@ -113,7 +123,8 @@ module _ (q : ℕ) (T : FaceKind → ℕ → ℕ → ℕ → Type 0) (before : L
       (intervals_covered q T l.face.kind l.face.a l.face.b l.interval h.face.holds).1
 
 -- the rule for lines of a function that may jump
-pub line_meets_cover : (f : FunctionData) (before : List CoverLine) (l : CoverLine) → IsNextLine f.order (IsTightAt f) before l →
+pub line_meets_cover : (f : FunctionData) (before : List CoverLine) (l : CoverLine) →
+    IsNextLine f.order (IsTightAt f) before l →
     MeetsLimitCover f before l
 line_meets_cover f before l h = record {
   new = line_new f.order (IsTightAt f) before l h;
@@ -125,17 +136,29 @@ line_meets_cover f before l h = record {
 -- ---- all lines
 
 -- an interval with a component is covered
-pub component_covered : (q : ℕ) (T : FaceKind → ℕ → ℕ → ℕ → Type 0) (lines : List CoverLine) → AreCoverLines q T lines →
+pub component_covered : (q : ℕ) (T : FaceKind → ℕ → ℕ → ℕ → Type 0) (lines : List CoverLine) →
+    AreCoverLines q T lines →
     (number i : ℕ) → HasComponent lines number i → IsCovered q T i
 component_covered q T lines h number _ (opened before l after place same counted) =
-    covered_directly q T l.interval
-    (l.face.kind, l.face.a, l.face.b, line_opening q T before l (h.in_turn before l after place) same)
+    covered_directly q T l.interval (
+      l.face.kind,
+      l.face.a,
+      l.face.b,
+      line_opening q T before l
+          (h.in_turn before l after place) same,
+    )
 component_covered q T lines h number _ (joined before l after place other rest) =
-    covered_on q T l.interval l.from
-    (l.face.kind, l.face.a, l.face.b, line_joining q T before l (h.in_turn before l after place) other)
+    covered_on q T l.interval l.from (
+      l.face.kind,
+      l.face.a,
+      l.face.b,
+      line_joining q T before l
+          (h.in_turn before l after place) other,
+    )
     (component_covered q T lines h number l.from rest)
 
-pub covered_by_component : (f : FunctionData) (lines : List CoverLine) → AreCoverLines f.order (IsTightAt f) lines →
+pub covered_by_component : (f : FunctionData) (lines : List CoverLine) →
+    AreCoverLines f.order (IsTightAt f) lines →
     (number i : ℕ) → HasComponent lines number i → IsCoveredByLimits f i
 covered_by_component f lines h number _ (opened before l after place same counted) =
     directly f l.face.kind l.face.a l.face.b l.interval
@@ -146,9 +169,12 @@ covered_by_component f lines h number _ (joined before l after place other rest)
     (covered_by_component f lines h number l.from rest)
 
 -- if each interval has a component, there are as many lines as intervals
-pub lines_are_all : (q : ℕ) (T : FaceKind → ℕ → ℕ → ℕ → Type 0) (lines : List CoverLine) → AreCoverLines q T lines →
+pub lines_are_all : (q : ℕ) (T : FaceKind → ℕ → ℕ → ℕ → Type 0) (lines : List CoverLine) →
+    AreCoverLines q T lines →
     ((i : ℕ) → i < q → (n : ℕ) × HasComponent lines n i) → length lines ≡ q
 lines_are_all q T lines h numbers =
-    lines_for_all q (λ a b. Unit {0}) lines (λ before l after place. line_meets q T before l (h.in_turn before l after place))
-    (each_line (λ l. l.interval < q) lines (λ before l after place. interval_within q T before l (h.in_turn before l after place)))
+    lines_for_all q (λ a b. Unit {0}) lines
+    (λ before l after place. line_meets q T before l (h.in_turn before l after place))
+    (each_line (λ l. l.interval < q) lines
+    (λ before l after place. interval_within q T before l (h.in_turn before l after place)))
     (λ i low. let one = numbers i low in line_of_component lines one.0 i one.1)

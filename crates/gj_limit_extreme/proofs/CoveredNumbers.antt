@@ -21,7 +21,8 @@ module _ (f : FunctionData) (cover : Cover) (is : IsCoverOf f.order (IsTightAt f
       by_number : (o : Option ℕ) → get_or cover.component k d ≡ o → IsSome o
       by_number None e =
           let low : k < f.order = subst (λ (n : ℕ). k < n) is.component.length below in
-          let at_none : number_at cover.component k ≡ None = get_or_default cover.component k None d below ∙ e in
+          let at_none : number_at cover.component k ≡ None =
+          get_or_default cover.component k None d below ∙ e in
           absurd ((is.component.uncovered k low).0 at_none (is.class.none.0 none k low))
       by_number (Some n) e = refl
 

@@ -13,8 +13,11 @@ pub decided_halves : (f : FunctionData) (h : LimitHalves) → IsWithinBounds f �
     AreZigzagHalves f h ⊎ AreKernelHalves f h → ShowLimitHalves f h
 decided_halves f h bounds minimal (inl zig) =
     show_halves f 4 (class_zigzag f zig.intervals) h zig.halves bounds minimal (omega arith)
-    (zigzag_is_perturbation f zig.intervals zig.least zig.some bounds minimal) (zigzag_some f zig.intervals zig.least zig.some)
+    (zigzag_is_perturbation f zig.intervals zig.least zig.some bounds minimal)
+    (zigzag_some f zig.intervals zig.least zig.some)
 decided_halves f h bounds minimal (inr by_kernel) =
-    let is = kernel_perturbs f by_kernel.cover by_kernel.component by_kernel.solution bounds by_kernel.covered by_kernel.solves in
-    show_halves f 1 (kernel_limits f by_kernel.component by_kernel.solution) h by_kernel.halves bounds minimal (omega arith)
+    let is = kernel_perturbs f by_kernel.cover by_kernel.component by_kernel.solution bounds
+    by_kernel.covered by_kernel.solves in
+    show_halves f 1 (kernel_limits f by_kernel.component by_kernel.solution) h by_kernel.halves
+    bounds minimal (omega arith)
     is.perturbation is.some

@@ -52,35 +52,45 @@ only_zero Residues f component n w full long solve =
     (system_columns f (component_in component) n) full long solve
 
 -- so only 0 solves the rows
-only_zero_solves : (numbers : Numbers) (f : FunctionData) (cover : Cover) (component : List ℕ) → IsWithinBounds f →
-    AreAllCovered f cover component → length (elimination_over numbers f component (columns_of f cover)).kept ≡ columns_of f cover →
+only_zero_solves : (numbers : Numbers) (f : FunctionData) (cover : Cover) (component : List ℕ) →
+    IsWithinBounds f →
+    AreAllCovered f cover component →
+    length (elimination_over numbers f component (columns_of f cover)).kept
+    ≡ columns_of f cover →
     HasOnlyZeroAsList f component cover.count
 only_zero_solves numbers f cover component bounds covered full w long rows =
     let two : 2 ≤ f.order = bounds.order_low in
-    let few = component_low f.order (IsTightAt f) cover component covered.is_cover covered.numbers in
+    let few = component_low f.order (IsTightAt f) cover component covered.is_cover
+    covered.numbers in
     only_zero numbers f component (columns_of f cover) w full long
     (All-map (Solves w) (named_row f (component_in component) (columns_of f cover)) (limit_rows f)
     (λ k d low.
-    named_products f (component_in component) cover.count (omega arith) few (get_or (limit_rows f) k d) w long ∙ rows k d low))
+    named_products f (component_in component) cover.count (omega arith) few
+    (get_or (limit_rows f) k d) w long ∙ rows k d low))
 
-pub extreme_holds : (numbers : Numbers) (f : FunctionData) (lines : List CoverLine) (rows : List LimitPivotRow) → IsWithinBounds f →
+pub extreme_holds : (numbers : Numbers) (f : FunctionData) (lines : List CoverLine)
+    (rows : List LimitPivotRow) → IsWithinBounds f →
     IsMinimal f → AreExtremeRows numbers f lines rows → IsExtremeFunction f
 extreme_holds numbers f lines rows bounds minimal h =
     let two : 2 ≤ f.order = bounds.order_low in
-    let few = component_low f.order (IsTightAt f) h.cover h.component h.covered.is_cover h.covered.numbers in
+    let few = component_low f.order (IsTightAt f) h.cover h.component h.covered.is_cover
+    h.covered.numbers in
     let only = columns_by_lists f h.component h.cover.count (omega arith) few
     (only_zero_solves numbers f h.cover h.component bounds h.covered h.all) in
     extreme_from_conditions f bounds record {
       minimal = minimal;
       covered = λ i low.
-          covered_by_component f h.cover.lines h.covered.is_cover.lines (component_in h.component i) i
+          covered_by_component f h.cover.lines h.covered.is_cover.lines
+          (component_in h.component i) i
           (has_component f h.cover h.component h.covered i low);
       only_zero = λ w solves.
-          limits_zero f bounds (value_at_zero f minimal) h.cover h.component h.covered.is_cover h.covered.numbers w solves only;
+          limits_zero f bounds (value_at_zero f minimal) h.cover h.component h.covered.is_cover
+          h.covered.numbers w solves only;
     }
 
 -- what the decision gives of a function within the limits is true
-pub decided_holds : (f : FunctionData) (c : LimitClaim) → IsWithinBounds f → IsLimitDecided f c → LimitClaimHolds c
+pub decided_holds : (f : FunctionData) (c : LimitClaim) → IsWithinBounds f → IsLimitDecided f c →
+    LimitClaimHolds c
 decided_holds f (Extreme numbers g lines rows) bounds h =
     subst (λ (x : FunctionData). LimitClaimHolds (Extreme numbers x lines rows)) (sym h.0)
     (extreme_holds numbers f lines rows bounds h.1 h.2)
@@ -89,13 +99,16 @@ decided_holds f (NotExtreme g halves) bounds h =
     (h.1, decided_halves f halves bounds h.1 h.2)
 
 -- it denies that the function is extreme, if it says so
-pub decided_denies : (f : FunctionData) (c : LimitClaim) → IsWithinBounds f → IsLimitDecided f c → DeniesExtreme f c
+pub decided_denies : (f : FunctionData) (c : LimitClaim) → IsWithinBounds f → IsLimitDecided f c →
+    DeniesExtreme f c
 decided_denies f (Extreme numbers g lines rows) bounds h = tt
 decided_denies f (NotExtreme g halves) bounds h =
-    let shown = decided_halves f halves bounds h.1 h.2 in λ extreme. extreme.no_average shown.0 shown.1 _ _ shown.3
+    let shown = decided_halves f halves bounds h.1 h.2 in
+    λ extreme. extreme.no_average shown.0 shown.1 _ _ shown.3
 
 -- and meets the rules
-pub decided_rules : (f : FunctionData) (c : LimitClaim) → IsWithinBounds f → IsLimitDecided f c → MeetsLimitRules c
+pub decided_rules : (f : FunctionData) (c : LimitClaim) → IsWithinBounds f → IsLimitDecided f c →
+    MeetsLimitRules c
 decided_rules f (Extreme numbers g lines rows) bounds h =
     subst (λ (x : FunctionData). MeetsLimitRules (Extreme numbers x lines rows)) (sym h.0)
     (extreme_rules numbers f lines rows bounds h.1 h.2)

@@ -22,9 +22,11 @@ second_within s x y low more e = record { low = more; high = omega (arith, ints)
 
 module _ (g : FunctionData) (l : IsPiecewise g) (minimal : IsMinimal g) where
   -- limits at opposite places add up to 1
-  opposite : (a b k : ℕ) → a + (b + 1) ≡ g.place + g.order * k → at g.right a +ℤ at g.left (b + 1) ≡ pos g.scale
+  opposite : (a b k : ℕ) → a + (b + 1) ≡ g.place + g.order * k →
+      at g.right a +ℤ at g.left (b + 1) ≡ pos g.scale
   opposite a b k e =
-      limits_symmetric g l (passes_each g minimal) a b (ap (λ n. n % g.order) e ∙ add-mul-mod_self_left g.place g.order k)
+      limits_symmetric g l (passes_each g minimal) a b
+      (ap (λ n. n % g.order) e ∙ add-mul-mod_self_left g.place g.order k)
 
   -- the place opposite to i + 1 or to i
   other : (i : ℕ) → (j : ℕ) × (i + (j + 1) ≡ g.place + g.order * (i + 1))
@@ -37,21 +39,24 @@ module _ (g : FunctionData) (l : IsPiecewise g) (minimal : IsMinimal g) where
   pub right_within : (i : ℕ) → IsWithin g.scale (at g.right i)
   right_within i =
       let j = other i in
-      first_within g.scale (at g.right i) (at g.left (j.0 + 1)) (right_limit g minimal i) (left_limit g minimal j.0)
+      first_within g.scale (at g.right i) (at g.left (j.0 + 1)) (right_limit g minimal i)
+      (left_limit g minimal j.0)
       (opposite i j.0 (i + 1) j.1)
 
   left_behind : (i : ℕ) → IsWithin g.scale (at g.left (i + 1))
   left_behind i =
       let j = other i in
       let e : j.0 + (i + 1) ≡ g.place + g.order * (i + 1) = (let sum = j.1 in omega arith) in
-      second_within g.scale (at g.right j.0) (at g.left (i + 1)) (right_limit g minimal j.0) (left_limit g minimal i)
+      second_within g.scale (at g.right j.0) (at g.left (i + 1)) (right_limit g minimal j.0)
+      (left_limit g minimal i)
       (opposite j.0 i (i + 1) e)
 
   pub left_within : (i : ℕ) → IsWithin g.scale (at g.left i)
   left_within i =
       let two : 2 ≤ g.order = l.order_low in
       let turn : i + g.order ≡ i + g.order - 1 + 1 = omega arith in
-      subst (IsWithin g.scale) (ap (at g.left) (sym turn) ∙ at_plus_order g.left i g.order l.left_length)
+      subst (IsWithin g.scale)
+      (ap (at g.left) (sym turn) ∙ at_plus_order g.left i g.order l.left_length)
       (left_behind (i + g.order - 1))
 
   pub value_within : (i : ℕ) → IsWithin g.scale (at g.value i)
@@ -60,5 +65,6 @@ module _ (g : FunctionData) (l : IsPiecewise g) (minimal : IsMinimal g) where
       let is = minimal 1 (omega arith) in
       let value_is : table g 1 i ≡ at g.value i = table_of_order g i in
       let low = is.nonnegative i in
-      let high = at_most_scale (table g 1) (g.order * 1) (g.place * 1) (g.scale * 1) i (omega arith) is in
+      let high = at_most_scale (table g 1) (g.order * 1) (g.place * 1) (g.scale * 1) i
+      (omega arith) is in
       record { low = subst (λ (z : ℤ). pos 0 ≤ℤ z) value_is low; high = omega (arith, ints) }

@@ -20,17 +20,21 @@ begun numbers rows k = (arithmetic_of numbers).read (get_or rows k.number [])
 
 -- a kept row behind others: it began with one of the rows, its steps and its pivot meet the rules,
 -- and it has its entries
-pub record MeetsKept (numbers : Numbers) (n : ℕ) (rows : List (List ℤ)) (kept : List KeptRow) (k : KeptRow) : Type 0 where
+pub record MeetsKept (numbers : Numbers) (n : ℕ) (rows : List (List ℤ)) (kept : List KeptRow)
+    (k : KeptRow) : Type 0 where
   pub low : k.number < length rows
   pub steps : StepsMeet numbers kept (begun numbers rows k) k.reduce
-  pub pivot : MeetsPivotBy numbers n kept (present_over numbers kept (begun numbers rows k) k.reduce) k.pivot
+  pub pivot : MeetsPivotBy numbers n kept
+      (present_over numbers kept (begun numbers rows k) k.reduce) k.pivot
   pub entries : k.entries
-      ≡ entries_or_none ((arithmetic_of numbers).keep (present_over numbers kept (begun numbers rows k) k.reduce) k.pivot)
+      ≡ entries_or_none ((arithmetic_of numbers).keep
+      (present_over numbers kept (begun numbers rows k) k.reduce) k.pivot)
 
 -- each behind those before it
 abbrev pub AllMeet : Numbers → ℕ → List (List ℤ) → List KeptRow → List KeptRow → Type 0
 AllMeet numbers n rows kept [] = Unit {0}
-AllMeet numbers n rows kept (k ∷ more) = MeetsKept numbers n rows kept k × AllMeet numbers n rows (kept ++ k ∷ []) more
+AllMeet numbers n rows kept (k ∷ more) = MeetsKept numbers n rows kept k
+    × AllMeet numbers n rows (kept ++ k ∷ []) more
 
 -- no number of the elimination over these numbers passes
 abbrev pub IsNarrow : Numbers → ℕ → List (List ℤ) → Type 0
@@ -47,23 +51,32 @@ module _ (numbers : Numbers) (n : ℕ) (rows : List (List ℤ)) where
   grows_not kept = record { more = []; is = sym (append-nil kept); meet = tt }
 
   -- one of the rows is kept
-  kept_meets : (number : ℕ) (kept : List KeptRow) (row : List ℤ) (reduce : List ℕ) (p : ℕ × List ℤ) → number < length rows →
-      get_or rows number [] ≡ row → StepsMeet numbers kept ((arithmetic_of numbers).read row) reduce →
+  kept_meets : (number : ℕ) (kept : List KeptRow) (row : List ℤ) (reduce : List ℕ)
+      (p : ℕ × List ℤ) → number < length rows →
+      get_or rows number [] ≡ row →
+      StepsMeet numbers kept ((arithmetic_of numbers).read row) reduce →
       PivotMeets numbers n kept ((arithmetic_of numbers).read row) reduce (Some p) →
-      MeetsKept numbers n rows kept (record { number = number; reduce = reduce; pivot = p.0; entries = p.1 })
+      MeetsKept numbers n rows kept
+      (record { number = number; reduce = reduce; pivot = p.0; entries = p.1 })
   kept_meets number kept row reduce p low there steps pivot =
       let read = (arithmetic_of numbers).read in
       record {
         low = low;
         steps = subst (λ (r : List ℤ). StepsMeet numbers kept (read r) reduce) (sym there) steps;
-        pivot = subst (λ (r : List ℤ). MeetsPivotBy numbers n kept (present_over numbers kept (read r) reduce) p.0) (sym there) pivot.0;
-        entries = subst (λ (r : List ℤ). p.1 ≡ entries_or_none ((arithmetic_of numbers).keep (present_over numbers kept (read r) reduce) p.0))
+        pivot = subst (λ (r : List ℤ). MeetsPivotBy numbers n kept
+            (present_over numbers kept (read r) reduce) p.0) (sym there) pivot.0;
+        entries = subst (λ (r : List ℤ). p.1
+            ≡ entries_or_none ((arithmetic_of numbers).keep
+            (present_over numbers kept (read r) reduce) p.0))
             (sym there) pivot.1;
       }
 
-  grows_behind : (number : ℕ) (kept : List KeptRow) (row : List ℤ) (reduce : List ℕ) (o : Option (ℕ × List ℤ)) (after : List KeptRow) →
-      number < length rows → get_or rows number [] ≡ row → StepsMeet numbers kept ((arithmetic_of numbers).read row) reduce →
-      PivotMeets numbers n kept ((arithmetic_of numbers).read row) reduce o → Grows (kept_behind kept number reduce o) after →
+  grows_behind : (number : ℕ) (kept : List KeptRow) (row : List ℤ) (reduce : List ℕ)
+      (o : Option (ℕ × List ℤ)) (after : List KeptRow) →
+      number < length rows → get_or rows number [] ≡ row →
+      StepsMeet numbers kept ((arithmetic_of numbers).read row) reduce →
+      PivotMeets numbers n kept ((arithmetic_of numbers).read row) reduce o →
+      Grows (kept_behind kept number reduce o) after →
       Grows kept after
   unfolding kept_behind
   grows_behind number kept row reduce None after low there steps pivot h = h
@@ -76,25 +89,31 @@ module _ (numbers : Numbers) (n : ℕ) (rows : List (List ℤ)) where
       }
 
   -- one row and those behind it, if not all columns have a pivot
-  row_grows : (number : ℕ) (kept : List KeptRow) (row : List ℤ) (later : Elimination) → number < length rows →
+  row_grows : (number : ℕ) (kept : List KeptRow) (row : List ℤ) (later : Elimination) →
+      number < length rows →
       get_or rows number [] ≡ row → AreTriangularOver numbers n kept → length row ≡ n →
       ((Passes later.marked → ⊥) →
-      Grows (kept_behind kept number (inserted_by (arithmetic_of numbers) n kept row).reduce (inserted_by (arithmetic_of numbers) n kept row).kept)
+      Grows (kept_behind kept number (inserted_by (arithmetic_of numbers) n kept row).reduce
+      (inserted_by (arithmetic_of numbers) n kept row).kept)
       later.kept) →
       (b : Bool) →
       (Passes (if b then record { kept = kept; marked = [] }
-      else behind_insertion (inserted_by (arithmetic_of numbers) n kept row).marked later).marked → ⊥) →
+      else behind_insertion (inserted_by (arithmetic_of numbers) n kept row).marked later).marked →
+      ⊥) →
       Grows kept
-      (if b then record { kept = kept; marked = [] } else behind_insertion (inserted_by (arithmetic_of numbers) n kept row).marked later).kept
+      (if b then record { kept = kept; marked = [] } else behind_insertion
+      (inserted_by (arithmetic_of numbers) n kept row).marked later).kept
   row_grows number kept row later low there h len onward true narrow = grows_not kept
   row_grows number kept row later low there h len onward false narrow =
       let i = inserted_by (arithmetic_of numbers) n kept row in
-      let meets = insertion_meets numbers n kept 0 n ((arithmetic_of numbers).read row) h (omega arith) (length_read numbers n row len)
+      let meets = insertion_meets numbers n kept 0 n ((arithmetic_of numbers).read row) h
+      (omega arith) (length_read numbers n row len)
       (λ j below. absurd (omega arith)) (λ p. narrow (front_passes i.marked later.marked p)) in
       grows_behind number kept row i.reduce i.kept later.kept low there meets.steps meets.pivot
       (onward (λ p. narrow (back_passes i.marked later.marked p)))
 
-  elimination_grows : (kept : List KeptRow) (front rest : List (List ℤ)) (number : ℕ) → rows ≡ front ++ rest → length front ≡ number →
+  elimination_grows : (kept : List KeptRow) (front rest : List (List ℤ)) (number : ℕ) →
+      rows ≡ front ++ rest → length front ≡ number →
       All (λ row. length row ≡ n) rest → AreTriangularOver numbers n kept →
       (Passes (elimination_from_by (arithmetic_of numbers) n kept number rest).marked → ⊥) →
       Grows kept (elimination_from_by (arithmetic_of numbers) n kept number rest).kept
@@ -109,12 +128,15 @@ module _ (numbers : Numbers) (n : ℕ) (rows : List (List ℤ)) where
       let whole = ap length place in
       let parts = length-append front (row ∷ rest) in
       row_grows number kept row
-      (elimination_from_by (arithmetic_of numbers) n (kept_behind kept number i.reduce i.kept) (number + 1) rest)
+      (elimination_from_by (arithmetic_of numbers) n (kept_behind kept number i.reduce i.kept)
+      (number + 1) rest)
       (omega arith) there h len
-      (elimination_grows (kept_behind kept number i.reduce i.kept) (front ++ row ∷ []) rest (number + 1)
+      (elimination_grows (kept_behind kept number i.reduce i.kept) (front ++ row ∷ []) rest
+      (number + 1)
       (place ∙ sym (append_assoc front (row ∷ []) rest))
       (length_push front row ∙ (let same : length front + 1 ≡ number + 1 = omega arith in same))
-      (All-tail (λ r. length r ≡ n) row rest columns) (triangular_over numbers n number kept row h len))
+      (All-tail (λ r. length r ≡ n) row rest columns)
+      (triangular_over numbers n number kept row h len))
       (nat_le n (length kept)) fits
 
   pub all_kept_meet : All (λ row. length row ≡ n) rows → IsNarrow numbers n rows →

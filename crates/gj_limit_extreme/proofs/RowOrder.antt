@@ -15,9 +15,11 @@ use Rattle.gj_limit_extreme.specs.RowsToCome.{tight_rows_from}
 -- that of f comes first
 pub first_rows : (f : FunctionData) → limit_rows f ≡ F ∷ tight_rows_from f 0
 first_rows f =
-    let all : f.order ≡ f.order - 0 = omega arith in ap (λ n. F ∷ flat_map (tight_rows f) (range_with_len 0 n)) all
+    let all : f.order ≡ f.order - 0 = omega arith in
+    ap (λ n. F ∷ flat_map (tight_rows f) (range_with_len 0 n)) all
 
-pub next_rows : (f : FunctionData) (a : ℕ) → a < f.order → tight_rows_from f a ≡ tight_rows f a ++ tight_rows_from f (a + 1)
+pub next_rows : (f : FunctionData) (a : ℕ) → a < f.order →
+    tight_rows_from f a ≡ tight_rows f a ++ tight_rows_from f (a + 1)
 next_rows f a below = ap (flat_map (tight_rows f)) (range_step a f.order below)
 
 pub no_rows : (f : FunctionData) (a : ℕ) → f.order ≤ a → tight_rows_from f a ≡ []
@@ -32,7 +34,8 @@ vertex_short f a b =
     let most = count_by-le-length (is_tight_at f a b) corners in
     omega arith
 
-joined_short : (g : ℕ → List LimitRow) (m : ℕ) (xs : List ℕ) → ((x : ℕ) → length (g x) ≤ m) → length (flat_map g xs) ≤ length xs * m
+joined_short : (g : ℕ → List LimitRow) (m : ℕ) (xs : List ℕ) → ((x : ℕ) → length (g x) ≤ m) →
+    length (flat_map g xs) ≤ length xs * m
 joined_short g m [] h = omega arith
 joined_short g m (x ∷ xs) h =
     let here = h x in
@@ -46,7 +49,8 @@ row_short f a high =
     let most = joined_short (tight_rows_at f a) 13 range (vertex_short f a) in
     let len = length-range_with_len a (f.order - a) in
     let product : length (range_with_len a (f.order - a)) * 13 ≤ 1000 * 13 =
-    mul-le-mul {n₁ = length (range_with_len a (f.order - a))} {m₁ = 13} {n₂ = 1000} {m₂ = 13} (omega arith) (omega arith) in
+    mul-le-mul {n₁ = length (range_with_len a (f.order - a))} {m₁ = 13} {n₂ = 1000} {m₂ = 13}
+    (omega arith) (omega arith) in
     omega arith
 
 pub rows_short : (f : FunctionData) → IsWithinBounds f → length (limit_rows f) < 2 ^ 32
@@ -56,5 +60,6 @@ rows_short f l =
     let most = joined_short (tight_rows f) 13000 range (λ a. row_short f a high) in
     let len = length-range_with_len 0 f.order in
     let product : length (range_with_len 0 f.order) * 13000 ≤ 1000 * 13000 =
-    mul-le-mul {n₁ = length (range_with_len 0 f.order)} {m₁ = 13000} {n₂ = 1000} {m₂ = 13000} (omega arith) (omega arith) in
+    mul-le-mul {n₁ = length (range_with_len 0 f.order)} {m₁ = 13000} {n₂ = 1000} {m₂ = 13000}
+    (omega arith) (omega arith) in
     omega arith

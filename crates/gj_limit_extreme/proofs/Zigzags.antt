@@ -27,10 +27,12 @@ use Rattle.gj_limit_extreme.specs.Decision.{class_zigzag}
 -- ---- the least uncovered interval
 
 abbrev pub IsLeastUncovered : FunctionData → ℕ → Type 0
-IsLeastUncovered f least = IsLeastFrom 0 (λ i. (i < f.order) × (IsCovered f.order (IsTightAt f) i → ⊥)) least
+IsLeastUncovered f least =
+    IsLeastFrom 0 (λ i. (i < f.order) × (IsCovered f.order (IsTightAt f) i → ⊥)) least
 
 -- if none is the least that is uncovered, each is not not covered
-none_uncovered : (f : FunctionData) → ((least : ℕ) → IsLeastUncovered f least → ⊥) → (n i : ℕ) → i < n → i < f.order →
+none_uncovered : (f : FunctionData) → ((least : ℕ) → IsLeastUncovered f least → ⊥) → (n i : ℕ) →
+    i < n → i < f.order →
     (IsCovered f.order (IsTightAt f) i → ⊥) → ⊥
 none_uncovered f none zero i low within out = absurd (omega arith)
 none_uncovered f none (suc n) i low within out =
@@ -40,11 +42,13 @@ none_uncovered f none (suc n) i low within out =
       least = λ k from before both. none_uncovered f none n k (omega arith) both.0 both.1;
     }
 
-module _ (f : FunctionData) (class : List ℕ) (h : IsLeastClass f.order (IsTightAt f) class) (some : class ≢ []) where
+module _ (f : FunctionData) (class : List ℕ) (h : IsLeastClass f.order (IsTightAt f) class)
+    (some : class ≢ []) where
   -- there is one
   pub some_least : ((least : ℕ) → IsLeastUncovered f least → ⊥) → ⊥
   some_least none =
-      not_not_all (IsCovered f.order (IsTightAt f)) f.order (λ i low. none_uncovered f none (suc i) i (omega arith) low)
+      not_not_all (IsCovered f.order (IsTightAt f)) f.order
+      (λ i low. none_uncovered f none (suc i) i (omega arith) low)
       (λ all. some (h.none.1 all))
 
   abbrev chosen : ℕ → Bool
@@ -54,7 +58,8 @@ module _ (f : FunctionData) (class : List ℕ) (h : IsLeastClass f.order (IsTigh
 
   module _ (order_some : 0 < f.order) where
     -- what is joined to an interval of the class is one
-    class_on : (i j : ℕ) → AreJoined f.order (IsTightAt f) i j → Contains class (i % f.order) → Contains class (j % f.order)
+    class_on : (i j : ℕ) → AreJoined f.order (IsTightAt f) i j → Contains class (i % f.order) →
+        Contains class (j % f.order)
     class_on i j joined has =
         contains_stable class (j % f.order)
         (λ no. some_least (λ least is.
@@ -62,19 +67,22 @@ module _ (f : FunctionData) (class : List ℕ) (h : IsLeastClass f.order (IsTigh
         no ((h.members least is (j % f.order)).1 (
           mod-lt j order_some,
           leads_on f.order (IsTightAt f) (j % f.order) (i % f.order) least leads
-              (onward (i % f.order) (j % f.order) (joined_rests f.order (IsTightAt f) i j joined) (here (j % f.order) refl)),
+              (onward (i % f.order) (j % f.order) (joined_rests f.order (IsTightAt f) i j joined)
+              (here (j % f.order) refl)),
         ))))
 
     chosen_on : (i j : ℕ) → AreJoined f.order (IsTightAt f) i j → chosen i ≡ true → chosen j ≡ true
     chosen_on i j joined e =
-        test_from_contains class (j % f.order) (class_on i j joined (contains_from_test class (i % f.order) e))
+        test_from_contains class (j % f.order)
+        (class_on i j joined (contains_from_test class (i % f.order) e))
 
     -- no triangle with slack 0 projects on one
     not_direct : (i : ℕ) → IsDirectlyCovered f.order (IsTightAt f) i → chosen i ≡ false
     not_direct i direct =
         never_true (chosen i) (λ e.
         some_least (λ least is.
-        let leads = ((h.members least is (i % f.order)).0 (contains_from_test class (i % f.order) e)).1 in
+        let leads = ((h.members least is (i % f.order)).0
+        (contains_from_test class (i % f.order) e)).1 in
         is.holds.1 (
           i % f.order,
           directly_same f.order (IsTightAt f) i (i % f.order) (sym (rest_of_rest i)) direct,
@@ -96,23 +104,28 @@ module _ (f : FunctionData) (class : List ℕ) (h : IsLeastClass f.order (IsTigh
       upper_free = λ a b x y z. not_direct a (Upper, a, b, ((x, y, z), inl refl));
     }
 
-  pub zigzag_is_perturbation : IsWithinBounds f → IsMinimal f → IsLimitPerturbation f 4 (class_zigzag f class)
+  pub zigzag_is_perturbation : IsWithinBounds f → IsMinimal f →
+      IsLimitPerturbation f 4 (class_zigzag f class)
   zigzag_is_perturbation bounds minimal =
-      let low : 2 ≤ f.order = bounds.order_low in zigzag_perturbs f chosen minimal (apart (omega arith))
+      let low : 2 ≤ f.order = bounds.order_low in
+      zigzag_perturbs f chosen minimal (apart (omega arith))
 
   -- its intervals are below the order
   pub class_within : All (λ a. a < f.order) class
   class_within k d low =
       less_stable (get_or class k d) f.order
-      (λ no. some_least (λ least is. no ((h.members least is (get_or class k d)).0 (All-contains_itself class k d low)).0))
+      (λ no. some_least (λ least is. no
+      ((h.members least is (get_or class k d)).0 (All-contains_itself class k d low)).0))
 
   pub zigzag_some : HasSome (class_zigzag f class)
   zigzag_some =
       let first = first_of_class class some in
       let a = first.0 in
       let within : a < f.order =
-      less_stable a f.order (λ no. some_least (λ least is. no ((h.members least is a).0 first.1).0)) in
+      less_stable a f.order
+      (λ no. some_least (λ least is. no ((h.members least is a).0 first.1).0)) in
       let is_chosen : chosen a ≡ true =
-      test_from_contains class (a % f.order) (subst (Contains class) (sym (mod-eq_of_lt within)) first.1) in
+      test_from_contains class (a % f.order)
+      (subst (Contains class) (sym (mod-eq_of_lt within)) first.1) in
       let one : zigzag_of chosen (a * 4 + 1) ≡ pos 1 = zigzag_there chosen a is_chosen in
       (a * 4 + 1, inl (λ none. let flat : pos 1 ≡ pos 0 = sym one ∙ none in omega (arith, ints)))

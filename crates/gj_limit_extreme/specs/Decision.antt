@@ -46,7 +46,8 @@ columns_of f cover = columns_for f.order cover.count
 -- the elimination of all rows, in their order, over whole numbers or over residues
 abbrev pub elimination_over : Numbers → FunctionData → List ℕ → ℕ → Elimination
 elimination_over numbers f component n =
-    elimination_by (arithmetic_of numbers) n (map (named_row f (component_in component) n) (limit_rows f))
+    elimination_by (arithmetic_of numbers) n
+    (map (named_row f (component_in component) n) (limit_rows f))
 
 -- plain elimination
 abbrev pub limit_elimination : FunctionData → List ℕ → ℕ → Elimination
@@ -54,7 +55,12 @@ limit_elimination f component n = elimination_over Whole f component n
 
 -- the group of a row that it keeps
 abbrev pub group_of : FunctionData → KeptRow → LimitPivotRow
-group_of f k = record { name = get_or (limit_rows f) k.number F; reduce = k.reduce; pivot = k.pivot }
+group_of f k = record {
+  name = get_or (limit_rows f) k.number F;
+  reduce = k.reduce;
+  pivot =
+      k.pivot;
+}
 
 -- the perturbation with these numbers for the columns
 abbrev pub kernel_limits : FunctionData → List ℕ → Solution → Limits ℤ
@@ -76,8 +82,10 @@ pub record AreExtremeRows (numbers : Numbers) (f : FunctionData) (lines : List C
   pub covered : AreAllCovered f cover component
   pub lines_are : lines ≡ cover.lines
   pub needed : AreNeeded numbers (limit_elimination f component (columns_of f cover)).marked
-  pub all : length (elimination_over numbers f component (columns_of f cover)).kept ≡ columns_of f cover
-  pub rows_are : rows ≡ map (group_of f) (elimination_over numbers f component (columns_of f cover)).kept
+  pub all : length (elimination_over numbers f component (columns_of f cover)).kept
+      ≡ columns_of f cover
+  pub rows_are : rows ≡ map (group_of f)
+      (elimination_over numbers f component (columns_of f cover)).kept
 
 -- an interval is uncovered, and the halves are those of the zigzag of the class of the least one
 pub record AreZigzagHalves (f : FunctionData) (h : LimitHalves) : Type 0 where
@@ -101,8 +109,10 @@ pub record AreKernelHalves (f : FunctionData) (h : LimitHalves) : Type 0 where
 
 -- what the decision gives of a minimal function: the cover and the rows, or the halves
 abbrev pub IsLimitDecided : FunctionData → LimitClaim → Type 0
-IsLimitDecided f (Extreme numbers g lines rows) = (g ≡ f) × IsMinimal f × AreExtremeRows numbers f lines rows
-IsLimitDecided f (NotExtreme g h) = (g ≡ f) × IsMinimal f × (AreZigzagHalves f h ⊎ AreKernelHalves f h)
+IsLimitDecided f (Extreme numbers g lines rows) = (g ≡ f) × IsMinimal f
+    × AreExtremeRows numbers f lines rows
+IsLimitDecided f (NotExtreme g h) = (g ≡ f) × IsMinimal f
+    × (AreZigzagHalves f h ⊎ AreKernelHalves f h)
 
 -- a claim that a function is not extreme denies that it is
 abbrev pub DeniesExtreme : FunctionData → LimitClaim → Type 0
@@ -125,9 +135,11 @@ pub record IsLimitTooWide (f : FunctionData) : Type 0 where
   pub component : List ℕ
   pub covered : AreAllCovered f cover component
   pub passes : (Passes (limit_elimination f component (columns_of f cover)).marked
-      × (length (elimination_over Residues f component (columns_of f cover)).kept < columns_of f cover))
+      × (length (elimination_over Residues f component (columns_of f cover)).kept
+      < columns_of f cover))
       ⊎ ((Passes (limit_elimination f component (columns_of f cover)).marked → ⊥)
-      × ((s : Solution) × (kernel (columns_of f cover) (limit_elimination f component (columns_of f cover)).kept
+      × ((s : Solution) × (kernel (columns_of f cover)
+      (limit_elimination f component (columns_of f cover)).kept
       ≡ Some s) × IsWideBehind f component s))
 
 -- ---- a claim, or a fault with its cause

@@ -25,7 +25,8 @@ rows_named f component n names = map (named_row f (component_in component) n) na
 
 -- these names follow the first so many
 abbrev pub AreNextNames : FunctionData → ℕ → List LimitRow → Type 0
-AreNextNames f number rest = (before : List LimitRow) × (limit_rows f ≡ before ++ rest) × (length before ≡ number)
+AreNextNames f number rest = (before : List LimitRow) × (limit_rows f ≡ before ++ rest)
+    × (length before ≡ number)
 
 -- the rows have so many columns
 pub record HaveColumns (n : ℕ) (rows : Rows) : Type 0 where
@@ -34,13 +35,16 @@ pub record HaveColumns (n : ℕ) (rows : Rows) : Type 0 where
 
 -- the rows of these names are still to come: with them the basis ends as the elimination of all
 -- rows does
-pub record AreToCome (f : FunctionData) (component : List ℕ) (n : ℕ) (rows : Rows) (rest : List LimitRow) :
+pub record AreToCome (f : FunctionData) (component : List ℕ) (n : ℕ) (rows : Rows)
+    (rest : List LimitRow) :
     Type 0 where
   pub columns : HaveColumns n rows
   pub kept : (limit_elimination f component n).kept
-      ≡ (elimination_from n rows.basis.kept rows.basis.inserted (rows_named f component n rest)).kept
+      ≡ (elimination_from n rows.basis.kept rows.basis.inserted
+      (rows_named f component n rest)).kept
   pub marked : Passes (limit_elimination f component n).marked
-      ↔ Passes (elimination_from n rows.basis.kept rows.basis.inserted (rows_named f component n rest)).marked
+      ↔ Passes (elimination_from n rows.basis.kept rows.basis.inserted
+      (rows_named f component n rest)).marked
   pub names : rows.names.items ≡ map (name_of f) rows.basis.kept
   pub next : length rows.basis.kept < n → AreNextNames f rows.basis.inserted rest
 

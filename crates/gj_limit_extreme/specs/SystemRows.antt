@@ -16,7 +16,8 @@ columns_in s = columns_for (length s.component) s.count
 -- others are 0
 abbrev pub row_in : ColumnData → LimitRow → List ℤ
 row_in s name =
-    map (λ c. row_value s.place (limits_from (length s.component) (component_in s.component) (unit_at c)) name)
+    map (λ c. row_value s.place
+    (limits_from (length s.component) (component_in s.component) (unit_at c)) name)
     (range_with_len 0 (columns_in s))
 
 -- the system is one for the order and the place of the function

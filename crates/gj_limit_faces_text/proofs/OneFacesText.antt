@@ -11,7 +11,8 @@ use Rattle.gj_verdict_text.specs.FacesText.{uncovered_line}
 use Rattle.gj_limit_faces_text.specs.LimitFacesText.{IsLimitFacesText}
 use Rattle.gj_limit_faces_text.proofs.OneLimitCover.{one_limit_cover}
 
-one_picked : {X : Type 0} (P : X → Type 0) {xs ys zs : List X} → ArePicked P xs ys → ArePicked P xs zs → ys ≡ zs
+one_picked : {X : Type 0} (P : X → Type 0) {xs ys zs : List X} → ArePicked P xs ys →
+    ArePicked P xs zs → ys ≡ zs
 one_picked P none none = refl
 one_picked P (kept {x} p h) (kept q k) = ap (λ l. x ∷ l) (one_picked P h k)
 one_picked P (kept p h) (dropped q k) = absurd (q p)
@@ -21,10 +22,12 @@ one_picked P (dropped p h) (dropped q k) = one_picked P h k
 -- the text of these faces, cover lines and intervals
 abbrev listing : ℕ → List Face → List CoverLine → List ℕ → List ℕ
 listing q listed lines intervals =
-    line (codes "gj-faces 1") ++ order_line q ++ flat_map (λ face. line (face_text face)) listed ++ flat_map cover_line lines
+    line (codes "gj-faces 1") ++ order_line q ++ flat_map (λ face. line (face_text face)) listed
+    ++ flat_map cover_line lines
     ++ flat_map uncovered_line intervals ++ line (codes "end")
 
-pub one_limit_faces_text : (f : FunctionData) (x y : List ℕ) → IsLimitFacesText f x → IsLimitFacesText f y → x ≡ y
+pub one_limit_faces_text : (f : FunctionData) (x y : List ℕ) → IsLimitFacesText f x →
+    IsLimitFacesText f y → x ≡ y
 one_limit_faces_text f x y h k =
     let listed = one_picked _ h.maximal k.maximal in
     let lines = one_limit_cover f.order (IsTightAt f) h.lines k.lines h.cover k.cover in

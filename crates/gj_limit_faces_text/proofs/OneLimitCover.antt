@@ -17,29 +17,37 @@ use Rattle.gj_limit_cover.specs.LimitCover.{Covers, JoinsAs, JoinsLines, IsJoini
 abbrev Limits : Type 1
 Limits = FaceKind → ℕ → ℕ → ℕ → Type 0
 
-one_first_face : (q : ℕ) (P : FaceKind → ℕ → ℕ → Type 0) (f g : Face) → IsFirstFace q P f → IsFirstFace q P g → f ≡ g
+one_first_face : (q : ℕ) (P : FaceKind → ℕ → ℕ → Type 0) (f g : Face) → IsFirstFace q P f →
+    IsFirstFace q P g → f ≡ g
 one_first_face q P f g h k =
     let Other : Face → Type 0 = λ x. P x.kind x.a x.b → ⊥ in
-    (one_first_failing (All Other) (All-front Other) (faces_of q) h.before k.before f g h.first k.first).1
+    (one_first_failing (All Other) (All-front Other) (faces_of q) h.before k.before f g h.first
+    k.first).1
 
 same_line : (l m : CoverLine) → l.interval ≡ m.interval → l.from ≡ m.from → l.face ≡ m.face → l ≡ m
 same_line l m interval from face =
     let line : ℕ → ℕ → Face → CoverLine = λ i j f. record { interval = i; from = j; face = f } in
-    ap (λ i. line i l.from l.face) interval ∙ ap (λ j. line m.interval j l.face) from ∙ ap (λ f. line m.interval m.from f) face
+    ap (λ i. line i l.from l.face) interval ∙ ap (λ j. line m.interval j l.face) from
+    ∙ ap (λ f. line m.interval m.from f) face
 
 -- the face of a line that joins two intervals
-one_joining_face : (q : ℕ) (T : Limits) (i j : ℕ) (f g : Face) → IsJoiningFace q T i j f → IsJoiningFace q T i j g → f ≡ g
+one_joining_face : (q : ℕ) (T : Limits) (i j : ℕ) (f g : Face) → IsJoiningFace q T i j f →
+    IsJoiningFace q T i j g → f ≡ g
 one_joining_face q T i j f g (inl h) (inl k) = one_first_face q (JoinsAs q T true i j) f g h k
 one_joining_face q T i j f g (inl h) (inr (none, k)) = absurd (none f.kind f.a f.b h.holds)
 one_joining_face q T i j f g (inr (none, h)) (inl k) = absurd (none g.kind g.a g.b k.holds)
-one_joining_face q T i j f g (inr (none, h)) (inr (none', k)) = one_first_face q (JoinsAs q T false i j) f g h k
+one_joining_face q T i j f g (inr (none, h)) (inr (none', k)) =
+    one_first_face q (JoinsAs q T false i j) f g h k
 
 -- behind the same lines there is one next
-one_next : (q : ℕ) (T : Limits) (lines : List CoverLine) (l m : CoverLine) → IsNextLine q T lines l → IsNextLine q T lines m → l ≡ m
+one_next : (q : ℕ) (T : Limits) (lines : List CoverLine) (l m : CoverLine) →
+    IsNextLine q T lines l → IsNextLine q T lines m → l ≡ m
 one_next q T lines l m (inl h) (inl k) =
-    let interval = one_least (λ i. (j : ℕ) × JoinsLines q T lines i j) l.interval m.interval h.interval k.interval in
+    let interval = one_least (λ i. (j : ℕ) × JoinsLines q T lines i j) l.interval m.interval
+    h.interval k.interval in
     let from = one_least (λ j. JoinsLines q T lines l.interval j) l.from m.from h.from
-    (subst (λ (i : ℕ). IsLeastFrom 0 (λ j. JoinsLines q T lines i j) m.from) (sym interval) k.from) in
+    (subst (λ (i : ℕ). IsLeastFrom 0 (λ j. JoinsLines q T lines i j) m.from)
+    (sym interval) k.from) in
     same_line l m interval from
     (one_joining_face q T l.interval l.from l.face m.face h.face
     (subst₂ (λ (i j : ℕ). IsJoiningFace q T i j m.face) (sym interval) (sym from) k.face))
@@ -49,15 +57,21 @@ one_next q T lines l m (inr h) (inr k) =
     let interval = one_least (IsOpen q T lines) l.interval m.interval h.interval k.interval in
     same_line l m interval (h.from ∙ interval ∙ sym k.from)
     (one_first_face q (λ kind a b. Covers q T kind a b l.interval) l.face m.face h.face
-    (subst (λ (i : ℕ). IsFirstFace q (λ kind a b. Covers q T kind a b i) m.face) (sym interval) k.face))
+    (subst (λ (i : ℕ). IsFirstFace q (λ kind a b. Covers q T kind a b i) m.face)
+    (sym interval) k.face))
 
-one_cover_behind : (q : ℕ) (T : Limits) (a b front xs ys : List CoverLine) → AreCoverLines q T a → AreCoverLines q T b →
+one_cover_behind : (q : ℕ) (T : Limits) (a b front xs ys : List CoverLine) → AreCoverLines q T a →
+    AreCoverLines q T b →
     a ≡ front ++ xs → b ≡ front ++ ys → xs ≡ ys
 one_cover_behind q T a b front [] [] h k e g = refl
 one_cover_behind q T a b front [] (m ∷ ys) h k e g =
-    absurd (h.complete m (subst (λ (ls : List CoverLine). IsNextLine q T ls m) (sym (e ∙ append-nil front)) (k.in_turn front m ys g)))
+    absurd (h.complete m
+    (subst (λ (ls : List CoverLine). IsNextLine q T ls m) (sym (e ∙ append-nil front))
+    (k.in_turn front m ys g)))
 one_cover_behind q T a b front (l ∷ xs) [] h k e g =
-    absurd (k.complete l (subst (λ (ls : List CoverLine). IsNextLine q T ls l) (sym (g ∙ append-nil front)) (h.in_turn front l xs e)))
+    absurd (k.complete l
+    (subst (λ (ls : List CoverLine). IsNextLine q T ls l) (sym (g ∙ append-nil front))
+    (h.in_turn front l xs e)))
 one_cover_behind q T a b front (l ∷ xs) (m ∷ ys) h k e g =
     let same = one_next q T front l m (h.in_turn front l xs e) (k.in_turn front m ys g) in
     ap₂ (λ x zs. x ∷ zs) same
@@ -65,5 +79,6 @@ one_cover_behind q T a b front (l ∷ xs) (m ∷ ys) h k e g =
     (g ∙ ap (λ x. front ++ x ∷ ys) (sym same) ∙ sym (append_assoc front (l ∷ []) ys)))
 
 -- two lists of cover lines by the same limits are one
-pub one_limit_cover : (q : ℕ) (T : Limits) (a b : List CoverLine) → AreCoverLines q T a → AreCoverLines q T b → a ≡ b
+pub one_limit_cover : (q : ℕ) (T : Limits) (a b : List CoverLine) → AreCoverLines q T a →
+    AreCoverLines q T b → a ≡ b
 one_limit_cover q T a b h k = one_cover_behind q T a b [] a b h k refl refl

@@ -19,7 +19,8 @@ set_of row Upper = row.upper
 
 -- the row is that of the squares (a, b) with this a
 abbrev pub IsAdditiveRow : FunctionData → ℕ → AdditiveRow → Type 0
-IsAdditiveRow f a row = (kind : FaceKind) (b : ℕ) → IsTrue (has (set_of row kind) b) ↔ ((b < f.order) × IsAdditiveIn f kind a b)
+IsAdditiveRow f a row = (kind : FaceKind) (b : ℕ) → IsTrue (has (set_of row kind) b)
+    ↔ ((b < f.order) × IsAdditiveIn f kind a b)
 
 -- the index before this one, modulo the order
 abbrev pub one_less : ℕ → ℕ → ℕ
@@ -42,7 +43,8 @@ is_in row kind b = has (set_of row kind) b
 -- or a corner of such a triangle
 abbrev pub is_edge_end : AdditiveRow → AdditiveRow → ℕ → ℕ → Bool
 is_edge_end here before b back =
-    is_in here Horizontal b || (is_in before Horizontal b || (is_in here Vertical b || (is_in here Vertical back
+    is_in here Horizontal b
+    || (is_in before Horizontal b || (is_in here Vertical b || (is_in here Vertical back
     || (is_in before Diagonal b || is_in here Diagonal back))))
 
 abbrev pub is_triangle_corner : AdditiveRow → AdditiveRow → ℕ → ℕ → Bool
@@ -52,7 +54,8 @@ is_triangle_corner here before b back =
 
 -- the face is in the border of such a face of higher dimension
 abbrev pub is_part : AdditiveRow → AdditiveRow → FaceKind → ℕ → ℕ → Bool
-is_part here before Vertex b back = is_edge_end here before b back || is_triangle_corner here before b back
+is_part here before Vertex b back =
+    is_edge_end here before b back || is_triangle_corner here before b back
 is_part here before Horizontal b back = is_in here Lower b || is_in here Upper back
 is_part here before Vertical b back = is_in here Lower b || is_in before Upper b
 is_part here before Diagonal b back = is_in here Lower b || is_in here Upper b

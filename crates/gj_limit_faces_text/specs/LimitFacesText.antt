@@ -33,7 +33,8 @@ pub record IsLimitFacesText (f : FunctionData) (text : List ℕ) : Type 0 where
   pub lines : List CoverLine
   pub cover : AreCoverLines f.order (IsTightAt f) lines
   pub intervals : List ℕ
-  pub uncovered : ArePicked (λ i. IsCovered f.order (IsTightAt f) i → ⊥) (range_with_len 0 f.order) intervals
+  pub uncovered : ArePicked (λ i. IsCovered f.order (IsTightAt f) i → ⊥)
+      (range_with_len 0 f.order) intervals
   pub spelled : text ≡ line (codes "gj-faces 1") ++ order_line f.order
       ++ flat_map (λ face. line (face_text face)) listed
       ++ flat_map cover_line lines

@@ -37,7 +37,8 @@ sign_cases (pos (suc n)) h = inr (omega (arith, ints))
 sign_cases s h = absurd (omega (arith, ints, h))
 
 -- one limit more
-module _ (limits : List ℤ) (s : ℤ) (x least greatest : ℕ) (h : StandsFor s x) (d : AreExtremes limits least greatest) where
+module _ (limits : List ℤ) (s : ℤ) (x least greatest : ℕ) (h : StandsFor s x)
+    (d : AreExtremes limits least greatest) where
   met_more : (min x least ≡ no_lane) ⊎ Contains (s ∷ limits) (pos (min x least + 1))
   met_more = elim (cases_lt x least) [
     | inl less ↦ elim (sign_cases s h.sign) [
@@ -79,7 +80,8 @@ module _ (limits : List ℤ) (s : ℤ) (x least greatest : ℕ) (h : StandsFor s
   tight_more : max x greatest ≡ no_lane → Contains (s ∷ limits) (pos 0)
   tight_more is = elim (cases_lt x greatest) [
     | inl less ↦
-        later limits s (pos 0) (d.tight (let same : max x greatest ≡ greatest = omega (arith, less) in sym same ∙ is))
+        later limits s (pos 0)
+        (d.tight (let same : max x greatest ≡ greatest = omega (arith, less) in sym same ∙ is))
     | inr high ↦ elim (sign_cases s h.sign) [
       | inl zero_is ↦ here limits s (pos 0) zero_is
       | inr positive ↦
@@ -116,7 +118,11 @@ are_least limits least greatest chosen d none some = record {
         let same = none is in
         elim d.met [
           | inl nothing ↦ inl (same ∙ nothing)
-          | inr found ↦ inr (d.tight is, subst (λ n. Contains limits (pos (n + 1))) (sym same) found)
+          | inr found ↦ inr (
+            d.tight is,
+            subst (λ n. Contains limits (pos (n + 1)))
+                (sym same) found,
+          )
         ]
   ];
   any_low = d.low;
@@ -126,20 +132,26 @@ are_least limits least greatest chosen d none some = record {
 }
 
 -- with other spellings of the least and the greatest
-spelled : (limits : List ℤ) (l g l' g' : ℕ) → l ≡ l' → g ≡ g' → AreExtremes limits l g → AreExtremes limits l' g'
-spelled limits l g l' g' e h d = subst (λ n. AreExtremes limits n g') e (subst (AreExtremes limits l) h d)
+spelled : (limits : List ℤ) (l g l' g' : ℕ) → l ≡ l' → g ≡ g' → AreExtremes limits l g →
+    AreExtremes limits l' g'
+spelled limits l g l' g' e h d =
+    subst (λ n. AreExtremes limits n g') e (subst (AreExtremes limits l) h d)
 
 pub of_two : (s t : ℤ) (x y chosen : ℕ) → (max x y ≡ no_lane → chosen ≡ min x y) →
-    (max x y ≢ no_lane → chosen ≡ no_lane) → StandsFor s x → StandsFor t y → AreLeastIn (s ∷ t ∷ []) (min x y) chosen
+    (max x y ≢ no_lane → chosen ≡ no_lane) → StandsFor s x → StandsFor t y →
+    AreLeastIn (s ∷ t ∷ []) (min x y) chosen
 of_two s t x y chosen none some first second =
     let fits = second.fits in
-    let all = one_more (t ∷ []) s x (min y no_lane) (max y 0) first (one_more [] t y no_lane 0 second of_none) in
+    let all = one_more (t ∷ []) s x (min y no_lane) (max y 0) first
+    (one_more [] t y no_lane 0 second of_none) in
     are_least (s ∷ t ∷ []) (min x y) (max x y) chosen
-    (spelled (s ∷ t ∷ []) (min x (min y no_lane)) (max x (max y 0)) (min x y) (max x y) (omega (arith, fits))
+    (spelled (s ∷ t ∷ []) (min x (min y no_lane)) (max x (max y 0)) (min x y) (max x y)
+    (omega (arith, fits))
     (omega arith) all)
     none some
 
-pub of_three : (s t r : ℤ) (x y z chosen : ℕ) → (max (max x y) z ≡ no_lane → chosen ≡ min (min x y) z) →
+pub of_three : (s t r : ℤ) (x y z chosen : ℕ) →
+    (max (max x y) z ≡ no_lane → chosen ≡ min (min x y) z) →
     (max (max x y) z ≢ no_lane → chosen ≡ no_lane) → StandsFor s x → StandsFor t y → StandsFor r z →
     AreLeastIn (s ∷ t ∷ r ∷ []) (min (min x y) z) chosen
 of_three s t r x y z chosen none some first second third =
@@ -148,7 +160,8 @@ of_three s t r x y z chosen none some first second third =
     let all = one_more (t ∷ r ∷ []) s x (min y (min z no_lane)) (max y (max z 0)) first
     (one_more (r ∷ []) t y (min z no_lane) (max z 0) second last) in
     are_least (s ∷ t ∷ r ∷ []) (min (min x y) z) (max (max x y) z) chosen
-    (spelled (s ∷ t ∷ r ∷ []) (min x (min y (min z no_lane))) (max x (max y (max z 0))) (min (min x y) z)
+    (spelled (s ∷ t ∷ r ∷ []) (min x (min y (min z no_lane))) (max x (max y (max z 0)))
+    (min (min x y) z)
     (max (max x y) z) (omega (arith, fits)) (omega arith) all)
     none some
 

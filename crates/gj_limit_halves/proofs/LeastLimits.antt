@@ -27,7 +27,8 @@ use Rattle.gj_limit_halves.proofs.SideBounds.{IsUpTo, left_up_to, value_up_to, r
 
 -- ---- the lanes of a minimal function
 
-pub in_range : (s : ℕ) (xs : List ℤ) → s < 2 ^ 31 → ((i : ℕ) → IsUpTo s (at xs i)) → (i : ℕ) → IsInRange (pos 0) (2 ^ 31) (at xs i)
+pub in_range : (s : ℕ) (xs : List ℤ) → s < 2 ^ 31 → ((i : ℕ) → IsUpTo s (at xs i)) → (i : ℕ) →
+    IsInRange (pos 0) (2 ^ 31) (at xs i)
 in_range s xs small h i =
     let low = (h i).low in
     let high = (h i).high in
@@ -44,8 +45,10 @@ are_periods order lanes xs len h = record {
       omega (arith, ints, same, high);
 }
 
-pub are_side_lanes : (f : FunctionData) (lefts values rights : List ℕ) → IsWithinBounds f → IsMinimal f →
-    ArePeriods (λ n. pos n) (pos 0) (2 ^ 31) lefts f.left → ArePeriods (λ n. pos n) (pos 0) (2 ^ 31) values f.value →
+pub are_side_lanes : (f : FunctionData) (lefts values rights : List ℕ) → IsWithinBounds f →
+    IsMinimal f →
+    ArePeriods (λ n. pos n) (pos 0) (2 ^ 31) lefts f.left →
+    ArePeriods (λ n. pos n) (pos 0) (2 ^ 31) values f.value →
     ArePeriods (λ n. pos n) (pos 0) (2 ^ 31) rights f.right → AreSideLanes f lefts values rights
 are_side_lanes f lefts values rights bounds minimal left value right = record {
   few = bounds.order_high;
@@ -54,12 +57,14 @@ are_side_lanes f lefts values rights bounds minimal left value right = record {
   right = are_periods f.order rights f.right bounds.right_length right;
   signs = λ kind a b first second.
       All-from_get_or (λ x. pos 0 ≤ℤ x) (limits_of f kind a b) (pos 0)
-      (λ c low. slack_limit f minimal kind a b c (let count = limit_count f kind a b in omega (arith, low, count)));
+      (λ c low. slack_limit f minimal kind a b c (let count = limit_count f kind a b in
+      omega (arith, low, count)));
 }
 
 -- ---- bounds of the limits
 
-slack_small : (s : ℕ) (x y z : ℤ) → IsUpTo s x → IsUpTo s y → IsUpTo s z → slack_from x y z ≤ℤ pos (2 * s)
+slack_small : (s : ℕ) (x y z : ℤ) → IsUpTo s x → IsUpTo s y → IsUpTo s z →
+    slack_from x y z ≤ℤ pos (2 * s)
 slack_small s x y z first second third =
     let x_high = first.high in
     let y_high = second.high in
@@ -79,10 +84,12 @@ module _ (f : FunctionData) (bounds : IsWithinBounds f) (minimal : IsMinimal f) 
   abbrev Small : ℤ → Type 0
   Small z = z ≤ℤ pos (2 * f.scale)
 
-  slack : (x y z : ℤ) → IsUpTo f.scale x → IsUpTo f.scale y → IsUpTo f.scale z → Small (slack_from x y z)
+  slack : (x y z : ℤ) → IsUpTo f.scale x → IsUpTo f.scale y → IsUpTo f.scale z →
+      Small (slack_from x y z)
   slack = slack_small f.scale
 
-  pub limits_small : (kind : FaceKind) (a b : ℕ) → All (λ z. z ≤ℤ pos (2 * f.scale)) (limits_of f kind a b)
+  pub limits_small : (kind : FaceKind) (a b : ℕ) →
+      All (λ z. z ≤ℤ pos (2 * f.scale)) (limits_of f kind a b)
   limits_small Vertex a b = All-one Small _ (slack _ _ _ (value' a) (value' b) (value' (a + b)))
   limits_small Horizontal a b =
       All-two Small _ _ (slack _ _ _ (right' a) (value' b) (right' (a + b)))
@@ -112,7 +119,8 @@ module _ (f : FunctionData) (bounds : IsWithinBounds f) (minimal : IsMinimal f) 
       (at f.value (i % f.order + j % f.order)) ≡ slack_on_grid f 1 i j
   vertex_same i j =
       let first = at_same f.value (i % f.order) i f.order bounds.value_length (mod-mod i f.order) in
-      let second = at_same f.value (j % f.order) j f.order bounds.value_length (mod-mod j f.order) in
+      let second = at_same f.value (j % f.order) j f.order bounds.value_length
+      (mod-mod j f.order) in
       let third = at_same f.value (i % f.order + j % f.order) (i + j) f.order bounds.value_length
       (sym (add-mod i j f.order)) in
       λ n. slack_from ((first ∙ sym (table_of_order f i)) n) ((second ∙ sym (table_of_order f j)) n)
@@ -137,19 +145,24 @@ module _ (f : FunctionData) (bounds : IsWithinBounds f) (minimal : IsMinimal f) 
         let low = near (omega (arith, ints, high, more, scale)) in
         omega (arith, ints, low, more)
 
-    in_order : (kind : FaceKind) (a b : ℕ) → a ≤ b → b < f.order → IsBelowCorners m u (limits_of f kind a b)
+    in_order : (kind : FaceKind) (a b : ℕ) → a ≤ b → b < f.order →
+        IsBelowCorners m u (limits_of f kind a b)
     in_order kind a b from below =
         let chosen : IsInRows f.order f.order a b = (omega (arith, from, below), from, below) in
         record {
-          each = λ k d inside positive. times_more _ u corners (h.any_low kind a b chosen k d inside positive);
+          each = λ k d inside positive. times_more _ u corners
+              (h.any_low kind a b chosen k d inside positive);
           beside_zero = λ zero_in k d inside positive.
-              beside_more _ (limits_small kind a b k d inside) (h.beside_low kind a b chosen zero_in k d inside positive);
+              beside_more _ (limits_small kind a b k d inside)
+              (h.beside_low kind a b chosen zero_in k d inside positive);
         }
 
-    below_corners : (kind : FaceKind) (a b : ℕ) → a < f.order → b < f.order → IsBelowCorners m u (limits_of f kind a b)
+    below_corners : (kind : FaceKind) (a b : ℕ) → a < f.order → b < f.order →
+        IsBelowCorners m u (limits_of f kind a b)
     below_corners kind a b first second = elim (cases_lt b a) [
       | inl less ↦
-          mirrored_below f m u kind a b (in_order (mirror_kind kind) b a (omega (arith, less)) first)
+          mirrored_below f m u kind a b
+          (in_order (mirror_kind kind) b a (omega (arith, less)) first)
       | inr more ↦ in_order kind a b more second
     ]
 
@@ -158,8 +171,10 @@ module _ (f : FunctionData) (bounds : IsWithinBounds f) (minimal : IsMinimal f) 
         All (λ x. pos 0 <ℤ x → pos any <ℤ x) (limits_of f kind a b)
     any_low kind a b first second = elim (cases_lt b a) [
       | inl less ↦
-          all_within (λ x. pos 0 <ℤ x → pos any <ℤ x) (limits_of f (mirror_kind kind) b a) (limits_of f kind a b)
-          (has_limits f kind a b) (h.any_low (mirror_kind kind) b a (second, omega (arith, less), first))
+          all_within (λ x. pos 0 <ℤ x → pos any <ℤ x) (limits_of f (mirror_kind kind) b a)
+          (limits_of f kind a b)
+          (has_limits f kind a b)
+          (h.any_low (mirror_kind kind) b a (second, omega (arith, less), first))
       | inr more ↦ h.any_low kind a b (first, more, second)
     ]
 
@@ -202,7 +217,11 @@ module _ (f : FunctionData) (bounds : IsWithinBounds f) (minimal : IsMinimal f) 
               b = found.b;
               first_within = found.first_within;
               second_within = found.second_within;
-              has = record { some = omega (arith, positive, e); from = inr (any + 1, found.has, e) };
+              has = record {
+                some = omega (arith, positive, e);
+                from =
+                    inr (any + 1, found.has, e);
+              };
             })
       ]
       | inr (below, e) ↦ elim h.beside_met [
@@ -218,7 +237,8 @@ module _ (f : FunctionData) (bounds : IsWithinBounds f) (minimal : IsMinimal f) 
                 some = omega (arith, e);
                 from = inl (
                   found.has.0,
-                  subst (λ n. Contains (limits_of f found.kind found.a found.b) (pos n)) (sym e) found.has.1,
+                  subst (λ n. Contains (limits_of f found.kind found.a found.b) (pos n))
+                      (sym e) found.has.1,
                 );
               };
             })

@@ -34,7 +34,8 @@ use Rattle.gj_limit_halves.proofs.SideBounds.{IsUpTo, refined_small, left_up_to,
 -- a bound at the corners of faces is one of all limits on the grid
 abbrev pub CornersBoundLimits : Type 0
 CornersBoundLimits = (f : FunctionData) (m u : ℕ) → IsWithinBounds f → IsMinimal f → 0 < m → 0 < u →
-    ((kind : FaceKind) (a b : ℕ) → a < f.order → b < f.order → IsBelowCorners m u (limits_of f kind a b)) →
+    ((kind : FaceKind) (a b : ℕ) → a < f.order → b < f.order →
+    IsBelowCorners m u (limits_of f kind a b)) →
     IsBelowLimits f m u
 
 -- a function moved both ways along a perturbation is the average of what comes out
@@ -83,11 +84,13 @@ pub not_wide : (f : FunctionData) (m : ℕ) (w : Limits ℤ) (p : ℕ) → IsGre
 not_wide f m w p h narrow wide =
     let same = one_size w p wide.size h wide.greatest in
     let above : 2 ^ 124 < 3 * wide.size * (f.scale * m) = wide.above in
-    let here : 2 ^ 124 < 3 * p * (f.scale * m) = subst (λ n. 2 ^ 124 < 3 * n * (f.scale * m)) (sym same) above in
+    let here : 2 ^ 124 < 3 * p * (f.scale * m) =
+    subst (λ n. 2 ^ 124 < 3 * n * (f.scale * m)) (sym same) above in
     omega (arith, here, narrow)
 
 -- the least limit is at most twice the scale
-least_small : (f : FunctionData) (m u : ℕ) → IsWithinBounds f → IsMinimal f → 0 < m → IsLeastLimit f m u →
+least_small : (f : FunctionData) (m u : ℕ) → IsWithinBounds f → IsMinimal f → 0 < m →
+    IsLeastLimit f m u →
     u ≤ 2 * (f.scale * m)
 least_small f m u bounds minimal some h = elim h.reached.from [
   | inl (zero_in, here) ↦
@@ -108,14 +111,16 @@ least_small f m u bounds minimal some h = elim h.reached.from [
     small = limits_small f bounds minimal h.kind h.a h.b
 
 -- two lists made from functions that agree
-map_same : (g h : ℕ → ℤ) (n : ℕ) → ((i : ℕ) → i < n → g i ≡ h i) → map g (range_with_len 0 n) ≡ map h (range_with_len 0 n)
+map_same : (g h : ℕ → ℤ) (n : ℕ) → ((i : ℕ) → i < n → g i ≡ h i) →
+    map g (range_with_len 0 n) ≡ map h (range_with_len 0 n)
 map_same g h n e =
     fill_by_all h (map g (range_with_len 0 n)) n (pos 0) (length-map-range_with_len g 0 n)
     (λ i below. get_or-map-range_with_len g 0 n i i (pos 0) below (omega arith) ∙ e i below)
 
 -- ---- the parts
 
-module _ (f : FunctionData) (m size u : ℕ) (s : SideNumbers) (bounds : IsWithinBounds f) (minimal : IsMinimal f)
+module _ (f : FunctionData) (m size u : ℕ) (s : SideNumbers) (bounds : IsWithinBounds f)
+    (minimal : IsMinimal f)
     (can : CanSplitLimits f m s) (greatest : IsGreatestOf (limits_on_sides s) size)
     (narrow : 3 * size * (f.scale * m) ≤ 2 ^ 124) (least : IsLeastLimit f m u) where
   abbrev w : Limits ℤ
@@ -125,9 +130,11 @@ module _ (f : FunctionData) (m size u : ℕ) (s : SideNumbers) (bounds : IsWithi
   n = f.order * m
 
   step_small : (step : ℤ) → unsigned_abs step ≡ u → unsigned_abs step ≤ 2 * (f.scale * m)
-  step_small step is = let low = least_small f m u bounds minimal can.times_low least in omega (arith, low, is)
+  step_small step is = let low = least_small f m u bounds minimal can.times_low least in
+      omega (arith, low, is)
 
-  small_moves : (xs numbers : List ℤ) (step : ℤ) → ((i : ℕ) → IsUpTo f.scale (at xs i)) → length numbers ≡ f.order * m →
+  small_moves : (xs numbers : List ℤ) (step : ℤ) → ((i : ℕ) → IsUpTo f.scale (at xs i)) →
+      length numbers ≡ f.order * m →
       ((i : ℕ) → unsigned_abs (at numbers i) ≤ size) → unsigned_abs step ≡ u →
       AreSmallMoves f xs m (pos (3 * size)) step numbers
   small_moves xs numbers step up_to whole bound is = record {
@@ -135,17 +142,23 @@ module _ (f : FunctionData) (m size u : ℕ) (s : SideNumbers) (bounds : IsWithi
     each = λ i below.
         let entry = refined_small f bounds minimal xs up_to m i can.times_low in
         let number : unsigned_abs (get_or numbers i (pos 0)) ≤ size =
-        subst (λ z. unsigned_abs z ≤ size) (at_below numbers i (omega (arith, below, whole))) (bound i) in
-        let first = product_at_most (3 * size) (f.scale * m) (pos (3 * size)) (refined f xs m i) (omega arith) entry in
-        let second = product_at_most (2 * (f.scale * m)) size step (get_or numbers i (pos 0)) (step_small step is) number in
+        subst (λ z. unsigned_abs z ≤ size) (at_below numbers i (omega (arith, below, whole)))
+        (bound i) in
+        let first = product_at_most (3 * size) (f.scale * m) (pos (3 * size)) (refined f xs m i)
+        (omega arith) entry in
+        let second = product_at_most (2 * (f.scale * m)) size step (get_or numbers i (pos 0))
+        (step_small step is) number in
         record { entry = omega (arith, first, narrow); move = omega (arith, second, narrow) };
   }
 
   pub small_sides : (step : ℤ) → unsigned_abs step ≡ u → AreSmallSides f m (pos (3 * size)) step s
   small_sides step is = record {
-    left = small_moves f.left s.left step (left_up_to f bounds minimal) can.within.left_length greatest.bound.left is;
-    value = small_moves f.value s.value step (value_up_to f bounds minimal) can.within.value_length greatest.bound.value is;
-    right = small_moves f.right s.right step (right_up_to f bounds minimal) can.within.right_length greatest.bound.right is;
+    left = small_moves f.left s.left step (left_up_to f bounds minimal) can.within.left_length
+        greatest.bound.left is;
+    value = small_moves f.value s.value step (value_up_to f bounds minimal) can.within.value_length
+        greatest.bound.value is;
+    right = small_moves f.right s.right step (right_up_to f bounds minimal) can.within.right_length
+        greatest.bound.right is;
   }
 
   -- ---- the lists that are made
@@ -159,7 +172,8 @@ module _ (f : FunctionData) (m size u : ℕ) (s : SideNumbers) (bounds : IsWithi
       (λ i below. ap (λ z. pos (3 * size) *ℤ refined f xs m i +ℤ step *ℤ z)
       (sym (at_below numbers i (omega (arith, below, whole)))))
 
-  pub sides_same : (step : ℤ) → moved_by f m (pos (3 * size)) step s ≡ moved_sides f m size step (limits_on_sides s)
+  pub sides_same : (step : ℤ) →
+      moved_by f m (pos (3 * size)) step s ≡ moved_sides f m size step (limits_on_sides s)
   sides_same step = λ i. record {
     left = same_moved f.left s.left step can.within.left_length i;
     value = same_moved f.value s.value step can.within.value_length i;
@@ -167,7 +181,8 @@ module _ (f : FunctionData) (m size u : ℕ) (s : SideNumbers) (bounds : IsWithi
   }
 
   -- the halves that are made
-  module _ (h : LimitHalves) (order : h.order ≡ f.order * m) (scale : h.scale ≡ pos (3 * size * (f.scale * m)))
+  module _ (h : LimitHalves) (order : h.order ≡ f.order * m)
+      (scale : h.scale ≡ pos (3 * size * (f.scale * m)))
       (first : h.first ≡ moved_sides f m size (pos u) (limits_on_sides s))
       (second : h.second ≡ moved_sides f m size (neg_ℤ (pos u)) (limits_on_sides s)) where
     pub are_halves : AreLimitHalvesOf f m (limits_on_sides s) h
@@ -187,24 +202,32 @@ module _ (f : FunctionData) (m size u : ℕ) (s : SideNumbers) (bounds : IsWithi
 
     -- ---- the halves as functions
 
-    made_at : (g : ℕ → ℤ) (i : ℕ) → i < f.order * m → at (map g (range_with_len 0 (f.order * m))) i ≡ g i
+    made_at : (g : ℕ → ℤ) (i : ℕ) → i < f.order * m → at (map g (range_with_len 0 (f.order * m))) i
+        ≡ g i
     made_at g i below =
         let len = length-map-range_with_len g 0 (f.order * m) in
         at_below (map g (range_with_len 0 (f.order * m))) i (omega (arith, below, len))
         ∙ get_or-map-range_with_len g 0 (f.order * m) i i (pos 0) below (omega arith)
 
-    moved_function : (step : ℤ) (t : SideNumbers) → t ≡ moved_sides f m size step (limits_on_sides s) →
+    moved_function : (step : ℤ) (t : SideNumbers) →
+        t ≡ moved_sides f m size step (limits_on_sides s) →
         IsMovedBy f m size step (limits_on_sides s) (half_as_function f m h t)
     moved_function step t is = record {
       order = order;
       place = refl;
       scale = ap unsigned_abs scale;
-      left_length = ap (λ (r : SideNumbers). length r.left) is ∙ length-map-range_with_len _ 0 (f.order * m) ∙ sym order;
-      value_length = ap (λ (r : SideNumbers). length r.value) is ∙ length-map-range_with_len _ 0 (f.order * m) ∙ sym order;
-      right_length = ap (λ (r : SideNumbers). length r.right) is ∙ length-map-range_with_len _ 0 (f.order * m) ∙ sym order;
-      left = λ i below. ap (λ (r : SideNumbers). at r.left i) is ∙ made_at _ i (omega (arith, below, order));
-      value = λ i below. ap (λ (r : SideNumbers). at r.value i) is ∙ made_at _ i (omega (arith, below, order));
-      right = λ i below. ap (λ (r : SideNumbers). at r.right i) is ∙ made_at _ i (omega (arith, below, order));
+      left_length = ap (λ (r : SideNumbers). length r.left) is
+          ∙ length-map-range_with_len _ 0 (f.order * m) ∙ sym order;
+      value_length = ap (λ (r : SideNumbers). length r.value) is
+          ∙ length-map-range_with_len _ 0 (f.order * m) ∙ sym order;
+      right_length = ap (λ (r : SideNumbers). length r.right) is
+          ∙ length-map-range_with_len _ 0 (f.order * m) ∙ sym order;
+      left = λ i below. ap (λ (r : SideNumbers). at r.left i) is
+          ∙ made_at _ i (omega (arith, below, order));
+      value = λ i below. ap (λ (r : SideNumbers). at r.value i) is
+          ∙ made_at _ i (omega (arith, below, order));
+      right = λ i below. ap (λ (r : SideNumbers). at r.right i) is
+          ∙ made_at _ i (omega (arith, below, order));
     }
 
     pub are_shown : CornersBoundLimits → PerturbationsGiveParts → AreShownHalves f h
@@ -212,25 +235,31 @@ module _ (f : FunctionData) (m size u : ℕ) (s : SideNumbers) (bounds : IsWithi
       m,
       3 * size,
       scale,
-      parts f m u size (limits_on_sides s) (half_as_function f m h h.first) (half_as_function f m h h.second) bounds minimal
+      parts f m u size (limits_on_sides s) (half_as_function f m h h.first)
+          (half_as_function f m h h.second) bounds minimal
           can.times_low size_positive can.perturbation
-          (corners f m u bounds minimal can.times_low least.reached.some least.least) greatest.bound can.some
+          (corners f m u bounds minimal can.times_low least.reached.some least.least) greatest.bound
+          can.some
           (moved_function (pos u) h.first first) (moved_function (neg_ℤ (pos u)) h.second second),
     )
 
     -- ---- the limits of halves
 
-    list_fits : (xs numbers : List ℤ) (step : ℤ) → AreSmallMoves f xs m (pos (3 * size)) step numbers →
-        All Fits (map (moved_at f xs m (pos (3 * size)) step numbers) (range_with_len 0 (f.order * m)))
+    list_fits : (xs numbers : List ℤ) (step : ℤ) →
+        AreSmallMoves f xs m (pos (3 * size)) step numbers →
+        All Fits (map (moved_at f xs m (pos (3 * size)) step numbers)
+        (range_with_len 0 (f.order * m)))
     list_fits xs numbers step small =
         All-made Fits (moved_at f xs m (pos (3 * size)) step numbers) 0 (f.order * m) (λ i below.
         let here = small.each i (omega (arith, below)) in
         let entry = here.entry in
         let move = here.move in
-        let both = abs_add_z (pos (3 * size) *ℤ refined f xs m i) (step *ℤ get_or numbers i (pos 0)) in
+        let both = abs_add_z (pos (3 * size) *ℤ refined f xs m i)
+        (step *ℤ get_or numbers i (pos 0)) in
         omega (arith, entry, move, both))
 
-    sides_within : (step : ℤ) (t : SideNumbers) → unsigned_abs step ≡ u → t ≡ moved_sides f m size step (limits_on_sides s) →
+    sides_within : (step : ℤ) (t : SideNumbers) → unsigned_abs step ≡ u →
+        t ≡ moved_sides f m size step (limits_on_sides s) →
         AreSidesWithin h.order t
     sides_within step t size_is is =
         let small = small_sides step size_is in

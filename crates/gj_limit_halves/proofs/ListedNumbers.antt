@@ -14,7 +14,8 @@ use Rattle.gj_limit_system.specs.Unknowns.{value_from, interval_before, right_co
 use Rattle.gj_limit_halves.specs.Sides.{HasWide}
 
 -- one more is listed
-pub listed_more : (g : ℕ → ℤ) (items more : List ℤ) (i : ℕ) (x : ℤ) → items ≡ map g (range_with_len 0 i) →
+pub listed_more : (g : ℕ → ℤ) (items more : List ℤ) (i : ℕ) (x : ℤ) →
+    items ≡ map g (range_with_len 0 i) →
     more ≡ items ++ x ∷ [] → x ≡ g i → more ≡ map g (range_with_len 0 (i + 1))
 listed_more g items more i x e push here =
     push ∙ ap₂ (λ ys y. ys ++ y ∷ []) e here ∙ sym (map-range_with_len_more g 0 i i (zero-add i))
@@ -24,11 +25,13 @@ behind : (q : ℕ) (x : ℕ → ℤ) (i : ℕ) → 0 < i → x (2 * (q - i) - 1)
 behind q x zero some = absurd (omega (arith, some))
 behind q x (suc i) some = refl
 
-pub value_behind : (q : ℕ) (x : ℕ → ℤ) (i : ℕ) → 0 < i → i < q → x (2 * (q - i) - 1) ≡ value_from q x (i % q)
+pub value_behind : (q : ℕ) (x : ℕ → ℤ) (i : ℕ) → 0 < i → i < q →
+    x (2 * (q - i) - 1) ≡ value_from q x (i % q)
 value_behind q x i some below = behind q x i some ∙ ap (value_from q x) (sym (mod-eq_of_lt below))
 
 -- all fit with one more
-pub fits_more : (items more : List ℤ) (x : ℤ) → All Fits items → more ≡ items ++ x ∷ [] → Fits x → All Fits more
+pub fits_more : (items more : List ℤ) (x : ℤ) → All Fits items → more ≡ items ++ x ∷ [] → Fits x →
+    All Fits more
 fits_more items more x all push fits = subst (All Fits) (sym push) (All-push Fits items x all fits)
 
 -- a limit from the left
@@ -44,8 +47,10 @@ left_here component numbers i before x y z is first second sum =
 
 -- one that does not fit
 pub wide_here : (component : List ℕ) (numbers : List ℤ) (i : ℕ) (z : ℤ) → i < length component →
-    z ≡ (limits_from (length component) (component_in component) (at_column numbers)).left i → (Fits z → ⊥) →
-    HasWide (length component) (limits_from (length component) (component_in component) (at_column numbers))
+    z ≡ (limits_from (length component) (component_in component) (at_column numbers)).left i →
+    (Fits z → ⊥) →
+    HasWide (length component)
+    (limits_from (length component) (component_in component) (at_column numbers))
 wide_here component numbers i z below is wide =
     record { i = i; below = below; wide = inl (λ fits. wide (subst Fits (sym is) fits)) }
 
@@ -56,14 +61,16 @@ column_fits numbers c fits = elim (cases_lt c (length numbers)) [
   | inr high ↦ subst Fits (sym (get_or_past numbers c (pos 0) high)) (omega arith)
 ]
 
-value_fits : (q : ℕ) (numbers : List ℤ) (i : ℕ) → All Fits numbers → Fits (value_from q (at_column numbers) i)
+value_fits : (q : ℕ) (numbers : List ℤ) (i : ℕ) → All Fits numbers →
+    Fits (value_from q (at_column numbers) i)
 value_fits q numbers zero fits = omega arith
 value_fits q numbers (suc i) fits = column_fits numbers (2 * (q - suc i) - 1) fits
 
 pub values_fit : (q : ℕ) (numbers : List ℤ) → All Fits numbers →
     All Fits (map (λ i. value_from q (at_column numbers) (i % q)) (range_with_len 0 q))
 values_fit q numbers fits =
-    All-made Fits (λ i. value_from q (at_column numbers) (i % q)) 0 q (λ i below. value_fits q numbers (i % q) fits)
+    All-made Fits (λ i. value_from q (at_column numbers) (i % q)) 0 q
+    (λ i below. value_fits q numbers (i % q) fits)
 
 pub rights_fit : (q : ℕ) (numbers : List ℤ) → All Fits numbers →
     All Fits (map (λ i. at_column numbers (right_column q (i % q))) (range_with_len 0 q))

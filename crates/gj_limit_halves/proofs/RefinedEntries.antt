@@ -9,12 +9,15 @@ pub start_below : (q m i : ℕ) → 0 < m → i < q * m → i / m < q
 start_below q m i some below = div_below i m q some below
 
 -- at a multiple of 1/order
-pub refined_at_multiple : (f : FunctionData) (xs : List ℤ) (m i : ℕ) → length xs ≡ f.order → 0 < m → i < f.order * m →
+pub refined_at_multiple : (f : FunctionData) (xs : List ℤ) (m i : ℕ) → length xs ≡ f.order → 0 < m →
+    i < f.order * m →
     i % m ≡ 0 →
     refined f xs m i ≡ pos m *ℤ get_or xs (i / m) (pos 0)
 refined_at_multiple f xs m i len some below e =
     ap (entry_or_value f xs m (i / m)) e
-    ∙ ap (λ x. pos m *ℤ x) (at_below xs (i / m) (let start = start_below f.order m i some below in omega (arith, start, len)))
+    ∙ ap (λ x. pos m *ℤ x)
+    (at_below xs (i / m) (let start = start_below f.order m i some below in
+    omega (arith, start, len)))
 
 -- between two
 inside : (f : FunctionData) (xs : List ℤ) (m a r : ℕ) → r ≢ 0 →

@@ -74,8 +74,10 @@ module _ (f : FunctionData) (bounds : IsWithinBounds f) (minimal : IsMinimal f) 
   entry_small xs m a (suc r) small below =
       let right = size_of f.scale (at f.right a) (right_up_to a) in
       let left = size_of f.scale (at f.left (a + 1)) (left_up_to (a + 1)) in
-      let first = product_at_most (m - suc r) f.scale (pos (m - suc r)) (at f.right a) (omega arith) right in
-      let second = product_at_most (suc r) f.scale (pos (suc r)) (at f.left (a + 1)) (omega arith) left in
+      let first = product_at_most (m - suc r) f.scale (pos (m - suc r)) (at f.right a)
+      (omega arith) right in
+      let second = product_at_most (suc r) f.scale (pos (suc r)) (at f.left (a + 1))
+      (omega arith) left in
       let both = abs_add_z (pos (m - suc r) *ℤ at f.right a) (pos (suc r) *ℤ at f.left (a + 1)) in
       let whole : (m - suc r) * f.scale + suc r * f.scale ≡ m * f.scale =
       let parts : m ≡ m - suc r + suc r = omega arith in

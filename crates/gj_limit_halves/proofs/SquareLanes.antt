@@ -13,16 +13,20 @@ use Rattle.gj_limit_halves.specs.LimitLanes.{ArePeriodsOf, AreSideLanes, StandsF
 
 -- what the code says of a lane that it makes
 abbrev pub IsMade : ℕ → ℕ → ℕ → ℕ → Type 0
-IsMade x y s lane = x < 2 ^ 31 → y < 2 ^ 31 → s ≤ x + y → StandsFor (slack_from (pos x) (pos y) (pos s)) lane
+IsMade x y s lane = x < 2 ^ 31 → y < 2 ^ 31 → s ≤ x + y →
+    StandsFor (slack_from (pos x) (pos y) (pos s)) lane
 
 within : (x y s : ℕ) → pos 0 ≤ℤ slack_from (pos x) (pos y) (pos s) → s ≤ x + y
 within x y s sign = omega (arith, ints, sign)
 
 module _ (q a b : ℕ) (a_below : a < q) (b_below : b < q) where
   -- the lane at these three indices stands for the limit there
-  pub stands : (us vs ss : List ℕ) (xs ys zs : List ℤ) (i j k lane : ℕ) → ArePeriodsOf q us xs → ArePeriodsOf q vs ys →
-      ArePeriodsOf q ss zs → i ≤ q → j ≤ q → k ≤ 2 * q → IsMade (get_or us i 0) (get_or vs j 0) (get_or ss k 0) lane →
-      pos 0 ≤ℤ slack_from (at xs i) (at ys j) (at zs k) → StandsFor (slack_from (at xs i) (at ys j) (at zs k)) lane
+  pub stands : (us vs ss : List ℕ) (xs ys zs : List ℤ) (i j k lane : ℕ) → ArePeriodsOf q us xs →
+      ArePeriodsOf q vs ys →
+      ArePeriodsOf q ss zs → i ≤ q → j ≤ q → k ≤ 2 * q →
+      IsMade (get_or us i 0) (get_or vs j 0) (get_or ss k 0) lane →
+      pos 0 ≤ℤ slack_from (at xs i) (at ys j) (at zs k) →
+      StandsFor (slack_from (at xs i) (at ys j) (at zs k)) lane
   stands us vs ss xs ys zs i j k lane u v s i_low j_low k_low made sign =
       let first = u.same i (omega (arith, i_low)) in
       let second = v.same j (omega (arith, j_low)) in
@@ -78,29 +82,48 @@ module _ (f : FunctionData) (a b : ℕ) (a_below : a < f.order) (b_below : b < f
   AnyMet n = (n ≡ no_lane) ⊎ IsMet f (λ limits. Contains limits (pos (n + 1)))
 
   abbrev BesideMet : ℕ → Type 0
-  BesideMet n = (n ≡ no_lane) ⊎ IsMet f (λ limits. Contains limits (pos 0) × Contains limits (pos (n + 1)))
+  BesideMet n = (n ≡ no_lane)
+      ⊎ IsMet f (λ limits. Contains limits (pos 0) × Contains limits (pos (n + 1)))
 
   any_met : (kind : FaceKind) → AnyMet (any kind)
   any_met kind = elim (h.each kind).any_met [
     | inl none ↦ inl none
     | inr found ↦
-        inr (record { kind = kind; a = a; b = b; first_within = a_below; second_within = b_below; has = found })
+        inr (record {
+          kind = kind;
+          a = a;
+          b = b;
+          first_within = a_below;
+          second_within =
+              b_below;
+          has = found;
+        })
   ]
 
   beside_met : (kind : FaceKind) → BesideMet (beside kind)
   beside_met kind = elim (h.each kind).beside_met [
     | inl none ↦ inl none
     | inr found ↦
-        inr (record { kind = kind; a = a; b = b; first_within = a_below; second_within = b_below; has = found })
+        inr (record {
+          kind = kind;
+          a = a;
+          b = b;
+          first_within = a_below;
+          second_within =
+              b_below;
+          has = found;
+        })
   ]
 
   abbrev least_any : ℕ
   least_any =
-      min (min (min (any Vertex) (any Horizontal)) (min (any Vertical) (any Diagonal))) (min (any Lower) (any Upper))
+      min (min (min (any Vertex) (any Horizontal)) (min (any Vertical) (any Diagonal)))
+      (min (any Lower) (any Upper))
 
   abbrev least_beside : ℕ
   least_beside =
-      min (min (min (beside Horizontal) (beside Vertical)) (beside Diagonal)) (min (beside Lower) (beside Upper))
+      min (min (min (beside Horizontal) (beside Vertical)) (beside Diagonal))
+      (min (beside Lower) (beside Upper))
 
   any_least : (kind : FaceKind) → least_any ≤ any kind
   any_least Vertex = omega arith
@@ -129,31 +152,37 @@ module _ (f : FunctionData) (a b : ℕ) (a_below : a < f.order) (b_below : b < f
           (least_has AnyMet _ _ (any_met Vertical) (any_met Diagonal)))
           (least_has AnyMet _ _ (any_met Lower) (any_met Upper));
       beside_met = least_has BesideMet _ _
-          (least_has BesideMet _ _ (least_has BesideMet _ _ (beside_met Horizontal) (beside_met Vertical))
+          (least_has BesideMet _ _
+          (least_has BesideMet _ _ (beside_met Horizontal) (beside_met Vertical))
           (beside_met Diagonal))
           (least_has BesideMet _ _ (beside_met Lower) (beside_met Upper));
       any_low = λ kind a' b' (e, g).
           subst (λ i. All (λ x. pos 0 <ℤ x → pos least_any <ℤ x) (limits_of f kind i b')) (sym e)
           (subst (λ j. All (λ x. pos 0 <ℤ x → pos least_any <ℤ x) (limits_of f kind a j)) (sym g)
-          (λ k d below positive. low least_any (any kind) _ (any_least kind) ((h.each kind).any_low k d below positive)));
+          (λ k d below positive. low least_any (any kind) _ (any_least kind)
+          ((h.each kind).any_low k d below positive)));
       beside_low = λ kind a' b' (e, g).
           subst (λ i. Contains (limits_of f kind i b') (pos 0) →
           All (λ x. pos 0 <ℤ x → pos least_beside <ℤ x) (limits_of f kind i b')) (sym e)
           (subst (λ j. Contains (limits_of f kind a j) (pos 0) →
           All (λ x. pos 0 <ℤ x → pos least_beside <ℤ x) (limits_of f kind a j)) (sym g)
           (λ zero_in k d below positive.
-          low least_beside (beside kind) _ (beside_least kind) ((h.each kind).beside_low zero_in k d below positive)));
+          low least_beside (beside kind) _ (beside_least kind)
+          ((h.each kind).beside_low zero_in k d below positive)));
     }
 
 -- ---- several squares
 
 -- the least of two choices of squares
-pub together : (f : FunctionData) (Q R S : ℕ → ℕ → Type 0) (x y x' y' : ℕ) → ((a b : ℕ) → S a b → Q a b ⊎ R a b) →
+pub together : (f : FunctionData) (Q R S : ℕ → ℕ → Type 0) (x y x' y' : ℕ) →
+    ((a b : ℕ) → S a b → Q a b ⊎ R a b) →
     AreLeastOf f Q x y → AreLeastOf f R x' y' → AreLeastOf f S (min x x') (min y y')
 together f Q R S x y x' y' split g h = record {
-  any_met = least_has (λ n. (n ≡ no_lane) ⊎ IsMet f (λ limits. Contains limits (pos (n + 1)))) x x' g.any_met h.any_met;
+  any_met = least_has (λ n. (n ≡ no_lane) ⊎ IsMet f (λ limits. Contains limits (pos (n + 1)))) x x'
+      g.any_met h.any_met;
   beside_met = least_has
-      (λ n. (n ≡ no_lane) ⊎ IsMet f (λ limits. Contains limits (pos 0) × Contains limits (pos (n + 1)))) y y'
+      (λ n. (n ≡ no_lane) ⊎ IsMet f
+      (λ limits. Contains limits (pos 0) × Contains limits (pos (n + 1)))) y y'
       g.beside_met h.beside_met;
   any_low = λ kind a b s. elim (split a b s) [
     | inl q ↦ λ k d below above. first_low x x' _ (g.any_low kind a b q k d below above)
@@ -172,7 +201,8 @@ together f Q R S x y x' y' split g h = record {
     second_low x y z h = omega (arith, ints, h)
 
 -- no square
-pub no_square : (f : FunctionData) (Q : ℕ → ℕ → Type 0) → ((a b : ℕ) → Q a b → ⊥) → AreLeastOf f Q no_lane no_lane
+pub no_square : (f : FunctionData) (Q : ℕ → ℕ → Type 0) → ((a b : ℕ) → Q a b → ⊥) →
+    AreLeastOf f Q no_lane no_lane
 no_square f Q none = record {
   any_met = inl refl;
   beside_met = inl refl;

@@ -29,7 +29,8 @@ moved_sides f m p step w = record {
 }
 
 -- the halves: the function plus and minus u/(3 p) times the perturbation, over 3 p m times its scale
-pub record AreLimitHalvesOf (f : FunctionData) (m : ℕ) (w : Limits ℤ) (h : LimitHalves) : Type 0 where
+pub record AreLimitHalvesOf (f : FunctionData) (m : ℕ) (w : Limits ℤ) (h : LimitHalves) :
+    Type 0 where
   pub u : ℕ
   pub p : ℕ
   pub least_limit : IsLeastLimit f m u
@@ -41,7 +42,8 @@ pub record AreLimitHalvesOf (f : FunctionData) (m : ℕ) (w : Limits ℤ) (h : L
 
 -- one of them as a function
 abbrev pub half_as_function : FunctionData → ℕ → LimitHalves → SideNumbers → FunctionData
-half_as_function f m h s = function_over h.order (f.place * m) (unsigned_abs h.scale) s.left s.value s.right
+half_as_function f m h s =
+    function_over h.order (f.place * m) (unsigned_abs h.scale) s.left s.value s.right
 
 -- they are two different minimal functions that average to the function
 abbrev pub AreShownHalves : FunctionData → LimitHalves → Type 0

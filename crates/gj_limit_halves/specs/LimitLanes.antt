@@ -50,13 +50,15 @@ pub record IsMet (f : FunctionData) (Has : List ℤ → Type 0) : Type 0 where
   pub has : Has (limits_of f kind a b)
 
 -- the same of the limits of all faces of the chosen squares
-pub record AreLeastOf (f : FunctionData) (IsChosen : ℕ → ℕ → Type 0) (any beside_zero : ℕ) : Type 0 where
+pub record AreLeastOf (f : FunctionData) (IsChosen : ℕ → ℕ → Type 0) (any beside_zero : ℕ) :
+    Type 0 where
   pub any_met : (any ≡ no_lane) ⊎ IsMet f (λ limits. Contains limits (pos (any + 1)))
   pub beside_met : (beside_zero ≡ no_lane) ⊎ IsMet f (λ limits. Contains limits (pos 0)
       × Contains limits (pos (beside_zero + 1)))
   pub any_low : (kind : FaceKind) (a b : ℕ) → IsChosen a b →
       All (λ x. pos 0 <ℤ x → pos any <ℤ x) (limits_of f kind a b)
-  pub beside_low : (kind : FaceKind) (a b : ℕ) → IsChosen a b → Contains (limits_of f kind a b) (pos 0) →
+  pub beside_low : (kind : FaceKind) (a b : ℕ) → IsChosen a b →
+      Contains (limits_of f kind a b) (pos 0) →
       All (λ x. pos 0 <ℤ x → pos beside_zero <ℤ x) (limits_of f kind a b)
 
 -- the squares (i, b) with b from i to below `end`

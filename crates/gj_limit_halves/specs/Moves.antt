@@ -22,7 +22,8 @@ pub record AreSmallMoves (f : FunctionData) (xs : List ℤ) (m : ℕ) (factor st
   pub whole : length numbers ≡ f.order * m
   pub each : (i : ℕ) → i < f.order * m → IsSmallMove f xs m factor step numbers i
 
-pub record AreSmallSides (f : FunctionData) (m : ℕ) (factor step : ℤ) (s : SideNumbers) : Type 0 where
+pub record AreSmallSides (f : FunctionData) (m : ℕ) (factor step : ℤ) (s : SideNumbers) :
+    Type 0 where
   pub left : AreSmallMoves f f.left m factor step s.left
   pub value : AreSmallMoves f f.value m factor step s.value
   pub right : AreSmallMoves f f.right m factor step s.right

@@ -13,8 +13,10 @@ module _ (f : FunctionData) where
   abbrev T : FaceKind → ℕ → ℕ → ℕ → Type 0
   T = IsTightAt f
 
-  linked_at : (x y i j : ℕ) → Links f x y → x % f.order ≡ i % f.order → y % f.order ≡ j % f.order → IsLinked f i j
-  linked_at x y i j l e g = record { first = x; second = y; links = l; first_same = e; second_same = g }
+  linked_at : (x y i j : ℕ) → Links f x y → x % f.order ≡ i % f.order → y % f.order ≡ j % f.order →
+      IsLinked f i j
+  linked_at x y i j l e g =
+      record { first = x; second = y; links = l; first_same = e; second_same = g }
 
   -- an edge links the intervals of its own
   linked : (kind : FaceKind) (a b i j : ℕ) → LinksBy f.order T kind a b i j → IsLinked f i j
@@ -23,20 +25,26 @@ module _ (f : FunctionData) where
   linked Vertical a b i j (x, y, e, g) = linked_at b (a + b) i j (vertical a b x y) e g
   linked Diagonal a b i j (x, y, e, g) = linked_at a b i j (diagonal a b x y) e g
   linked Lower a b i j (inl (x, y, e, g)) = linked_at a (a + b) i j (lower_horizontal a b x y) e g
-  linked Lower a b i j (inr (inl (x, y, e, g))) = linked_at b (a + b) i j (lower_vertical a b x y) e g
+  linked Lower a b i j (inr (inl (x, y, e, g))) =
+      linked_at b (a + b) i j (lower_vertical a b x y) e g
   linked Lower a b i j (inr (inr (x, y, e, g))) = linked_at a b i j (lower_diagonal a b x y) e g
-  linked Upper a b i j (inl (x, y, e, g)) = linked_at a (a + b + 1) i j (upper_horizontal a b x y) e g
-  linked Upper a b i j (inr (inl (x, y, e, g))) = linked_at b (a + b + 1) i j (upper_vertical a b x y) e g
+  linked Upper a b i j (inl (x, y, e, g)) =
+      linked_at a (a + b + 1) i j (upper_horizontal a b x y) e g
+  linked Upper a b i j (inr (inl (x, y, e, g))) =
+      linked_at b (a + b + 1) i j (upper_vertical a b x y) e g
   linked Upper a b i j (inr (inr (x, y, e, g))) = linked_at a b i j (upper_diagonal a b x y) e g
 
   -- an interval that is joined to a covered one is covered
-  pub across : (kind : FaceKind) (a b i j : ℕ) → Joins f.order T kind a b i j → IsCoveredByLimits f j → IsCoveredByLimits f i
+  pub across : (kind : FaceKind) (a b i j : ℕ) → Joins f.order T kind a b i j →
+      IsCoveredByLimits f j → IsCoveredByLimits f i
   across kind a b i j (inl h) covered =
       let l = linked kind a b i j h in
-      turned l.first i l.first_same (from l.first l.second l.links (turned j l.second (sym l.second_same) covered))
+      turned l.first i l.first_same
+      (from l.first l.second l.links (turned j l.second (sym l.second_same) covered))
   across kind a b i j (inr h) covered =
       let l = linked kind a b j i h in
-      turned l.second i l.second_same (to l.first l.second l.links (turned j l.first (sym l.first_same) covered))
+      turned l.second i l.second_same
+      (to l.first l.second l.links (turned j l.first (sym l.first_same) covered))
 
   -- so is one on which a triangle with slack 0 projects
   pub directly : (kind : FaceKind) (a b i : ℕ) → Covers f.order T kind a b i → IsCoveredByLimits f i
@@ -45,13 +53,16 @@ module _ (f : FunctionData) where
   directly Vertical a b i h = absurd h
   directly Diagonal a b i h = absurd h
   directly Lower a b i (t, inl e) = turned a i e (lower a b t.0 t.1 t.2)
-  directly Lower a b i (t, inr (inl e)) = turned b i e (to a b (lower_diagonal a b t.1 t.2) (lower a b t.0 t.1 t.2))
+  directly Lower a b i (t, inr (inl e)) =
+      turned b i e (to a b (lower_diagonal a b t.1 t.2) (lower a b t.0 t.1 t.2))
   directly Lower a b i (t, inr (inr e)) =
       turned (a + b) i e (to a (a + b) (lower_horizontal a b t.0 t.1) (lower a b t.0 t.1 t.2))
   directly Upper a b i (t, inl e) = turned a i e (upper a b t.0 t.1 t.2)
-  directly Upper a b i (t, inr (inl e)) = turned b i e (to a b (upper_diagonal a b t.0 t.1) (upper a b t.0 t.1 t.2))
+  directly Upper a b i (t, inr (inl e)) =
+      turned b i e (to a b (upper_diagonal a b t.0 t.1) (upper a b t.0 t.1 t.2))
   directly Upper a b i (t, inr (inr e)) =
-      turned (a + b + 1) i e (to a (a + b + 1) (upper_horizontal a b t.1 t.2) (upper a b t.0 t.1 t.2))
+      turned (a + b + 1) i e
+      (to a (a + b + 1) (upper_horizontal a b t.1 t.2) (upper a b t.0 t.1 t.2))
 
   -- intervals that are linked are joined
   pub joined_by : (i j : ℕ) → Links f i j → AreJoined f.order T i j

@@ -8,12 +8,15 @@ use Rattle.gj_proof.specs.ProofGrammar.{form_part}
 use Rattle.gj_limit_proof.specs.LimitGrammar.{row_form, steps_part, group_part}
 use Rattle.gj_limit_proof.proofs.GroupTexts.{pivot_form, makes_row, behind_steps, behind_name}
 
-module _ (q : ℕ) (text middle : List ℕ) (name : LimitRow) (e : PartFault) (first : (form_part (row_form q)).Reads text name middle) where
+module _ (q : ℕ) (text middle : List ℕ) (name : LimitRow) (e : PartFault)
+    (first : (form_part (row_form q)).Reads text name middle) where
   pub fault_in_steps : IsFaultOf steps_part middle e → IsFaultOf (group_part q) text e
   fault_in_steps h =
-      fault_in_next (form_part (row_form q)) behind_name text name middle e first (fault_in_first steps_part (behind_steps name) middle e h)
+      fault_in_next (form_part (row_form q)) behind_name text name middle e first
+      (fault_in_first steps_part (behind_steps name) middle e h)
 
-  pub fault_in_pivot : (behind : List ℕ) (columns : List ℕ) → steps_part.Reads middle columns behind →
+  pub fault_in_pivot : (behind : List ℕ) (columns : List ℕ) →
+      steps_part.Reads middle columns behind →
       IsFaultOf (form_part pivot_form) behind e → IsFaultOf (group_part q) text e
   fault_in_pivot behind columns steps h =
       fault_in_next (form_part (row_form q)) behind_name text name middle e first

@@ -48,10 +48,12 @@ first_with w (c ∷ corners) = cond (are_same w (sides_word c.0 c.1)) c (first_w
 
 abbrev corner_with : List ℕ → FaceKind × ℕ
 corner_with w =
-    first_with w ((Horizontal, 0) ∷ (Horizontal, 1) ∷ (Vertical, 0) ∷ (Vertical, 1) ∷ (Diagonal, 0) ∷ (Diagonal, 1)
+    first_with w ((Horizontal, 0) ∷ (Horizontal, 1) ∷ (Vertical, 0) ∷ (Vertical, 1) ∷ (Diagonal, 0)
+    ∷ (Diagonal, 1)
     ∷ (Lower, 0) ∷ (Lower, 1) ∷ (Lower, 2) ∷ (Upper, 0) ∷ (Upper, 1) ∷ (Upper, 2) ∷ [])
 
-corner_of_word : (kind : FaceKind) (corner : ℕ) → corner < length (corners_of kind 0 0) → corner_with (sides_word kind corner) ≡ (kind, corner)
+corner_of_word : (kind : FaceKind) (corner : ℕ) → corner < length (corners_of kind 0 0) →
+    corner_with (sides_word kind corner) ≡ (kind, corner)
 corner_of_word Vertex zero h = refl
 corner_of_word Vertex (suc corner) h = absurd (omega arith)
 corner_of_word Horizontal zero h = refl
@@ -73,14 +75,17 @@ corner_of_word Upper (suc (suc zero)) h = refl
 corner_of_word Upper (suc (suc (suc corner))) h = absurd (omega arith)
 
 -- a word is that of one corner
-one_corner : (k l : FaceKind) (c d : ℕ) → c < length (corners_of k 0 0) → d < length (corners_of l 0 0) →
+one_corner : (k l : FaceKind) (c d : ℕ) → c < length (corners_of k 0 0) →
+    d < length (corners_of l 0 0) →
     sides_word k c ≡ sides_word l d → (k ≡ l) × (c ≡ d)
 one_corner k l c d h i e =
-    let same : ◌≡◌ {A = FaceKind × ℕ} (k, c) (l, d) = sym (corner_of_word k c h) ∙ ap corner_with e ∙ corner_of_word l d i in
+    let same : ◌≡◌ {A = FaceKind × ℕ} (k, c) (l, d) = sym (corner_of_word k c h) ∙ ap corner_with e
+    ∙ corner_of_word l d i in
     (ap (λ (p : FaceKind × ℕ). p.0) same, ap (λ (p : FaceKind × ℕ). p.1) same)
 
 -- the words of sides, if there are any, are those of one corner
-pub one_limit : (k l : FaceKind) (c d : ℕ) → c < length (corners_of k 0 0) → d < length (corners_of l 0 0) →
+pub one_limit : (k l : FaceKind) (c d : ℕ) → c < length (corners_of k 0 0) →
+    d < length (corners_of l 0 0) →
     words_of (sides_fields k c) ≡ words_of (sides_fields l d) → (k ≡ l) × (c ≡ d)
 one_limit Vertex Vertex c d h i e = (refl, omega arith)
 one_limit Vertex l c d h i e = absurd cc
@@ -90,19 +95,24 @@ one_limit k l c d h i e = one_corner k l c d h i (cc)
 -- ---- rows
 
 module _ (q : ℕ) (small : q ≤ 1000) where
-  below_bound : (kind : FaceKind) (corner a b : ℕ) → IsLimitRowWithin q kind corner a b → (a < 2 ^ 127) × (b < 2 ^ 127)
-  below_bound kind corner a b h = let up = h.ascending in let low = h.below in (omega arith, omega arith)
+  below_bound : (kind : FaceKind) (corner a b : ℕ) → IsLimitRowWithin q kind corner a b →
+      (a < 2 ^ 127) × (b < 2 ^ 127)
+  below_bound kind corner a b h = let up = h.ascending in let low = h.below in
+      (omega arith, omega arith)
 
   good_row : (row : LimitRow) → IsRowWithin q row → AreGood (row_fields row)
   good_row F h = (known (codes "row") refl, known (codes "f") refl)
-  good_row (Tight Vertex corner a b) h = let low = below_bound Vertex corner a b h in (known (codes "row") refl, (low.0, low.1))
+  good_row (Tight Vertex corner a b) h = let low = below_bound Vertex corner a b h in
+      (known (codes "row") refl, (low.0, low.1))
   good_row (Tight kind corner a b) h =
-      let low = below_bound kind corner a b h in (known (codes "row") refl, (low.0, (low.1, sides_are_plain kind corner)))
+      let low = below_bound kind corner a b h in
+      (known (codes "row") refl, (low.0, (low.1, sides_are_plain kind corner)))
 
   same_count : (m n : ℕ) → m < 2 ^ 127 → n < 2 ^ 127 → decimal m ≡ decimal n → m ≡ n
   same_count m n h i e = same_from_decimal m n (omega arith) (omega arith) e
 
-  one_row : (r s : LimitRow) → IsRowWithin q r → IsRowWithin q s → words_of (row_fields r) ≡ words_of (row_fields s) → r ≡ s
+  one_row : (r s : LimitRow) → IsRowWithin q r → IsRowWithin q s →
+      words_of (row_fields r) ≡ words_of (row_fields s) → r ≡ s
   one_row F F h i e = refl
   one_row (Tight k c a b) (Tight l d m n) h i e =
       let first : decimal a ≡ decimal m = cc in
@@ -123,6 +133,7 @@ column_is_clear w plain = record {
   of_form = λ a h. tt;
   good = λ c h. (plain, omega arith);
   one = λ c d h k e.
-      let same = same_fields ((column_form w).fields c) ((column_form w).fields d) tt (plain, omega arith) (plain, omega arith) e in
+      let same = same_fields ((column_form w).fields c) ((column_form w).fields d) tt
+      (plain, omega arith) (plain, omega arith) e in
       cc;
 }

@@ -41,7 +41,13 @@ no_values pairs = map (λ p. pos 0) pairs
 
 abbrev plain_halves : LimitHalves → Halves
 plain_halves h =
-    record { order = h.order; scale = h.scale; first = no_values (pairs_of h); second = no_values (pairs_of h) }
+    record {
+      order = h.order;
+      scale = h.scale;
+      first = no_values (pairs_of h);
+      second =
+          no_values (pairs_of h);
+    }
 
 abbrev pub plain_claim : LimitClaim → Claim
 plain_claim (Extreme numbers f lines rows) = extreme_claim numbers f lines (map plain_row rows)
@@ -59,7 +65,8 @@ own_line name bytes = record { name = name; bytes = bytes }
 names_append : (a b : List OwnLine) → names (a ++ b) ≡ names a ++ names b
 names_append a b = map-append (λ (o : OwnLine). o.name) a b
 
-same_names_of_groups : (g : ℕ) (rows : List LimitPivotRow) → names (group_lines g rows) ≡ names (plain.group_lines g (map plain_row rows))
+same_names_of_groups : (g : ℕ) (rows : List LimitPivotRow) →
+    names (group_lines g rows) ≡ names (plain.group_lines g (map plain_row rows))
 same_names_of_groups g [] = refl
 same_names_of_groups g (row ∷ rows) =
     let steps = reduction_lines g 0 row.reduce in
@@ -71,9 +78,12 @@ same_names_of_groups g (row ∷ rows) =
     ∙ ap (λ ns. names steps ++ ProofLine.group_pivot g ∷ ns) (same_names_of_groups (g + 1) rows)
     ∙ sym (names_append steps (last ∷ others)))
 
-same_names_of_pairs : (i : ℕ) (pairs : List Pair) → names (pair_lines i pairs) ≡ names (plain.pair_lines i (zip (no_values pairs) (no_values pairs)))
+same_names_of_pairs : (i : ℕ) (pairs : List Pair) →
+    names (pair_lines i pairs)
+    ≡ names (plain.pair_lines i (zip (no_values pairs) (no_values pairs)))
 same_names_of_pairs i [] = refl
-same_names_of_pairs i (p ∷ pairs) = ap (λ ns. ProofLine.pair i ∷ ns) (same_names_of_pairs (i + 1) pairs)
+same_names_of_pairs i (p ∷ pairs) =
+    ap (λ ns. ProofLine.pair i ∷ ns) (same_names_of_pairs (i + 1) pairs)
 
 same_names_of_extreme : (n : Numbers) (lines : List CoverLine) (rows : List LimitPivotRow) →
     names (extreme_lines n lines rows) ≡ names (plain.extreme_lines n lines (map plain_row rows))
@@ -82,9 +92,11 @@ same_names_of_extreme n lines rows =
     let modulus = modulus_lines n in
     let groups = group_lines 0 rows in
     let others = plain.group_lines 0 (map plain_row rows) in
-    names_append cover (modulus ++ groups) ∙ ap (λ ns. names cover ++ ns) (names_append modulus groups)
+    names_append cover (modulus ++ groups)
+    ∙ ap (λ ns. names cover ++ ns) (names_append modulus groups)
     ∙ ap (λ ns. names cover ++ (names modulus ++ ns)) (same_names_of_groups 0 rows)
-    ∙ ap (λ ns. names cover ++ ns) (sym (names_append modulus others)) ∙ sym (names_append cover (modulus ++ others))
+    ∙ ap (λ ns. names cover ++ ns) (sym (names_append modulus others))
+    ∙ sym (names_append cover (modulus ++ others))
 
 pub same_names : (c : LimitClaim) → names (own_lines c) ≡ names (plain.own_lines (plain_claim c))
 same_names (Extreme Whole f lines rows) = same_names_of_extreme Whole lines rows
@@ -93,19 +105,25 @@ same_names (NotExtreme f h) = ap (λ ns. ProofLine.halves ∷ ns) (same_names_of
 
 -- ---- their bytes
 
-reduction_bytes : (g r : ℕ) (columns : List ℕ) → bytes (reduction_lines g r columns) ≡ flat_map reduction_line columns
+reduction_bytes : (g r : ℕ) (columns : List ℕ) →
+    bytes (reduction_lines g r columns) ≡ flat_map reduction_line columns
 reduction_bytes g r [] = refl
-reduction_bytes g r (c ∷ columns) = ap (λ t. reduction_line c ++ t) (reduction_bytes g (r + 1) columns)
+reduction_bytes g r (c ∷ columns) =
+    ap (λ t. reduction_line c ++ t) (reduction_bytes g (r + 1) columns)
 
-group_bytes : (g : ℕ) (rows : List LimitPivotRow) → bytes (group_lines g rows) ≡ flat_map group_text rows
+group_bytes : (g : ℕ) (rows : List LimitPivotRow) →
+    bytes (group_lines g rows) ≡ flat_map group_text rows
 group_bytes g [] = refl
 group_bytes g (row ∷ rows) =
     let last = own_line (ProofLine.group_pivot g) (pivot_line row.pivot) in
     ap (λ t. group_line row.name ++ t)
     (bytes_append (reduction_lines g 0 row.reduce) (last ∷ group_lines (g + 1) rows)
-    ∙ ap (λ t. t ++ (pivot_line row.pivot ++ bytes (group_lines (g + 1) rows))) (reduction_bytes g 0 row.reduce)
-    ∙ ap (λ t. flat_map reduction_line row.reduce ++ (pivot_line row.pivot ++ t)) (group_bytes (g + 1) rows))
-    ∙ regroup (group_line row.name) (flat_map reduction_line row.reduce) (pivot_line row.pivot) (flat_map group_text rows)
+    ∙ ap (λ t. t ++ (pivot_line row.pivot ++ bytes (group_lines (g + 1) rows)))
+    (reduction_bytes g 0 row.reduce)
+    ∙ ap (λ t. flat_map reduction_line row.reduce ++ (pivot_line row.pivot ++ t))
+    (group_bytes (g + 1) rows))
+    ∙ regroup (group_line row.name) (flat_map reduction_line row.reduce) (pivot_line row.pivot)
+    (flat_map group_text rows)
   where
     regroup : (a b c d : List ℕ) → a ++ (b ++ (c ++ d)) ≡ (a ++ b ++ c) ++ d
     regroup a b c d = simp append_assoc
@@ -120,7 +138,8 @@ extreme_bytes n lines rows =
     let more = modulus_lines n ++ group_lines 0 rows in
     bytes_append (covered_lines 0 lines) more ∙ ap (λ t. t ++ bytes more) (covered_bytes 0 lines)
     ∙ ap (λ t. flat_map cover_line lines ++ t)
-    (bytes_append (modulus_lines n) (group_lines 0 rows) ∙ (λ i. modulus_bytes n i ++ group_bytes 0 rows i))
+    (bytes_append (modulus_lines n) (group_lines 0 rows)
+    ∙ (λ i. modulus_bytes n i ++ group_bytes 0 rows i))
 
 pair_bytes : (i : ℕ) (pairs : List Pair) → bytes (pair_lines i pairs) ≡ flat_map pair_line pairs
 pair_bytes i [] = refl
@@ -133,51 +152,63 @@ own_bytes (NotExtreme f h) = ap (λ t. halves_line h ++ t) (pair_bytes 0 (pairs_
 
 -- ---- their line feeds
 
-reductions_have_one_feed : (g r : ℕ) (columns : List ℕ) → All (λ c. c < greatest_columns) columns → All HasOneFeed (reduction_lines g r columns)
+reductions_have_one_feed : (g r : ℕ) (columns : List ℕ) → All (λ c. c < greatest_columns) columns →
+    All HasOneFeed (reduction_lines g r columns)
 reductions_have_one_feed g r [] h = All-nil HasOneFeed
 reductions_have_one_feed g r (c ∷ columns) h =
     let P : ℕ → Type 0 = λ c. c < greatest_columns in
-    All-cons HasOneFeed (own_line (ProofLine.reduction g r) (reduction_line c)) (reduction_lines g (r + 1) columns)
+    All-cons HasOneFeed (own_line (ProofLine.reduction g r) (reduction_line c))
+    (reduction_lines g (r + 1) columns)
     (one_feed reduce_form reduce_is_clear c (All-head P c columns h))
     (reductions_have_one_feed g (r + 1) columns (All-tail P c columns h))
 
-groups_have_one_feed : (g q : ℕ) (rows : List LimitPivotRow) → q ≤ 1000 → All (IsLimitPivotRowBelow q) rows → All HasOneFeed (group_lines g rows)
+groups_have_one_feed : (g q : ℕ) (rows : List LimitPivotRow) → q ≤ 1000 →
+    All (IsLimitPivotRowBelow q) rows → All HasOneFeed (group_lines g rows)
 groups_have_one_feed g q [] small h = All-nil HasOneFeed
 groups_have_one_feed g q (row ∷ rows) small h =
     let here = All-head (IsLimitPivotRowBelow q) row rows h in
     let last = own_line (ProofLine.group_pivot g) (pivot_line row.pivot) in
     let more = group_lines (g + 1) rows in
-    All-cons HasOneFeed (own_line (ProofLine.group g) (group_line row.name)) (reduction_lines g 0 row.reduce ++ last ∷ more)
+    All-cons HasOneFeed (own_line (ProofLine.group g) (group_line row.name))
+    (reduction_lines g 0 row.reduce ++ last ∷ more)
     (one_feed (row_form q) (row_is_clear q small) row.name here.name)
-    (All-append HasOneFeed (reduction_lines g 0 row.reduce) (last ∷ more) (reductions_have_one_feed g 0 row.reduce here.reduce)
+    (All-append HasOneFeed (reduction_lines g 0 row.reduce) (last ∷ more)
+    (reductions_have_one_feed g 0 row.reduce here.reduce)
     (All-cons HasOneFeed last more (one_feed pivot_form pivot_is_clear row.pivot here.pivot)
     (groups_have_one_feed (g + 1) q rows small (All-tail (IsLimitPivotRowBelow q) row rows h))))
 
 -- those of covered intervals, and that of the modulus, as texts 1 and 2 have them
-first_have_one_feed : (n : Numbers) (q : ℕ) (lines : List CoverLine) → q ≤ 1000 → All (IsCoverLineBelow q) lines →
+first_have_one_feed : (n : Numbers) (q : ℕ) (lines : List CoverLine) → q ≤ 1000 →
+    All (IsCoverLineBelow q) lines →
     All HasOneFeed (covered_lines 0 lines ++ (modulus_lines n ++ []))
 first_have_one_feed n q lines small h =
     extreme_have_one_feed n q lines [] small h (All-nil (plain.IsPivotRowBelow q))
 
-extreme_have_feeds : (n : Numbers) (q : ℕ) (lines : List CoverLine) (rows : List LimitPivotRow) → q ≤ 1000 →
-    All (IsCoverLineBelow q) lines → All (IsLimitPivotRowBelow q) rows → All HasOneFeed (extreme_lines n lines rows)
+extreme_have_feeds : (n : Numbers) (q : ℕ) (lines : List CoverLine) (rows : List LimitPivotRow) →
+    q ≤ 1000 →
+    All (IsCoverLineBelow q) lines → All (IsLimitPivotRowBelow q) rows →
+    All HasOneFeed (extreme_lines n lines rows)
 extreme_have_feeds n q lines rows small h k =
     let first = first_have_one_feed n q lines small h in
     let cover = All-front HasOneFeed (covered_lines 0 lines) (modulus_lines n ++ []) first in
     let modulus = All-front HasOneFeed (modulus_lines n) []
     (All-back HasOneFeed (covered_lines 0 lines) (modulus_lines n ++ []) first) in
     All-append HasOneFeed (covered_lines 0 lines) (modulus_lines n ++ group_lines 0 rows) cover
-    (All-append HasOneFeed (modulus_lines n) (group_lines 0 rows) modulus (groups_have_one_feed 0 q rows small k))
+    (All-append HasOneFeed (modulus_lines n) (group_lines 0 rows) modulus
+    (groups_have_one_feed 0 q rows small k))
 
-pairs_have_one_feed : (i : ℕ) (pairs : List Pair) → All HavePairFit pairs → All HasOneFeed (pair_lines i pairs)
+pairs_have_one_feed : (i : ℕ) (pairs : List Pair) → All HavePairFit pairs →
+    All HasOneFeed (pair_lines i pairs)
 pairs_have_one_feed i [] h = All-nil HasOneFeed
 pairs_have_one_feed i (p ∷ pairs) h =
     All-cons HasOneFeed (own_line (ProofLine.pair i) (pair_line p)) (pair_lines (i + 1) pairs)
     (one_feed pair_form pair_is_clear p (All-head HavePairFit p pairs h))
     (pairs_have_one_feed (i + 1) pairs (All-tail HavePairFit p pairs h))
 
-pub own_lines_have_one_feed : (c : LimitClaim) → IsBounded c → HasText c → All HasOneFeed (own_lines c)
-own_lines_have_one_feed (Extreme n f lines rows) b t = extreme_have_feeds n f.order lines rows b.order_high t.lines_below t.rows_below
+pub own_lines_have_one_feed : (c : LimitClaim) → IsBounded c → HasText c →
+    All HasOneFeed (own_lines c)
+own_lines_have_one_feed (Extreme n f lines rows) b t =
+    extreme_have_feeds n f.order lines rows b.order_high t.lines_below t.rows_below
 own_lines_have_one_feed (NotExtreme f h) b t =
     All-cons HasOneFeed (own_line ProofLine.halves (halves_line h)) (pair_lines 0 (pairs_of h))
     (one_feed halves_form halves_is_clear (head_of h) (head_in_bounds h t))

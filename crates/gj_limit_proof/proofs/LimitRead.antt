@@ -22,37 +22,48 @@ use Rattle.gj_limit_proof.proofs.LimitReadTexts.{title_part, extreme_words, word
 
 -- ---- an extreme function
 
-pub fault_in_modulus : (text : List ℕ) (e : PartFault) → BeginsModulus text → IsFaultOf (form_part modulus_form) text e →
+pub fault_in_modulus : (text : List ℕ) (e : PartFault) → BeginsModulus text →
+    IsFaultOf (form_part modulus_form) text e →
     IsFaultOf numbers_part text e
 fault_in_modulus text e is h =
-    fault_where BeginsModulus (made_part makes_residues (form_part modulus_form)) (empty_part Whole) text e is
+    fault_where BeginsModulus (made_part makes_residues (form_part modulus_form))
+    (empty_part Whole) text e is
     (fault_in_made makes_residues (form_part modulus_form) text e h)
 
-module _ (q : ℕ) (text middle : List ℕ) (f : FunctionData) (is : q ≡ f.order) (reads : (function_part Strict).Reads text f middle) where
-  pub fault_in_cover : (e : PartFault) → IsFaultOf (covered_part q) middle e → IsFaultOf extreme_part text e
+module _ (q : ℕ) (text middle : List ℕ) (f : FunctionData) (is : q ≡ f.order)
+    (reads : (function_part Strict).Reads text f middle) where
+  pub fault_in_cover : (e : PartFault) → IsFaultOf (covered_part q) middle e →
+      IsFaultOf extreme_part text e
   fault_in_cover e h =
       fault_in_next (function_part Strict) behind_function text f middle e reads
-      (fault_in_first (covered_part f.order) (behind_cover f) middle e (subst (λ (m : ℕ). IsFaultOf (covered_part m) middle e) is h))
+      (fault_in_first (covered_part f.order) (behind_cover f) middle e
+      (subst (λ (m : ℕ). IsFaultOf (covered_part m) middle e) is h))
 
-  module _ (behind : List ℕ) (lines : List CoverLine) (covered : (covered_part q).Reads middle lines behind) where
-    fault_behind_cover : (e : PartFault) → IsFaultOf (behind_cover f lines) behind e → IsFaultOf extreme_part text e
+  module _ (behind : List ℕ) (lines : List CoverLine)
+      (covered : (covered_part q).Reads middle lines behind) where
+    fault_behind_cover : (e : PartFault) → IsFaultOf (behind_cover f lines) behind e →
+        IsFaultOf extreme_part text e
     fault_behind_cover e h =
         fault_in_next (function_part Strict) behind_function text f middle e reads
         (fault_in_next (covered_part f.order) (behind_cover f) middle lines behind e
         (subst (λ (m : ℕ). (covered_part m).Reads middle lines behind) is covered) h)
 
-    pub fault_in_numbers : (e : PartFault) → IsFaultOf numbers_part behind e → IsFaultOf extreme_part text e
-    fault_in_numbers e h = fault_behind_cover e (fault_in_first numbers_part (behind_numbers f lines) behind e h)
+    pub fault_in_numbers : (e : PartFault) → IsFaultOf numbers_part behind e →
+        IsFaultOf extreme_part text e
+    fault_in_numbers e h =
+        fault_behind_cover e (fault_in_first numbers_part (behind_numbers f lines) behind e h)
 
     module _ (groups : List ℕ) (n : Numbers) (named : numbers_part.Reads behind n groups) where
-      pub fault_in_groups : (e : PartFault) → IsFaultOf (groups_part q) groups e → IsFaultOf extreme_part text e
+      pub fault_in_groups : (e : PartFault) → IsFaultOf (groups_part q) groups e →
+          IsFaultOf extreme_part text e
       fault_in_groups e h =
           fault_behind_cover e
           (fault_in_next numbers_part (behind_numbers f lines) behind n groups e named
           (fault_in_made (makes_extreme f lines n) (groups_part f.order) groups e
           (subst (λ (m : ℕ). IsFaultOf (groups_part m) groups e) is h)))
 
-      pub extreme_read : (rest : List ℕ) (rows : List LimitPivotRow) → (groups_part q).Reads groups rows rest →
+      pub extreme_read : (rest : List ℕ) (rows : List LimitPivotRow) →
+          (groups_part q).Reads groups rows rest →
           extreme_part.Reads text (Extreme n f lines rows) rest
       extreme_read rest rows h = (
         f,
@@ -62,16 +73,27 @@ module _ (q : ℕ) (text middle : List ℕ) (f : FunctionData) (is : q ≡ f.ord
           lines,
           behind,
           subst (λ (m : ℕ). (covered_part m).Reads middle lines behind) is covered,
-          (n, groups, named, (rows, subst (λ (m : ℕ). (groups_part m).Reads groups rows rest) is h, refl)),
+          (
+            n,
+            groups,
+            named,
+            (
+              rows,
+              subst (λ (m : ℕ). (groups_part m).Reads groups rows rest) is h,
+              refl,
+            ),
+          ),
         ),
       )
 
 -- ---- halves
 
-pub fault_in_halves : (text middle : List ℕ) (f : FunctionData) (e : PartFault) → (function_part Strict).Reads text f middle →
+pub fault_in_halves : (text middle : List ℕ) (f : FunctionData) (e : PartFault) →
+    (function_part Strict).Reads text f middle →
     IsFaultOf halves_part middle e → IsFaultOf not_extreme_part text e
 fault_in_halves text middle f e reads h =
-    fault_in_next (function_part Strict) behind_subject text f middle e reads (fault_in_made (makes_not_extreme f) halves_part middle e h)
+    fault_in_next (function_part Strict) behind_subject text f middle e reads
+    (fault_in_made (makes_not_extreme f) halves_part middle e h)
 
 -- ---- the claim
 
@@ -79,15 +101,20 @@ module _ (text : List ℕ) (not : BeginsNotExtreme text → ⊥) where
   extreme_fault : (e : PartFault) → IsFaultOf named_extreme text e → IsFaultOf claim_part text e
   extreme_fault e h = fault_else BeginsNotExtreme named_not_extreme named_extreme text e not h
 
-  pub fault_in_extreme_line : (e : PartFault) → IsFaultOf (words_part extreme_words) text e → IsFaultOf claim_part text e
-  fault_in_extreme_line e h = extreme_fault e (fault_in_first (words_part extreme_words) (λ t. extreme_part) text e h)
+  pub fault_in_extreme_line : (e : PartFault) → IsFaultOf (words_part extreme_words) text e →
+      IsFaultOf claim_part text e
+  fault_in_extreme_line e h =
+      extreme_fault e (fault_in_first (words_part extreme_words) (λ t. extreme_part) text e h)
 
-  pub fault_in_extreme : (e : PartFault) (middle : List ℕ) → (words_part extreme_words).Reads text tt middle →
+  pub fault_in_extreme : (e : PartFault) (middle : List ℕ) →
+      (words_part extreme_words).Reads text tt middle →
       IsFaultOf extreme_part middle e → IsFaultOf claim_part text e
   fault_in_extreme e middle named h =
-      extreme_fault e (fault_in_next (words_part extreme_words) (λ t. extreme_part) text tt middle e named h)
+      extreme_fault e (fault_in_next (words_part extreme_words)
+      (λ t. extreme_part) text tt middle e named h)
 
-  pub extreme_claim_read : (c : LimitClaim) (middle rest : List ℕ) → (words_part extreme_words).Reads text tt middle →
+  pub extreme_claim_read : (c : LimitClaim) (middle rest : List ℕ) →
+      (words_part extreme_words).Reads text tt middle →
       extreme_part.Reads middle c rest → claim_part.Reads text c rest
   extreme_claim_read c middle rest named h = inr (not, (tt, middle, named, h))
 
@@ -107,7 +134,9 @@ module _ (text m : List ℕ) (fault : PartFault) (title : title_part.Reads text 
     pub fault_in_last : IsFaultOf last_part rest fault → IsFaultOf limit_proof_text text fault
     fault_in_last h = behind_claim (fault_in_first last_part (λ _. end_part Strict c) rest fault h)
 
-    pub fault_behind_last : (behind : List ℕ) → last_part.Reads rest tt behind → IsTail Strict behind fault →
+    pub fault_behind_last : (behind : List ℕ) → last_part.Reads rest tt behind →
+        IsTail Strict behind fault →
         IsFaultOf limit_proof_text text fault
     fault_behind_last behind end h =
-        behind_claim (fault_in_next last_part (λ _. end_part Strict c) rest tt behind fault end (tail_refused Strict c behind fault h))
+        behind_claim (fault_in_next last_part (λ _. end_part Strict c) rest tt behind fault end
+        (tail_refused Strict c behind fault h))

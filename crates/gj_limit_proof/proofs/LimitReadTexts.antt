@@ -61,7 +61,8 @@ abbrev pub named_extreme : Part LimitClaim
 named_extreme = then_part (words_part extreme_words) (λ t. extreme_part)
 
 -- what follows the numbers of rows, the lines of covered intervals, and the function
-abbrev pub makes_extreme : FunctionData → List CoverLine → Numbers → List LimitPivotRow → LimitClaim → Type 0
+abbrev pub makes_extreme : FunctionData → List CoverLine → Numbers → List LimitPivotRow →
+    LimitClaim → Type 0
 makes_extreme f lines numbers rows c = c ≡ Extreme numbers f lines rows
 
 abbrev pub behind_numbers : FunctionData → List CoverLine → Numbers → Part LimitClaim
@@ -89,7 +90,8 @@ after_title = then_part claim_part after_claim
 
 -- ---- each is exact
 
-words_are_exact : (words : List (List ℕ)) → IsExactPart (words_part words).Reads (words_part words).Faults
+words_are_exact : (words : List (List ℕ)) →
+    IsExactPart (words_part words).Reads (words_part words).Faults
 words_are_exact words = line_part_is_exact Strict (words_rule words) (words_rule_is_exact words)
 
 extreme_is_exact : IsExactPart extreme_part.Reads extreme_part.Faults
@@ -99,25 +101,30 @@ extreme_is_exact =
     let small = (within_bounds Strict text f m h).order_high in
     then_part_is_exact (covered_part f.order) (behind_cover f) (covered_is_exact f.order small)
     (λ lines. then_part_is_exact numbers_part (behind_numbers f lines) numbers_are_exact
-    (λ numbers. made_part_is_exact (makes_extreme f lines numbers) (λ rows c d h k. h ∙ sym k) (groups_part f.order)
+    (λ numbers. made_part_is_exact (makes_extreme f lines numbers) (λ rows c d h k. h ∙ sym k)
+    (groups_part f.order)
     (groups_are_exact f.order small))))
 
 not_extreme_is_exact : IsExactPart not_extreme_part.Reads not_extreme_part.Faults
 not_extreme_is_exact =
     then_part_is_exact (function_part Strict) behind_subject (function_part_is_exact Strict)
-    (λ f. made_part_is_exact (makes_not_extreme f) (λ h c d k l. k ∙ sym l) halves_part halves_are_exact)
+    (λ f. made_part_is_exact (makes_not_extreme f)
+    (λ h c d k l. k ∙ sym l) halves_part halves_are_exact)
 
 claim_is_exact : IsExactPart claim_part.Reads claim_part.Faults
 claim_is_exact =
     where_part_is_exact BeginsNotExtreme named_not_extreme named_extreme
-    (then_part_is_exact (words_part not_extreme_words) (λ t. not_extreme_part) (words_are_exact not_extreme_words) (λ t. not_extreme_is_exact))
-    (then_part_is_exact (words_part extreme_words) (λ t. extreme_part) (words_are_exact extreme_words) (λ t. extreme_is_exact))
+    (then_part_is_exact (words_part not_extreme_words) (λ t. not_extreme_part)
+    (words_are_exact not_extreme_words) (λ t. not_extreme_is_exact))
+    (then_part_is_exact (words_part extreme_words) (λ t. extreme_part)
+    (words_are_exact extreme_words) (λ t. extreme_is_exact))
 
 pub limit_text_is_exact : IsExactPart limit_proof_text.Reads limit_proof_text.Faults
 limit_text_is_exact =
     then_part_is_exact title_part (λ t. after_title) (part_is_exact title_form title_is_clear)
     (λ t. then_part_is_exact claim_part after_claim claim_is_exact
-    (λ c. then_part_is_exact last_part (λ u. end_part Strict c) (words_are_exact (codes "end" ∷ [])) (λ u. end_part_is_exact Strict c)))
+    (λ c. then_part_is_exact last_part (λ u. end_part Strict c) (words_are_exact (codes "end" ∷ []))
+    (λ u. end_part_is_exact Strict c)))
 
 -- ---- the lines as bytes
 
@@ -148,17 +155,22 @@ no_modulus_at_end =
     apart (codes "end") (codes "modulus") refl (cc))
 
 -- the line of the claim's word
-extreme_reads : (rest : List ℕ) → (words_part extreme_words).Reads (line (codes "claim extreme") ++ rest) tt rest
+extreme_reads : (rest : List ℕ) →
+    (words_part extreme_words).Reads (line (codes "claim extreme") ++ rest) tt rest
 extreme_reads rest =
-    line_reads (words_rule extreme_words) (line (codes "claim extreme") ++ rest) rest extreme_words tt (λ e. cc)
+    line_reads (words_rule extreme_words) (line (codes "claim extreme") ++ rest) rest extreme_words
+    tt (λ e. cc)
     (plain_by_test extreme_words refl) refl refl
 
-not_extreme_reads : (rest : List ℕ) → (words_part not_extreme_words).Reads (line (codes "claim not-extreme") ++ rest) tt rest
+not_extreme_reads : (rest : List ℕ) →
+    (words_part not_extreme_words).Reads (line (codes "claim not-extreme") ++ rest) tt rest
 not_extreme_reads rest =
-    line_reads (words_rule not_extreme_words) (line (codes "claim not-extreme") ++ rest) rest not_extreme_words tt (λ e. cc)
+    line_reads (words_rule not_extreme_words) (line (codes "claim not-extreme") ++ rest) rest
+    not_extreme_words tt (λ e. cc)
     (plain_by_test not_extreme_words refl) refl refl
 
-pub other_claim : (text rest : List ℕ) → (words_part extreme_words).Reads text tt rest → BeginsNotExtreme text → ⊥
+pub other_claim : (text rest : List ℕ) → (words_part extreme_words).Reads text tt rest →
+    BeginsNotExtreme text → ⊥
 other_claim text rest (start, words, line, spelled) =
     other_line Strict text start words not_extreme_words rest line
     (λ e.
@@ -168,14 +180,20 @@ other_claim text rest (start, words, line, spelled) =
 -- ---- a text of a claim is read as the claim
 
 -- the claim is read, and so is the whole
-whole_reads : (c : LimitClaim) (inner text : List ℕ) → claim_part.Reads inner c last_line → text ≡ title_line ++ inner →
+whole_reads : (c : LimitClaim) (inner text : List ℕ) → claim_part.Reads inner c last_line →
+    text ≡ title_line ++ inner →
     limit_proof_text.Reads text c []
 whole_reads c inner text reads is =
-    let whole : limit_proof_text.Reads (title_line ++ inner) c [] =
-    (tt, inner, line_is_read title_form title_is_clear tt inner tt, (c, last_line, reads, (tt, [], last_reads, (refl, refl, refl)))) in
+    let whole : limit_proof_text.Reads (title_line ++ inner) c [] = (
+      tt,
+      inner,
+      line_is_read title_form title_is_clear tt inner tt,
+      (c, last_line, reads, (tt, [], last_reads, (refl, refl, refl))),
+    ) in
     subst (λ t. limit_proof_text.Reads t c []) (sym is) whole
 
-pub text_is_read : (c : LimitClaim) (text : List ℕ) → IsBounded c → IsLimitProofText c text → limit_proof_text.Reads text c []
+pub text_is_read : (c : LimitClaim) (text : List ℕ) → IsBounded c → IsLimitProofText c text →
+    limit_proof_text.Reads text c []
 text_is_read (Extreme numbers f lines rows) text b p =
     let groups = flat_map group_text rows ++ last_line in
     let behind = flat_map cover_line lines ++ (modulus_text numbers ++ groups) in
@@ -191,22 +209,29 @@ text_is_read (Extreme numbers f lines rows) text b p =
       (
         lines,
         modulus_text numbers ++ groups,
-        (covered_is_printed f.order small).reads lines (modulus_text numbers ++ groups) (has.count, has.lines_below) tt,
+        (covered_is_printed f.order small).reads lines (modulus_text numbers ++ groups)
+            (has.count, has.lines_below) tt,
         (
           numbers,
           groups,
           numbers_are_printed.reads numbers groups tt other,
-          (rows, (groups_are_printed f.order small).reads rows last_line has.rows_below end_begins, refl),
+          (
+            rows,
+            (groups_are_printed f.order small).reads rows last_line has.rows_below end_begins,
+            refl,
+          ),
         ),
       ),
     ) in
     whole_reads (Extreme numbers f lines rows) inner text
     (inr (other_claim inner (p.subject ++ behind) first, (tt, p.subject ++ behind, first, reads)))
     (p.spelled
-    ∙ regroup title_line (line (codes "claim extreme")) p.subject (flat_map cover_line lines) (modulus_text numbers)
+    ∙ regroup title_line (line (codes "claim extreme")) p.subject (flat_map cover_line lines)
+    (modulus_text numbers)
     (flat_map group_text rows) last_line)
   where
-    regroup : (a b c d m e g : List ℕ) → a ++ b ++ c ++ (d ++ (m ++ e)) ++ g ≡ a ++ (b ++ (c ++ (d ++ (m ++ (e ++ g)))))
+    regroup : (a b c d m e g : List ℕ) →
+        a ++ b ++ c ++ (d ++ (m ++ e)) ++ g ≡ a ++ (b ++ (c ++ (d ++ (m ++ (e ++ g)))))
     regroup a b c d m e g = simp append_assoc
 text_is_read (NotExtreme f h) text b p =
     let behind = halves_text h ++ last_line in
@@ -219,15 +244,20 @@ text_is_read (NotExtreme f h) text b p =
       (h, halves_are_printed.reads h last_line p.has_text tt, refl),
     ) in
     whole_reads (NotExtreme f h) inner text
-    (inl (begins_so Strict inner (p.subject ++ behind) not_extreme_words first, (tt, p.subject ++ behind, first, reads)))
-    (p.spelled ∙ regroup title_line (line (codes "claim not-extreme")) p.subject (halves_text h) last_line)
+    (inl (
+      begins_so Strict inner (p.subject ++ behind) not_extreme_words first,
+      (tt, p.subject ++ behind, first, reads),
+    ))
+    (p.spelled ∙ regroup title_line (line (codes "claim not-extreme")) p.subject
+    (halves_text h) last_line)
   where
     regroup : (a b c d e : List ℕ) → a ++ b ++ c ++ d ++ e ≡ a ++ (b ++ (c ++ (d ++ e)))
     regroup a b c d e = simp append_assoc
 
 -- ---- what is read is the text of a claim
 
-function_found : (text : List ℕ) (f : FunctionData) (rest : List ℕ) → (function_part Strict).Reads text f rest →
+function_found : (text : List ℕ) (f : FunctionData) (rest : List ℕ) →
+    (function_part Strict).Reads text f rest →
     IsWithinBounds f × (lines : List ℕ) × AreFunctionLines f lines × (text ≡ lines ++ rest)
 function_found text f rest h =
     let (lines, are, is) = strict_lines_are_canonical f text rest h in
@@ -236,19 +266,24 @@ function_found text f rest h =
 -- the text of a claim, behind the line of its word
 pub record ClaimFound (c : LimitClaim) (inner rest : List ℕ) : Type 0 where
   pub bounded : IsBounded c
-  pub text : (whole : List ℕ) → whole ≡ title_line ++ (claim_line c ++ inner) → rest ≡ last_line → IsLimitProofText c whole
+  pub text : (whole : List ℕ) → whole ≡ title_line ++ (claim_line c ++ inner) → rest ≡ last_line →
+      IsLimitProofText c whole
 
 extreme_found : (c : LimitClaim) (inner rest : List ℕ) → extreme_part.Reads inner c rest →
     ClaimFound c inner rest × (claim_line c ≡ line (codes "claim extreme"))
-extreme_found c inner rest (f, middle, reads, (lines, behind, covered, (numbers, groups, named, (rows, more, c_is)))) =
+extreme_found c inner rest
+    (f, middle, reads, (lines, behind, covered, (numbers, groups, named, (rows, more, c_is)))) =
     let (within, function, subject, inner_is) = function_found inner f middle reads in
     let small = within.order_high in
     let cover = (covered_is_printed f.order small).found middle behind lines covered in
     let modulus = numbers_are_printed.found behind groups numbers named in
     let found = (groups_are_printed f.order small).found groups rest rows more in
-    let P : LimitClaim → Type 0 = λ d. ClaimFound d inner rest × (claim_line d ≡ line (codes "claim extreme")) in
-    let own : middle ≡ flat_map cover_line lines ++ (modulus_text numbers ++ (flat_map group_text rows ++ rest)) =
-    cover.0 ∙ ap (λ t. flat_map cover_line lines ++ t) (modulus.0 ∙ ap (λ u. modulus_text numbers ++ u) found.0) in
+    let P : LimitClaim → Type 0 = λ d. ClaimFound d inner rest
+    × (claim_line d ≡ line (codes "claim extreme")) in
+    let own : middle ≡ flat_map cover_line lines
+    ++ (modulus_text numbers ++ (flat_map group_text rows ++ rest)) =
+    cover.0 ∙ ap (λ t. flat_map cover_line lines ++ t)
+    (modulus.0 ∙ ap (λ u. modulus_text numbers ++ u) found.0) in
     subst P (sym c_is) (
       record {
         bounded = within;
@@ -257,17 +292,21 @@ extreme_found c inner rest (f, middle, reads, (lines, behind, covered, (numbers,
           subject = function;
           are_function_lines = subject;
           spelled = is
-              ∙ ap (λ t. title_line ++ (line (codes "claim extreme") ++ t)) (inner_is ∙ ap (λ t. function ++ t) own)
-              ∙ ap (λ r. title_line ++ (line (codes "claim extreme") ++ (function ++ (flat_map cover_line lines
+              ∙ ap (λ t. title_line ++ (line (codes "claim extreme") ++ t))
+              (inner_is ∙ ap (λ t. function ++ t) own)
+              ∙ ap (λ r. title_line
+              ++ (line (codes "claim extreme") ++ (function ++ (flat_map cover_line lines
               ++ (modulus_text numbers ++ (flat_map group_text rows ++ r)))))) rest_is
-              ∙ regroup title_line (line (codes "claim extreme")) function (flat_map cover_line lines) (modulus_text numbers)
+              ∙ regroup title_line (line (codes "claim extreme")) function
+              (flat_map cover_line lines) (modulus_text numbers)
               (flat_map group_text rows) last_line;
         };
       },
       refl,
     )
   where
-    regroup : (a b c d m e g : List ℕ) → a ++ (b ++ (c ++ (d ++ (m ++ (e ++ g))))) ≡ a ++ b ++ c ++ (d ++ (m ++ e)) ++ g
+    regroup : (a b c d m e g : List ℕ) → a ++ (b ++ (c ++ (d ++ (m ++ (e ++ g)))))
+        ≡ a ++ b ++ c ++ (d ++ (m ++ e)) ++ g
     regroup a b c d m e g = simp append_assoc
 
 not_extreme_found : (c : LimitClaim) (inner rest : List ℕ) → not_extreme_part.Reads inner c rest →
@@ -275,7 +314,8 @@ not_extreme_found : (c : LimitClaim) (inner rest : List ℕ) → not_extreme_par
 not_extreme_found c inner rest (f, middle, reads, (h, shown, c_is)) =
     let (within, bytes, subject, inner_is) = function_found inner f middle reads in
     let found = halves_are_printed.found middle rest h shown in
-    let P : LimitClaim → Type 0 = λ d. ClaimFound d inner rest × (claim_line d ≡ line (codes "claim not-extreme")) in
+    let P : LimitClaim → Type 0 = λ d. ClaimFound d inner rest
+    × (claim_line d ≡ line (codes "claim not-extreme")) in
     subst P (sym c_is) (
       record {
         bounded = within;
@@ -286,7 +326,8 @@ not_extreme_found c inner rest (f, middle, reads, (h, shown, c_is)) =
           spelled = is
               ∙ ap (λ t. title_line ++ (line (codes "claim not-extreme") ++ t))
               (inner_is ∙ ap (λ t. bytes ++ t) (found.0 ∙ ap (λ t. halves_text h ++ t) rest_is))
-              ∙ regroup title_line (line (codes "claim not-extreme")) bytes (halves_text h) last_line;
+              ∙ regroup title_line (line (codes "claim not-extreme")) bytes
+              (halves_text h) last_line;
         };
       },
       refl,
@@ -296,14 +337,19 @@ not_extreme_found c inner rest (f, middle, reads, (h, shown, c_is)) =
     regroup a b c d e = simp append_assoc
 
 -- a claim behind the line of its word
-named_found : (words : List (List ℕ)) (c : LimitClaim) (text inner rest : List ℕ) (t : Unit {0}) → (words_part words).Reads text t inner →
+named_found : (words : List (List ℕ)) (c : LimitClaim) (text inner rest : List ℕ) (t : Unit {0}) →
+    (words_part words).Reads text t inner →
     ClaimFound c inner rest × (claim_line c ≡ line (join_with_byte 32 words)) → IsBounded c
     × ((whole : List ℕ) → whole ≡ title_line ++ text → rest ≡ last_line → IsLimitProofText c whole)
 named_found words c text inner rest t named found =
     let (read, same, spelled) = line_found (words_rule words) text inner t named in
     let text_is : text ≡ claim_line c ++ inner =
-    spelled ∙ ap (λ ws. line (join_with_byte 32 ws) ++ inner) same ∙ ap (λ l. l ++ inner) (sym found.1) in
-    (found.0.bounded, λ whole is rest_is. found.0.text whole (is ∙ ap (λ u. title_line ++ u) text_is) rest_is)
+    spelled ∙ ap (λ ws. line (join_with_byte 32 ws) ++ inner) same
+    ∙ ap (λ l. l ++ inner) (sym found.1) in (
+      found.0.bounded,
+      λ whole is rest_is. found.0.text whole
+          (is ∙ ap (λ u. title_line ++ u) text_is) rest_is,
+    )
 
 claim_found : (c : LimitClaim) (text rest : List ℕ) → claim_part.Reads text c rest → IsBounded c
     × ((whole : List ℕ) → whole ≡ title_line ++ text → rest ≡ last_line → IsLimitProofText c whole)
@@ -312,16 +358,24 @@ claim_found c text rest (inl (is, (t, inner, named, more))) =
 claim_found c text rest (inr (not, (t, inner, named, more))) =
     named_found extreme_words c text inner rest t named (extreme_found c inner rest more)
 
-pub read_is_text : (c : LimitClaim) (text : List ℕ) → limit_proof_text.Reads text c [] → IsBounded c × IsLimitProofText c text
+pub read_is_text : (c : LimitClaim) (text : List ℕ) → limit_proof_text.Reads text c [] →
+    IsBounded c × IsLimitProofText c text
 read_is_text c text (t, m, title, (d, rest, claimed, (u, left, end, (c_is, nil, nothing)))) =
     let (end_words, end_is, rest_is) = line_found (words_rule (codes "end" ∷ [])) rest left u end in
     let last_is : rest ≡ last_line =
-    rest_is ∙ ap (λ ws. line (join_with_byte 32 ws) ++ left) end_is ∙ ap (λ l. last_line ++ l) nothing ∙ append-nil last_line in
+    rest_is ∙ ap (λ ws. line (join_with_byte 32 ws) ++ left) end_is
+    ∙ ap (λ l. last_line ++ l) nothing ∙ append-nil last_line in
     let found = claim_found d m rest claimed in
     let P : LimitClaim → Type 0 = λ a. IsBounded a × IsLimitProofText a text in
-    subst P (sym c_is) (found.0, found.1 text (only_line title_form title_is_clear text m t title).0 last_is)
+    subst P (sym c_is) (
+      found.0,
+      found.1 text (only_line title_form title_is_clear text m t title).0
+          last_is,
+    )
 
 -- the lines of a text, read one after another, are those of a claim
-pub lines_read : (text m rest behind : List ℕ) (c : LimitClaim) → title_part.Reads text tt m → claim_part.Reads m c rest →
+pub lines_read : (text m rest behind : List ℕ) (c : LimitClaim) → title_part.Reads text tt m →
+    claim_part.Reads m c rest →
     last_part.Reads rest tt behind → behind ≡ [] → limit_proof_text.Reads text c []
-lines_read text m rest behind c title reads end ended = (tt, m, title, (c, rest, reads, (tt, behind, end, (refl, ended, ended))))
+lines_read text m rest behind c title reads end ended =
+    (tt, m, title, (c, rest, reads, (tt, behind, end, (refl, ended, ended))))

@@ -27,11 +27,14 @@ pub data IsLinear (n : ℕ) : ((ℕ → ℤ) → ℤ) → Type 0 where
   minus : (f g : (ℕ → ℤ) → ℤ) → IsLinear n f → IsLinear n g → IsLinear n (λ x. f x -ℤ g x)
 
 -- they look at no other columns
-pub linear_same : (n : ℕ) (f : (ℕ → ℤ) → ℤ) (x y : ℕ → ℤ) → IsLinear n f → ((c : ℕ) → c < n → x c ≡ y c) → f x ≡ f y
+pub linear_same : (n : ℕ) (f : (ℕ → ℤ) → ℤ) (x y : ℕ → ℤ) → IsLinear n f →
+    ((c : ℕ) → c < n → x c ≡ y c) → f x ≡ f y
 linear_same n _ x y (column c low) same = same c low
 linear_same n _ x y none same = refl
-linear_same n _ x y (plus f g a b) same = ap₂ (λ s t. s +ℤ t) (linear_same n f x y a same) (linear_same n g x y b same)
-linear_same n _ x y (minus f g a b) same = ap₂ (λ s t. s -ℤ t) (linear_same n f x y a same) (linear_same n g x y b same)
+linear_same n _ x y (plus f g a b) same =
+    ap₂ (λ s t. s +ℤ t) (linear_same n f x y a same) (linear_same n g x y b same)
+linear_same n _ x y (minus f g a b) same =
+    ap₂ (λ s t. s -ℤ t) (linear_same n f x y a same) (linear_same n g x y b same)
 
 -- ---- products of the columns from a on, m in number
 
@@ -43,20 +46,24 @@ no_products a zero w = refl
 no_products a (suc m) [] = refl
 no_products a (suc m) (y ∷ ys) = let rest = no_products (a + 1) m ys in omega (arith, ints, rest)
 
-plus_products : (f g : ℕ → ℤ) (a m : ℕ) (w : List ℤ) → products (λ j. f j +ℤ g j) a m w ≡ products f a m w +ℤ products g a m w
+plus_products : (f g : ℕ → ℤ) (a m : ℕ) (w : List ℤ) →
+    products (λ j. f j +ℤ g j) a m w ≡ products f a m w +ℤ products g a m w
 plus_products f g a zero w = refl
 plus_products f g a (suc m) [] = refl
 plus_products f g a (suc m) (y ∷ ys) =
     let rest = plus_products f g (a + 1) m ys in
-    let here : (f a +ℤ g a) *ℤ y ≡ f a *ℤ y +ℤ g a *ℤ y = by_ring (f a ∷ g a ∷ y ∷ []) (search ring depth 30) refl in
+    let here : (f a +ℤ g a) *ℤ y ≡ f a *ℤ y +ℤ g a *ℤ y =
+    by_ring (f a ∷ g a ∷ y ∷ []) (search ring depth 30) refl in
     omega (arith, ints, rest, here)
 
-minus_products : (f g : ℕ → ℤ) (a m : ℕ) (w : List ℤ) → products (λ j. f j -ℤ g j) a m w ≡ products f a m w -ℤ products g a m w
+minus_products : (f g : ℕ → ℤ) (a m : ℕ) (w : List ℤ) →
+    products (λ j. f j -ℤ g j) a m w ≡ products f a m w -ℤ products g a m w
 minus_products f g a zero w = refl
 minus_products f g a (suc m) [] = refl
 minus_products f g a (suc m) (y ∷ ys) =
     let rest = minus_products f g (a + 1) m ys in
-    let here : (f a -ℤ g a) *ℤ y ≡ f a *ℤ y -ℤ g a *ℤ y = by_ring (f a ∷ g a ∷ y ∷ []) (search ring depth 30) refl in
+    let here : (f a -ℤ g a) *ℤ y ≡ f a *ℤ y -ℤ g a *ℤ y =
+    by_ring (f a ∷ g a ∷ y ∷ []) (search ring depth 30) refl in
     omega (arith, ints, rest, here)
 
 -- of the row with 1 at the column c alone: before it there is nothing
@@ -65,22 +72,30 @@ before_column a zero c w low = refl
 before_column a (suc m) c [] low = refl
 before_column a (suc m) c (y ∷ ys) low =
     let rest = before_column (a + 1) m c ys (omega (arith, low)) in
-    let other : unit_at a c ≡ pos 0 = ap (λ t. if t then pos 1 else pos 0) (ne_eqb c a (λ e. absurd (omega (arith, low, e)))) in
-    let here : unit_at a c *ℤ y ≡ pos 0 = ap (λ u. u *ℤ y) other ∙ (let z : pos 0 *ℤ y ≡ pos 0 = omega (arith, ints) in z) in
+    let other : unit_at a c ≡ pos 0 =
+    ap (λ t. if t then pos 1 else pos 0) (ne_eqb c a (λ e. absurd (omega (arith, low, e)))) in
+    let here : unit_at a c *ℤ y ≡ pos 0 = ap (λ u. u *ℤ y) other
+    ∙ (let z : pos 0 *ℤ y ≡ pos 0 = omega (arith, ints) in z) in
     omega (arith, ints, rest, here)
 
-unit_products : (a m k c : ℕ) (w : List ℤ) → c ≡ a + k → k < m → length w ≡ m → products (λ j. unit_at j c) a m w ≡ get_or w k (pos 0)
+unit_products : (a m k c : ℕ) (w : List ℤ) → c ≡ a + k → k < m → length w ≡ m →
+    products (λ j. unit_at j c) a m w ≡ get_or w k (pos 0)
 unit_products a zero k c w is low len = absurd (omega (arith, low))
 unit_products a (suc m) k c [] is low len = absurd (omega (arith, len))
 unit_products a (suc m) zero c (y ∷ ys) is low len =
-    let same : unit_at a c ≡ pos 1 = ap (λ t. if t then pos 1 else pos 0) (eq-eqb c a (omega (arith, is))) in
-    let here : unit_at a c *ℤ y ≡ y = ap (λ u. u *ℤ y) same ∙ (let z : pos 1 *ℤ y ≡ y = omega (arith, ints) in z) in
+    let same : unit_at a c ≡ pos 1 =
+    ap (λ t. if t then pos 1 else pos 0) (eq-eqb c a (omega (arith, is))) in
+    let here : unit_at a c *ℤ y ≡ y = ap (λ u. u *ℤ y) same
+    ∙ (let z : pos 1 *ℤ y ≡ y = omega (arith, ints) in z) in
     let rest = before_column (a + 1) m c ys (omega (arith, is)) in
     omega (arith, ints, rest, here)
 unit_products a (suc m) (suc k) c (y ∷ ys) is low len =
-    let other : unit_at a c ≡ pos 0 = ap (λ t. if t then pos 1 else pos 0) (ne_eqb c a (λ e. absurd (omega (arith, is, e)))) in
-    let here : unit_at a c *ℤ y ≡ pos 0 = ap (λ u. u *ℤ y) other ∙ (let z : pos 0 *ℤ y ≡ pos 0 = omega (arith, ints) in z) in
-    let rest = unit_products (a + 1) m k c ys (omega (arith, is)) (omega (arith, low)) (omega (arith, len)) in
+    let other : unit_at a c ≡ pos 0 =
+    ap (λ t. if t then pos 1 else pos 0) (ne_eqb c a (λ e. absurd (omega (arith, is, e)))) in
+    let here : unit_at a c *ℤ y ≡ pos 0 = ap (λ u. u *ℤ y) other
+    ∙ (let z : pos 0 *ℤ y ≡ pos 0 = omega (arith, ints) in z) in
+    let rest = unit_products (a + 1) m k c ys (omega (arith, is)) (omega (arith, low))
+    (omega (arith, len)) in
     omega (arith, ints, rest, here)
 
 -- at each column what it is if that one is 1 and all others are 0, times the numbers for the columns
@@ -99,28 +114,35 @@ linear_products n _ w (minus f g a b) len =
 
 module _ (f : FunctionData) (comp : ℕ → ℕ) (count : ℕ) (some : 0 < f.order)
     (few : (i : ℕ) → i < f.order → comp i < count) where
-  value_linear : (i : ℕ) → i < f.order → IsLinear (columns_for f.order count) (λ x. value_from f.order x i)
+  value_linear : (i : ℕ) → i < f.order →
+      IsLinear (columns_for f.order count) (λ x. value_from f.order x i)
   value_linear zero low = none
   value_linear (suc i) low = column (value_column f.order (suc i)) (omega (arith, low))
 
-  number_linear : (side : Side) (i : ℕ) → IsLinear (columns_for f.order count) (λ x. number_on (limits_from f.order comp x) side i)
-  number_linear Right i = let low = mod-lt i some in column (right_column f.order (i % f.order)) (omega (arith, low))
+  number_linear : (side : Side) (i : ℕ) →
+      IsLinear (columns_for f.order count) (λ x. number_on (limits_from f.order comp x) side i)
+  number_linear Right i = let low = mod-lt i some in
+      column (right_column f.order (i % f.order)) (omega (arith, low))
   number_linear Value i = value_linear (i % f.order) (mod-lt i some)
   number_linear Left i =
       let j = interval_before f.order i in
       let low = mod-lt (i + (f.order - 1)) some in
       let component = few j low in
       plus (λ x. x (right_column f.order j)) (λ x. x (slope_column f.order (comp j)))
-      (column (right_column f.order j) (omega (arith, low))) (column (slope_column f.order (comp j)) (omega (arith, component)))
+      (column (right_column f.order j) (omega (arith, low)))
+      (column (slope_column f.order (comp j)) (omega (arith, component)))
 
   pub row_linear : (name : LimitRow) →
-      IsLinear (columns_for f.order count) (λ x. row_value f.place (limits_from f.order comp x) name)
+      IsLinear (columns_for f.order count)
+      (λ x. row_value f.place (limits_from f.order comp x) name)
   row_linear F = number_linear Value f.place
   row_linear (Tight kind corner a b) =
       let t = terms_at kind corner in
-      minus (λ x. number_on (limits_from f.order comp x) t.x a +ℤ number_on (limits_from f.order comp x) t.y b)
+      minus (λ x. number_on (limits_from f.order comp x) t.x a +ℤ number_on
+      (limits_from f.order comp x) t.y b)
       (λ x. number_on (limits_from f.order comp x) t.sum (a + b))
-      (plus (λ x. number_on (limits_from f.order comp x) t.x a) (λ x. number_on (limits_from f.order comp x) t.y b)
+      (plus (λ x. number_on (limits_from f.order comp x) t.x a)
+      (λ x. number_on (limits_from f.order comp x) t.y b)
       (number_linear t.x a) (number_linear t.y b))
       (number_linear t.sum (a + b))
 
@@ -129,4 +151,5 @@ module _ (f : FunctionData) (comp : ℕ → ℕ) (count : ℕ) (some : 0 < f.ord
       sum_of_products (named_row f comp (columns_for f.order count) name) w
       ≡ row_value f.place (limits_from f.order comp (λ c. get_or w c (pos 0))) name
   named_products name w len =
-      linear_products (columns_for f.order count) (λ x. row_value f.place (limits_from f.order comp x) name) w (row_linear name) len
+      linear_products (columns_for f.order count)
+      (λ x. row_value f.place (limits_from f.order comp x) name) w (row_linear name) len

@@ -15,9 +15,11 @@ use Rattle.gj_limit_system.specs.declared.limit_row.LimitRow.{LimitRow}
 use Rattle.gj_limit_proof.specs.LimitRowsKept.{unit_at, named_row}
 
 -- the sum with 1 at a column and 0 elsewhere is the factor there
-unit_dot : (a n : ℕ) (row : List Entry) (c : ℕ) → AreSparseFrom a n row → sparse_dot row (unit_at c) ≡ factor_at row c
+unit_dot : (a n : ℕ) (row : List Entry) (c : ℕ) → AreSparseFrom a n row →
+    sparse_dot row (unit_at c) ≡ factor_at row c
 unit_dot a n [] c h = refl
-unit_dot a n (e ∷ row) c (first, later) = by_column (cases_eq e.column c) (unit_dot (e.column + 1) n row c later)
+unit_dot a n (e ∷ row) c (first, later) =
+    by_column (cases_eq e.column c) (unit_dot (e.column + 1) n row c later)
   where
     whole : (x s : ℤ) → x *ℤ pos 1 +ℤ s ≡ x +ℤ s
     whole x s = omega (arith, ints)
@@ -31,12 +33,14 @@ unit_dot a n (e ∷ row) c (first, later) = by_column (cases_eq e.column c) (uni
     by_column : (e.column ≡ c) ⊎ (e.column ≢ c) → sparse_dot row (unit_at c) ≡ factor_at row c →
         e.factor *ℤ unit_at c e.column +ℤ sparse_dot row (unit_at c) ≡ factor_at (e ∷ row) c
     by_column (inl same) rest =
-        ap (λ t. e.factor *ℤ (if t then pos 1 else pos 0) +ℤ sparse_dot row (unit_at c)) (eq-eqb e.column c same)
+        ap (λ t. e.factor *ℤ (if t then pos 1 else pos 0) +ℤ sparse_dot row (unit_at c))
+        (eq-eqb e.column c same)
         ∙ whole e.factor (sparse_dot row (unit_at c))
         ∙ ap (λ s. e.factor +ℤ s) (rest ∙ factor_before (e.column + 1) n row c later (omega arith))
         ∙ no_more e.factor ∙ sym (factor_here e row c same)
     by_column (inr other) rest =
-        ap (λ t. e.factor *ℤ (if t then pos 1 else pos 0) +ℤ sparse_dot row (unit_at c)) (ne_eqb e.column c other)
+        ap (λ t. e.factor *ℤ (if t then pos 1 else pos 0) +ℤ sparse_dot row (unit_at c))
+        (ne_eqb e.column c other)
         ∙ nothing e.factor (sparse_dot row (unit_at c)) ∙ rest ∙ sym (factor_later e row c other)
 
 same_map : {A : Type 0} (f g : ℕ → A) (xs : List ℕ) → ((k : ℕ) → f k ≡ g k) → map f xs ≡ map g xs
@@ -44,12 +48,15 @@ same_map f g [] same = refl
 same_map f g (x ∷ xs) same = ap₂ (λ y ys. y ∷ ys) (same x) (same_map f g xs same)
 
 -- entries that have its sums are its entries
-pub dense_named : (f : FunctionData) (component : ℕ → ℕ) (n place order : ℕ) (name : LimitRow) (row : List Entry) →
+pub dense_named : (f : FunctionData) (component : ℕ → ℕ) (n place order : ℕ) (name : LimitRow)
+    (row : List Entry) →
     AreSparse n row → f.place ≡ place → f.order ≡ order →
     ((x : ℕ → ℤ) → sparse_dot row x ≡ row_value place (limits_from order component x) name) →
     dense n row ≡ named_row f component n name
 unfolding dense
 dense_named f component n place order name row h place_is order_is sums =
-    same_map (factor_at row) (λ c. row_value f.place (limits_from f.order component (unit_at c)) name) (range_with_len 0 n)
+    same_map (factor_at row)
+    (λ c. row_value f.place (limits_from f.order component (unit_at c)) name)
+    (range_with_len 0 n)
     (λ c. sym (unit_dot 0 n row c h) ∙ sums (unit_at c)
     ∙ sym (ap₂ (λ k q. row_value k (limits_from q component (unit_at c)) name) place_is order_is))

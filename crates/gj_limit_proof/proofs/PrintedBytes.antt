@@ -78,7 +78,8 @@ number_printable b (inr (inl e)) = (omega (arith, e), omega (arith, e))
 number_printable b (inr (inr e)) = (omega (arith, e), omega (arith, e))
 
 fraction_printable : (x : Frac) → All IsPrintable (fraction_text x)
-fraction_printable x = All-weaker IsNumberByte IsPrintable number_printable (fraction_text x) (fraction_bytes x)
+fraction_printable x = All-weaker IsNumberByte IsPrintable number_printable (fraction_text x)
+    (fraction_bytes x)
 
 -- ---- lines
 
@@ -95,30 +96,40 @@ HavePrintableWords (f ∷ fields) = IsPrintableWord f × HavePrintableWords fiel
 field_printable : (f : Field) → IsGood f → IsPrintableWord f → All IsPrintable (word_of f)
 field_printable (word w) good h = h
 field_printable (fraction x) good h = fraction_printable x
-field_printable (count n) good h = All-weaker IsAsciiDigit IsPrintable (λ b d. number_printable b (inl d)) (decimal n) (decimal_bytes n good)
-field_printable (whole n) good h = subst (All IsPrintable) (text_of_whole n good) (fraction_printable (over_one n good))
+field_printable (count n) good h =
+    All-weaker IsAsciiDigit IsPrintable (λ b d. number_printable b (inl d)) (decimal n)
+    (decimal_bytes n good)
+field_printable (whole n) good h =
+    subst (All IsPrintable) (text_of_whole n good) (fraction_printable (over_one n good))
 
 ended : (bs : List ℕ) → All IsPrintable bs → All IsTextByte (bs ++ 10 ∷ [])
-ended bs h = both bs (10 ∷ []) (word_bytes bs h) (All-cons IsTextByte 10 [] (inl refl) (All-nil IsTextByte))
+ended bs h = both bs (10 ∷ []) (word_bytes bs h)
+    (All-cons IsTextByte 10 [] (inl refl) (All-nil IsTextByte))
 
-pub fields_bytes : (fields : List Field) → AreGood fields → HavePrintableWords fields → All IsTextByte (bytes_of fields)
+pub fields_bytes : (fields : List Field) → AreGood fields → HavePrintableWords fields →
+    All IsTextByte (bytes_of fields)
 fields_bytes [] good h = absurd good
 fields_bytes (f ∷ []) good h = ended (word_of f) (field_printable f good h.0)
 fields_bytes (f ∷ g ∷ fields) good h =
-    both (word_of f) (32 ∷ bytes_of (g ∷ fields)) (word_bytes (word_of f) (field_printable f good.0 h.0))
-    (All-cons IsTextByte 32 (bytes_of (g ∷ fields)) (inr (omega arith, omega arith)) (fields_bytes (g ∷ fields) good.1 h.1))
+    both (word_of f) (32 ∷ bytes_of (g ∷ fields))
+    (word_bytes (word_of f) (field_printable f good.0 h.0))
+    (All-cons IsTextByte 32 (bytes_of (g ∷ fields)) (inr (omega arith, omega arith))
+    (fields_bytes (g ∷ fields) good.1 h.1))
 
 -- the line of a form
-pub form_bytes : {A : Type 0} (form : LineForm A) → IsClear form → (a : A) → form.HasLine a → HavePrintableWords (form.fields a) →
+pub form_bytes : {A : Type 0} (form : LineForm A) → IsClear form → (a : A) → form.HasLine a →
+    HavePrintableWords (form.fields a) →
     All IsTextByte (line_of form a)
 form_bytes form clear a has h = fields_bytes (form.fields a) (clear.good a has) h
 
 -- lines of a form, one behind another
-forms_bytes : {A : Type 0} (form : LineForm A) → IsClear form → (items : List A) → All form.HasLine items →
+forms_bytes : {A : Type 0} (form : LineForm A) → IsClear form → (items : List A) →
+    All form.HasLine items →
     ((a : A) → HavePrintableWords (form.fields a)) → All IsTextByte (flat_map (line_of form) items)
 forms_bytes form clear items has h =
     All-flat_map IsTextByte (line_of form) items
-    (All-weaker form.HasLine (λ a. All IsTextByte (line_of form a)) (λ a one. form_bytes form clear a one (h a)) items has)
+    (All-weaker form.HasLine (λ a. All IsTextByte (line_of form a))
+    (λ a one. form_bytes form clear a one (h a)) items has)
 
 -- ---- the lines of a function
 
@@ -130,16 +141,20 @@ points_bytes : (ps : List Point) → All IsTextByte (flat_map point_line ps)
 points_bytes [] = All-nil IsTextByte
 points_bytes (p ∷ ps) =
     let n = printed_numbers p in
-    both (point_line p) (flat_map point_line ps) (fields_bytes (point_form.fields n) (good_point n) (point_words n)) (points_bytes ps)
+    both (point_line p) (flat_map point_line ps)
+    (fields_bytes (point_form.fields n) (good_point n) (point_words n)) (points_bytes ps)
 
-pub function_bytes : (f : FunctionData) (text : List ℕ) → IsWithinBounds f → AreFunctionLines f text → All IsTextByte text
+pub function_bytes : (f : FunctionData) (text : List ℕ) → IsWithinBounds f →
+    AreFunctionLines f text → All IsTextByte text
 function_bytes f text within a =
     let high = within.order_high in
     subst (All IsTextByte) (sym a.spelled)
     (both (order_line f.order ++ place_line a.place) (flat_map point_line a.points)
     (both (order_line f.order) (place_line a.place)
-    (fields_bytes (order_form.fields f.order) (known_word (codes "order") refl, omega arith) (known (codes "order") refl, (tt, tt)))
-    (fields_bytes (place_form.fields a.place) (known_word (codes "f") refl, tt) (known (codes "f") refl, (tt, tt))))
+    (fields_bytes (order_form.fields f.order) (known_word (codes "order") refl, omega arith)
+    (known (codes "order") refl, (tt, tt)))
+    (fields_bytes (place_form.fields a.place) (known_word (codes "f") refl, tt)
+    (known (codes "f") refl, (tt, tt))))
     (points_bytes a.points))
 
 -- ---- the lines of groups
@@ -170,7 +185,8 @@ sides_printable Upper (suc (suc corner)) = known (codes "---") refl
 row_words : (row : LimitRow) → HavePrintableWords (row_fields row)
 row_words F = (known (codes "row") refl, (known (codes "f") refl, tt))
 row_words (Tight Vertex corner a b) = (known (codes "row") refl, (tt, (tt, tt)))
-row_words (Tight kind corner a b) = (known (codes "row") refl, (tt, (tt, (sides_printable kind corner, tt))))
+row_words (Tight kind corner a b) =
+    (known (codes "row") refl, (tt, (tt, (sides_printable kind corner, tt))))
 
 module _ (q : ℕ) (small : q ≤ 1000) where
   group_bytes : (row : LimitPivotRow) → IsLimitPivotRowBelow q row → All IsTextByte (group_text row)
@@ -178,22 +194,28 @@ module _ (q : ℕ) (small : q ≤ 1000) where
       both (group_line row.name ++ flat_map reduction_line row.reduce) (pivot_line row.pivot)
       (both (group_line row.name) (flat_map reduction_line row.reduce)
       (form_bytes (row_form q) (row_is_clear q small) row.name h.name (row_words row.name))
-      (forms_bytes reduce_form reduce_is_clear row.reduce h.reduce (λ c. (known (codes "reduce") refl, (tt, tt)))))
-      (form_bytes pivot_form pivot_is_clear row.pivot h.pivot (known (codes "pivot") refl, (tt, tt)))
+      (forms_bytes reduce_form reduce_is_clear row.reduce h.reduce
+      (λ c. (known (codes "reduce") refl, (tt, tt)))))
+      (form_bytes pivot_form pivot_is_clear row.pivot h.pivot
+      (known (codes "pivot") refl, (tt, tt)))
 
-  groups_bytes : (rows : List LimitPivotRow) → All (IsLimitPivotRowBelow q) rows → All IsTextByte (flat_map group_text rows)
+  groups_bytes : (rows : List LimitPivotRow) → All (IsLimitPivotRowBelow q) rows →
+      All IsTextByte (flat_map group_text rows)
   groups_bytes rows h =
       All-flat_map IsTextByte group_text rows
-      (All-weaker (IsLimitPivotRowBelow q) (λ row. All IsTextByte (group_text row)) group_bytes rows h)
+      (All-weaker (IsLimitPivotRowBelow q) (λ row. All IsTextByte (group_text row)) group_bytes rows
+      h)
 
-  covers_bytes : (lines : List CoverLine) → All (IsCoverLineBelow q) lines → All IsTextByte (flat_map cover_line lines)
+  covers_bytes : (lines : List CoverLine) → All (IsCoverLineBelow q) lines →
+      All IsTextByte (flat_map cover_line lines)
   covers_bytes lines h =
       forms_bytes (cover_form q) (cover_is_clear q small) lines h
       (λ l. (known (codes "cover") refl, (tt, (tt, (kind_printable l.face.kind, (tt, (tt, tt)))))))
 
 modulus_bytes : (n : Numbers) → All IsTextByte (modulus_text n)
 modulus_bytes Whole = All-nil IsTextByte
-modulus_bytes Residues = form_bytes modulus_form modulus_is_clear tt tt (known (codes "modulus") refl, (tt, tt))
+modulus_bytes Residues =
+    form_bytes modulus_form modulus_is_clear tt tt (known (codes "modulus") refl, (tt, tt))
 
 -- ---- the lines of halves
 
@@ -202,7 +224,8 @@ pair_words p =
     let first = known (codes "pair") refl in
     by_jump (HavePrintableWords (pair_fields p)) p
     (λ b. subst HavePrintableWords (sym (smooth_fields p b)) (first, (tt, (tt, tt))))
-    (λ b. subst HavePrintableWords (sym (jump_fields p b)) (first, (tt, (tt, (tt, (tt, (tt, (tt, tt))))))))
+    (λ b. subst HavePrintableWords (sym (jump_fields p b))
+    (first, (tt, (tt, (tt, (tt, (tt, (tt, tt))))))))
 
 -- ---- the text
 
@@ -210,24 +233,30 @@ own_bytes : (c : LimitClaim) → IsBounded c → HasText c → All IsTextByte (o
 own_bytes (Extreme n f lines rows) within has =
     both (flat_map cover_line lines) (modulus_text n ++ flat_map group_text rows)
     (covers_bytes f.order within.order_high lines has.lines_below)
-    (both (modulus_text n) (flat_map group_text rows) (modulus_bytes n) (groups_bytes f.order within.order_high rows has.rows_below))
+    (both (modulus_text n) (flat_map group_text rows) (modulus_bytes n)
+    (groups_bytes f.order within.order_high rows has.rows_below))
 own_bytes (NotExtreme f h) within has =
     both (halves_line h) (flat_map pair_line (pairs_of h))
-    (form_bytes halves_form halves_is_clear (head_of h) (head_in_bounds h has) (known (codes "halves") refl, (tt, (tt, tt))))
+    (form_bytes halves_form halves_is_clear (head_of h) (head_in_bounds h has)
+    (known (codes "halves") refl, (tt, (tt, tt))))
     (forms_bytes pair_form pair_is_clear (pairs_of h) (pairs_fit h has) pair_words)
 
 claim_bytes : (c : LimitClaim) → All IsTextByte (claim_line c)
-claim_bytes (Extreme n f lines rows) = ended (codes "claim extreme") (known (codes "claim extreme") refl)
-claim_bytes (NotExtreme f h) = ended (codes "claim not-extreme") (known (codes "claim not-extreme") refl)
+claim_bytes (Extreme n f lines rows) =
+    ended (codes "claim extreme") (known (codes "claim extreme") refl)
+claim_bytes (NotExtreme f h) =
+    ended (codes "claim not-extreme") (known (codes "claim not-extreme") refl)
 
-pub text_bytes : (c : LimitClaim) (text : List ℕ) → IsBounded c → IsLimitProofText c text → All IsTextByte text
+pub text_bytes : (c : LimitClaim) (text : List ℕ) → IsBounded c → IsLimitProofText c text →
+    All IsTextByte text
 text_bytes c text within p =
     let head = title_line ++ claim_line c in
     subst (All IsTextByte) (sym p.spelled)
     (both (head ++ p.subject ++ own_text c) (line (codes "end"))
     (both (head ++ p.subject) (own_text c)
     (both head p.subject
-    (both title_line (claim_line c) (ended (codes "gj-proof 3") (known (codes "gj-proof 3") refl)) (claim_bytes c))
+    (both title_line (claim_line c) (ended (codes "gj-proof 3") (known (codes "gj-proof 3") refl))
+    (claim_bytes c))
     (function_bytes (function_of c) p.subject within p.are_function_lines))
     (own_bytes c within p.has_text))
     (ended (codes "end") (known (codes "end") refl)))

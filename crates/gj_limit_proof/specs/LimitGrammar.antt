@@ -31,13 +31,23 @@ abbrev pub row_form : ℕ → LineForm LimitRow
 row_form q = record { fields = row_fields; HasForm = λ n. Unit {0}; HasLine = IsRowWithin q }
 
 abbrev pub column_form : List ℕ → LineForm ℕ
-column_form w = record { fields = column_fields w; HasForm = λ c. Unit {0}; HasLine = λ c. c < greatest_columns }
+column_form w = record {
+  fields = column_fields w;
+  HasForm = λ c. Unit {0};
+  HasLine =
+      λ c. c < greatest_columns;
+}
 
 abbrev pub AllFit : Triple → Type 0
 AllFit t = Fits t.left × Fits t.value × Fits t.right
 
 abbrev pub pair_form : LineForm (Triple × Triple)
-pair_form = record { fields = pair_fields; HasForm = λ p. Unit {0}; HasLine = λ p. AllFit p.0 × AllFit p.1 }
+pair_form = record {
+  fields = pair_fields;
+  HasForm = λ p. Unit {0};
+  HasLine = λ p. AllFit p.0
+      × AllFit p.1;
+}
 
 -- six words, of which the first three are the same and the last three are
 abbrev pub AreTwiceThree : List (List ℕ) → Type 0
@@ -58,13 +68,15 @@ numbers_part =
 
 -- steps, as long as lines begin with `reduce`
 abbrev pub steps_part : Part (List ℕ)
-steps_part = while_part (BeginsWithWord Strict (codes "reduce")) (form_part (column_form (codes "reduce"))) []
+steps_part = while_part (BeginsWithWord Strict (codes "reduce"))
+    (form_part (column_form (codes "reduce"))) []
 
 abbrev pub group_part : ℕ → Part LimitPivotRow
 group_part q =
     then_part (form_part (row_form q)) (λ name.
     then_part steps_part (λ columns.
-    made_part (λ c row. row ≡ record { name = name; reduce = columns; pivot = c }) (form_part (column_form (codes "pivot")))))
+    made_part (λ c row. row ≡ record { name = name; reduce = columns; pivot = c })
+    (form_part (column_form (codes "pivot")))))
 
 -- groups, up to a line `end`
 abbrev pub groups_part : ℕ → Part (List LimitPivotRow)
@@ -88,7 +100,13 @@ pairs_part n = times_part pair_part n []
 
 -- the function with these numbers at its points
 abbrev pub side_numbers_of : List Triple → SideNumbers
-side_numbers_of ts = record { left = map (λ t. t.left) ts; value = map (λ t. t.value) ts; right = map (λ t. t.right) ts }
+side_numbers_of ts =
+    record {
+      left = map (λ t. t.left) ts;
+      value = map (λ t. t.value) ts;
+      right =
+          map (λ t. t.right) ts;
+    }
 
 abbrev pub halves_part : Part LimitHalves
 halves_part =
@@ -111,8 +129,10 @@ not_extreme_part =
 abbrev pub claim_part : Part LimitClaim
 claim_part =
     where_part (BeginsWithLine Strict (codes "claim" ∷ codes "not-extreme" ∷ []))
-    (then_part (line_part Strict (words_rule (codes "claim" ∷ codes "not-extreme" ∷ []))) (λ t. not_extreme_part))
-    (then_part (line_part Strict (words_rule (codes "claim" ∷ codes "extreme" ∷ []))) (λ t. extreme_part))
+    (then_part (line_part Strict (words_rule (codes "claim" ∷ codes "not-extreme" ∷ [])))
+    (λ t. not_extreme_part))
+    (then_part (line_part Strict (words_rule (codes "claim" ∷ codes "extreme" ∷ [])))
+    (λ t. extreme_part))
 
 -- `gj-proof 3`, the line of the claim, its lines, `end`, and nothing more
 abbrev pub limit_proof_text : Part LimitClaim

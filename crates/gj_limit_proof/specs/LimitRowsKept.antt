@@ -19,7 +19,8 @@ unit_at c j = if j == c then pos 1 else pos 0
 -- columns: at each column what it is if that one is 1 and all others are 0
 abbrev pub named_row : FunctionData → (ℕ → ℕ) → ℕ → LimitRow → List ℤ
 named_row f component n name =
-    map (λ c. row_value f.place (limits_from f.order component (unit_at c)) name) (range_with_len 0 n)
+    map (λ c. row_value f.place (limits_from f.order component (unit_at c)) name)
+    (range_with_len 0 n)
 
 -- the same, read
 abbrev pub begun_row : Arithmetic → FunctionData → (ℕ → ℕ) → ℕ → LimitRow → List ℤ
@@ -27,21 +28,25 @@ begun_row by f component n name = by.read (named_row f component n name)
 
 -- the row that a group keeps behind these: its row after its steps, as the arithmetic keeps it at
 -- the pivot
-abbrev pub row_kept_by : Arithmetic → FunctionData → (ℕ → ℕ) → ℕ → List KeptRow → LimitPivotRow → KeptRow
+abbrev pub row_kept_by : Arithmetic → FunctionData → (ℕ → ℕ) → ℕ → List KeptRow → LimitPivotRow →
+    KeptRow
 row_kept_by by f component n kept group = record {
   number = length kept;
   reduce = group.reduce;
   pivot = group.pivot;
   entries = entries_or_none
-      (by.keep (present_row_by by kept (begun_row by f component n group.name) group.reduce) group.pivot);
+      (by.keep (present_row_by by kept (begun_row by f component n group.name) group.reduce)
+      group.pivot);
 }
 
 -- the rows that these groups keep, behind others
-abbrev pub rows_behind_by : Arithmetic → FunctionData → (ℕ → ℕ) → ℕ → List KeptRow → List LimitPivotRow → List KeptRow
+abbrev pub rows_behind_by : Arithmetic → FunctionData → (ℕ → ℕ) → ℕ → List KeptRow →
+    List LimitPivotRow → List KeptRow
 rows_behind_by by f component n kept [] = kept
 rows_behind_by by f component n kept (group ∷ more) =
     rows_behind_by by f component n (kept ++ row_kept_by by f component n kept group ∷ []) more
 
 -- the rows that these groups keep
-abbrev pub rows_before_by : Arithmetic → FunctionData → (ℕ → ℕ) → ℕ → List LimitPivotRow → List KeptRow
+abbrev pub rows_before_by : Arithmetic → FunctionData → (ℕ → ℕ) → ℕ → List LimitPivotRow →
+    List KeptRow
 rows_before_by by f component n groups = rows_behind_by by f component n [] groups

@@ -34,11 +34,14 @@ use Rattle.gj_limit_proof.specs.declared.triple.Triple.{Triple}
 -- opens a component its face is a triangle with slack 0 that projects on the interval, and else an
 -- edge of it, at both ends of which the slack tends to 0 from inside it, joins the interval to one
 -- that has a line
-pub record MeetsLimitCover (f : FunctionData) (before : List CoverLine) (l : CoverLine) : Type 0 where
+pub record MeetsLimitCover (f : FunctionData) (before : List CoverLine) (l : CoverLine) :
+    Type 0 where
   pub new : HasCoverLine before l.interval → ⊥
-  pub opening : l.from ≡ l.interval → Covers f.order (IsTightAt f) l.face.kind l.face.a l.face.b l.interval
+  pub opening : l.from ≡ l.interval →
+      Covers f.order (IsTightAt f) l.face.kind l.face.a l.face.b l.interval
   pub earlier : l.from ≢ l.interval → HasCoverLine before l.from
-  pub joining : l.from ≢ l.interval → Joins f.order (IsTightAt f) l.face.kind l.face.a l.face.b l.interval l.from
+  pub joining : l.from ≢ l.interval →
+      Joins f.order (IsTightAt f) l.face.kind l.face.a l.face.b l.interval l.from
 
 -- the rule `row`: the limit that names a row is 0
 abbrev pub MeetsLimitRow : FunctionData → LimitRow → Type 0
@@ -50,7 +53,8 @@ MeetsLimitRow f (Tight kind corner a b) = slack_at (limits_in f) kind corner a b
 -- the rule `scale`: the order is m times the function's for some m, and the scale a multiple of m
 -- times the function's
 abbrev pub MeetsLimitScale : FunctionData → LimitHalves → Type 0
-MeetsLimitScale f h = (m : ℕ) × (c : ℕ) × (h.order ≡ f.order * m) × (h.scale ≡ pos (c * (f.scale * m)))
+MeetsLimitScale f h = (m : ℕ) × (c : ℕ) × (h.order ≡ f.order * m)
+    × (h.scale ≡ pos (c * (f.scale * m)))
 
 -- the three numbers lie from 0 to the scale
 pub record AreWithinScale (scale : ℤ) (t : Triple) : Type 0 where
@@ -63,7 +67,8 @@ pub record AreWithinScale (scale : ℤ) (t : Triple) : Type 0 where
 
 -- the rule `range`: all numbers of both halves do
 abbrev pub MeetsLimitRange : LimitHalves → ℕ → Type 0
-MeetsLimitRange h i = AreWithinScale h.scale (triple_at h.first i) × AreWithinScale h.scale (triple_at h.second i)
+MeetsLimitRange h i = AreWithinScale h.scale (triple_at h.first i)
+    × AreWithinScale h.scale (triple_at h.second i)
 
 -- the rule `average`: half the sums of both are the value and the limits of the function, over the
 -- scale
@@ -92,17 +97,20 @@ MeetsLimitSame h =
 abbrev pub group_demands_by : Numbers → ℕ → List LimitPivotRow → List Demand
 group_demands_by numbers g [] = []
 group_demands_by numbers g (one ∷ more) =
-    row g ∷ step_demands_by numbers g 0 one.reduce ++ pivot g ∷ group_demands_by numbers (g + 1) more
+    row g ∷ step_demands_by numbers g 0 one.reduce ++ pivot g ∷ group_demands_by numbers
+    (g + 1) more
 
 -- those of a claim, in the order in which they are tested
 abbrev pub demands_of : LimitClaim → List Demand
 demands_of (Extreme numbers f lines rows) =
-    minimal ∷ map cover (range_with_len 0 (length lines)) ++ group_demands_by numbers 0 rows ++ rank ∷ []
+    minimal ∷ map cover (range_with_len 0 (length lines)) ++ group_demands_by numbers 0 rows ++ rank
+    ∷ []
 demands_of (NotExtreme f h) =
     minimal ∷ scale ∷ pair_demands (range_with_len 0 h.order) ++ first ∷ second ∷ same ∷ []
 
 -- a claim that a function is extreme has a property of its parts
-abbrev pub IfExtreme : LimitClaim → (Numbers → FunctionData → List CoverLine → List LimitPivotRow → Type 0) → Type 0
+abbrev pub IfExtreme : LimitClaim →
+    (Numbers → FunctionData → List CoverLine → List LimitPivotRow → Type 0) → Type 0
 IfExtreme (Extreme numbers f lines rows) P = P numbers f lines rows
 IfExtreme (NotExtreme f h) P = Unit {0}
 
@@ -117,12 +125,14 @@ abbrev pub IfGroupOf : Numbers → FunctionData → (ℕ → ℕ) → ℕ → Li
     (List KeptRow → List ℤ → LimitPivotRow → Type 0) → Type 0
 IfGroupOf numbers f component n rows g P =
     AtIndex rows g (λ before one.
-    P (rows_before_by (arithmetic_of numbers) f component n before) (begun_row (arithmetic_of numbers) f component n one.name) one)
+    P (rows_before_by (arithmetic_of numbers) f component n before)
+    (begun_row (arithmetic_of numbers) f component n one.name) one)
 
 -- the same by any numbers of the components of all intervals. If there are no such numbers it
 -- demands nothing; but there are, if the claim has a text and its lines meet the rule `cover`, since
 -- then each interval has a line
-abbrev pub IfGroup : LimitClaim → ℕ → (Numbers → ℕ → List KeptRow → List ℤ → LimitPivotRow → Type 0) → Type 0
+abbrev pub IfGroup : LimitClaim → ℕ →
+    (Numbers → ℕ → List KeptRow → List ℤ → LimitPivotRow → Type 0) → Type 0
 IfGroup c g P = IfExtreme c (λ numbers f lines rows.
     (component : ℕ → ℕ) → AreNumbersOf f lines component →
     IfGroupOf numbers f component (columns_for f.order (components_in lines)) rows g
@@ -138,12 +148,15 @@ IfStep c g r P = IfGroup c g (λ numbers n kept begun one. AtIndex one.reduce r 
 abbrev pub DemandHolds : LimitClaim → Demand → Type 0
 DemandHolds c minimal = PassesAll (function_of c)
 DemandHolds c (cover i) = IfExtreme c (λ numbers f lines rows. AtIndex lines i (MeetsLimitCover f))
-DemandHolds c (row g) = IfExtreme c (λ numbers f lines rows. AtIndex rows g (λ before one. MeetsLimitRow f one.name))
+DemandHolds c (row g) =
+    IfExtreme c (λ numbers f lines rows. AtIndex rows g (λ before one. MeetsLimitRow f one.name))
 DemandHolds c (reduce g r) = IfStep c g r MeetsReduce
 DemandHolds c (size g r) = IfStep c g r MeetsSize
 DemandHolds c (pivot g) = IfGroup c g (λ numbers n kept begun one.
-    MeetsPivotBy numbers n kept (present_row_by (arithmetic_of numbers) kept begun one.reduce) one.pivot)
-DemandHolds c rank = IfExtreme c (λ numbers f lines rows. length rows ≡ columns_for f.order (components_in lines))
+    MeetsPivotBy numbers n kept (present_row_by (arithmetic_of numbers) kept begun one.reduce)
+    one.pivot)
+DemandHolds c rank =
+    IfExtreme c (λ numbers f lines rows. length rows ≡ columns_for f.order (components_in lines))
 DemandHolds c scale = IfHalves c MeetsLimitScale
 DemandHolds c (range i) = IfHalves c (λ f h. MeetsLimitRange h i)
 DemandHolds c (average i) = IfHalves c (λ f h. MeetsLimitAverage f h i)

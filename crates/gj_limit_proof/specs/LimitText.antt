@@ -57,7 +57,8 @@ sides_fields kind corner = word (sides_word kind corner) ∷ []
 -- `row f`, `row A B` or `row A B S`
 abbrev pub row_fields : LimitRow → List Field
 row_fields F = word (codes "row") ∷ word (codes "f") ∷ []
-row_fields (Tight kind corner a b) = word (codes "row") ∷ count a ∷ count b ∷ sides_fields kind corner
+row_fields (Tight kind corner a b) =
+    word (codes "row") ∷ count a ∷ count b ∷ sides_fields kind corner
 
 abbrev pub group_line : LimitRow → List ℕ
 group_line row = bytes_of (row_fields row)
@@ -68,7 +69,8 @@ group_text row = group_line row.name ++ flat_map reduction_line row.reduce ++ pi
 
 -- the lines of covered intervals, that of the modulus, and those of the groups
 abbrev pub extreme_text : Numbers → List CoverLine → List LimitPivotRow → List ℕ
-extreme_text numbers lines rows = flat_map cover_line lines ++ (modulus_text numbers ++ flat_map group_text rows)
+extreme_text numbers lines rows =
+    flat_map cover_line lines ++ (modulus_text numbers ++ flat_map group_text rows)
 
 -- ---- the lines of halves
 
@@ -93,7 +95,8 @@ triples_fields s t = word (codes "pair") ∷ three_fields s ++ three_fields t
 
 -- the first if neither half jumps at the point, and else the second
 abbrev pub pair_fields : Triple × Triple → List Field
-pair_fields p = if is_one p.0 && is_one p.1 then values_fields p.0.value p.1.value else triples_fields p.0 p.1
+pair_fields p = if is_one p.0 && is_one p.1 then values_fields p.0.value p.1.value else
+    triples_fields p.0 p.1
 
 abbrev pub pair_line : Triple × Triple → List ℕ
 pair_line p = bytes_of (pair_fields p)
@@ -138,7 +141,8 @@ pub record IsLimitPivotRowBelow (q : ℕ) (row : LimitPivotRow) : Type 0 where
   pub pivot : row.pivot < greatest_columns
 
 -- each interval has a line, and the lines and the rows are within the ranges of the form
-pub record AreLimitExtremeLines (f : FunctionData) (lines : List CoverLine) (rows : List LimitPivotRow) : Type 0 where
+pub record AreLimitExtremeLines (f : FunctionData) (lines : List CoverLine)
+    (rows : List LimitPivotRow) : Type 0 where
   pub count : length lines ≡ f.order
   pub lines_below : All (IsCoverLineBelow f.order) lines
   pub rows_below : All (IsLimitPivotRowBelow f.order) rows
@@ -170,7 +174,8 @@ pub record IsLimitProofText (c : LimitClaim) (text : List ℕ) : Type 0 where
   pub has_text : HasText c
   pub subject : List ℕ
   pub are_function_lines : AreFunctionLines (function_of c) subject
-  pub spelled : text ≡ bytes_of title_fields ++ bytes_of (claim_fields (claim_word c)) ++ subject ++ own_text c
+  pub spelled : text ≡ bytes_of title_fields ++ bytes_of (claim_fields (claim_word c)) ++ subject
+      ++ own_text c
       ++ line (codes "end")
 
 -- ---- the lines by name
@@ -184,7 +189,8 @@ group_lines g (row ∷ more) =
 
 -- the lines of covered intervals, that of the modulus, and those of the groups
 abbrev pub extreme_lines : Numbers → List CoverLine → List LimitPivotRow → List OwnLine
-extreme_lines numbers lines rows = covered_lines 0 lines ++ (modulus_lines numbers ++ group_lines 0 rows)
+extreme_lines numbers lines rows =
+    covered_lines 0 lines ++ (modulus_lines numbers ++ group_lines 0 rows)
 
 -- the lines of the halves' values, from the i-th on
 abbrev pub pair_lines : ℕ → List (Triple × Triple) → List OwnLine
@@ -194,7 +200,8 @@ pair_lines i (p ∷ more) = record { name = pair i; bytes = pair_line p } ∷ pa
 -- the lines of the claim's own, in their order
 abbrev pub own_lines : LimitClaim → List OwnLine
 own_lines (Extreme numbers f lines rows) = extreme_lines numbers lines rows
-own_lines (NotExtreme f h) = record { name = halves; bytes = halves_line h } ∷ pair_lines 0 (pairs_of h)
+own_lines (NotExtreme f h) = record { name = halves; bytes = halves_line h } ∷ pair_lines 0
+    (pairs_of h)
 
 -- all lines of the text of a claim
 abbrev pub proof_lines_of : LimitClaim → List ProofLine
@@ -205,7 +212,8 @@ proof_lines_of c =
 -- the bytes of the line of a claim's word, and of its own lines
 abbrev pub HasBytes : LimitClaim → ProofLine → List ℕ → Type 0
 HasBytes c l bytes =
-    ((l ≡ claim) × (bytes ≡ bytes_of (claim_fields (claim_word c)))) ⊎ Contains (own_lines c) (record { name = l; bytes = bytes })
+    ((l ≡ claim) × (bytes ≡ bytes_of (claim_fields (claim_word c))))
+    ⊎ Contains (own_lines c) (record { name = l; bytes = bytes })
 
 -- the line is the n-th of the text, counted from 1, and none before it
 pub record HasNumber (c : LimitClaim) (l : ProofLine) (n : ℕ) : Type 0 where

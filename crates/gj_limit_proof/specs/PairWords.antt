@@ -14,7 +14,8 @@ abbrev pub texts_of_six : (a b c d e f : List ℕ) → List (List ℕ)
 texts_of_six a b c d e f = codes "pair" ∷ a ∷ b ∷ c ∷ d ∷ e ∷ f ∷ []
 
 abbrev pub texts_of_triples : ThreeWords → ThreeWords → List (List ℕ)
-texts_of_triples v w = texts_of_six v.first.now v.second.now v.third.now w.first.now w.second.now w.third.now
+texts_of_triples v w =
+    texts_of_six v.first.now v.second.now v.third.now w.first.now w.second.now w.third.now
 
 -- the words spell these numbers, and all fit
 pub record AreTripleWords (words : ThreeWords) (t : Triple) : Type 0 where

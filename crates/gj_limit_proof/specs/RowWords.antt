@@ -6,4 +6,5 @@ use Rattle.gj_limit_proof.specs.LimitText.{sides_fields}
 
 -- with these words in the places of the two points
 abbrev pub texts_of_row : FaceKind → ℕ → List ℕ → List ℕ → List (List ℕ)
-texts_of_row kind corner first second = codes "row" ∷ first ∷ second ∷ words_of (sides_fields kind corner)
+texts_of_row kind corner first second =
+    codes "row" ∷ first ∷ second ∷ words_of (sides_fields kind corner)

@@ -26,7 +26,8 @@ module _ {A : Type 0} (name : List ℕ) (by : LineForm A) where
 
   -- what is read as it is printed is the line of a thing
   pub is_printed : (a : A) (w text rest behind : List ℕ) → w ≡ name → text ≡ w ++ rest →
-      (rest ≡ tail_of (by.fields a) ++ behind) × by.HasLine a → (text ≡ line_of (named_form name by) a ++ behind) × by.HasLine a
+      (rest ≡ tail_of (by.fields a) ++ behind) × by.HasLine a →
+      (text ≡ line_of (named_form name by) a ++ behind) × by.HasLine a
   is_printed a w text rest behind first begins read = (
     begins ∙ (λ i. first i ++ read.0 i) ∙ sym (append_assoc name (tail_of (by.fields a)) behind)
         ∙ ap (λ u. u ++ behind) (sym (line_is a)),
@@ -34,7 +35,8 @@ module _ {A : Type 0} (name : List ℕ) (by : LineForm A) where
   )
 
   -- what is appended is the line of a thing
-  pub is_pushed : (a : A) (w old mid new : List ℕ) → w ≡ name → mid ≡ old ++ w → new ≡ mid ++ tail_of (by.fields a) →
+  pub is_pushed : (a : A) (w old mid new : List ℕ) → w ≡ name → mid ≡ old ++ w →
+      new ≡ mid ++ tail_of (by.fields a) →
       new ≡ old ++ line_of (named_form name by) a
   is_pushed a w old mid new first begins ends =
       ends ∙ ap (λ u. u ++ tail_of (by.fields a)) (begins ∙ ap (λ v. old ++ v) first)
@@ -53,34 +55,44 @@ module _ {A : Type 0} (s : Spelling) (name : List ℕ) (by : LineForm A) where
   fields_of : (ws : List (List ℕ)) → AreOfForm (named_form name by) (name ∷ ws) → AreOfForm by ws
   fields_of ws (a, e, h) = (a, (head_and_tail _ _ _ _ e).1, h)
 
-  breaks : (ws : List (List ℕ)) (e : Reason) → (rule_in s by).Breaks ws e → (rule_in s (named_form name by)).Breaks (name ∷ ws) e
+  breaks : (ws : List (List ℕ)) (e : Reason) → (rule_in s by).Breaks ws e →
+      (rule_in s (named_form name by)).Breaks (name ∷ ws) e
   breaks ws e (inl h) = inl (h.0, λ k. h.1 (fields_of ws k))
   breaks ws e (inr h) = inr (h.0, of_fields ws h.1, λ a k. h.2 a (k.0.1, k.1))
 
   -- the fields behind the name break their form
-  pub line_breaks : (words : List (List ℕ)) (w : List ℕ) (ws : List (List ℕ)) (e : Reason) → w ≡ name → words ≡ w ∷ ws →
+  pub line_breaks : (words : List (List ℕ)) (w : List ℕ) (ws : List (List ℕ)) (e : Reason) →
+      w ≡ name → words ≡ w ∷ ws →
       (rule_in s by).Breaks ws e → (rule_in s (named_form name by)).Breaks words e
   line_breaks words w ws e first begins h =
-      subst (λ v. (rule_in s (named_form name by)).Breaks v e) (sym (begins ∙ ap (λ v. v ∷ ws) first)) (breaks ws e h)
+      subst (λ v. (rule_in s (named_form name by)).Breaks v e)
+      (sym (begins ∙ ap (λ v. v ∷ ws) first)) (breaks ws e h)
 
   -- or they spell a thing
-  pub line_spells : (words : List (List ℕ)) (w : List ℕ) (ws : List (List ℕ)) (a : A) → w ≡ name → words ≡ w ∷ ws →
+  pub line_spells : (words : List (List ℕ)) (w : List ℕ) (ws : List (List ℕ)) (a : A) → w ≡ name →
+      words ≡ w ∷ ws →
       Spell s by ws a → Spell s (named_form name by) words a
   line_spells words w ws a first begins h =
-      subst (λ v. Spell s (named_form name by) v a) (sym (begins ∙ ap (λ v. v ∷ ws) first)) ((refl, h.0), h.1)
+      subst (λ v. Spell s (named_form name by) v a) (sym (begins ∙ ap (λ v. v ∷ ws) first))
+      ((refl, h.0), h.1)
 
   -- words that begin otherwise are not of the form
-  pub other_name : (words : List (List ℕ)) (w : List ℕ) → w ≡ name → ((ws : List (List ℕ)) → words ≡ w ∷ ws → ⊥) →
+  pub other_name : (words : List (List ℕ)) (w : List ℕ) → w ≡ name →
+      ((ws : List (List ℕ)) → words ≡ w ∷ ws → ⊥) →
       AreOfForm (named_form name by) words → ⊥
   other_name words w first none (a, e, h) =
-      none (with_numbers (by.fields a) (others_of words)) (e ∙ ap (λ v. v ∷ with_numbers (by.fields a) (others_of words)) (sym first))
+      none (with_numbers (by.fields a) (others_of words))
+      (e ∙ ap (λ v. v ∷ with_numbers (by.fields a) (others_of words)) (sym first))
 
-module _ {A : Type 0} (name : List ℕ) (by : LineForm A) (known : IsKnownWord name) (clear : AreClearFields by) where
+module _ {A : Type 0} (name : List ℕ) (by : LineForm A) (known : IsKnownWord name)
+    (clear : AreClearFields by) where
   -- the line of a thing is read as the thing
-  pub line_is_read : (s : Spelling) (a : A) (text rest : List ℕ) → (text ≡ line_of (named_form name by) a ++ rest) × by.HasLine a →
+  pub line_is_read : (s : Spelling) (a : A) (text rest : List ℕ) →
+      (text ≡ line_of (named_form name by) a ++ rest) × by.HasLine a →
       (line_part s (rule_in s (named_form name by))).Reads text a rest
   line_is_read s a text rest h =
-      line_is_spelled s (named_form name by) a text rest (all_good (word name) (by.fields a) known.plain (clear.good a h.1)) h.1
+      line_is_spelled s (named_form name by) a text rest
+      (all_good (word name) (by.fields a) known.plain (clear.good a h.1)) h.1
       known.no_comment h.0
 
 -- ---- the form is clear
@@ -89,7 +101,8 @@ tail_fields : (name : List ℕ) (fs gs : List Field) → word name ∷ fs ≡ wo
 tail_fields name fs gs e = cc
 
 -- words spell one thing, or break the form for one reason, and not both
-pub line_is_clear : {A : Type 0} (name : List ℕ) (by : LineForm A) → AreClearFields by → IsClearForm (named_form name by)
+pub line_is_clear : {A : Type 0} (name : List ℕ) (by : LineForm A) → AreClearFields by →
+    IsClearForm (named_form name by)
 line_is_clear name by clear = record {
   of_form = clear.of_form;
   alike = λ a b words e. clear.alike a b (others_of words) (head_and_tail _ _ _ _ e).1;

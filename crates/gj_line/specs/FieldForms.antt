@@ -31,7 +31,12 @@ any_fraction = record { field = fraction; HasForm = λ x. Unit {0}; HasWord = λ
 
 -- a fraction above 0
 abbrev pub positive_fraction : FieldForm Frac
-positive_fraction = record { field = fraction; HasForm = λ x. Unit {0}; HasWord = λ x. pos 0 <ℤ numerator x }
+positive_fraction = record {
+  field = fraction;
+  HasForm = λ x. Unit {0};
+  HasWord =
+      λ x. pos 0 <ℤ numerator x;
+}
 
 -- a name
 abbrev pub name_word : FieldForm (List ℕ)
@@ -57,7 +62,12 @@ then_form f g = record {
 
 -- a known word, and fields behind it
 abbrev pub named_form : {A : Type 0} → List ℕ → LineForm A → LineForm A
-named_form name g = record { fields = λ a. word name ∷ g.fields a; HasForm = g.HasForm; HasLine = g.HasLine }
+named_form name g = record {
+  fields = λ a. word name ∷ g.fields a;
+  HasForm = g.HasForm;
+  HasLine =
+      g.HasLine;
+}
 
 -- the bytes of fields behind a first one: a space before each, and a line feed
 abbrev pub tail_of : List Field → List ℕ
@@ -89,7 +99,8 @@ WordBreaks {A} s f w e =
 pub record IsClearField {A : Type 0} (f : FieldForm A) : Type 0 where
   pub of_form : (a : A) → f.HasWord a → f.HasForm a
   pub good : (a : A) → f.HasWord a → IsGood (f.field a)
-  pub alike : (a b : A) (w : List ℕ) → given (f.field a) w ≡ given (f.field b) w → IfAlike (f.field a) (f.field b) (Unit {0})
+  pub alike : (a b : A) (w : List ℕ) → given (f.field a) w ≡ given (f.field b) w →
+      IfAlike (f.field a) (f.field b) (Unit {0})
   pub tell : (a b : A) → f.field a ≡ f.field b → a ≡ b
 
 -- all are good
@@ -101,7 +112,8 @@ AllGood (f ∷ fs) = IsGood f × AllGood fs
 pub record AreClearFields {A : Type 0} (form : LineForm A) : Type 0 where
   pub of_form : (a : A) → form.HasLine a → form.HasForm a
   pub good : (a : A) → form.HasLine a → AllGood (form.fields a)
-  pub alike : (a b : A) (words : List (List ℕ)) → with_numbers (form.fields a) words ≡ with_numbers (form.fields b) words →
+  pub alike : (a b : A) (words : List (List ℕ)) →
+      with_numbers (form.fields a) words ≡ with_numbers (form.fields b) words →
       AreAlike (form.fields a) (form.fields b)
   pub tell : (a b : A) → form.fields a ≡ form.fields b → a ≡ b
 
@@ -112,10 +124,12 @@ pub record IsKnownWord (w : List ℕ) : Type 0 where
 
 -- the lines of the form that begin with the name tell the things of one kind, and have these fields
 -- behind the name
-pub record IsKind {A B : Type 0} (form : LineForm B) (name : List ℕ) (by : LineForm A) (make : A → B) : Type 0 where
+pub record IsKind {A B : Type 0} (form : LineForm B) (name : List ℕ) (by : LineForm A) (make : A →
+    B) : Type 0 where
   pub fields : (a : A) → form.fields (make a) ≡ word name ∷ by.fields a
   pub has_form : (a : A) → by.HasForm a → form.HasForm (make a)
   pub had_form : (a : A) → form.HasForm (make a) → by.HasForm a
   pub has_line : (a : A) → by.HasLine a → form.HasLine (make a)
   pub had_line : (a : A) → form.HasLine (make a) → by.HasLine a
-  pub made : (b : B) (words : List (List ℕ)) → first_of (with_numbers (form.fields b) words) ≡ name → first_of words ≡ name → (a : A) × (b ≡ make a)
+  pub made : (b : B) (words : List (List ℕ)) → first_of (with_numbers (form.fields b) words)
+      ≡ name → first_of words ≡ name → (a : A) × (b ≡ make a)

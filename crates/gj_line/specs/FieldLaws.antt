@@ -8,7 +8,13 @@ use Rattle.gj_forms.proofs.FieldWords.{IfAlike, AreAlike, head_and_tail}
 use Rattle.gj_line.specs.FieldForms.{FieldForm, count_below, any_fraction, positive_fraction, name_word, known_word, no_form, then_form, given, IsClearField, AreClearFields, IsKnownWord}
 
 pub no_form_is_clear : AreClearFields no_form
-no_form_is_clear = record { of_form = λ a h. tt; good = λ a h. tt; alike = λ a b ws h. tt; tell = λ a b h. refl }
+no_form_is_clear = record {
+  of_form = λ a h. tt;
+  good = λ a h. tt;
+  alike = λ a b ws h. tt;
+  tell =
+      λ a b h. refl;
+}
 
 -- the words of fields, but for those in the places of numbers, one by one
 pub with_first : (f : Field) (fs : List Field) (words : List (List ℕ)) →
@@ -29,14 +35,18 @@ all_alike f g P h k = absurd h
 field_and_fields : (f g : Field) (fs gs : List Field) → f ∷ fs ≡ g ∷ gs → (f ≡ g) × (fs ≡ gs)
 field_and_fields f g fs gs e = (cc, cc)
 
-module _ {A B : Type 0} (f : FieldForm A) (g : LineForm B) (first : IsClearField f) (others : AreClearFields g) where
-  alike : (a b : A × B) (words : List (List ℕ)) → with_numbers ((then_form f g).fields a) words ≡ with_numbers ((then_form f g).fields b) words →
+module _ {A B : Type 0} (f : FieldForm A) (g : LineForm B) (first : IsClearField f)
+    (others : AreClearFields g) where
+  alike : (a b : A × B) (words : List (List ℕ)) → with_numbers ((then_form f g).fields a) words
+      ≡ with_numbers ((then_form f g).fields b) words →
       AreAlike ((then_form f g).fields a) ((then_form f g).fields b)
   alike a b words e =
       let both =
       head_and_tail _ _ _ _
-      (sym (with_first (f.field a.0) (g.fields a.1) words) ∙ e ∙ with_first (f.field b.0) (g.fields b.1) words) in
-      all_alike (f.field a.0) (f.field b.0) (AreAlike (g.fields a.1) (g.fields b.1)) (first.alike a.0 b.0 (first_of words) both.0)
+      (sym (with_first (f.field a.0) (g.fields a.1) words) ∙ e
+      ∙ with_first (f.field b.0) (g.fields b.1) words) in
+      all_alike (f.field a.0) (f.field b.0) (AreAlike (g.fields a.1) (g.fields b.1))
+      (first.alike a.0 b.0 (first_of words) both.0)
       (others.alike a.1 b.1 (others_of words) both.1)
 
   tell : (a b : A × B) → (then_form f g).fields a ≡ (then_form f g).fields b → a ≡ b
@@ -66,17 +76,48 @@ same_fraction : (x y : Frac) → fraction x ≡ fraction y → x ≡ y
 same_fraction x y e = cc
 
 pub count_is_clear : (limit : ℕ) → limit ≤ 2 ^ 32 → IsClearField (count_below limit)
-count_is_clear limit small = record { of_form = λ a h. tt; good = λ n h. omega arith; alike = λ a b w h. tt; tell = same_count }
+count_is_clear limit small =
+    record {
+      of_form = λ a h. tt;
+      good = λ n h. omega arith;
+      alike = λ a b w h. tt;
+      tell =
+          same_count;
+    }
 
 pub fraction_is_clear : IsClearField any_fraction
-fraction_is_clear = record { of_form = λ a h. tt; good = λ x h. tt; alike = λ a b w h. tt; tell = same_fraction }
+fraction_is_clear = record {
+  of_form = λ a h. tt;
+  good = λ x h. tt;
+  alike = λ a b w h. tt;
+  tell =
+      same_fraction;
+}
 
 pub positive_is_clear : IsClearField positive_fraction
-positive_is_clear = record { of_form = λ a h. tt; good = λ x h. tt; alike = λ a b w h. tt; tell = same_fraction }
+positive_is_clear = record {
+  of_form = λ a h. tt;
+  good = λ x h. tt;
+  alike = λ a b w h. tt;
+  tell =
+      same_fraction;
+}
 
 pub name_is_clear : IsClearField name_word
-name_is_clear = record { of_form = λ a h. h; good = name_is_plain; alike = λ a b w h. tt; tell = same_word }
+name_is_clear = record {
+  of_form = λ a h. h;
+  good = name_is_plain;
+  alike = λ a b w h. tt;
+  tell =
+      same_word;
+}
 
 pub known_is_clear : (w : List ℕ) → IsKnownWord w → IsClearField (known_word w)
 known_is_clear w known =
-    record { of_form = λ t h. tt; good = λ t h. known.plain; alike = λ t u v h. tt; tell = λ t u h. refl }
+    record {
+      of_form = λ t h. tt;
+      good = λ t h. known.plain;
+      alike = λ t u v h. tt;
+      tell =
+          λ t u h. refl;
+    }

@@ -19,7 +19,8 @@ mod_below : (w n : ℕ) → w % 2 ^ n < 2 ^ n
 mod_below w n = let some = pow_pos n in omega arith
 
 -- one bit more
-ones_of_more : (w n : ℕ) → count_ones (w % 2 ^ (1 + n)) ≡ cond (bit w n) 1 0 + count_ones (w % 2 ^ n)
+ones_of_more : (w n : ℕ) →
+    count_ones (w % 2 ^ (1 + n)) ≡ cond (bit w n) 1 0 + count_ones (w % 2 ^ n)
 ones_of_more w n =
     ap count_ones (mod-pow-add w 1 n) ∙ ones_cat n (w / 2 ^ n % 2) (w % 2 ^ n) (mod_below w n)
     ∙ ap (λ k. k + count_ones (w % 2 ^ n)) (ones_of_digit (bit_at w n) (bit_at-lt w n))
@@ -30,7 +31,8 @@ ones_of_none w = let e : w % 1 ≡ 0 = omega arith in ap count_ones e
 
 -- the bits of word k below the n-th, with those of the words before it
 counted_in_word : (words : List ℕ) (k n : ℕ) → n ≤ 64 →
-    count_below (bit_of words) (64 * k + n) ≡ count_below (bit_of words) (64 * k) + count_ones (get_or words k 0 % 2 ^ n)
+    count_below (bit_of words) (64 * k + n) ≡ count_below (bit_of words) (64 * k) + count_ones
+    (get_or words k 0 % 2 ^ n)
 unfolding count_below
 counted_in_word words k zero h =
     let e : 64 * k + 0 ≡ 64 * k = omega arith in
@@ -48,12 +50,14 @@ counted_in_word words k (suc n) h =
     ap (count_below (bit_of words)) e ∙ omega (arith, here, more, power, last)
 
 -- one word more
-pub counted_words : (words : List ℕ) (k count : ℕ) → get_or words k 0 < 2 ^ 64 → count ≡ count_below (bit_of words) (64 * k) →
+pub counted_words : (words : List ℕ) (k count : ℕ) → get_or words k 0 < 2 ^ 64 →
+    count ≡ count_below (bit_of words) (64 * k) →
     count + count_ones (get_or words k 0) ≡ count_below (bit_of words) (64 * (k + 1))
 counted_words words k count fits h =
     let e : 64 * (k + 1) ≡ 64 * k + 64 = omega arith in
     let same : get_or words k 0 % 2 ^ 64 ≡ get_or words k 0 = mod-eq_of_lt fits in
-    ap₂ (λ (m n : ℕ). m + count_ones n) h (sym same) ∙ sym (counted_in_word words k 64 (omega arith))
+    ap₂ (λ (m n : ℕ). m + count_ones n) h (sym same)
+    ∙ sym (counted_in_word words k 64 (omega arith))
     ∙ ap (count_below (bit_of words)) (sym e)
 
 pub counted_at_most : (p : ℕ → Bool) (n : ℕ) → count_below p n ≤ n
@@ -61,7 +65,8 @@ unfolding count_below
 counted_at_most p zero = omega arith
 counted_at_most p (suc n) =
     let more = counted_at_most p n in
-    elim (p n) as (λ b. cond b 1 0 + count_below p n ≤ suc n) [ true ↦ omega arith | false ↦ omega arith ]
+    elim (p n) as (λ b. cond b 1 0 + count_below p n ≤ suc n)
+    [ true ↦ omega arith | false ↦ omega arith ]
 
 pub counted_none : (p : ℕ → Bool) → count_below p 0 ≡ 0
 unfolding count_below
@@ -72,7 +77,8 @@ unfolding count_below
 counted_more p n = let e : n + 1 ≡ suc n = omega arith in ap (count_below p) e
 
 -- if the test fails from a number on, no more are counted
-pub counted_past : (p : ℕ → Bool) (n m : ℕ) → ((i : ℕ) → n ≤ i → p i ≡ false) → count_below p (n + m) ≡ count_below p n
+pub counted_past : (p : ℕ → Bool) (n m : ℕ) → ((i : ℕ) → n ≤ i → p i ≡ false) →
+    count_below p (n + m) ≡ count_below p n
 unfolding count_below
 counted_past p n zero none = let e : n + zero ≡ n = omega arith in ap (count_below p) e
 counted_past p n (suc m) none =

@@ -16,10 +16,13 @@ AreInRange least bound numbers = (i : ℕ) → IsInRange least bound (at numbers
 
 -- the numbers in the lanes below n are in the range
 abbrev pub AreLanesInRange : {L : Type 0} → (L → ℤ) → ℤ → ℕ → List L → ℕ → Type 0
-AreLanesInRange {L} number least bound lanes n = (i : ℕ) (e : L) → i < n → IsInRange least bound (number (slice_index_or lanes i e))
+AreLanesInRange {L} number least bound lanes n = (i : ℕ) (e : L) → i < n →
+    IsInRange least bound (number (slice_index_or lanes i e))
 
 -- the lanes are two periods of numbers in the range, and the first number once more
-pub record ArePeriods {L : Type 0} (number : L → ℤ) (least : ℤ) (bound : ℕ) (lanes : List L) (numbers : List ℤ) : Type 0 where
+pub record ArePeriods {L : Type 0} (number : L → ℤ) (least : ℤ) (bound : ℕ) (lanes : List L)
+    (numbers : List ℤ) : Type 0 where
   pub room : 2 * length numbers < length lanes
-  pub same : (i : ℕ) (e : L) → i ≤ 2 * length numbers → number (slice_index_or lanes i e) ≡ at numbers i
+  pub same : (i : ℕ) (e : L) → i ≤ 2 * length numbers →
+      number (slice_index_or lanes i e) ≡ at numbers i
   pub range : AreInRange least bound numbers

@@ -25,13 +25,16 @@ beyond_negative k limit total negative positive h =
 
 -- one more than the quotient is the least number of steps that is enough
 pub least_from_quotient : (n : ℕ) (limit total : ℤ) → limit <ℤ pos 0 → pos 0 ≤ℤ total →
-    IsLeastFrom n (λ h. (pos (h - n) *ℤ limit +ℤ total) <ℤ pos 0) (n + unsigned_abs total / unsigned_abs limit + 1)
+    IsLeastFrom n (λ h. (pos (h - n) *ℤ limit +ℤ total) <ℤ pos 0)
+    (n + unsigned_abs total / unsigned_abs limit + 1)
 least_from_quotient n limit total negative positive =
     let t = unsigned_abs total in
     let d = unsigned_abs limit in
     let some : 0 < unsigned_abs limit = omega (arith, ints) in
-    let beyond : t < (t / d + 1) * d = subst (λ (n : ℕ). t < n) (mul_comm d (t / d + 1)) (lt-mul-div-succ t some) in
-    let steps : unsigned_abs total / unsigned_abs limit + 1 ≡ n + unsigned_abs total / unsigned_abs limit + 1 - n
+    let beyond : t < (t / d + 1) * d =
+    subst (λ (n : ℕ). t < n) (mul_comm d (t / d + 1)) (lt-mul-div-succ t some) in
+    let steps : unsigned_abs total / unsigned_abs limit + 1
+    ≡ n + unsigned_abs total / unsigned_abs limit + 1 - n
     = omega arith in
     record {
       from = omega arith;

@@ -17,7 +17,8 @@ pub midpoints : (f : FunctionData) (i : ℕ) → i < f.order →
     (f.place + (f.order - i)))
 midpoints f i below =
     let start = f.place + (f.order - (i + 1)) in
-    let index : 2 * (f.place + (f.order - i)) - 1 ≡ 2 * (f.place + (f.order - (i + 1))) + 1 = omega arith in
+    let index : 2 * (f.place + (f.order - i)) - 1 ≡ 2 * (f.place + (f.order - (i + 1))) + 1 =
+    omega arith in
     let next : f.place + (f.order - (i + 1)) + 1 ≡ f.place + (f.order - i) = omega arith in
     ap₂ (λ x y. x +ℤ y) (midpoint f i)
     (ap (table f 2) index ∙ midpoint f start ∙ ap (λ (k : ℕ). at f.right start +ℤ at f.left k) next)

@@ -34,7 +34,8 @@ as_many_coordinates Lower a b = (refl, refl)
 as_many_coordinates Upper a b = (refl, refl)
 
 -- and one limit in a square
-pub as_many_limits_in : (s : Square) (kind : FaceKind) → length (limits_in s kind) ≡ length (corners_of kind 0 0)
+pub as_many_limits_in : (s : Square) (kind : FaceKind) →
+    length (limits_in s kind) ≡ length (corners_of kind 0 0)
 as_many_limits_in s Vertex = refl
 as_many_limits_in s Horizontal = refl
 as_many_limits_in s Vertical = refl
@@ -55,16 +56,20 @@ corners_up_to Vertical a b q first second =
 corners_up_to Diagonal a b q first second =
     All-two (IsUpTo q) (a + 1, b) (a, b + 1) (omega arith, omega arith) (omega arith, omega arith)
 corners_up_to Lower a b q first second =
-    All-three (IsUpTo q) (a, b) (a + 1, b) (a, b + 1) (omega arith, omega arith) (omega arith, omega arith)
+    All-three (IsUpTo q) (a, b) (a + 1, b) (a, b + 1) (omega arith, omega arith)
+    (omega arith, omega arith)
     (omega arith, omega arith)
 corners_up_to Upper a b q first second =
-    All-three (IsUpTo q) (a + 1, b) (a, b + 1) (a + 1, b + 1) (omega arith, omega arith) (omega arith, omega arith)
+    All-three (IsUpTo q) (a + 1, b) (a, b + 1) (a + 1, b + 1) (omega arith, omega arith)
+    (omega arith, omega arith)
     (omega arith, omega arith)
 
-pub corner_up_to : (kind : FaceKind) (a b c q : ℕ) → a < q → b < q → c < length (corners_of kind a b) →
+pub corner_up_to : (kind : FaceKind) (a b c q : ℕ) → a < q → b < q →
+    c < length (corners_of kind a b) →
     IsUpTo q (get_or (corners_of kind a b) c (0, 0))
 corner_up_to kind a b c q first second within =
-    All-get_or (IsUpTo q) (corners_of kind a b) c (0, 0) within (corners_up_to kind a b q first second)
+    All-get_or (IsUpTo q) (corners_of kind a b) c (0, 0) within
+    (corners_up_to kind a b q first second)
 
 -- and add up to less than the order for each corner
 pub sums_below : (kind : FaceKind) (a b q : ℕ) → a < q → b < q →
@@ -79,22 +84,28 @@ sums_below Upper a b q first second = (omega arith, omega arith)
 
 -- the coordinates near a corner
 near_first : (h c : ℕ) (kind : FaceKind) (a b : ℕ) →
-    (h - length (corners_of kind a b)) * (get_or (corners_of kind a b) c (0, 0)).0 + sum (first_coordinates kind a b)
+    (h - length (corners_of kind a b)) * (get_or (corners_of kind a b) c (0, 0)).0 + sum
+    (first_coordinates kind a b)
     ≡ near h c (first_coordinates kind a b)
 near_first h c kind a b =
     let many = (as_many_coordinates kind a b).0 in
     let entry = get_or-map (λ (corner : ℕ × ℕ). corner.0) (corners_of kind a b) c (0, 0) in
-    ap (λ (n : ℕ). (h - n) * (get_or (corners_of kind a b) c (0, 0)).0 + sum (first_coordinates kind a b)) (sym many)
-    ∙ ap (λ (x : ℕ). (h - length (first_coordinates kind a b)) * x + sum (first_coordinates kind a b)) (sym entry)
+    ap (λ (n : ℕ). (h - n) * (get_or (corners_of kind a b) c (0, 0)).0 + sum
+    (first_coordinates kind a b)) (sym many)
+    ∙ ap (λ (x : ℕ). (h - length (first_coordinates kind a b)) * x + sum
+    (first_coordinates kind a b)) (sym entry)
 
 near_second : (h c : ℕ) (kind : FaceKind) (a b : ℕ) →
-    (h - length (corners_of kind a b)) * (get_or (corners_of kind a b) c (0, 0)).1 + sum (second_coordinates kind a b)
+    (h - length (corners_of kind a b)) * (get_or (corners_of kind a b) c (0, 0)).1 + sum
+    (second_coordinates kind a b)
     ≡ near h c (second_coordinates kind a b)
 near_second h c kind a b =
     let many = (as_many_coordinates kind a b).1 in
     let entry = get_or-map (λ (corner : ℕ × ℕ). corner.1) (corners_of kind a b) c (0, 0) in
-    ap (λ (n : ℕ). (h - n) * (get_or (corners_of kind a b) c (0, 0)).1 + sum (second_coordinates kind a b)) (sym many)
-    ∙ ap (λ (x : ℕ). (h - length (second_coordinates kind a b)) * x + sum (second_coordinates kind a b)) (sym entry)
+    ap (λ (n : ℕ). (h - n) * (get_or (corners_of kind a b) c (0, 0)).1 + sum
+    (second_coordinates kind a b)) (sym many)
+    ∙ ap (λ (x : ℕ). (h - length (second_coordinates kind a b)) * x + sum
+    (second_coordinates kind a b)) (sym entry)
 
 -- ---- the total of the limits
 
@@ -107,7 +118,8 @@ total_more (n ∷ ns) (suc c) below =
     let rest = total_more ns c (omega arith) in
     rw step (omega (arith, ints))
 
-pub total_at_most : (b : ℕ) (ns : List ℤ) → All (λ n. n ≤ℤ pos b) ns → total ns ≤ℤ pos (length ns * b)
+pub total_at_most : (b : ℕ) (ns : List ℤ) → All (λ n. n ≤ℤ pos b) ns →
+    total ns ≤ℤ pos (length ns * b)
 total_at_most b [] all = omega (arith, ints)
 total_at_most b (n ∷ ns) all =
     let head = All-head (λ n. n ≤ℤ pos b) n ns all in
@@ -126,26 +138,32 @@ slack_by_below s t u v e below = omega (arith, ints)
 superadditive_near : (f : FunctionData) (kind : FaceKind) (a b c k : ℕ) → IsWithinBounds f →
     c < length (corners_of kind a b) → length (corners_of kind a b) ≤ k →
     near_value k c (limits_of f kind a b) <ℤ pos 0 →
-    IsSuperadditiveOnGrid f k (near k c (first_coordinates kind a b)) (near k c (second_coordinates kind a b))
+    IsSuperadditiveOnGrid f k (near k c (first_coordinates kind a b))
+    (near k c (second_coordinates kind a b))
 superadditive_near f kind a b c k limits within fits negative =
     let i = near k c (first_coordinates kind a b) in
     let j = near k c (second_coordinates kind a b) in
-    below_by_slack (table f k i) (table f k j) (table f k (i + j)) (near_value k c (limits_of f kind a b))
+    below_by_slack (table f k i) (table f k j) (table f k (i + j))
+    (near_value k c (limits_of f kind a b))
     (near_corner f kind a b c k within fits) negative
 
 -- and only there
 negative_near : (f : FunctionData) (kind : FaceKind) (a b c k : ℕ) → IsWithinBounds f →
     c < length (corners_of kind a b) → length (corners_of kind a b) ≤ k →
-    IsSuperadditiveOnGrid f k (near k c (first_coordinates kind a b)) (near k c (second_coordinates kind a b)) →
+    IsSuperadditiveOnGrid f k (near k c (first_coordinates kind a b))
+    (near k c (second_coordinates kind a b)) →
     near_value k c (limits_of f kind a b) <ℤ pos 0
 negative_near f kind a b c k limits within fits below =
     let i = near k c (first_coordinates kind a b) in
     let j = near k c (second_coordinates kind a b) in
-    slack_by_below (table f k i) (table f k j) (table f k (i + j)) (near_value k c (limits_of f kind a b))
+    slack_by_below (table f k i) (table f k j) (table f k (i + j))
+    (near_value k c (limits_of f kind a b))
     (near_corner f kind a b c k within fits) below
 
-pub shows_pair : (f : FunctionData) (kind : FaceKind) (a b c h : ℕ) (limit total_limits : ℤ) (x y : Frac) →
-    IsWithinBounds f → c < length (corners_of kind a b) → limit ≡ get_or (limits_of f kind a b) c (pos 0) →
+pub shows_pair : (f : FunctionData) (kind : FaceKind) (a b c h : ℕ) (limit total_limits : ℤ)
+    (x y : Frac) →
+    IsWithinBounds f → c < length (corners_of kind a b) →
+    limit ≡ get_or (limits_of f kind a b) c (pos 0) →
     total_limits ≡ total (limits_of f kind a b) →
     IsLeastFrom (length (corners_of kind a b))
     (λ n. (pos (n - length (corners_of kind a b)) *ℤ limit +ℤ total_limits) <ℤ pos 0) h →
@@ -154,11 +172,13 @@ pub shows_pair : (f : FunctionData) (kind : FaceKind) (a b c h : ℕ) (limit tot
     IsRatio y (pos ((h - length (corners_of kind a b)) * (get_or (corners_of kind a b) c (0, 0)).1
     + sum (second_coordinates kind a b))) (pos (f.order * h)) →
     ShowsNearCorner f kind a b c (violation.Superadditive x y)
-shows_pair f kind a b c h limit total_limits x y limits within limit_is total_is least first second =
+shows_pair f kind a b c h limit total_limits x y limits within limit_is total_is least first
+    second =
     let m = length (corners_of kind a b) in
     let value : (k : ℕ) → near_value k c (limits_of f kind a b)
     ≡ pos (k - length (corners_of kind a b)) *ℤ limit +ℤ total_limits = λ k.
-    ap (λ (n : ℕ). pos (k - n) *ℤ get_or (limits_of f kind a b) c (pos 0) +ℤ total (limits_of f kind a b))
+    ap (λ (n : ℕ). pos (k - n) *ℤ get_or (limits_of f kind a b) c (pos 0) +ℤ total
+    (limits_of f kind a b))
     (limit_count f kind a b)
     ∙ ap (λ z. pos (k - m) *ℤ z +ℤ total (limits_of f kind a b)) (sym limit_is)
     ∙ ap (λ z. pos (k - m) *ℤ limit +ℤ z) (sym total_is) in
@@ -174,26 +194,33 @@ shows_pair f kind a b c h limit total_limits x y limits within limit_is total_is
           (λ k fits negative. subst (λ z. z <ℤ pos 0) (value k)
           (negative_near f kind a b c k limits within fits negative))
           least;
-      first = subst (λ (n : ℕ). IsRatio x (pos n) (pos (f.order * h))) (near_first h c kind a b) first;
-      second = subst (λ (n : ℕ). IsRatio y (pos n) (pos (f.order * h))) (near_second h c kind a b) second;
+      first = subst (λ (n : ℕ). IsRatio x (pos n) (pos (f.order * h)))
+          (near_first h c kind a b) first;
+      second = subst (λ (n : ℕ). IsRatio y (pos n) (pos (f.order * h)))
+          (near_second h c kind a b) second;
       shown = refl;
     }
 
 -- the same from the numbers of the code
-pub pair_shown : (f : FunctionData) (kind : FaceKind) (a b c h n q i j sum_i sum_j : ℕ) (limit total_limits : ℤ)
+pub pair_shown : (f : FunctionData) (kind : FaceKind) (a b c h n q i j sum_i sum_j : ℕ)
+    (limit total_limits : ℤ)
     (x y : Frac) →
-    IsWithinBounds f → c < length (corners_of kind a b) → q ≡ f.order → n ≡ length (corners_of kind a b) →
+    IsWithinBounds f → c < length (corners_of kind a b) → q ≡ f.order →
+    n ≡ length (corners_of kind a b) →
     (i, j) ≡ get_or (corners_of kind a b) c (0, 0) → sum_i ≡ sum (first_coordinates kind a b) →
     sum_j ≡ sum (second_coordinates kind a b) → limit ≡ get_or (limits_of f kind a b) c (pos 0) →
     total_limits ≡ total (limits_of f kind a b) →
     IsLeastFrom n (λ m. (pos (m - n) *ℤ limit +ℤ total_limits) <ℤ pos 0) h →
-    IsRatio x (pos ((h - n) * i + sum_i)) (pos (q * h)) → IsRatio y (pos ((h - n) * j + sum_j)) (pos (q * h)) →
+    IsRatio x (pos ((h - n) * i + sum_i)) (pos (q * h)) →
+    IsRatio y (pos ((h - n) * j + sum_j)) (pos (q * h)) →
     ShowsNearCorner f kind a b c (violation.Superadditive x y)
-pair_shown f kind a b c h n q i j sum_i sum_j limit total_limits x y limits within order many corner first_sum
+pair_shown f kind a b c h n q i j sum_i sum_j limit total_limits x y limits within order many corner
+    first_sum
     second_sum limit_is total_is least first second =
     let m = length (corners_of kind a b) in
     let at_first : i ≡ (get_or (corners_of kind a b) c (0, 0)).0 = ap (λ (p : ℕ × ℕ). p.0) corner in
-    let at_second : j ≡ (get_or (corners_of kind a b) c (0, 0)).1 = ap (λ (p : ℕ × ℕ). p.1) corner in
+    let at_second : j ≡ (get_or (corners_of kind a b) c (0, 0)).1 =
+    ap (λ (p : ℕ × ℕ). p.1) corner in
     let first_index : (h - n) * i + sum_i
     ≡ (h - length (corners_of kind a b)) * (get_or (corners_of kind a b) c (0, 0)).0
     + sum (first_coordinates kind a b) = cc in
@@ -201,6 +228,7 @@ pair_shown f kind a b c h n q i j sum_i sum_j limit total_limits x y limits with
     ≡ (h - length (corners_of kind a b)) * (get_or (corners_of kind a b) c (0, 0)).1
     + sum (second_coordinates kind a b) = cc in
     shows_pair f kind a b c h limit total_limits x y limits within limit_is total_is
-    (subst (λ (k : ℕ). IsLeastFrom k (λ m. (pos (m - k) *ℤ limit +ℤ total_limits) <ℤ pos 0) h) many least)
+    (subst (λ (k : ℕ). IsLeastFrom k (λ m. (pos (m - k) *ℤ limit +ℤ total_limits) <ℤ pos 0) h) many
+    least)
     (subst₂ (λ (k d : ℕ). IsRatio x (pos k) (pos (d * h))) first_index order first)
     (subst₂ (λ (k d : ℕ). IsRatio y (pos k) (pos (d * h))) second_index order second)

@@ -13,7 +13,8 @@ use Rattle.gj_theory.specs.GridPoints.{IsGridPoint}
 use Rattle.gj_minimal.proofs.Theory.{near_after, near_before}
 
 -- the least number with a property is the least with another that holds at the same numbers
-pub least_along : (m : ℕ) (P Q : ℕ → Type 0) (n : ℕ) → ((k : ℕ) → m ≤ k → P k → Q k) → ((k : ℕ) → m ≤ k → Q k → P k) →
+pub least_along : (m : ℕ) (P Q : ℕ → Type 0) (n : ℕ) → ((k : ℕ) → m ≤ k → P k → Q k) →
+    ((k : ℕ) → m ≤ k → Q k → P k) →
     IsLeastFrom m P n → IsLeastFrom m Q n
 least_along m P Q n there back h = record {
   from = h.from;
@@ -33,17 +34,24 @@ fine_near_end q h total few small bounded =
     fine_grid q h few (omega arith)
 
 -- one point on a grid
-pub one_point : (f : FunctionData) (q h i : ℕ) (x : Frac) → q ≡ f.order → 0 < h → q * h ≤ 2 ^ 62 → i < q * h →
+pub one_point : (f : FunctionData) (q h i : ℕ) (x : Frac) → q ≡ f.order → 0 < h → q * h ≤ 2 ^ 62 →
+    i < q * h →
     IsRatio x (pos i) (pos (q * h)) → (h : ℕ) × (0 < h) × (f.order * h ≤ 2 ^ 62) × IsGridPoint f h x
 one_point f q h i x order some fine below point = (
   h,
   some,
   subst (λ (n : ℕ). n * h ≤ 2 ^ 62) order fine,
-  (i, subst (λ (n : ℕ). i < n * h) order below, subst (λ (n : ℕ). IsRatio x (pos i) (pos (n * h))) order point),
+  (
+    i,
+    subst (λ (n : ℕ). i < n * h) order below,
+    subst (λ (n : ℕ). IsRatio x (pos i) (pos (n * h)))
+        order point,
+  ),
 )
 
 -- and two on one grid
-pub two_points : (f : FunctionData) (q h i j : ℕ) (x y : Frac) → q ≡ f.order → 0 < h → q * h ≤ 2 ^ 62 → i < q * h →
+pub two_points : (f : FunctionData) (q h i j : ℕ) (x y : Frac) → q ≡ f.order → 0 < h →
+    q * h ≤ 2 ^ 62 → i < q * h →
     j < q * h → IsRatio x (pos i) (pos (q * h)) → IsRatio y (pos j) (pos (q * h)) →
     (h : ℕ) × (0 < h) × (f.order * h ≤ 2 ^ 62) × (IsGridPoint f h x × IsGridPoint f h y)
 two_points f q h i j x y order some fine below_i below_j first second = (
@@ -51,8 +59,18 @@ two_points f q h i j x y order some fine below_i below_j first second = (
   some,
   subst (λ (n : ℕ). n * h ≤ 2 ^ 62) order fine,
   (
-    (i, subst (λ (n : ℕ). i < n * h) order below_i, subst (λ (n : ℕ). IsRatio x (pos i) (pos (n * h))) order first),
-    (j, subst (λ (n : ℕ). j < n * h) order below_j, subst (λ (n : ℕ). IsRatio y (pos j) (pos (n * h))) order second),
+    (
+      i,
+      subst (λ (n : ℕ). i < n * h) order below_i,
+      subst
+          (λ (n : ℕ). IsRatio x (pos i) (pos (n * h))) order first,
+    ),
+    (
+      j,
+      subst (λ (n : ℕ). j < n * h) order below_j,
+      subst
+          (λ (n : ℕ). IsRatio y (pos j) (pos (n * h))) order second,
+    ),
   ),
 )
 
@@ -66,14 +84,18 @@ after_index i h two =
 pub shows_after : (f : FunctionData) (i h : ℕ) (limit total : ℤ) (x : Frac) → limit ≡ at f.right i →
     total ≡ at f.right i +ℤ at f.left (i + 1) →
     IsLeastFrom 2 (λ n. (pos (n - 2) *ℤ limit +ℤ total) <ℤ pos 0) h →
-    IsRatio x (pos ((h - 2) * i + (2 * i + 1))) (pos (f.order * h)) → Shows f (nonnegative_after i) (violation.Negative x)
+    IsRatio x (pos ((h - 2) * i + (2 * i + 1))) (pos (f.order * h)) →
+    Shows f (nonnegative_after i) (violation.Negative x)
 shows_after f i h limit total x limit_is total_is least point = (
   h,
   x,
-  least_along 2 (λ n. (pos (n - 2) *ℤ limit +ℤ total) <ℤ pos 0) (λ n. IsNegativeOnGrid f n (i * n + 1)) h
-      (λ k two negative. let value = near_after f i k two in let weighted = ap (λ z. pos (k - 2) *ℤ z) limit_is in
+  least_along 2 (λ n. (pos (n - 2) *ℤ limit +ℤ total) <ℤ pos 0)
+      (λ n. IsNegativeOnGrid f n (i * n + 1)) h
+      (λ k two negative. let value = near_after f i k two in
+      let weighted = ap (λ z. pos (k - 2) *ℤ z) limit_is in
       omega (arith, ints))
-      (λ k two negative. let value = near_after f i k two in let weighted = ap (λ z. pos (k - 2) *ℤ z) limit_is in
+      (λ k two negative. let value = near_after f i k two in
+      let weighted = ap (λ z. pos (k - 2) *ℤ z) limit_is in
       omega (arith, ints)) least,
   subst (λ (n : ℕ). IsRatio x (pos n) (pos (f.order * h))) (after_index i h least.from) point,
   refl,
@@ -86,7 +108,8 @@ before_index i h two =
     let whole : h ≡ h - 2 + 2 = omega arith in
     omega arith ∙ ap (λ (k : ℕ). i * k + k - 1) (sym whole)
 
-pub shows_before : (f : FunctionData) (i h : ℕ) (limit total : ℤ) (x : Frac) → limit ≡ at f.left (i + 1) →
+pub shows_before : (f : FunctionData) (i h : ℕ) (limit total : ℤ) (x : Frac) →
+    limit ≡ at f.left (i + 1) →
     total ≡ at f.right i +ℤ at f.left (i + 1) →
     IsLeastFrom 2 (λ n. (pos (n - 2) *ℤ limit +ℤ total) <ℤ pos 0) h →
     IsRatio x (pos ((h - 2) * (i + 1) + (2 * i + 1))) (pos (f.order * h)) →
@@ -94,10 +117,13 @@ pub shows_before : (f : FunctionData) (i h : ℕ) (limit total : ℤ) (x : Frac)
 shows_before f i h limit total x limit_is total_is least point = (
   h,
   x,
-  least_along 2 (λ n. (pos (n - 2) *ℤ limit +ℤ total) <ℤ pos 0) (λ n. IsNegativeOnGrid f n (i * n + n - 1)) h
-      (λ k two negative. let value = near_before f i k two in let weighted = ap (λ z. pos (k - 2) *ℤ z) limit_is in
+  least_along 2 (λ n. (pos (n - 2) *ℤ limit +ℤ total) <ℤ pos 0)
+      (λ n. IsNegativeOnGrid f n (i * n + n - 1)) h
+      (λ k two negative. let value = near_before f i k two in
+      let weighted = ap (λ z. pos (k - 2) *ℤ z) limit_is in
       omega (arith, ints))
-      (λ k two negative. let value = near_before f i k two in let weighted = ap (λ z. pos (k - 2) *ℤ z) limit_is in
+      (λ k two negative. let value = near_before f i k two in
+      let weighted = ap (λ z. pos (k - 2) *ℤ z) limit_is in
       omega (arith, ints)) least,
   subst (λ (n : ℕ). IsRatio x (pos n) (pos (f.order * h))) (before_index i h least.from) point,
   refl,

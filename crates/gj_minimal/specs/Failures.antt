@@ -40,7 +40,8 @@ AddUpToPlace f a b c =
 
 -- of such indices a is the least: with the next of them it passes
 abbrev pub PassesAhead : FunctionData → ℕ → Type 0
-PassesAhead f a = (b c : ℕ) → a ≤ b → b ≤ c → c < f.order → AddUpToPlace f a b c → PassesVertex f a b
+PassesAhead f a = (b c : ℕ) → a ≤ b → b ≤ c → c < f.order → AddUpToPlace f a b c →
+    PassesVertex f a b
 
 -- the same if the other two have this sum
 abbrev pub PassesWithSum : FunctionData → ℕ → ℕ → Type 0

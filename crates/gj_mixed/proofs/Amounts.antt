@@ -18,11 +18,13 @@ over_more d e [] [] h = tt
 over_more d e [] (a ∷ amounts) h = absurd h
 over_more d e (z ∷ zs) [] h = absurd h
 over_more d e (z ∷ zs) (a ∷ amounts) h = (
-  mul_left_comm_z z.top (pos d) (pos e) ∙ ap (λ n. pos d *ℤ n) h.0 ∙ sym (mul_assoc_z (pos d) (pos a) z.bottom),
+  mul_left_comm_z z.top (pos d) (pos e) ∙ ap (λ n. pos d *ℤ n) h.0
+      ∙ sym (mul_assoc_z (pos d) (pos a) z.bottom),
   over_more d e zs amounts h.1,
 )
 
-pub amounts_over_one : (zs : List Fraction) → All IsNonnegativeAmount zs → (e : ℕ) × (amounts : List ℕ) × (0 < e) × AreAmountsOver e zs amounts
+pub amounts_over_one : (zs : List Fraction) → All IsNonnegativeAmount zs →
+    (e : ℕ) × (amounts : List ℕ) × (0 < e) × AreAmountsOver e zs amounts
 amounts_over_one [] h = (1, [], omega arith, tt)
 amounts_over_one (z ∷ zs) h =
     let is = All-head IsNonnegativeAmount z zs h in
@@ -35,7 +37,8 @@ amounts_over_one (z ∷ zs) h =
       n * e ∷ map (λ a. d * a) amounts,
       mul-pos (abs_positive_z z.bottom is.bottom_positive) some,
       (
-        ap (λ x. x *ℤ pos (d * e)) (sym n_is) ∙ first_amount (pos n) (pos d) (pos e) ∙ ap (λ x. pos (n * e) *ℤ x) d_is,
+        ap (λ x. x *ℤ pos (d * e)) (sym n_is) ∙ first_amount (pos n) (pos d) (pos e)
+            ∙ ap (λ x. pos (n * e) *ℤ x) d_is,
         over_more d e zs amounts are,
       ),
     )

@@ -30,65 +30,90 @@ dropped_one : {A : Type 0} (p : A → Bool) (x : A) → p x ≡ false → filter
 dropped_one p x e = ap (λ b. cond b (x ∷ []) []) e
 
 -- the items that pass a test, with one more that passes it
-pub zip_kept : {A B : Type 0} (R : A → B → Type 0) (p : A → Bool) (xs : List A) (i : ℕ) (x : A) (ys zs ws : List B) (y : B) →
-    i < length xs → x ≡ get_or xs i x → p x ≡ true → ws ≡ zs → zs ≡ ys ++ y ∷ [] → AllZip R (filter p (take i xs)) ys → R x y →
+pub zip_kept : {A B : Type 0} (R : A → B → Type 0) (p : A → Bool) (xs : List A) (i : ℕ) (x : A)
+    (ys zs ws : List B) (y : B) →
+    i < length xs → x ≡ get_or xs i x → p x ≡ true → ws ≡ zs → zs ≡ ys ++ y ∷ [] →
+    AllZip R (filter p (take i xs)) ys → R x y →
     AllZip R (filter p (take (i + 1) xs)) ws
 zip_kept R p xs i x ys zs ws y below here passes same next h last =
     let more : filter p (take (i + 1) xs) ≡ filter p (take i xs) ++ x ∷ [] =
-    ap (filter p) (take_more xs i x below ∙ ap (λ z. take i xs ++ z ∷ []) (sym here)) ∙ filter-append p (take i xs) (x ∷ [])
+    ap (filter p) (take_more xs i x below ∙ ap (λ z. take i xs ++ z ∷ []) (sym here))
+    ∙ filter-append p (take i xs) (x ∷ [])
     ∙ ap (λ vs. filter p (take i xs) ++ vs) (kept_one p x passes) in
-    subst₂ (AllZip R) (sym more) (sym (same ∙ next)) (zip_longer R (filter p (take i xs)) ys x y h last)
+    subst₂ (AllZip R) (sym more) (sym (same ∙ next))
+    (zip_longer R (filter p (take i xs)) ys x y h last)
 
 -- and with one that fails it
-pub zip_dropped : {A B : Type 0} (R : A → B → Type 0) (p : A → Bool) (xs : List A) (i : ℕ) (x : A) (ys zs : List B) → i < length xs →
-    x ≡ get_or xs i x → p x ≡ false → zs ≡ ys → AllZip R (filter p (take i xs)) ys → AllZip R (filter p (take (i + 1) xs)) zs
+pub zip_dropped : {A B : Type 0} (R : A → B → Type 0) (p : A → Bool) (xs : List A) (i : ℕ) (x : A)
+    (ys zs : List B) → i < length xs →
+    x ≡ get_or xs i x → p x ≡ false → zs ≡ ys → AllZip R (filter p (take i xs)) ys →
+    AllZip R (filter p (take (i + 1) xs)) zs
 zip_dropped R p xs i x ys zs below here fails same h =
     let more : filter p (take (i + 1) xs) ≡ filter p (take i xs) =
-    ap (filter p) (take_more xs i x below ∙ ap (λ z. take i xs ++ z ∷ []) (sym here)) ∙ filter-append p (take i xs) (x ∷ [])
-    ∙ ap (λ vs. filter p (take i xs) ++ vs) (dropped_one p x fails) ∙ append-nil (filter p (take i xs)) in
+    ap (filter p) (take_more xs i x below ∙ ap (λ z. take i xs ++ z ∷ []) (sym here))
+    ∙ filter-append p (take i xs) (x ∷ [])
+    ∙ ap (λ vs. filter p (take i xs) ++ vs) (dropped_one p x fails)
+    ∙ append-nil (filter p (take i xs)) in
     subst₂ (AllZip R) (sym more) (sym same) h
 
 -- ---- the cut
 
-weight_values : {G : Type 0} (weighs : G → Frac → Frac → Type 0) (slopes : KeptSlopes G) (entries : List Entry) (terms : List Term) →
+weight_values : {G : Type 0} (weighs : G → Frac → Frac → Type 0) (slopes : KeptSlopes G)
+    (entries : List Entry) (terms : List Term) →
     AllZip (IsWeightTermOf weighs slopes) entries terms →
     AllZip (IsWeight slopes.up slopes.down) (map (λ t. t.entry) terms) (map (λ t. t.cut) terms)
 weight_values weighs slopes [] [] h = tt
 weight_values weighs slopes [] (t ∷ terms) h = absurd h
 weight_values weighs slopes (e ∷ entries) [] h = absurd h
 weight_values weighs slopes (e ∷ entries) (t ∷ terms) h = (
-  subst (λ (c : Frac). IsWeight slopes.up slopes.down c t.cut) (sym h.0.of_slopes.entry_is) h.0.of_slopes.weight_is,
+  subst (λ (c : Frac). IsWeight slopes.up slopes.down c t.cut)
+      (sym h.0.of_slopes.entry_is) h.0.of_slopes.weight_is,
   weight_values weighs slopes entries terms h.1,
 )
 
-pub mixed_holds_at : {E G : Type 0} (answers : E → Frac → Frac → Type 0) (weighs : G → Frac → Frac → Type 0) (rule : KeptRule E)
-    (slopes : KeptSlopes G) (kind : RuleKind) (row : Row) (whole columns : List Entry) (terms weights : List Term) →
-    rule.kind ≡ kind → IsKindWithinBounds kind → IsMinimalKind kind → HasPart kind row.rhs → AreSlopesOfKind kind slopes.up slopes.down →
-    AllZip (IsTermOf answers rule) whole terms → AllZip (IsWeightTermOf weighs slopes) columns weights →
+pub mixed_holds_at : {E G : Type 0} (answers : E → Frac → Frac → Type 0) (weighs : G → Frac → Frac →
+    Type 0) (rule : KeptRule E)
+    (slopes : KeptSlopes G) (kind : RuleKind) (row : Row) (whole columns : List Entry)
+    (terms weights : List Term) →
+    rule.kind ≡ kind → IsKindWithinBounds kind → IsMinimalKind kind → HasPart kind row.rhs →
+    AreSlopesOfKind kind slopes.up slopes.down →
+    AllZip (IsTermOf answers rule) whole terms →
+    AllZip (IsWeightTermOf weighs slopes) columns weights →
     MixedHoldsFor row (Cut terms weights)
-mixed_holds_at answers weighs rule slopes (Gmic f) row whole columns terms weights e bounded minimal part are_slopes h k =
-    mixed_by_gmic f slopes.up slopes.down (map (λ t. t.entry) terms) (map (λ t. t.entry) weights) row.rhs (map (λ t. t.cut) terms)
+mixed_holds_at answers weighs rule slopes (Gmic f) row whole columns terms weights e bounded minimal
+    part are_slopes h k =
+    mixed_by_gmic f slopes.up slopes.down (map (λ t. t.entry) terms)
+    (map (λ t. t.entry) weights) row.rhs (map (λ t. t.cut) terms)
     (map (λ t. t.cut) weights) bounded.0 are_slopes part
-    (term_values answers rule (IsGmicValue f) whole terms (λ x y v. subst (λ k. IsKindValue k x y) e v) h)
+    (term_values answers rule (IsGmicValue f) whole terms
+    (λ x y v. subst (λ k. IsKindValue k x y) e v) h)
     (weight_values weighs slopes columns weights k)
-mixed_holds_at answers weighs rule slopes (Table shape) row whole columns terms weights e bounded minimal part are_slopes h k =
-    mixed_by_function shape slopes.up slopes.down (map (λ t. t.entry) terms) (map (λ t. t.entry) weights) row.rhs (map (λ t. t.cut) terms)
+mixed_holds_at answers weighs rule slopes (Table shape) row whole columns terms weights e bounded
+    minimal part are_slopes h k =
+    mixed_by_function shape slopes.up slopes.down (map (λ t. t.entry) terms)
+    (map (λ t. t.entry) weights) row.rhs (map (λ t. t.cut) terms)
     (map (λ t. t.cut) weights) bounded are_slopes.0 minimal are_slopes.1 part
-    (term_values answers rule (IsValueOf shape) whole terms (λ x y v. subst (λ k. IsKindValue k x y) e v) h)
+    (term_values answers rule (IsValueOf shape) whole terms
+    (λ x y v. subst (λ k. IsKindValue k x y) e v) h)
     (weight_values weighs slopes columns weights k)
 
 -- ---- cuts by any rule of a kind and any evaluator of weights
 
-weights_of_slopes : {G : Type 0} (weighs : G → Frac → Frac → Type 0) (slopes : KeptSlopes G) (entries : List Entry) (terms : List Term) →
-    AllZip (IsWeightTermOf weighs slopes) entries terms → AllZip (IsWeightTerm slopes.up slopes.down) entries terms
+weights_of_slopes : {G : Type 0} (weighs : G → Frac → Frac → Type 0) (slopes : KeptSlopes G)
+    (entries : List Entry) (terms : List Term) →
+    AllZip (IsWeightTermOf weighs slopes) entries terms →
+    AllZip (IsWeightTerm slopes.up slopes.down) entries terms
 weights_of_slopes weighs slopes [] [] h = tt
 weights_of_slopes weighs slopes [] (t ∷ terms) h = absurd h
 weights_of_slopes weighs slopes (e ∷ entries) [] h = absurd h
-weights_of_slopes weighs slopes (e ∷ entries) (t ∷ terms) h = (h.0.of_slopes, weights_of_slopes weighs slopes entries terms h.1)
+weights_of_slopes weighs slopes (e ∷ entries) (t ∷ terms) h =
+    (h.0.of_slopes, weights_of_slopes weighs slopes entries terms h.1)
 
-pub mixed_cut_of_kind : {E G : Type 0} (answers : E → Frac → Frac → Type 0) (weighs : G → Frac → Frac → Type 0) (rule : KeptRule E)
+pub mixed_cut_of_kind : {E G : Type 0} (answers : E → Frac → Frac → Type 0) (weighs : G → Frac →
+    Frac → Type 0) (rule : KeptRule E)
     (slopes : KeptSlopes G) (continuous : List Bool) (row : Row) (cut : MixedCut) →
-    IsMixedCutOf answers weighs rule slopes continuous row cut → IsMixedCutOfKind rule.kind slopes.up slopes.down continuous row cut
+    IsMixedCutOf answers weighs rule slopes continuous row cut →
+    IsMixedCutOfKind rule.kind slopes.up slopes.down continuous row cut
 mixed_cut_of_kind answers weighs rule slopes continuous row (Cut terms weights) h = (
   h.0,
   h.1,
@@ -98,8 +123,11 @@ mixed_cut_of_kind answers weighs rule slopes continuous row (Cut terms weights) 
 mixed_cut_of_kind answers weighs rule slopes continuous row Integral h = h
 mixed_cut_of_kind answers weighs rule slopes continuous row OtherFraction h = h
 
-pub gmic_mixed_cut_of : (f up down : Frac) (continuous : List Bool) (row : Row) (cut : MixedCut) → AreGmicSlopes f up down →
-    HasPart (Gmic f) row.rhs → IsMixedCutOfKind (Gmic f) up down continuous row cut → IsGmicMixedCutOf continuous row cut
-gmic_mixed_cut_of f up down continuous row (Cut terms weights) slopes part h = (f, up, down, slopes, h)
+pub gmic_mixed_cut_of : (f up down : Frac) (continuous : List Bool) (row : Row) (cut : MixedCut) →
+    AreGmicSlopes f up down →
+    HasPart (Gmic f) row.rhs → IsMixedCutOfKind (Gmic f) up down continuous row cut →
+    IsGmicMixedCutOf continuous row cut
+gmic_mixed_cut_of f up down continuous row (Cut terms weights) slopes part h =
+    (f, up, down, slopes, h)
 gmic_mixed_cut_of f up down continuous row Integral slopes part h = h
 gmic_mixed_cut_of f up down continuous row OtherFraction slopes part h = absurd (h.1 part)

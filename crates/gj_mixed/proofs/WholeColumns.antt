@@ -12,7 +12,8 @@ use Rattle.gj_mixed.specs.MixedRows.{MixedCutHolds}
 ones : (a r : ℤ) → a ≡ r → pos 1 *ℤ a +ℤ pos 0 ≡ pos 1 *ℤ r
 ones a r e = let left = one_mul_z a in let right = one_mul_z r in omega (arith, ints)
 
-whole_from_mixed : (entries : List Frac) (right : Frac) (coefficients : List Frac) → MixedCutHolds entries [] right coefficients [] →
+whole_from_mixed : (entries : List Frac) (right : Frac) (coefficients : List Frac) →
+    MixedCutHolds entries [] right coefficients [] →
     CutHolds entries right coefficients
 whole_from_mixed entries right coefficients holds basic others g solution least =
     let c = solution.c in
@@ -22,7 +23,8 @@ whole_from_mixed entries right coefficients holds basic others g solution least 
       column_count = refl;
       over = omega arith;
       c = c;
-      least = subst (λ xs. IsLeastCommonDenominator (right ∷ xs) c) (sym (append-nil entries)) solution.least;
+      least = subst (λ xs. IsLeastCommonDenominator (right ∷ xs) c)
+          (sym (append-nil entries)) solution.least;
       solves = ones _ _ solution.solves;
     }) (subst (λ xs. IsLeastCommonDenominator xs g) (sym (append-nil coefficients)) least) in
     let left = one_mul_z (pos g) in
@@ -35,20 +37,25 @@ cancel_amounts a r e some h =
     mul_cancel_left_z a r (pos e) same (omega arith)
 
 scaled_amounts : (g v : ℤ) (e : ℕ) → g ≤ℤ v → (pos e *ℤ g) ≤ℤ (pos e *ℤ v +ℤ pos 0)
-scaled_amounts g v e h = let scaled = mul_le_mul_left_z g v (pos e) (omega (arith, ints)) h in omega (arith, ints)
+scaled_amounts g v e h = let scaled = mul_le_mul_left_z g v (pos e) (omega (arith, ints)) h in
+    omega (arith, ints)
 
-mixed_from_whole : (entries : List Frac) (right : Frac) (coefficients : List Frac) → CutHolds entries right coefficients →
+mixed_from_whole : (entries : List Frac) (right : Frac) (coefficients : List Frac) →
+    CutHolds entries right coefficients →
     MixedCutHolds entries [] right coefficients []
 mixed_from_whole entries right coefficients holds basic others [] e g solution least =
     let c = solution.c in
-    scaled_amounts (pos g) (sum_of_products (map (numerator_over g) coefficients) (map pos others)) e
+    scaled_amounts (pos g) (sum_of_products (map (numerator_over g) coefficients) (map pos others))
+    e
     (holds basic others g (record {
       count = solution.count;
       c = c;
-      least = subst (λ xs. IsLeastCommonDenominator (right ∷ xs) c) (append-nil entries) solution.least;
+      least = subst (λ xs. IsLeastCommonDenominator (right ∷ xs) c)
+          (append-nil entries) solution.least;
       solves = cancel_amounts _ _ e solution.over solution.solves;
     }) (subst (λ xs. IsLeastCommonDenominator xs g) (append-nil coefficients) least))
-mixed_from_whole entries right coefficients holds basic others (a ∷ amounts) e g solution least = let none = solution.column_count in (cc)
+mixed_from_whole entries right coefficients holds basic others (a ∷ amounts) e g solution least =
+    let none = solution.column_count in (cc)
 
 pub mixed_without_columns : (entries : List Frac) (right : Frac) (coefficients : List Frac) →
     MixedCutHolds entries [] right coefficients [] ↔ CutHolds entries right coefficients

@@ -35,22 +35,29 @@ pub record IsWeightTerm (up down : Frac) (entry : Entry) (term : Term) : Type 0 
   pub weight_is : IsWeight up down entry.value term.cut
 
 -- and one that the kept evaluator answers there
-pub record IsWeightTermOf {G : Type 0} (answers : G → Frac → Frac → Type 0) (slopes : KeptSlopes G) (entry : Entry) (term : Term) : Type 0 where
+pub record IsWeightTermOf {G : Type 0} (answers : G → Frac → Frac → Type 0) (slopes : KeptSlopes G)
+    (entry : Entry) (term : Term) : Type 0 where
   pub of_slopes : IsWeightTerm slopes.up slopes.down entry term
   pub answered : answers slopes.weigh entry.value term.cut
 
 -- the cut of a row with terms of whole columns, of which P says which they are, and of continuous
 -- columns, of which Q does so, each in the order of the row's entries, or why there is none
-abbrev pub IsMixedCutWith : (Entry → Term → Type 0) → (Entry → Term → Type 0) → RuleKind → List Bool → Row → MixedCut → Type 0
-IsMixedCutWith P Q kind continuous row (Cut terms weights) = (IsWhole row.rhs → ⊥) × HasPart kind row.rhs
-    × AllZip P (whole_entries continuous row.entries) terms × AllZip Q (continuous_entries continuous row.entries) weights
+abbrev pub IsMixedCutWith : (Entry → Term → Type 0) → (Entry → Term → Type 0) → RuleKind →
+    List Bool → Row → MixedCut → Type 0
+IsMixedCutWith P Q kind continuous row (Cut terms weights) = (IsWhole row.rhs → ⊥)
+    × HasPart kind row.rhs
+    × AllZip P (whole_entries continuous row.entries) terms
+    × AllZip Q (continuous_entries continuous row.entries) weights
 IsMixedCutWith P Q kind continuous row Integral = IsWhole row.rhs
-IsMixedCutWith P Q kind continuous row OtherFraction = (IsWhole row.rhs → ⊥) × (HasPart kind row.rhs → ⊥)
+IsMixedCutWith P Q kind continuous row OtherFraction = (IsWhole row.rhs → ⊥)
+    × (HasPart kind row.rhs → ⊥)
 
 -- the cut of the row by the rule and the slopes
-abbrev pub IsMixedCutOf : {E G : Type 0} → (E → Frac → Frac → Type 0) → (G → Frac → Frac → Type 0) → KeptRule E → KeptSlopes G →
+abbrev pub IsMixedCutOf : {E G : Type 0} → (E → Frac → Frac → Type 0) → (G → Frac → Frac → Type 0) →
+    KeptRule E → KeptSlopes G →
     List Bool → Row → MixedCut → Type 0
-IsMixedCutOf answers weighs rule slopes = IsMixedCutWith (IsTermOf answers rule) (IsWeightTermOf weighs slopes) rule.kind
+IsMixedCutOf answers weighs rule slopes =
+    IsMixedCutWith (IsTermOf answers rule) (IsWeightTermOf weighs slopes) rule.kind
 
 -- the cut of the row by any rule of the kind and any evaluator of the weights by these slopes
 abbrev pub IsMixedCutOfKind : RuleKind → Frac → Frac → List Bool → Row → MixedCut → Type 0
@@ -60,13 +67,15 @@ IsMixedCutOfKind kind up down = IsMixedCutWith (IsTermOfKind kind) (IsWeightTerm
 -- is whole
 abbrev pub IsGmicMixedCutOf : List Bool → Row → MixedCut → Type 0
 IsGmicMixedCutOf continuous row (Cut terms weights) =
-    (f : Frac) × (up : Frac) × (down : Frac) × AreGmicSlopes f up down × IsMixedCutOfKind (Gmic f) up down continuous row (Cut terms weights)
+    (f : Frac) × (up : Frac) × (down : Frac) × AreGmicSlopes f up down
+    × IsMixedCutOfKind (Gmic f) up down continuous row (Cut terms weights)
 IsGmicMixedCutOf continuous row Integral = IsWhole row.rhs
 IsGmicMixedCutOf continuous row OtherFraction = ⊥
 
 -- the cut, if there is one, holds at each solution of the row
 abbrev pub MixedHoldsFor : Row → MixedCut → Type 0
 MixedHoldsFor row (Cut terms weights) =
-    MixedCutHolds (map (λ t. t.entry) terms) (map (λ t. t.entry) weights) row.rhs (map (λ t. t.cut) terms) (map (λ t. t.cut) weights)
+    MixedCutHolds (map (λ t. t.entry) terms) (map (λ t. t.entry) weights) row.rhs
+    (map (λ t. t.cut) terms) (map (λ t. t.cut) weights)
 MixedHoldsFor row Integral = Unit {0}
 MixedHoldsFor row OtherFraction = Unit {0}

@@ -12,18 +12,23 @@ use Rattle.gj_rule.specs.declared.kind.RuleKind.TheVariants.{Gmic, Table}
 -- w is the weight of a continuous column with the entry c: up c if c is at least 0, and down (-c)
 -- if it is below
 pub record IsWeight (up down c w : Frac) : Type 0 where
-  pub rises : pos 0 ≤ℤ numerator c → SameValue (fraction_of w) (product_of (fraction_of up) (fraction_of c))
-  pub falls : numerator c <ℤ pos 0 → SameValue (fraction_of w) (product_of (fraction_of down) (negation_of (fraction_of c)))
+  pub rises : pos 0 ≤ℤ numerator c →
+      SameValue (fraction_of w) (product_of (fraction_of up) (fraction_of c))
+  pub falls : numerator c <ℤ pos 0 →
+      SameValue (fraction_of w) (product_of (fraction_of down) (negation_of (fraction_of c)))
 
 -- up is the slope of a continuous function on its first interval, and -down that on its last
 pub record AreSlopesAtZero (f : FunctionData) (up down : Frac) : Type 0 where
   pub up_is : IsRatio up (pos f.order *ℤ (at f.value 1 -ℤ at f.value 0)) (pos f.scale)
-  pub down_is : IsRatio down (pos f.order *ℤ (at f.value (f.order - 1) -ℤ at f.value 0)) (pos f.scale)
+  pub down_is : IsRatio down (pos f.order *ℤ (at f.value (f.order - 1) -ℤ at f.value 0))
+      (pos f.scale)
 
 -- those of the mixed-integer cut for f: up is 1/f, and down is 1/(1 - f)
 pub record AreGmicSlopes (f up down : Frac) : Type 0 where
-  pub up_is : SameValue (fraction_of up) (quotient_of (record { top = pos 1; bottom = pos 1 }) (fraction_of f))
-  pub down_is : SameValue (fraction_of down) (quotient_of (record { top = pos 1; bottom = pos 1 }) (one_minus (fraction_of f)))
+  pub up_is : SameValue (fraction_of up)
+      (quotient_of (record { top = pos 1; bottom = pos 1 }) (fraction_of f))
+  pub down_is : SameValue (fraction_of down)
+      (quotient_of (record { top = pos 1; bottom = pos 1 }) (one_minus (fraction_of f)))
 
 -- the slopes at 0 of the kind; a function is continuous
 abbrev pub AreSlopesOfKind : RuleKind → Frac → Frac → Type 0
@@ -43,6 +48,7 @@ pub record KeptSlopes (G : Type 0) : Type 0 where
   pub weigh : G
 
 -- the evaluator may be called at each fraction of the range, and answers the weight there
-pub record Weighs {G : Type 0} (pre : G → Frac → Type 0) (post : G → Frac → Frac → Type 0) (up down : Frac) (weigh : G) : Type 0 where
+pub record Weighs {G : Type 0} (pre : G → Frac → Type 0) (post : G → Frac → Frac → Type 0)
+    (up down : Frac) (weigh : G) : Type 0 where
   pub callable : (c : Frac) → IsRowNumber c → pre weigh c
   pub gives : (c w : Frac) → IsRowNumber c → post weigh c w → IsWeight up down c w

@@ -24,26 +24,31 @@ no_marks marks q e = record {
   same = λ i below. ap (λ xs. get_or xs i false) e ∙ get_or-replicate q i false false below;
 }
 
-pub one_mark_more : (marks : List Bool) (q n a : ℕ) (class : List ℕ) → n < length class → a ≡ get_or class n 0 → a < q →
+pub one_mark_more : (marks : List Bool) (q n a : ℕ) (class : List ℕ) → n < length class →
+    a ≡ get_or class n 0 → a < q →
     AreMarks marks q (take n class) → length (set marks a true) ≡ length marks →
     AreMarks (set marks a true) q (take (n + 1) class)
 one_mark_more marks q n a class below e a_below h len = record {
   whole = len ∙ h.whole;
   same = λ i i_below.
       let more : is_among (take (n + 1) class) i ≡ (is_among (take n class) i || (a == i)) =
-      list_any_more (λ b. b == i) class n 0 below ∙ ap (λ b. (is_among (take n class) i || (b == i))) (sym e) in
+      list_any_more (λ b. b == i) class n 0 below
+      ∙ ap (λ b. (is_among (take n class) i || (b == i))) (sym e) in
       elim (cases_eq i a) [
         | inl here ↦
             let inside : a < length marks = let w = h.whole in omega arith in
             let set_here : get_or (set marks a true) i false ≡ true =
             ap (λ k. get_or (set marks a true) k false) here ∙ (rw get_or-set_same refl) in
             let hit : (a == i) ≡ true = eq-eqb a i (sym here) in
-            set_here ∙ sym (more ∙ ap (λ b. (is_among (take n class) i || b)) hit ∙ or-true (is_among (take n class) i))
+            set_here ∙ sym (more ∙ ap (λ b. (is_among (take n class) i || b)) hit
+            ∙ or-true (is_among (take n class) i))
         | inr other ↦
             let miss : (a == i) ≡ false = ne_eqb a i (λ s. other (sym s)) in
-            let kept : get_or (set marks a true) i false ≡ get_or marks i false = rw get_or-set_other refl in
+            let kept : get_or (set marks a true) i false ≡ get_or marks i false =
+            rw get_or-set_other refl in
             kept ∙ h.same i i_below
-            ∙ sym (more ∙ ap (λ b. (is_among (take n class) i || b)) miss ∙ or-false (is_among (take n class) i))
+            ∙ sym (more ∙ ap (λ b. (is_among (take n class) i || b)) miss
+            ∙ or-false (is_among (take n class) i))
       ];
 }
 
@@ -57,7 +62,8 @@ quarter_value chosen r =
     if chosen then (if r == 1 then pos 1 else if r == 3 then pos 0 -ℤ pos 1 else pos 0) else pos 0
 
 pub zigzag_from_marks : (q : ℕ) (class : List ℕ) (i : ℕ) (mark d : Bool) → i < q * 4 →
-    mark ≡ get_or (map (is_among class) (range_with_len 0 q)) (i / 4) d → quarter_value mark (i % 4) ≡ zigzag q class i
+    mark ≡ get_or (map (is_among class) (range_with_len 0 q)) (i / 4) d →
+    quarter_value mark (i % 4) ≡ zigzag q class i
 zigzag_from_marks q class i mark d below e =
     let inside : i / 4 < q = omega arith in
     let chosen : mark ≡ is_among class (i / 4) =

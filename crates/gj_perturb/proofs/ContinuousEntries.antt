@@ -18,7 +18,8 @@ entry_continuous f m a zero h =
     no_more (pos m *ℤ at f.value a) (at f.value (a + 1))
     ∙ ap (λ n. pos n *ℤ at f.value a +ℤ pos 0 *ℤ at f.value (a + 1)) (sym whole)
 entry_continuous f m a (suc r) h =
-    ap₂ (λ x y. pos (m - suc r) *ℤ x +ℤ pos (suc r) *ℤ y) (right_is_value f a h) (left_is_value f (a + 1) h)
+    ap₂ (λ x y. pos (m - suc r) *ℤ x +ℤ pos (suc r) *ℤ y) (right_is_value f a h)
+    (left_is_value f (a + 1) h)
 
 pub table_continuous : (f : FunctionData) (m i : ℕ) → IsContinuous f →
     table f m i ≡ pos (m - i % m) *ℤ at f.value (i / m) +ℤ pos (i % m) *ℤ at f.value (i / m + 1)
@@ -39,9 +40,11 @@ small_read : (x : ℤ) → unsigned_abs x < 2 ^ 53 → read x ≡ x
 small_read x small = to_z-of_z w64 x (fits_signed_from_abs w64 x (omega arith))
 
 factor_read : (k : ℕ) (n : ℤ) → n ≡ pos k → k ≤ 4 → read n ≡ pos k
-factor_read k n e few = let size : unsigned_abs n ≡ k = ap unsigned_abs e in small_read n (omega arith) ∙ e
+factor_read k n e few = let size : unsigned_abs n ≡ k = ap unsigned_abs e in
+    small_read n (omega arith) ∙ e
 
-pub product_read : (k : ℕ) (n x : ℤ) → n ≡ pos k → k ≤ 4 → IsNumerator x → read (read n *ℤ read x) ≡ pos k *ℤ x
+pub product_read : (k : ℕ) (n x : ℤ) → n ≡ pos k → k ≤ 4 → IsNumerator x →
+    read (read n *ℤ read x) ≡ pos k *ℤ x
 product_read k n x e few small =
     let first : read n ≡ pos k = factor_read k n e few in
     let second : read x ≡ x = small_read x (omega arith) in
@@ -59,10 +62,12 @@ pub sum_fits : (k j : ℕ) (n m x y : ℤ) → n ≡ pos k → m ≡ pos j → k
     IsNumerator y → FitsSigned w64 (read (read n *ℤ read x) +ℤ read (read m *ℤ read y))
 sum_fits k j n m x y e g few few' small small' =
     let size = sum_size k j x y few few' small small' in
-    rw (product_read k n x e few small, product_read j m y g few' small') (fits_signed_from_abs w64 _ (omega arith))
+    rw (product_read k n x e few small, product_read j m y g few' small')
+    (fits_signed_from_abs w64 _ (omega arith))
 
 pub sum_read : (k j : ℕ) (n m x y : ℤ) → n ≡ pos k → m ≡ pos j → k ≤ 4 → j ≤ 4 → IsNumerator x →
-    IsNumerator y → read (read (read n *ℤ read x) +ℤ read (read m *ℤ read y)) ≡ pos k *ℤ x +ℤ pos j *ℤ y
+    IsNumerator y → read (read (read n *ℤ read x) +ℤ read (read m *ℤ read y))
+    ≡ pos k *ℤ x +ℤ pos j *ℤ y
 sum_read k j n m x y e g few few' small small' =
     let size = sum_size k j x y few few' small small' in
     rw (product_read k n x e few small, product_read j m y g few' small')

@@ -22,7 +22,8 @@ lesser_low x y s h = omega arith
 other_low : (x y s : ℕ) → y < s → min x y < s
 other_low x y s h = omega arith
 
-pub together : (lanes : List ℕ) (n : ℕ) (Q R S : ℕ → ℕ → Type 0) (x y x' y' : ℕ) → ((a b : ℕ) → S a b → Q a b ⊎ R a b) →
+pub together : (lanes : List ℕ) (n : ℕ) (Q R S : ℕ → ℕ → Type 0) (x y x' y' : ℕ) →
+    ((a b : ℕ) → S a b → Q a b ⊎ R a b) →
     AreLeast lanes n Q x y → AreLeast lanes n R x' y' → AreLeast lanes n S (min x x') (min y y')
 together lanes n Q R S x y x' y' split g h = record {
   any_met = lesser_met (IsAtCorner lanes n) x x' g.any_met h.any_met;
@@ -37,7 +38,8 @@ together lanes n Q R S x y x' y' split g h = record {
   ];
 }
 
-corners_together : (lanes : List ℕ) (n : ℕ) (Q R S : ℕ → ℕ → Type 0) (x x' : ℕ) → ((a b : ℕ) → S a b → Q a b ⊎ R a b) →
+corners_together : (lanes : List ℕ) (n : ℕ) (Q R S : ℕ → ℕ → Type 0) (x x' : ℕ) →
+    ((a b : ℕ) → S a b → Q a b ⊎ R a b) →
     IsLeastAt lanes n Q x → IsLeastAt lanes n R x' → IsLeastAt lanes n S (min x x')
 corners_together lanes n Q R S x x' split g h = record {
   met = lesser_met (IsAtCorner lanes n) x x' g.met h.met;
@@ -48,11 +50,13 @@ corners_together lanes n Q R S x x' split g h = record {
 }
 
 -- if no corner is chosen
-pub no_corner : (lanes : List ℕ) (n : ℕ) (Q : ℕ → ℕ → Type 0) → ((a b : ℕ) → Q a b → ⊥) → IsLeastAt lanes n Q no_slack
+pub no_corner : (lanes : List ℕ) (n : ℕ) (Q : ℕ → ℕ → Type 0) → ((a b : ℕ) → Q a b → ⊥) →
+    IsLeastAt lanes n Q no_slack
 no_corner lanes n Q none = record { met = inl refl; low = λ a b q. absurd (none a b q) }
 
 -- if no triangle is chosen
-pub nothing : (lanes : List ℕ) (n : ℕ) (Q : ℕ → ℕ → Type 0) → ((a b : ℕ) → Q a b → ⊥) → AreLeast lanes n Q no_slack no_slack
+pub nothing : (lanes : List ℕ) (n : ℕ) (Q : ℕ → ℕ → Type 0) → ((a b : ℕ) → Q a b → ⊥) →
+    AreLeast lanes n Q no_slack no_slack
 nothing lanes n Q none = record {
   any_met = inl refl;
   beside_met = inl refl;
@@ -80,27 +84,34 @@ pub record AreComputed (x y z least greatest chosen : ℕ) : Type 0 where
 
 least_of : (x y z : ℕ) → (min (min x y) z ≡ x) ⊎ ((min (min x y) z ≡ y) ⊎ (min (min x y) z ≡ z))
 least_of x y z = elim (cases_lt y x) [
-  | inl less ↦ elim (cases_lt z y) [ inl low ↦ inr (inr (omega arith)) | inr high ↦ inr (inl (omega arith)) ]
-  | inr more ↦ elim (cases_lt z x) [ inl low ↦ inr (inr (omega arith)) | inr high ↦ inl (omega arith) ]
+  | inl less ↦ elim (cases_lt z y)
+      [ inl low ↦ inr (inr (omega arith)) | inr high ↦ inr (inl (omega arith)) ]
+  | inr more ↦ elim (cases_lt z x)
+      [ inl low ↦ inr (inr (omega arith)) | inr high ↦ inl (omega arith) ]
 ]
 
 greatest_of : (x y z : ℕ) → (max (max x y) z ≡ x) ⊎ ((max (max x y) z ≡ y) ⊎ (max (max x y) z ≡ z))
 greatest_of x y z = elim (cases_lt x y) [
-  | inl less ↦ elim (cases_lt y z) [ inl low ↦ inr (inr (omega arith)) | inr high ↦ inr (inl (omega arith)) ]
-  | inr more ↦ elim (cases_lt x z) [ inl low ↦ inr (inr (omega arith)) | inr high ↦ inl (omega arith) ]
+  | inl less ↦ elim (cases_lt y z)
+      [ inl low ↦ inr (inr (omega arith)) | inr high ↦ inr (inl (omega arith)) ]
+  | inr more ↦ elim (cases_lt x z)
+      [ inl low ↦ inr (inr (omega arith)) | inr high ↦ inl (omega arith) ]
 ]
 
 -- a slack in the list that the lane stands for
-met_by : (xs : List ℕ) (s x least : ℕ) → Contains xs s → StandsFor s x → least ≡ x → (least ≡ no_slack) ⊎ Contains xs (least + 1)
+met_by : (xs : List ℕ) (s x least : ℕ) → Contains xs s → StandsFor s x → least ≡ x →
+    (least ≡ no_slack) ⊎ Contains xs (least + 1)
 met_by xs zero x least here h e = let none = h.none refl in inl (omega arith)
 met_by xs (suc s) x least here h e =
     let some : suc s ≡ x + 1 = h.some (omega arith) in
     inr (subst (Contains xs) (let same : suc s ≡ least + 1 = omega arith in same) here)
 
 -- a lane that stands for none stands for the slack 0
-tight_by : (xs : List ℕ) (s x : ℕ) → Contains xs s → StandsFor s x → s < 2 ^ 32 - 1 → x ≡ no_slack → Contains xs 0
+tight_by : (xs : List ℕ) (s x : ℕ) → Contains xs s → StandsFor s x → s < 2 ^ 32 - 1 → x ≡ no_slack →
+    Contains xs 0
 tight_by xs zero x here h small e = here
-tight_by xs (suc s) x here h small e = let some : suc s ≡ x + 1 = h.some (omega arith) in absurd (omega arith)
+tight_by xs (suc s) x here h small e = let some : suc s ≡ x + 1 = h.some (omega arith) in
+    absurd (omega arith)
 
 module _ (s t r x y z least greatest chosen : ℕ)
     (first : StandsFor s x) (second : StandsFor t y) (third : StandsFor r z)
@@ -117,10 +128,13 @@ module _ (s t r x y z least greatest chosen : ℕ)
 
   tight : greatest ≡ no_slack → Contains (s ∷ t ∷ r ∷ []) 0
   tight g = elim (greatest_of x y z) [
-    | inl e ↦ tight_by (s ∷ t ∷ r ∷ []) s x (0, omega arith, refl) first s_small (sym e ∙ sym h.greatest_is ∙ g)
+    | inl e ↦ tight_by (s ∷ t ∷ r ∷ []) s x (0, omega arith, refl) first s_small
+        (sym e ∙ sym h.greatest_is ∙ g)
     | inr other ↦ elim other [
-      | inl e ↦ tight_by (s ∷ t ∷ r ∷ []) t y (1, omega arith, refl) second t_small (sym e ∙ sym h.greatest_is ∙ g)
-      | inr e ↦ tight_by (s ∷ t ∷ r ∷ []) r z (2, omega arith, refl) third r_small (sym e ∙ sym h.greatest_is ∙ g)
+      | inl e ↦ tight_by (s ∷ t ∷ r ∷ []) t y (1, omega arith, refl) second t_small
+          (sym e ∙ sym h.greatest_is ∙ g)
+      | inr e ↦ tight_by (s ∷ t ∷ r ∷ []) r z (2, omega arith, refl) third r_small
+          (sym e ∙ sym h.greatest_is ∙ g)
     ]
   ]
 
@@ -128,7 +142,8 @@ module _ (s t r x y z least greatest chosen : ℕ)
   low =
       let least_is = h.least_is in
       All-three (λ v. 0 < v → least < v) s t r (λ above. let e = first.some above in omega arith)
-      (λ above. let e = second.some above in omega arith) (λ above. let e = third.some above in omega arith)
+      (λ above. let e = second.some above in omega arith) (λ above. let e = third.some above in
+      omega arith)
 
   -- if a slack is 0 the greatest lane is that of none
   greatest_none : Contains (s ∷ t ∷ r ∷ []) 0 → greatest ≡ no_slack
@@ -157,7 +172,8 @@ module _ (s t r x y z least greatest chosen : ℕ)
       let same : chosen ≡ least = h.none (greatest_none zero_in) in
       subst (λ (v : ℕ). All (λ w. 0 < w → v < w) (s ∷ t ∷ r ∷ [])) (sym same) low
 
-  chosen_met : (chosen ≡ no_slack) ⊎ Contains (s ∷ t ∷ r ∷ []) 0 × Contains (s ∷ t ∷ r ∷ []) (chosen + 1)
+  chosen_met : (chosen ≡ no_slack) ⊎ Contains (s ∷ t ∷ r ∷ []) 0
+      × Contains (s ∷ t ∷ r ∷ []) (chosen + 1)
   chosen_met = elim (cases_lt greatest no_slack) [
     | inl less ↦ inl (h.some (λ e. omega arith))
     | inr high ↦
@@ -169,7 +185,11 @@ module _ (s t r x y z least greatest chosen : ℕ)
         let same : chosen ≡ least = h.none g in
         elim met [
           | inl none ↦ inl (same ∙ none)
-          | inr here ↦ inr (tight g, subst (λ (v : ℕ). Contains (s ∷ t ∷ r ∷ []) (v + 1)) (sym same) here)
+          | inr here ↦ inr (
+            tight g,
+            subst (λ (v : ℕ). Contains (s ∷ t ∷ r ∷ []) (v + 1))
+                (sym same) here,
+          )
         ]
   ]
 
@@ -180,7 +200,8 @@ IsSquare i j a b = (a ≡ i) × (b ≡ j)
 at_square : (P : ℕ → ℕ → Type 0) (i j a b : ℕ) → IsSquare i j a b → P i j → P a b
 at_square P i j a b (e, g) p = subst (λ (k : ℕ). P k b) (sym e) (subst (P i) (sym g) p)
 
-pub slack_small : (lanes : List ℕ) (n a b : ℕ) → AreSubadditive lanes n → a < 2 * n → b < 2 * n → lane_slack lanes a b < 2 ^ 32 - 1
+pub slack_small : (lanes : List ℕ) (n a b : ℕ) → AreSubadditive lanes n → a < 2 * n → b < 2 * n →
+    lane_slack lanes a b < 2 ^ 32 - 1
 slack_small lanes n a b h a_below b_below =
     let first = h.small a a_below in
     let second = h.small b b_below in
@@ -190,24 +211,45 @@ slack_small lanes n a b h a_below b_below =
 abbrev pub lane_of : ℕ → ℕ
 lane_of s = (s + (2 ^ 32 - 1)) % 2 ^ 32
 
-pub one_triangle : (lanes : List ℕ) (n i j least greatest chosen : ℕ) → AreSubadditive lanes n → i < n → j < n →
-    AreComputed (lane_of (lane_slack lanes i j)) (lane_of (lane_slack lanes (i + 1) j)) (lane_of (lane_slack lanes i (j + 1)))
+pub one_triangle : (lanes : List ℕ) (n i j least greatest chosen : ℕ) → AreSubadditive lanes n →
+    i < n → j < n →
+    AreComputed (lane_of (lane_slack lanes i j)) (lane_of (lane_slack lanes (i + 1) j))
+    (lane_of (lane_slack lanes i (j + 1)))
     least greatest chosen →
     AreLeast lanes n (IsSquare i j) least chosen
 one_triangle lanes n i j least greatest chosen h i_below j_below d = record {
-  any_met = elim (met s t r _ _ _ least greatest chosen first second third s_small t_small r_small d) [
-    | inl none ↦ inl none
-    | inr here ↦ inr (record { a = i; b = j; a_below = i_below; b_below = j_below; here = here })
-  ];
-  beside_met = elim (chosen_met s t r _ _ _ least greatest chosen first second third s_small t_small r_small d) [
-    | inl none ↦ inl none
-    | inr both ↦
-        inr (record { a = i; b = j; a_below = i_below; b_below = j_below; tight = both.0; here = both.1 })
-  ];
-  any_low = λ a b e. at_square (λ a' b'. All (λ v. 0 < v → least < v) (triangle lanes a' b')) i j a b e
+  any_met = elim (met s t r _ _ _ least greatest chosen first second third s_small t_small r_small
+      d) [
+        | inl none ↦ inl none
+        | inr here ↦ inr (record {
+          a = i;
+          b = j;
+          a_below = i_below;
+          b_below = j_below;
+          here =
+              here;
+        })
+      ];
+  beside_met = elim (chosen_met s t r _ _ _ least greatest chosen first second third s_small t_small
+      r_small d) [
+        | inl none ↦ inl none
+        | inr both ↦
+            inr (record {
+              a = i;
+              b = j;
+              a_below = i_below;
+              b_below = j_below;
+              tight = both.0;
+              here =
+                  both.1;
+            })
+      ];
+  any_low = λ a b e. at_square (λ a' b'. All (λ v. 0 < v → least < v) (triangle lanes a' b')) i j a
+      b e
       (low s t r _ _ _ least greatest chosen first second third s_small t_small r_small d);
   beside_low = λ a b e. at_square
-      (λ a' b'. Contains (triangle lanes a' b') 0 → All (λ v. 0 < v → chosen < v) (triangle lanes a' b')) i j a b e
+      (λ a' b'. Contains (triangle lanes a' b') 0 →
+      All (λ v. 0 < v → chosen < v) (triangle lanes a' b')) i j a b e
       (chosen_low s t r _ _ _ least greatest chosen first second third s_small t_small r_small d);
 }
   where
@@ -247,11 +289,20 @@ one_corner lanes n i j h i_below j_below =
     let small : s < 2 ^ 32 - 1 = slack_small lanes n i j h (omega arith) (omega arith) in
     let stands = stands_for s (omega arith) in
     record {
-      met = elim (met_by (triangle lanes i j) s (lane_of s) (lane_of s) (0, omega arith, refl) stands refl) [
-        | inl none ↦ inl none
-        | inr here ↦ inr (record { a = i; b = j; a_below = i_below; b_below = j_below; here = here })
-      ];
-      low = λ a b e. at_square (λ a' b'. 0 < lane_slack lanes a' b' → lane_of s < lane_slack lanes a' b') i j a b e
+      met = elim (met_by (triangle lanes i j) s (lane_of s) (lane_of s)
+          (0, omega arith, refl) stands refl) [
+            | inl none ↦ inl none
+            | inr here ↦ inr (record {
+              a = i;
+              b = j;
+              a_below = i_below;
+              b_below = j_below;
+              here =
+                  here;
+            })
+          ];
+      low = λ a b e. at_square (λ a' b'. 0 < lane_slack lanes a' b' →
+          lane_of s < lane_slack lanes a' b') i j a b e
           (λ above. let some = stands.some above in omega arith);
     }
 
@@ -270,7 +321,8 @@ in_rows n i a b (low, from, below) = elim (cases_lt a i) [
   | inr high ↦ inr (let e : a ≡ i = omega arith in (e, omega arith, below))
 ]
 
-pub one_square_more : (lanes : List ℕ) (n i j x y x' y' : ℕ) → AreLeast lanes n (IsInRow i j) x y → AreLeast lanes n (IsSquare i j) x' y' →
+pub one_square_more : (lanes : List ℕ) (n i j x y x' y' : ℕ) → AreLeast lanes n (IsInRow i j) x y →
+    AreLeast lanes n (IsSquare i j) x' y' →
     AreLeast lanes n (IsInRow i (j + 1)) (min x x') (min y y')
 one_square_more lanes n i j x y x' y' =
     together lanes n (IsInRow i j) (IsSquare i j) (IsInRow i (j + 1)) x y x' y' (in_row i j)
@@ -278,17 +330,20 @@ one_square_more lanes n i j x y x' y' =
 pub no_row : (lanes : List ℕ) (n : ℕ) → AreLeast lanes n (IsInRows n 0) no_slack no_slack
 no_row lanes n = nothing lanes n (IsInRows n 0) (λ a b (low, from, below). omega arith)
 
-pub one_row_more : (lanes : List ℕ) (n i x y x' y' : ℕ) → AreLeast lanes n (IsInRows n i) x y → AreLeast lanes n (IsInRow i n) x' y' →
+pub one_row_more : (lanes : List ℕ) (n i x y x' y' : ℕ) → AreLeast lanes n (IsInRows n i) x y →
+    AreLeast lanes n (IsInRow i n) x' y' →
     AreLeast lanes n (IsInRows n (i + 1)) (min x x') (min y y')
 one_row_more lanes n i x y x' y' =
     together lanes n (IsInRows n i) (IsInRow i n) (IsInRows n (i + 1)) x y x' y' (in_rows n i)
 
-pub one_corner_more : (lanes : List ℕ) (n i j x x' : ℕ) → IsLeastAt lanes n (IsInRow i j) x → IsLeastAt lanes n (IsSquare i j) x' →
+pub one_corner_more : (lanes : List ℕ) (n i j x x' : ℕ) → IsLeastAt lanes n (IsInRow i j) x →
+    IsLeastAt lanes n (IsSquare i j) x' →
     IsLeastAt lanes n (IsInRow i (j + 1)) (min x x')
 one_corner_more lanes n i j x x' =
     corners_together lanes n (IsInRow i j) (IsSquare i j) (IsInRow i (j + 1)) x x' (in_row i j)
 
-pub one_row_of_corners_more : (lanes : List ℕ) (n i x x' : ℕ) → IsLeastAt lanes n (IsInRows n i) x → IsLeastAt lanes n (IsInRow i n) x' →
+pub one_row_of_corners_more : (lanes : List ℕ) (n i x x' : ℕ) → IsLeastAt lanes n (IsInRows n i) x →
+    IsLeastAt lanes n (IsInRow i n) x' →
     IsLeastAt lanes n (IsInRows n (i + 1)) (min x x')
 one_row_of_corners_more lanes n i x x' =
     corners_together lanes n (IsInRows n i) (IsInRow i n) (IsInRows n (i + 1)) x x' (in_rows n i)

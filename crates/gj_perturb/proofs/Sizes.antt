@@ -34,13 +34,24 @@ one_size_more xs n size x more below h e m = record {
       (λ i before. let least = h.greatest i before in omega arith) (omega arith);
 }
 
-pub size_of_all : (xs : List ℤ) (size : ℕ) → 0 < length xs → IsSizeBelow xs (length xs) size → IsGreatestSize (at xs) size
+pub size_of_all : (xs : List ℤ) (size : ℕ) → 0 < length xs → IsSizeBelow xs (length xs) size →
+    IsGreatestSize (at xs) size
 size_of_all xs size some h = elim h.reached [
   | inl none ↦
       let most = each 0 in
-      record { i = 0; reached = (let e : unsigned_abs (at xs 0) ≡ size = omega arith in e); greatest = each }
+      record {
+        i = 0;
+        reached =
+            (let e : unsigned_abs (at xs 0) ≡ size = omega arith in e);
+        greatest = each;
+      }
   | inr found ↦
-      record { i = found.i; reached = ap unsigned_abs (at_below xs found.i found.below) ∙ found.same; greatest = each }
+      record {
+        i = found.i;
+        reached = ap unsigned_abs (at_below xs found.i found.below)
+            ∙ found.same;
+        greatest = each;
+      }
 ]
   where
     each : (j : ℕ) → unsigned_abs (at xs j) ≤ size

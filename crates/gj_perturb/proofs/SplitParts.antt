@@ -22,14 +22,16 @@ use Rattle.gj_perturb.proofs.MovedEntries.{wide}
 use mir.Syntax.{w128}
 
 -- two lists made from functions that agree
-map_same : (g h : ℕ → ℤ) (n : ℕ) → ((i : ℕ) → i < n → g i ≡ h i) → map g (range_with_len 0 n) ≡ map h (range_with_len 0 n)
+map_same : (g h : ℕ → ℤ) (n : ℕ) → ((i : ℕ) → i < n → g i ≡ h i) →
+    map g (range_with_len 0 n) ≡ map h (range_with_len 0 n)
 map_same g h n e =
     fill_by_all h (map g (range_with_len 0 n)) n (pos 0) (length-map-range_with_len g 0 n)
     (λ i below. get_or-map-range_with_len g 0 n i i (pos 0) below (omega arith) ∙ e i below)
 
 -- what the halves are made from: the greatest size, the table over two periods, and its least
 -- positive slack
-pub record AreParts (f : FunctionData) (p : Perturbation) (size : ℕ) (x : ℤ) (values xs : List ℤ) : Type 0 where
+pub record AreParts (f : FunctionData) (p : Perturbation) (size : ℕ) (x : ℤ) (values xs : List ℤ) :
+    Type 0 where
   pub within : IsWithinBounds f
   pub minimal : IsMinimal f
   pub can : CanSplit f p
@@ -41,8 +43,10 @@ pub record AreParts (f : FunctionData) (p : Perturbation) (size : ℕ) (x : ℤ)
   pub same : x ≡ pos u
   pub least : IsLeastSlack f p.times u
 
-pub parts_of : (f : FunctionData) (p : Perturbation) (size u : ℕ) (values xs : List ℤ) → IsWithinBounds f → IsMinimal f →
-    CanSplit f p → values ≡ p.values → IsGreatestSize (at values) size → 3 * size * (f.scale * p.times) ≤ 2 ^ 124 →
+pub parts_of : (f : FunctionData) (p : Perturbation) (size u : ℕ) (values xs : List ℤ) →
+    IsWithinBounds f → IsMinimal f →
+    CanSplit f p → values ≡ p.values → IsGreatestSize (at values) size →
+    3 * size * (f.scale * p.times) ≤ 2 ^ 124 →
     xs ≡ map (table f p.times) (range_with_len 0 (f.order * p.times)) → IsLeastSlack f p.times u →
     AreParts f p size (pos u) values xs
 parts_of f p size u values xs within minimal can values_is greatest narrow table_is least = record {
@@ -79,13 +83,16 @@ turned x = omega (arith, ints)
 
 pub turned_read : (y : ℤ) (u : ℕ) → y ≡ pos u → u < 2 ^ 64 → wide (pos 0 -ℤ y) ≡ neg_ℤ (pos u)
 turned_read y u e small =
-    ap (λ z. wide (pos 0 -ℤ z)) e ∙ to_z-of_z w128 (pos 0 -ℤ pos u) (omega (arith, ints)) ∙ turned (pos u)
+    ap (λ z. wide (pos 0 -ℤ z)) e ∙ to_z-of_z w128 (pos 0 -ℤ pos u) (omega (arith, ints))
+    ∙ turned (pos u)
 
-pub count_is : (f : FunctionData) (p : Perturbation) (size : ℕ) (x : ℤ) (values xs : List ℤ) → AreParts f p size x values xs →
+pub count_is : (f : FunctionData) (p : Perturbation) (size : ℕ) (x : ℤ) (values xs : List ℤ) →
+    AreParts f p size x values xs →
     length values ≡ f.order * p.times
 count_is f p size x values xs h = ap length h.values_is ∙ h.can.whole
 
-slack_is : (f : FunctionData) (p : Perturbation) (size : ℕ) (x : ℤ) (values xs : List ℤ) → AreParts f p size x values xs →
+slack_is : (f : FunctionData) (p : Perturbation) (size : ℕ) (x : ℤ) (values xs : List ℤ) →
+    AreParts f p size x values xs →
     HasLeastSlack f p.times x
 slack_is f p size x values xs h =
     has_least_slack f p.times x h.u h.within h.minimal h.can.times_low h.same h.least
@@ -97,15 +104,18 @@ size_some p size i h some =
     let apart : unsigned_abs (p i) ≢ 0 = λ e. some (abs_zero_z (p i) e) in
     omega arith
 
-pub product_at_most : (a b : ℕ) (x y : ℤ) → unsigned_abs x ≤ a → unsigned_abs y ≤ b → unsigned_abs (x *ℤ y) ≤ a * b
+pub product_at_most : (a b : ℕ) (x y : ℤ) → unsigned_abs x ≤ a → unsigned_abs y ≤ b →
+    unsigned_abs (x *ℤ y) ≤ a * b
 product_at_most a b x y first second =
     let size : unsigned_abs (x *ℤ y) ≡ unsigned_abs x * unsigned_abs y = unsigned_abs-mul x y in
-    let left : unsigned_abs x * unsigned_abs y ≤ a * unsigned_abs y = mul-le-mul_right (unsigned_abs y) first in
+    let left : unsigned_abs x * unsigned_abs y ≤ a * unsigned_abs y =
+    mul-le-mul_right (unsigned_abs y) first in
     let right : a * unsigned_abs y ≤ a * b = mul-le-mul_left a second in
     omega arith
 
 -- the products that an entry is made from are small
-pub small_move : (f : FunctionData) (p : Perturbation) (size : ℕ) (x : ℤ) (values xs : List ℤ) → AreParts f p size x values xs →
+pub small_move : (f : FunctionData) (p : Perturbation) (size : ℕ) (x : ℤ) (values xs : List ℤ) →
+    AreParts f p size x values xs →
     (step : ℤ) → unsigned_abs step ≡ unsigned_abs x → (i : ℕ) → i < length values →
     IsSmallMove xs (pos (3 * size)) values step i
 small_move f p size x values xs h step same i below =
@@ -123,8 +133,10 @@ small_move f p size x values xs h step same i below =
     subst (λ z. unsigned_abs z ≤ size) (at_below values i below) (h.greatest.greatest i) in
     let slack = slack_is f p size x values xs h in
     let step_is : unsigned_abs step ≡ slack.u = same ∙ ap unsigned_abs slack.same in
-    let step_small : unsigned_abs step ≤ 2 * (f.scale * p.times) = let small = slack.small in omega arith in
-    let first : unsigned_abs (pos (3 * size) *ℤ get_or xs i (pos 0)) ≤ 3 * size * (f.scale * p.times) =
+    let step_small : unsigned_abs step ≤ 2 * (f.scale * p.times) = let small = slack.small in
+    omega arith in
+    let first : unsigned_abs (pos (3 * size) *ℤ get_or xs i (pos 0))
+    ≤ 3 * size * (f.scale * p.times) =
     product_at_most (3 * size) s (pos (3 * size)) (get_or xs i (pos 0)) (omega arith) entry in
     let second : unsigned_abs (step *ℤ get_or values i (pos 0)) ≤ 2 * (f.scale * p.times) * size =
     product_at_most (2 * s) size step (get_or values i (pos 0)) step_small value in
@@ -134,17 +146,22 @@ small_move f p size x values xs h step same i below =
 -- ---- the halves
 
 -- the two lists that the code makes, and the order and the scale
-pub record AreMade (f : FunctionData) (p : Perturbation) (size : ℕ) (x : ℤ) (values xs : List ℤ) (h : Halves) : Type 0 where
+pub record AreMade (f : FunctionData) (p : Perturbation) (size : ℕ) (x : ℤ) (values xs : List ℤ)
+    (h : Halves) : Type 0 where
   pub order : h.order ≡ f.order * p.times
   pub scale : h.scale ≡ pos (3 * size * (f.scale * p.times))
-  pub first : h.first ≡ map (moved_at xs (pos (3 * size)) values x) (range_with_len 0 (length values))
-  pub second : h.second ≡ map (moved_at xs (pos (3 * size)) values (neg_ℤ x)) (range_with_len 0 (length values))
+  pub first : h.first ≡ map (moved_at xs (pos (3 * size)) values x)
+      (range_with_len 0 (length values))
+  pub second : h.second ≡ map (moved_at xs (pos (3 * size)) values (neg_ℤ x))
+      (range_with_len 0 (length values))
 
 moved_down : (a x y z : ℤ) → a *ℤ x +ℤ neg_ℤ y *ℤ z ≡ a *ℤ x -ℤ y *ℤ z
 moved_down a x y z = ap (λ t. a *ℤ x +ℤ t) (neg_mul_z y z)
 
-pub are_halves : (f : FunctionData) (p : Perturbation) (size : ℕ) (x : ℤ) (values xs : List ℤ) (made : Halves) →
-    AreParts f p size x values xs → AreMade f p size x values xs made → AreHalvesOf f p.times (at p.values) made
+pub are_halves : (f : FunctionData) (p : Perturbation) (size : ℕ) (x : ℤ) (values xs : List ℤ)
+    (made : Halves) →
+    AreParts f p size x values xs → AreMade f p size x values xs made →
+    AreHalvesOf f p.times (at p.values) made
 are_halves f p size x values xs made h d =
     let m = p.times in
     let n = f.order * p.times in
@@ -161,12 +178,14 @@ are_halves f p size x values xs made h d =
       greatest_size = subst (λ ys. IsGreatestSize (at ys) size) h.values_is h.greatest;
       order = d.order;
       scale = d.scale;
-      first = d.first ∙ ap (λ k. map (moved_at xs (pos (3 * size)) values x) (range_with_len 0 k)) count
+      first = d.first ∙ ap (λ k. map (moved_at xs (pos (3 * size)) values x) (range_with_len 0 k))
+          count
           ∙ map_same (moved_at xs (pos (3 * size)) values x)
           (λ i. pos (3 * size) *ℤ table f p.times i +ℤ pos slack.u *ℤ at p.values i) n
           (λ i below. ap₂ (λ y z. pos (3 * size) *ℤ y +ℤ z) (entry i below)
           (ap₂ (λ y z. y *ℤ z) slack.same (value i below)));
-      second = d.second ∙ ap (λ k. map (moved_at xs (pos (3 * size)) values (neg_ℤ x)) (range_with_len 0 k)) count
+      second = d.second ∙ ap
+          (λ k. map (moved_at xs (pos (3 * size)) values (neg_ℤ x)) (range_with_len 0 k)) count
           ∙ map_same (moved_at xs (pos (3 * size)) values (neg_ℤ x))
           (λ i. pos (3 * size) *ℤ table f p.times i -ℤ pos slack.u *ℤ at p.values i) n
           (λ i below. moved_down (pos (3 * size)) (get_or xs i (pos 0)) x (get_or values i (pos 0))
@@ -174,18 +193,24 @@ are_halves f p size x values xs made h d =
           (ap₂ (λ y z. y *ℤ z) slack.same (value i below)));
     }
 
-pub are_different : (f : FunctionData) (p : Perturbation) (size : ℕ) (x : ℤ) (values xs : List ℤ) (made : Halves) →
-    AreParts f p size x values xs → AreMade f p size x values xs made → (other : ℕ) → IsGreatestSize (at p.values) other →
-    AreDifferentHalves (table f p.times) (f.order * p.times) (f.place * p.times) (f.scale * p.times) (3 * other)
+pub are_different : (f : FunctionData) (p : Perturbation) (size : ℕ) (x : ℤ) (values xs : List ℤ)
+    (made : Halves) →
+    AreParts f p size x values xs → AreMade f p size x values xs made → (other : ℕ) →
+    IsGreatestSize (at p.values) other →
+    AreDifferentHalves (table f p.times) (f.order * p.times) (f.place * p.times) (f.scale * p.times)
+    (3 * other)
     (at made.first) (at made.second)
 unfolding are_halves
 are_different f p size x values xs made h d other greatest =
     let halves = are_halves f p size x values xs made h d in
-    let different = lists_are_halves f p.times (at p.values) made h.can.index h.within h.minimal h.can.times_low
+    let different = lists_are_halves f p.times (at p.values) made h.can.index h.within h.minimal
+    h.can.times_low
     h.can.perturbation h.can.not_zero halves in
-    subst (λ k. AreDifferentHalves (table f p.times) (f.order * p.times) (f.place * p.times) (f.scale * p.times) (3 * k)
+    subst (λ k. AreDifferentHalves (table f p.times) (f.order * p.times) (f.place * p.times)
+    (f.scale * p.times) (3 * k)
     (at made.first) (at made.second))
-    (one_size (at p.values) size other (subst (λ ys. IsGreatestSize (at ys) size) h.values_is h.greatest) greatest) different
+    (one_size (at p.values) size other
+    (subst (λ ys. IsGreatestSize (at ys) size) h.values_is h.greatest) greatest) different
   where
     one_size : (g : ℕ → ℤ) (a b : ℕ) → IsGreatestSize g a → IsGreatestSize g b → a ≡ b
     one_size g a b first second =
@@ -208,7 +233,8 @@ all_fit xs factor values step ys small e =
     let both = abs_add_z (factor *ℤ get_or xs i (pos 0)) (step *ℤ get_or values i (pos 0)) in
     omega arith))
 
-pub fit_proof_text : (f : FunctionData) (p : Perturbation) (size : ℕ) (x : ℤ) (values xs : List ℤ) (made : Halves) →
+pub fit_proof_text : (f : FunctionData) (p : Perturbation) (size : ℕ) (x : ℤ) (values xs : List ℤ)
+    (made : Halves) →
     AreParts f p size x values xs → AreMade f p size x values xs made → AreHalvesInBounds made
 fit_proof_text f p size x values xs made h d =
     let count : length values ≡ f.order * p.times = count_is f p size x values xs h in
@@ -221,7 +247,8 @@ fit_proof_text f p size x values xs made h d =
     let least : f.order * 1 ≤ f.order * p.times = mul-le-mul_left f.order times_low in
     let most : f.order * p.times ≤ f.order * 4 = mul-le-mul_left f.order times_high in
     let order : made.order ≡ f.order * p.times = d.order in
-    let unit : 0 < f.scale * p.times = mul-pos (let b = h.within.scale_low in omega arith) (omega arith) in
+    let unit : 0 < f.scale * p.times = mul-pos (let b = h.within.scale_low in omega arith)
+    (omega arith) in
     let scale_some : 0 < 3 * size * (f.scale * p.times) = mul-pos (omega arith) unit in
     let scale : made.scale ≡ pos (3 * size * (f.scale * p.times)) = d.scale in
     let narrow : 3 * size * (f.scale * p.times) ≤ 2 ^ 124 = h.narrow in
@@ -230,20 +257,25 @@ fit_proof_text f p size x values xs made h d =
       order_high = omega arith;
       scale_low = subst (λ z. pos 1 ≤ℤ z) (sym scale) (omega (arith, ints));
       scale_high = subst (λ z. z ≤ℤ pos (2 ^ 124)) (sym scale) (omega (arith, ints));
-      first_length = ap length d.first ∙ length-map-range_with_len _ 0 (length values) ∙ count ∙ sym order;
-      second_length = ap length d.second ∙ length-map-range_with_len _ 0 (length values) ∙ count ∙ sym order;
-      first_fit = all_fit xs (pos (3 * size)) values x made.first (small_move f p size x values xs h x refl) d.first;
+      first_length = ap length d.first ∙ length-map-range_with_len _ 0 (length values) ∙ count
+          ∙ sym order;
+      second_length = ap length d.second ∙ length-map-range_with_len _ 0 (length values) ∙ count
+          ∙ sym order;
+      first_fit = all_fit xs (pos (3 * size)) values x made.first
+          (small_move f p size x values xs h x refl) d.first;
       second_fit = all_fit xs (pos (3 * size)) values (neg_ℤ x) made.second
           (small_move f p size x values xs h (neg_ℤ x) (omega (arith, ints))) d.second;
     }
 
 -- if one size is not too great, no size is
-pub not_wide : (f : FunctionData) (p : Perturbation) (size : ℕ) → IsGreatestSize (at p.values) size →
+pub not_wide : (f : FunctionData) (p : Perturbation) (size : ℕ) →
+    IsGreatestSize (at p.values) size →
     3 * size * (f.scale * p.times) ≤ 2 ^ 124 → IsWide f p → ⊥
 not_wide f p size h narrow wide =
     let low = h.greatest wide.greatest.i in
     let size_is = wide.greatest.reached in
     let least : wide.size ≤ size = omega arith in
-    let most : wide.size * (f.scale * p.times) ≤ size * (f.scale * p.times) = mul-le-mul_right (f.scale * p.times) least in
+    let most : wide.size * (f.scale * p.times) ≤ size * (f.scale * p.times) =
+    mul-le-mul_right (f.scale * p.times) least in
     let above = wide.above in
     omega arith

@@ -11,7 +11,8 @@ use Rattle.gj_theory.proofs.SlacksAndSizes.{at_most_scale}
 -- ---- bounds
 
 -- entries of a minimal table are at most 1
-pub entry_at_most : (t : ℕ → ℤ) (n k s i : ℕ) → 0 < n → IsMinimalTable t n k s → unsigned_abs (t i) ≤ s
+pub entry_at_most : (t : ℕ → ℤ) (n k s i : ℕ) → 0 < n → IsMinimalTable t n k s →
+    unsigned_abs (t i) ≤ s
 entry_at_most t n k s i some h =
     let high = at_most_scale t n k s i some h in
     let low = h.nonnegative i in
@@ -25,9 +26,11 @@ scale_small d m small few =
 
 -- ---- the list of a table
 
-pub listed_at : (t : ℕ → ℤ) (xs : List ℤ) (n i : ℕ) → xs ≡ map t (range_with_len 0 n) → i < n → get_or xs i (pos 0) ≡ t i
+pub listed_at : (t : ℕ → ℤ) (xs : List ℤ) (n i : ℕ) → xs ≡ map t (range_with_len 0 n) → i < n →
+    get_or xs i (pos 0) ≡ t i
 listed_at t xs n i e below =
-    ap (λ ys. get_or ys i (pos 0)) e ∙ get_or-map-range_with_len t 0 n i i (pos 0) below (omega arith)
+    ap (λ ys. get_or ys i (pos 0)) e ∙ get_or-map-range_with_len t 0 n i i (pos 0) below
+    (omega arith)
 
 -- ---- the least positive slack
 
@@ -38,10 +41,12 @@ pub record HasLeastSlack (f : FunctionData) (m : ℕ) (x : ℤ) : Type 0 where
   pub least : IsLeastSlack f m u
   pub small : u ≤ 2 * (f.scale * m)
 
-slack_at_most : (x y z : ℤ) (s : ℕ) → unsigned_abs x ≤ s → unsigned_abs y ≤ s → pos 0 ≤ℤ z → (x +ℤ y -ℤ z) ≤ℤ pos (2 * s)
+slack_at_most : (x y z : ℤ) (s : ℕ) → unsigned_abs x ≤ s → unsigned_abs y ≤ s → pos 0 ≤ℤ z →
+    (x +ℤ y -ℤ z) ≤ℤ pos (2 * s)
 slack_at_most x y z s x_small y_small sign = omega (arith, ints)
 
-pub has_least_slack : (f : FunctionData) (m : ℕ) (x : ℤ) (u : ℕ) → IsWithinBounds f → IsMinimal f → 0 < m → x ≡ pos u →
+pub has_least_slack : (f : FunctionData) (m : ℕ) (x : ℤ) (u : ℕ) → IsWithinBounds f → IsMinimal f →
+    0 < m → x ≡ pos u →
     IsLeastSlack f m u → HasLeastSlack f m x
 has_least_slack f m x u l minimal some same least =
     let t = table f m in
@@ -49,7 +54,14 @@ has_least_slack f m x u l minimal some same least =
     let n_some : 0 < f.order * m = mul-pos (omega (arith, l.order_low)) some in
     let h = minimal m some in
     let at_most = λ (i : ℕ). entry_at_most t (f.order * m) (f.place * m) s i n_some h in
-    let high = slack_at_most (t least.i) (t least.j) (t (least.i + least.j)) s (at_most least.i) (at_most least.j)
+    let high = slack_at_most (t least.i) (t least.j) (t (least.i + least.j)) s (at_most least.i)
+    (at_most least.j)
     (h.nonnegative (least.i + least.j)) in
     let met : slack_on_grid f m least.i least.j ≡ pos u = least.reached in
-    record { u = u; same = same; least = least; small = let most : pos u ≤ℤ pos (2 * s) = subst (λ z. z ≤ℤ pos (2 * s)) met high in omega (arith, ints) }
+    record {
+      u = u;
+      same = same;
+      least = least;
+      small = let most : pos u ≤ℤ pos (2 * s) =
+          subst (λ z. z ≤ℤ pos (2 * s)) met high in omega (arith, ints);
+    }

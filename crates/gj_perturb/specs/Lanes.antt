@@ -10,7 +10,8 @@ lane_slack lanes a b = get_or lanes a 0 + get_or lanes b 0 - get_or lanes (a + b
 
 -- the slacks at the corners of the lower triangle of the square (a, b)
 abbrev pub triangle : List ℕ → ℕ → ℕ → List ℕ
-triangle lanes a b = lane_slack lanes a b ∷ lane_slack lanes (a + 1) b ∷ lane_slack lanes a (b + 1) ∷ []
+triangle lanes a b = lane_slack lanes a b ∷ lane_slack lanes (a + 1) b ∷ lane_slack lanes a (b + 1)
+    ∷ []
 
 -- the lanes are the values of the function, over two periods
 pub record HoldValues (f : FunctionData) (lanes : List ℕ) : Type 0 where
@@ -22,7 +23,8 @@ pub record HoldValues (f : FunctionData) (lanes : List ℕ) : Type 0 where
 pub record AreSubadditive (lanes : List ℕ) (n : ℕ) : Type 0 where
   pub room : 2 * n ≤ length lanes
   pub small : (i : ℕ) → i < 2 * n → get_or lanes i 0 < 2 ^ 31
-  pub subadditive : (a b : ℕ) → a + b < 2 * n → get_or lanes (a + b) 0 ≤ get_or lanes a 0 + get_or lanes b 0
+  pub subadditive : (a b : ℕ) → a + b < 2 * n →
+      get_or lanes (a + b) 0 ≤ get_or lanes a 0 + get_or lanes b 0
 
 -- the greatest lane stands for no slack, and each other one for the slack that is one more
 abbrev pub no_slack : ℕ
@@ -47,7 +49,8 @@ pub record IsBesideZero (lanes : List ℕ) (n x : ℕ) : Type 0 where
 
 -- the lane of the least positive slack at a corner of the chosen triangles, and that of the least
 -- one in such a triangle that has the slack 0 at a corner as well
-pub record AreLeast (lanes : List ℕ) (n : ℕ) (IsChosen : ℕ → ℕ → Type 0) (any beside_zero : ℕ) : Type 0 where
+pub record AreLeast (lanes : List ℕ) (n : ℕ) (IsChosen : ℕ → ℕ → Type 0) (any beside_zero : ℕ) :
+    Type 0 where
   pub any_met : (any ≡ no_slack) ⊎ IsAtCorner lanes n (any + 1)
   pub beside_met : (beside_zero ≡ no_slack) ⊎ IsBesideZero lanes n (beside_zero + 1)
   pub any_low : (a b : ℕ) → IsChosen a b → All (λ x. 0 < x → any < x) (triangle lanes a b)

@@ -15,7 +15,8 @@ pub record CanSplit (f : FunctionData) (p : Perturbation) : Type 0 where
   pub times_high : p.times ≤ 4
   pub whole : length p.values ≡ f.order * p.times
   pub entries : All Fits p.values
-  pub perturbation : IsPerturbation (table f p.times) (f.order * p.times) (f.place * p.times) (at p.values)
+  pub perturbation : IsPerturbation (table f p.times) (f.order * p.times) (f.place * p.times)
+      (at p.values)
   pub index : ℕ
   pub not_zero : at p.values index ≢ pos 0
 

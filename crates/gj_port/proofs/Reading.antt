@@ -17,7 +17,8 @@ read_piece :
     → IsRead all (bytes ++ piece) (Some (drop n (drop (length bytes) all)))
 read_piece all bytes piece n within front fits is =
     let size : length piece ≡ n = ap length is ∙ length-take-le n (drop (length bytes) all) fits in
-    let total : length (bytes ++ piece) ≡ length bytes + n = omega (arith, length-append bytes piece) in
+    let total : length (bytes ++ piece) ≡ length bytes + n =
+    omega (arith, length-append bytes piece) in
     record {
       within = omega (arith, length-drop (length bytes) all);
       front = rw total (take-add (length bytes) n all ∙ (cc));
@@ -41,7 +42,8 @@ read_more (Some all) (Some rest) after bytes more piece buf n so_far told more_i
 -- a read that gives nothing ends it
 pub read_end :
     (start left after : Option (List ℕ)) (bytes : Vec ℕ Global) (buf : List ℕ) (limit n : ℕ)
-    → IfSome start (λ all. IsRead all bytes.items left) → Reads {E = Failed} left after buf (Ok n) → n ≡ 0
+    → IfSome start (λ all. IsRead all bytes.items left) → Reads {E = Failed} left after buf (Ok n) →
+    n ≡ 0
     → IfSome start (λ all. TakesAll limit all after (Ok bytes))
 read_end None left after bytes buf limit n so_far told none = tt
 read_end (Some all) None after bytes buf limit n so_far told none =
@@ -95,7 +97,8 @@ not_enough n false limit enough within = absurd (omega (arith, enough refl))
 -- the exit of a `?` hands on the error
 pub handed_on :
     (start after : Option (List ℕ)) (limit : ℕ) (bytes : Vec ℕ Global) (e : ReadError)
-    (r : Result (Vec ℕ Global) ReadError) → IfSome start (λ all. ReadsOn limit all bytes after (Err e))
+    (r : Result (Vec ℕ Global) ReadError) →
+    IfSome start (λ all. ReadsOn limit all bytes after (Err e))
     → IsErrAnd r (λ x. x ≡ e) → IfSome start (λ all. TakesAll limit all after r)
 handed_on None after limit bytes e r told is = tt
 handed_on (Some all) after limit bytes e (Ok taken) told is = absurd is

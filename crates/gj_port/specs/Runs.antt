@@ -12,4 +12,5 @@ Gains written after text = IfSome written (λ before. after ≡ Some (before ++ 
 
 -- they grew by a front of the text, not all of it
 abbrev pub GainsFront : Option (List ℕ) → Option (List ℕ) → List ℕ → Type 0
-GainsFront written after text = IfSome written (λ before. (n : ℕ) × (n < length text) × (after ≡ Some (before ++ take n text)))
+GainsFront written after text =
+    IfSome written (λ before. (n : ℕ) × (n < length text) × (after ≡ Some (before ++ take n text)))

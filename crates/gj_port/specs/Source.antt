@@ -8,5 +8,6 @@ use Rattle.std.specs.Prelude.{Option, None, Some, Result, Ok, Err}
 abbrev pub Reads : {E : Type 0} → Option (List ℕ) → Option (List ℕ) → List ℕ → Result ℕ E → Type 0
 Reads None after buf result = Unit {0}
 Reads (Some bytes) after buf (Ok n) =
-    (n ≤ length bytes) × (take n buf ≡ take n bytes) × (after ≡ Some (drop n bytes)) × (n ≡ 0 → bytes ≡ [])
+    (n ≤ length bytes) × (take n buf ≡ take n bytes) × (after ≡ Some (drop n bytes))
+    × (n ≡ 0 → bytes ≡ [])
 Reads (Some bytes) after buf (Err e) = after ≡ Some bytes

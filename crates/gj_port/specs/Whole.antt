@@ -8,7 +8,8 @@ use Rattle.gj_port.specs.declared.fault.ReadError.TheVariants.{ReadFault, TooLon
 
 -- some bytes were taken from the front, at most this many
 abbrev pub TakesUpTo : ℕ → List ℕ → Option (List ℕ) → Type 0
-TakesUpTo limit left after = (n : ℕ) × (n ≤ limit) × (n ≤ length left) × (after ≡ Some (drop n left))
+TakesUpTo limit left after = (n : ℕ) × (n ≤ limit) × (n ≤ length left)
+    × (after ≡ Some (drop n left))
 
 -- what reading to the end did to the bytes to come, if the source tells them: with Ok all were
 -- taken; with TooLong the limit and one more; with another error no more than the limit
@@ -33,7 +34,8 @@ ReadsOn limit all bytes after (Err e) = TakesAll limit all after (Err e)
 
 -- what writing these bytes did to the bytes taken, if the sink tells them: with Ok they grew by
 -- all; with Err by some from the front, not all
-abbrev pub WritesAll : {E : Type 0} → List ℕ → Option (List ℕ) → List ℕ → Result (Unit {0}) E → Type 0
+abbrev pub WritesAll : {E : Type 0} → List ℕ → Option (List ℕ) → List ℕ → Result (Unit {0}) E →
+    Type 0
 WritesAll before after bytes (Ok done) = after ≡ Some (before ++ bytes)
 WritesAll before after bytes (Err e) =
     (n : ℕ) × (n < length bytes) × (after ≡ Some (before ++ take n bytes))

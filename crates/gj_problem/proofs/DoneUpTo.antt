@@ -11,7 +11,8 @@ AreDoneUpTo R (suc i) (x ∷ xs) [] = ⊥
 AreDoneUpTo R (suc i) (x ∷ xs) (y ∷ ys) = R x y × AreDoneUpTo R i xs ys
 
 -- the next one is still as it was
-pub next_same : {A : Type 0} (R : A → A → Type 0) (i : ℕ) (xs ys : List A) (a b : A) → AreDoneUpTo R i xs ys → i < length xs →
+pub next_same : {A : Type 0} (R : A → A → Type 0) (i : ℕ) (xs ys : List A) (a b : A) →
+    AreDoneUpTo R i xs ys → i < length xs →
     get_or ys i a ≡ get_or xs i b
 next_same R zero [] ys a b h below = absurd (omega arith)
 next_same {A} R zero (x ∷ xs) ys a b h below = ap (λ (l : List A). get_or l 0 a) h
@@ -19,7 +20,8 @@ next_same R (suc i) [] ys a b h below = absurd (omega arith)
 next_same R (suc i) (x ∷ xs) [] a b h below = absurd h
 next_same R (suc i) (x ∷ xs) (y ∷ ys) a b h below = next_same R i xs ys a b h.1 (omega arith)
 
-pub next_done : {A : Type 0} (R : A → A → Type 0) (i : ℕ) (xs ys : List A) (a y : A) → AreDoneUpTo R i xs ys → i < length xs →
+pub next_done : {A : Type 0} (R : A → A → Type 0) (i : ℕ) (xs ys : List A) (a y : A) →
+    AreDoneUpTo R i xs ys → i < length xs →
     R (get_or xs i a) y → AreDoneUpTo R (suc i) xs (slice_set ys i y)
 next_done R zero [] ys a y h below is = absurd (omega arith)
 next_done R zero (x ∷ xs) [] a y h below is = absurd (longer (ap length h))
@@ -29,9 +31,11 @@ next_done R zero (x ∷ xs) [] a y h below is = absurd (longer (ap length h))
 next_done R zero (x ∷ xs) (z ∷ ys) a y h below is = (is, ap (drop 1) h)
 next_done R (suc i) [] ys a y h below is = absurd (omega arith)
 next_done R (suc i) (x ∷ xs) [] a y h below is = absurd h
-next_done R (suc i) (x ∷ xs) (z ∷ ys) a y h below is = (h.0, next_done R i xs ys a y h.1 (omega arith) is)
+next_done R (suc i) (x ∷ xs) (z ∷ ys) a y h below is =
+    (h.0, next_done R i xs ys a y h.1 (omega arith) is)
 
-pub all_done : {A : Type 0} (R : A → A → Type 0) (i : ℕ) (xs ys : List A) → length xs ≤ i → AreDoneUpTo R i xs ys → AllZip R xs ys
+pub all_done : {A : Type 0} (R : A → A → Type 0) (i : ℕ) (xs ys : List A) → length xs ≤ i →
+    AreDoneUpTo R i xs ys → AllZip R xs ys
 all_done {A} R zero [] ys end h = subst (λ (l : List A). AllZip R [] l) (sym h) tt
 all_done R zero (x ∷ xs) ys end h = absurd (omega arith)
 all_done {A} R (suc i) [] ys end h = subst (λ (l : List A). AllZip R [] l) (sym h) tt

@@ -16,20 +16,23 @@ use Rattle.gj_problem.specs.Combinations.{AreOver}
 use Rattle.gj_problem.proofs.Combinations.{fraction_over}
 use Rattle.std.proofs.lemmas.Int.{ints}
 
-ratio_length : (d : ℤ) (ns : List ℤ) (cs : List Frac) → AllZip (λ (n : ℤ) (x : Frac). IsRatio x n d) ns cs → length ns ≡ length cs
+ratio_length : (d : ℤ) (ns : List ℤ) (cs : List Frac) →
+    AllZip (λ (n : ℤ) (x : Frac). IsRatio x n d) ns cs → length ns ≡ length cs
 ratio_length d [] [] h = refl
 ratio_length d [] (c ∷ cs) h = absurd h
 ratio_length d (n ∷ ns) [] h = absurd h
 ratio_length d (n ∷ ns) (c ∷ cs) h = ap suc (ratio_length d ns cs h.1)
 
-ratio_at : (d : ℤ) (ns : List ℤ) (cs : List Frac) (i : ℕ) (a : ℤ) (b : Frac) → AllZip (λ (n : ℤ) (x : Frac). IsRatio x n d) ns cs → i < length ns →
+ratio_at : (d : ℤ) (ns : List ℤ) (cs : List Frac) (i : ℕ) (a : ℤ) (b : Frac) →
+    AllZip (λ (n : ℤ) (x : Frac). IsRatio x n d) ns cs → i < length ns →
     IsRatio (get_or cs i b) (get_or ns i a) d
 ratio_at d [] cs i a b h below = absurd (omega arith)
 ratio_at d (n ∷ ns) [] i a b h below = absurd h
 ratio_at d (n ∷ ns) (c ∷ cs) zero a b h below = h.0
 ratio_at d (n ∷ ns) (c ∷ cs) (suc i) a b h below = ratio_at d ns cs i a b h.1 (omega arith)
 
-pub over_ratios : (d : ℤ) (ns : List ℤ) (cs : List Frac) → AreOver d ns cs → AllZip (λ (n : ℤ) (x : Frac). IsRatio x n d) ns cs
+pub over_ratios : (d : ℤ) (ns : List ℤ) (cs : List Frac) → AreOver d ns cs →
+    AllZip (λ (n : ℤ) (x : Frac). IsRatio x n d) ns cs
 over_ratios d [] [] h = h
 over_ratios d [] (c ∷ cs) h = absurd h
 over_ratios d (n ∷ ns) [] h = absurd h
@@ -42,17 +45,21 @@ no_entry_over d ns es none cs h = record {
 }
 
 -- one more numerator
-pub next_entry_over : (d : ℤ) (ns : List ℤ) (i : ℕ) (a : ℤ) (es fs : List Entry) → i < length ns → AreEntriesOver d ns i es →
+pub next_entry_over : (d : ℤ) (ns : List ℤ) (i : ℕ) (a : ℤ) (es fs : List Entry) → i < length ns →
+    AreEntriesOver d ns i es →
     IsNumeratorPushed i (get_or ns i a) d es fs → AreEntriesOver d ns (i + 1) fs
 next_entry_over d ns i a es fs below so_far pushed cs h =
-    let x0 : Frac = (fraction_over (pos 0) (pos 1) (omega (arith, ints)) (omega arith) (omega arith)).0 in
+    let x0 : Frac = (fraction_over (pos 0) (pos 1) (omega (arith, ints)) (omega arith)
+    (omega arith)).0 in
     let x : Frac = get_or cs i x0 in
     let c_below : i < length cs = subst (λ (k : ℕ). i < k) (ratio_length d ns cs h) below in
     let x_here : x ≡ get_or cs i x = default_unused cs i x0 x c_below in
     let before = so_far cs h in
     let e : Entry = entry_in i x in
-    let next : IsMadeNext (IsZero e) (λ f. f ≡ e) es fs = pushed x (ratio_at d ns cs i a x0 h below) in
-    let added : (point : List Rational) → sum_at point fs ≡ sum_at point es +ℚ rational x *ℚ value_at point i =
+    let next : IsMadeNext (IsZero e) (λ f. f ≡ e) es fs =
+    pushed x (ratio_at d ns cs i a x0 h below) in
+    let added : (point : List Rational) →
+    sum_at point fs ≡ sum_at point es +ℚ rational x *ℚ value_at point i =
     λ point. ⊎_elim
     (λ (k : IsZero e × (fs ≡ es)). no_entry point es fs e k.1 k.0)
     (λ (k : (IsZero e → ⊥) × (f : Entry) × (f ≡ e) × (fs ≡ es ++ f ∷ [])).
@@ -60,6 +67,7 @@ next_entry_over d ns i a es fs below so_far pushed cs h =
     next in
     record {
       sum = λ (point : List Rational).
-          next_column cs point i x (sum_at point es) (sum_at point fs) c_below x_here (before.sum point) (added point);
+          next_column cs point i x (sum_at point es) (sum_at point fs) c_below x_here
+          (before.sum point) (added point);
       terms = next_terms i es fs e refl before.terms next;
     }

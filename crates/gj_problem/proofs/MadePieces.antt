@@ -13,9 +13,11 @@ use Rattle.gj_problem.specs.Aggregates.{pieces_at, AreMadeOf}
 -- what an item that is not passed over makes
 abbrev pub Made : {A B : Type 0} → (A → Type 0) → (A → B → Type 0) → A → List A → List B → Type 0
 Made {A} {B} Passed Makes x xs made =
-    (Passed x → ⊥) × (s : B) × (rest : List B) × (made ≡ s ∷ rest) × Makes x s × AreMadeOf Passed Makes xs rest
+    (Passed x → ⊥) × (s : B) × (rest : List B) × (made ≡ s ∷ rest) × Makes x s
+    × AreMadeOf Passed Makes xs rest
 
-pub made_passed : {A B : Type 0} (P : A → Type 0) (M : A → B → Type 0) (xs : List A) (ps : List B) (x : A) →
+pub made_passed : {A B : Type 0} (P : A → Type 0) (M : A → B → Type 0) (xs : List A) (ps : List B)
+    (x : A) →
     AreMadeOf P M xs ps → P x → AreMadeOf P M (xs ++ x ∷ []) ps
 made_passed P M [] ps x h passed = inl (passed, h)
 made_passed P M (y ∷ xs) ps x h passed =
@@ -24,18 +26,29 @@ made_passed P M (y ∷ xs) ps x h passed =
     (λ (k : Made P M y xs ps). inr (k.0, k.1, k.2, k.3, k.4, made_passed P M xs k.2 x k.5 passed))
     h
 
-pub made_more : {A B : Type 0} (P : A → Type 0) (M : A → B → Type 0) (xs : List A) (ps : List B) (x : A) (s : B) →
+pub made_more : {A B : Type 0} (P : A → Type 0) (M : A → B → Type 0) (xs : List A) (ps : List B)
+    (x : A) (s : B) →
     AreMadeOf P M xs ps → (P x → ⊥) → M x s → AreMadeOf P M (xs ++ x ∷ []) (ps ++ s ∷ [])
-made_more {A} {B} P M [] ps x s h kept makes = inr (kept, s, [], ap (λ (qs : List B). qs ++ s ∷ []) h, makes, refl)
+made_more {A} {B} P M [] ps x s h kept makes =
+    inr (kept, s, [], ap (λ (qs : List B). qs ++ s ∷ []) h, makes, refl)
 made_more {A} {B} P M (y ∷ xs) ps x s h kept makes =
     ⊎_elim
     (λ (k : P y × AreMadeOf P M xs ps). inl (k.0, made_more P M xs ps x s k.1 kept makes))
     (λ (k : Made P M y xs ps).
-    inr (k.0, k.1, k.2 ++ s ∷ [], ap (λ (qs : List B). qs ++ s ∷ []) k.3, k.4, made_more P M xs k.2 x s k.5 kept makes))
+    inr (
+      k.0,
+      k.1,
+      k.2 ++ s ∷ [],
+      ap (λ (qs : List B). qs ++ s ∷ []) k.3,
+      k.4,
+      made_more P M xs k.2
+          x s k.5 kept makes,
+    ))
     h
 
 -- what is true of each item is true of what it makes
-pub made_all : {A B : Type 0} (P : A → Type 0) (M : A → B → Type 0) (Q : A → Type 0) (R : B → Type 0) (xs : List A) (ps : List B) →
+pub made_all : {A B : Type 0} (P : A → Type 0) (M : A → B → Type 0) (Q : A → Type 0) (R : B →
+    Type 0) (xs : List A) (ps : List B) →
     AreMadeOf P M xs ps → All Q xs → ((x : A) (s : B) → Q x → M x s → R s) → All R ps
 made_all P M Q R [] ps h all step = subst (All R) (sym h) (All-nil R)
 made_all P M Q R (y ∷ xs) ps h all step =
@@ -43,21 +56,26 @@ made_all P M Q R (y ∷ xs) ps h all step =
     (λ (k : P y × AreMadeOf P M xs ps). made_all P M Q R xs ps k.1 (All-tail Q y xs all) step)
     (λ (k : Made P M y xs ps).
     subst (All R) (sym k.3)
-    (All-cons R k.1 k.2 (step y k.1 (All-head Q y xs all) k.4) (made_all P M Q R xs k.2 k.5 (All-tail Q y xs all) step)))
+    (All-cons R k.1 k.2 (step y k.1 (All-head Q y xs all) k.4)
+    (made_all P M Q R xs k.2 k.5 (All-tail Q y xs all) step)))
     h
 
 -- what is true of an item that is passed over, and of one that makes something, is true of each
-pub none_from_made : {A B : Type 0} (P : A → Type 0) (M : A → B → Type 0) (Q : A → Type 0) (xs : List A) (ps : List B) →
+pub none_from_made : {A B : Type 0} (P : A → Type 0) (M : A → B → Type 0) (Q : A → Type 0)
+    (xs : List A) (ps : List B) →
     AreMadeOf P M xs ps → ((x : A) → P x → Q x) → ((x : A) (s : B) → M x s → Q x) → All Q xs
 none_from_made P M Q [] ps h pass step = All-nil Q
 none_from_made P M Q (y ∷ xs) ps h pass step =
     ⊎_elim
-    (λ (k : P y × AreMadeOf P M xs ps). All-cons Q y xs (pass y k.0) (none_from_made P M Q xs ps k.1 pass step))
-    (λ (k : Made P M y xs ps). All-cons Q y xs (step y k.1 k.4) (none_from_made P M Q xs k.2 k.5 pass step))
+    (λ (k : P y × AreMadeOf P M xs ps). All-cons Q y xs (pass y k.0)
+    (none_from_made P M Q xs ps k.1 pass step))
+    (λ (k : Made P M y xs ps). All-cons Q y xs (step y k.1 k.4)
+    (none_from_made P M Q xs k.2 k.5 pass step))
     h
 
 -- what each item makes is one thing, so it is one list
-pub made_one : {A B : Type 0} (P : A → Type 0) (M : A → B → Type 0) → ((x : A) (s t : B) → M x s → M x t → s ≡ t) → (xs : List A) (ps qs : List B) →
+pub made_one : {A B : Type 0} (P : A → Type 0) (M : A → B → Type 0) →
+    ((x : A) (s t : B) → M x s → M x t → s ≡ t) → (xs : List A) (ps qs : List B) →
     AreMadeOf P M xs ps → AreMadeOf P M xs qs → ps ≡ qs
 made_one P M one [] ps qs h k = h ∙ sym k
 made_one {A} {B} P M one (x ∷ xs) ps qs h k =
@@ -70,19 +88,22 @@ made_one {A} {B} P M one (x ∷ xs) ps qs h k =
     ⊎_elim
     (λ (b : P x × AreMadeOf P M xs qs). absurd (a.0 b.0))
     (λ (b : Made P M x xs qs).
-    a.3 ∙ ap₂ (λ (s : B) (rest : List B). s ∷ rest) (one x a.1 b.1 a.4 b.4) (made_one P M one xs a.2 b.2 a.5 b.5) ∙ sym b.3) k)
+    a.3 ∙ ap₂ (λ (s : B) (rest : List B). s ∷ rest) (one x a.1 b.1 a.4 b.4)
+    (made_one P M one xs a.2 b.2 a.5 b.5) ∙ sym b.3) k)
     h
 
 -- ---- two lists
 
-pub zip_joined : {A B : Type 0} (R : A → B → Type 0) (xs xs' : List A) (ys ys' : List B) → AllZip R xs ys → AllZip R xs' ys' →
+pub zip_joined : {A B : Type 0} (R : A → B → Type 0) (xs xs' : List A) (ys ys' : List B) →
+    AllZip R xs ys → AllZip R xs' ys' →
     AllZip R (xs ++ xs') (ys ++ ys')
 zip_joined R [] xs' [] ys' h k = k
 zip_joined R [] xs' (y ∷ ys) ys' h k = absurd h
 zip_joined R (x ∷ xs) xs' [] ys' h k = absurd h
 zip_joined R (x ∷ xs) xs' (y ∷ ys) ys' h k = (h.0, zip_joined R xs xs' ys ys' h.1 k)
 
-pub zip_split : {A B : Type 0} (R : A → B → Type 0) (xs xs' : List A) (zs : List B) → AllZip R (xs ++ xs') zs →
+pub zip_split : {A B : Type 0} (R : A → B → Type 0) (xs xs' : List A) (zs : List B) →
+    AllZip R (xs ++ xs') zs →
     (us : List B) × (vs : List B) × (zs ≡ us ++ vs) × AllZip R xs us × AllZip R xs' vs
 zip_split R [] xs' zs h = ([], zs, refl, tt, h)
 zip_split R (x ∷ xs) xs' [] h = absurd h
@@ -91,7 +112,8 @@ zip_split {A} {B} R (x ∷ xs) xs' (z ∷ zs) h =
     (z ∷ us, vs, ap (λ (ws : List B). z ∷ ws) are, (h.0, first), second)
 
 -- what the items of the first list have is one thing, so it is one list
-pub zip_one : {A B : Type 0} (R : A → B → Type 0) → ((x : A) (y z : B) → R x y → R x z → y ≡ z) → (xs : List A) (ys zs : List B) →
+pub zip_one : {A B : Type 0} (R : A → B → Type 0) → ((x : A) (y z : B) → R x y → R x z → y ≡ z) →
+    (xs : List A) (ys zs : List B) →
     AllZip R xs ys → AllZip R xs zs → ys ≡ zs
 zip_one R one [] [] [] h k = refl
 zip_one R one [] [] (z ∷ zs) h k = absurd k
@@ -103,8 +125,10 @@ zip_one {A} {B} R one (x ∷ xs) (y ∷ ys) (z ∷ zs) h k =
 
 -- ---- sums
 
-pub pieces_joined : (point : List Rational) (ps qs : List Piece) → pieces_at point (ps ++ qs) ≡ pieces_at point ps +ℚ pieces_at point qs
+pub pieces_joined : (point : List Rational) (ps qs : List Piece) →
+    pieces_at point (ps ++ qs) ≡ pieces_at point ps +ℚ pieces_at point qs
 pieces_joined point [] qs = sym (zero_add_q (pieces_at point qs))
 pieces_joined point (s ∷ ps) qs =
     let x = rational s.entry *ℚ surplus_at point s.inequality in
-    ap (λ w. x +ℚ w) (pieces_joined point ps qs) ∙ sym (add_assoc_q x (pieces_at point ps) (pieces_at point qs))
+    ap (λ w. x +ℚ w) (pieces_joined point ps qs)
+    ∙ sym (add_assoc_q x (pieces_at point ps) (pieces_at point qs))

@@ -17,18 +17,22 @@ use Rattle.gj_problem.proofs.WideRoundings.{no_more}
 
 -- ---- one coefficient
 
-pub narrow_change : (x y bound m d : Frac) → rational m ≡ neg_ℚ (rational x) → FitsSum y m → rational d ≡ rational y -ℚ rational x →
+pub narrow_change : (x y bound m d : Frac) → rational m ≡ neg_ℚ (rational x) → FitsSum y m →
+    rational d ≡ rational y -ℚ rational x →
     FitsProduct d bound → IsWideChange x y bound → ⊥
 narrow_change x y bound m d m_is fits d_is product (k, k_is, wide) =
     let same : m ≡ k = rational_injective m k (m_is ∙ sym k_is) in
     ⊎_elim
     (λ (a : FitsSum y k → ⊥). a (subst (FitsSum y) same fits))
     (λ (b : (c : Frac) × (rational c ≡ rational y -ℚ rational x) × (FitsProduct c bound → ⊥)).
-    b.2 (subst (λ (c : Frac). FitsProduct c bound) (rational_injective d b.0 (d_is ∙ sym b.1)) product))
+    b.2 (subst (λ (c : Frac). FitsProduct c bound) (rational_injective d b.0 (d_is ∙ sym b.1))
+    product))
     wide
 
-pub narrow_raised : (n : ℕ) (x m z value l : Frac) (upper : Option Frac) → rational m ≡ neg_ℚ (rational x) → (IsWideTimes n m → ⊥) →
-    IsBelowOnGrid n (rational m) (rational z) → rational value ≡ neg_ℚ (rational z) → (IsWideChange x value l → ⊥) →
+pub narrow_raised : (n : ℕ) (x m z value l : Frac) (upper : Option Frac) →
+    rational m ≡ neg_ℚ (rational x) → (IsWideTimes n m → ⊥) →
+    IsBelowOnGrid n (rational m) (rational z) → rational value ≡ neg_ℚ (rational z) →
+    (IsWideChange x value l → ⊥) →
     IsWideMove n (Some l) upper x → ⊥
 narrow_raised n x m z value l upper m_is times below value_is change =
     ⊎_elim
@@ -37,15 +41,20 @@ narrow_raised n x m z value l upper m_is times below value_is change =
     (λ (b : (y : Frac) × IsBelowOnGrid n (neg_ℚ (rational x)) (neg_ℚ (rational y)) × IsWideChange x y l).
     let on : IsBelowOnGrid n (neg_ℚ (rational x)) (neg_ℚ (rational value)) =
     subst₂ (IsBelowOnGrid n) m_is (sym (ap neg_ℚ value_is ∙ double_neg (rational z))) below in
-    let same : b.0 ≡ value = rational_injective b.0 value (one_above n (rational x) (rational b.0) (rational value) b.1 on) in
+    let same : b.0 ≡ value =
+    rational_injective b.0 value
+    (one_above n (rational x) (rational b.0) (rational value) b.1 on) in
     change (subst (λ (y : Frac). IsWideChange x y l) same b.2))
 
-pub narrow_lowered : (n : ℕ) (x value u : Frac) → (IsWideTimes n x → ⊥) → IsBelowOnGrid n (rational x) (rational value) →
+pub narrow_lowered : (n : ℕ) (x value u : Frac) → (IsWideTimes n x → ⊥) →
+    IsBelowOnGrid n (rational x) (rational value) →
     (IsWideChange x value u → ⊥) → IsWideMove n None (Some u) x → ⊥
 narrow_lowered n x value u times below change =
     ⊎_elim times
     (λ (b : (y : Frac) × IsBelowOnGrid n (rational x) (rational y) × IsWideChange x y u).
-    let same : b.0 ≡ value = rational_injective b.0 value (one_below n (rational x) (rational b.0) (rational value) b.1 below) in
+    let same : b.0 ≡ value =
+    rational_injective b.0 value
+    (one_below n (rational x) (rational b.0) (rational value) b.1 below) in
     change (subst (λ (y : Frac). IsWideChange x y u) same b.2))
 
 -- ---- one entry
@@ -53,18 +62,21 @@ narrow_lowered n x value u times below change =
 module _ (p : Problem) (n : ℕ) where
   pub narrow_moved_entry : (e : Entry) (right y shift : Frac) →
       (IsWideMove n (lower_of p e.column) (upper_of p e.column) e.value → ⊥) →
-      IsMoved n (lower_of p e.column) (upper_of p e.column) (rational e.value) (rational y) (rational shift) → FitsSum right shift →
+      IsMoved n (lower_of p e.column) (upper_of p e.column) (rational e.value) (rational y)
+      (rational shift) → FitsSum right shift →
       IsWideEntryAt p n right e → ⊥
   narrow_moved_entry e right y shift narrow moved fits =
       let lower = lower_of p e.column in
       let upper = upper_of p e.column in
       ⊎_elim narrow
       (λ (k : (z : Frac) × (s : Frac) × IsMoved n lower upper (rational e.value) (rational z) (rational s) × (FitsSum right s → ⊥)).
-      let same = one_moved_to n lower upper (rational e.value) (rational y) (rational k.0) (rational shift) (rational k.1) moved k.2 in
+      let same = one_moved_to n lower upper (rational e.value) (rational y) (rational k.0)
+      (rational shift) (rational k.1) moved k.2 in
       k.3 (subst (FitsSum right) (rational_injective shift k.1 same.1) fits))
 
   -- a free entry is not moved
-  narrow_free_entry : (e : Entry) (right : Frac) → (IsWideMove n (lower_of p e.column) (upper_of p e.column) e.value → ⊥) →
+  narrow_free_entry : (e : Entry) (right : Frac) →
+      (IsWideMove n (lower_of p e.column) (upper_of p e.column) e.value → ⊥) →
       IsFreeEntry p n e → IsWideEntryAt p n right e → ⊥
   narrow_free_entry e right narrow free =
       let lower = lower_of p e.column in
@@ -77,36 +89,46 @@ module _ (p : Problem) (n : ℕ) where
 
   -- the entries before it have been moved, and then it is at this entry
   abbrev IsWideNow : Frac → List Entry → Entry → Type 0
-  IsWideNow given before e = (moved : List Entry) × (shifts : List Rational) × AreMoved p n before moved shifts
-      × (right : Frac) × (rational right ≡ rational given +ℚ total_of shifts) × IsWideEntryAt p n right e
+  IsWideNow given before e = (moved : List Entry) × (shifts : List Rational)
+      × AreMoved p n before moved shifts
+      × (right : Frac) × (rational right ≡ rational given +ℚ total_of shifts)
+      × IsWideEntryAt p n right e
 
   -- so it is at one of these entries
   abbrev pub HasWideEntry : Frac → List Entry → Type 0
   HasWideEntry given es = Fails (IsWideNow given) es
 
   one_right : (es fs gs : List Entry) (given now right : Frac) (shifts : List Rational) →
-      AreMovedTo p n es fs (rational given) (rational now) → AreMoved p n es gs shifts → rational right ≡ rational given +ℚ total_of shifts →
+      AreMovedTo p n es fs (rational given) (rational now) → AreMoved p n es gs shifts →
+      rational right ≡ rational given +ℚ total_of shifts →
       right ≡ now
   one_right es fs gs given now right shifts h moved right_is =
       let same = one_moving p n es h.entries gs h.shifts shifts h.moved moved in
       rational_injective right now
-      (right_is ∙ ap (λ (ss : List Rational). rational given +ℚ total_of ss) (sym same.1) ∙ sym h.right_is)
+      (right_is ∙ ap (λ (ss : List Rational). rational given +ℚ total_of ss) (sym same.1)
+      ∙ sym h.right_is)
 
-  narrow_now : (es fs : List Entry) (given now : Frac) (e : Entry) → AreMovedTo p n es fs (rational given) (rational now) →
+  narrow_now : (es fs : List Entry) (given now : Frac) (e : Entry) →
+      AreMovedTo p n es fs (rational given) (rational now) →
       (IsWideEntryAt p n now e → ⊥) → IsWideNow given es e → ⊥
   narrow_now es fs given now e h narrow (moved, shifts, are, right, right_is, wide) =
-      narrow (subst (λ (r : Frac). IsWideEntryAt p n r e) (one_right es fs moved given now right shifts h are right_is) wide)
+      narrow (subst (λ (r : Frac). IsWideEntryAt p n r e)
+      (one_right es fs moved given now right shifts h are right_is) wide)
 
   pub narrow_of_none : (given : Frac) → HasWideEntry given [] → ⊥
   narrow_of_none given = none_at_first (IsWideNow given)
 
-  pub narrow_next : (es fs : List Entry) (i : ℕ) (given now : Frac) (e : Entry) → i < length es → e ≡ get_or es i e →
-      AreMovedTo p n (take i es) fs (rational given) (rational now) → (HasWideEntry given (take i es) → ⊥) → (IsWideEntryAt p n now e → ⊥) →
+  pub narrow_next : (es fs : List Entry) (i : ℕ) (given now : Frac) (e : Entry) → i < length es →
+      e ≡ get_or es i e →
+      AreMovedTo p n (take i es) fs (rational given) (rational now) →
+      (HasWideEntry given (take i es) → ⊥) → (IsWideEntryAt p n now e → ⊥) →
       HasWideEntry given (take (i + 1) es) → ⊥
   narrow_next es fs i given now e below here h none narrow =
-      none_next (IsWideNow given) es i e below here none (narrow_now (take i es) fs given now e h narrow)
+      none_next (IsWideNow given) es i e below here none
+      (narrow_now (take i es) fs given now e h narrow)
 
-  in_some : (q : Inequality) (h : IsWideRounding p n q) (e : Entry) (rest : List Entry) → h.after ≡ e ∷ rest → IsWideEntryAt p n h.right e →
+  in_some : (q : Inequality) (h : IsWideRounding p n q) (e : Entry) (rest : List Entry) →
+      h.after ≡ e ∷ rest → IsWideEntryAt p n h.right e →
       HasWideEntry q.right q.entries
   in_some q h e rest are wide = record {
     before = h.before;
@@ -117,30 +139,38 @@ module _ (p : Problem) (n : ℕ) where
   }
 
   -- all are moved, and then the right side fits
-  pub narrow_rounding : (q : Inequality) (fs : List Entry) (now : Frac) → AreMovedTo p n q.entries fs (rational q.right) (rational now) →
+  pub narrow_rounding : (q : Inequality) (fs : List Entry) (now : Frac) →
+      AreMovedTo p n q.entries fs (rational q.right) (rational now) →
       (HasWideEntry q.right q.entries → ⊥) → (IsWideTimes n now → ⊥) → IsWideRounding p n q → ⊥
   narrow_rounding q fs now h none narrow w =
       ⊎_elim
       (λ (a : (w.after ≡ []) × IsWideTimes n w.right).
-      let all : w.before ≡ q.entries = sym (w.place ∙ ap (λ (es : List Entry). w.before ++ es) a.0 ∙ sym (no_more w.before)) in
-      let moved : AreMoved p n q.entries w.moved w.shifts = subst (λ (es : List Entry). AreMoved p n es w.moved w.shifts) all w.moved_before in
-      narrow (subst (IsWideTimes n) (one_right q.entries fs w.moved q.right now w.right w.shifts h moved w.right_is) a.1))
+      let all : w.before ≡ q.entries =
+      sym (w.place ∙ ap (λ (es : List Entry). w.before ++ es) a.0 ∙ sym (no_more w.before)) in
+      let moved : AreMoved p n q.entries w.moved w.shifts =
+      subst (λ (es : List Entry). AreMoved p n es w.moved w.shifts) all w.moved_before in
+      narrow (subst (IsWideTimes n)
+      (one_right q.entries fs w.moved q.right now w.right w.shifts h moved w.right_is) a.1))
       (λ (b : (e : Entry) × (rest : List Entry) × (w.after ≡ e ∷ rest) × IsWideEntryAt p n w.right e).
       none (in_some q w b.0 b.1 b.2 b.3))
       w.wide
 
   -- behind a free entry nothing is moved
-  pub narrow_to_free : (q : Inequality) (front fs back : List Entry) (now : Frac) (e : Entry) → q.entries ≡ front ++ e ∷ back →
+  pub narrow_to_free : (q : Inequality) (front fs back : List Entry) (now : Frac) (e : Entry) →
+      q.entries ≡ front ++ e ∷ back →
       AreMovedTo p n front fs (rational q.right) (rational now) → (HasWideEntry q.right front → ⊥) →
-      (IsWideMove n (lower_of p e.column) (upper_of p e.column) e.value → ⊥) → IsFreeEntry p n e → IsWideRounding p n q → ⊥
+      (IsWideMove n (lower_of p e.column) (upper_of p e.column) e.value → ⊥) → IsFreeEntry p n e →
+      IsWideRounding p n q → ⊥
   narrow_to_free q front fs back now e place h none narrow free w =
       let IsHeldEntry : Entry → Type 0 = λ d. IsFreeEntry p n d → ⊥ in
-      let not_all : (before moved rest : List Entry) (shifts : List Rational) → AreMoved p n before moved shifts → before ≡ front ++ e ∷ rest → ⊥ =
+      let not_all : (before moved rest : List Entry) (shifts : List Rational) →
+      AreMoved p n before moved shifts → before ≡ front ++ e ∷ rest → ⊥ =
       λ before moved rest shifts are is.
       true_at IsHeldEntry before front rest e is (none_free_in p n before moved shifts are) free in
       ⊎_elim
       (λ (a : (w.after ≡ []) × IsWideTimes n w.right).
-      let all : w.before ≡ q.entries = sym (w.place ∙ ap (λ (es : List Entry). w.before ++ es) a.0 ∙ sym (no_more w.before)) in
+      let all : w.before ≡ q.entries =
+      sym (w.place ∙ ap (λ (es : List Entry). w.before ++ es) a.0 ∙ sym (no_more w.before)) in
       not_all w.before w.moved back w.shifts w.moved_before (all ∙ place))
       (λ (b : (d : Entry) × (rest : List Entry) × (w.after ≡ d ∷ rest) × IsWideEntryAt p n w.right d).
       none_around (IsWideNow q.right) q.entries front back e place none

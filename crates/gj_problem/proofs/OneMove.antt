@@ -56,7 +56,8 @@ module _ (IsLower IsUpper : Frac → Type 0) where
 -- ---- one coefficient on the grid
 
 pub one_below : (n : ℕ) (x y z : Rational) → IsBelowOnGrid n x y → IsBelowOnGrid n x z → y ≡ z
-one_below n x y z h k = at_most_both y z (k.greatest y h.on_grid h.at_most) (h.greatest z k.on_grid k.at_most)
+one_below n x y z h k = at_most_both y z (k.greatest y h.on_grid h.at_most)
+    (h.greatest z k.on_grid k.at_most)
 
 turned_back : (x y : Rational) → neg_ℚ x ≡ neg_ℚ y → x ≡ y
 turned_back x y e = twice x ∙ ap neg_ℚ e ∙ sym (twice y)
@@ -64,10 +65,12 @@ turned_back x y e = twice x ∙ ap neg_ℚ e ∙ sym (twice y)
     twice : (x : Rational) → x ≡ neg_ℚ (neg_ℚ x)
     twice x = by_ring_q (x ∷ []) (search ring_q depth 40) refl
 
-pub one_above : (n : ℕ) (x y z : Rational) → IsBelowOnGrid n (neg_ℚ x) (neg_ℚ y) → IsBelowOnGrid n (neg_ℚ x) (neg_ℚ z) → y ≡ z
+pub one_above : (n : ℕ) (x y z : Rational) → IsBelowOnGrid n (neg_ℚ x) (neg_ℚ y) →
+    IsBelowOnGrid n (neg_ℚ x) (neg_ℚ z) → y ≡ z
 one_above n x y z h k = turned_back y z (one_below n (neg_ℚ x) (neg_ℚ y) (neg_ℚ z) h k)
 
-pub one_on_grid : (n : ℕ) (lower upper : Option Frac) (x y z : Rational) → IsGridCoefficient n lower upper x y →
+pub one_on_grid : (n : ℕ) (lower upper : Option Frac) (x y z : Rational) →
+    IsGridCoefficient n lower upper x y →
     IsGridCoefficient n lower upper x z → y ≡ z
 one_on_grid n (Some l) upper x y z h k = one_above n x y z h k
 one_on_grid n None (Some u) x y z h k = one_below n x y z h k

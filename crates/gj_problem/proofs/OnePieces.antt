@@ -27,7 +27,8 @@ one_test true false P h k = sym (k.1 (h.0 refl))
 one_test false true P h k = h.1 (k.0 refl)
 one_test false false P h k = refl
 
-pub one_scale : (right : Frac) (es : List Entry) (b : Bool) (m n : ℕ) → IsScale right es b m → IsScale right es b n → m ≡ n
+pub one_scale : (right : Frac) (es : List Entry) (b : Bool) (m n : ℕ) → IsScale right es b m →
+    IsScale right es b n → m ≡ n
 one_scale right es true m n h k = dvd_antisymm (h.least n k.common) (k.least m h.common)
 one_scale right es false m n h k = h ∙ sym k
 
@@ -43,7 +44,8 @@ same_most x y e = subst (λ z. x ≤ℚ z) e (record { crosswise = omega (arith,
 -- what is equal times a whole number above 0 is equal
 cancel : (n : ℕ) (x y : Rational) → 0 < n → whole (pos n) *ℚ x ≡ whole (pos n) *ℚ y → x ≡ y
 cancel n x y some e =
-    at_most_both x y (at_most_cancel n x y some (same_most _ _ e)) (at_most_cancel n y x some (same_most _ _ (sym e)))
+    at_most_both x y (at_most_cancel n x y some (same_most _ _ e))
+    (at_most_cancel n y x some (same_most _ _ (sym e)))
 
 turned_back : (x y : Rational) → neg_ℚ x ≡ neg_ℚ y → x ≡ y
 turned_back x y e = twice x ∙ ap neg_ℚ e ∙ sym (twice y)
@@ -54,10 +56,12 @@ turned_back x y e = twice x ∙ ap neg_ℚ e ∙ sym (twice y)
 turned_product : (n : ℕ) (x : Rational) → whole (neg_ℤ (pos n)) *ℚ x ≡ neg_ℚ (whole (pos n) *ℚ x)
 turned_product n x = ap (λ w. w *ℚ x) (whole_neg (pos n)) ∙ neg_mul_q (whole (pos n)) x
 
-cancel_signed : (sense : Sense) (n : ℕ) (x y : Rational) → 0 < n → whole (signed sense n) *ℚ x ≡ whole (signed sense n) *ℚ y → x ≡ y
+cancel_signed : (sense : Sense) (n : ℕ) (x y : Rational) → 0 < n →
+    whole (signed sense n) *ℚ x ≡ whole (signed sense n) *ℚ y → x ≡ y
 cancel_signed AtMost n x y some e =
     cancel n x y some
-    (turned_back (whole (pos n) *ℚ x) (whole (pos n) *ℚ y) (sym (turned_product n x) ∙ e ∙ turned_product n y))
+    (turned_back (whole (pos n) *ℚ x) (whole (pos n) *ℚ y) (sym (turned_product n x) ∙ e
+    ∙ turned_product n y))
 cancel_signed AtLeast n x y some e = cancel n x y some e
 cancel_signed Equal n x y some e = cancel n x y some e
 
@@ -71,22 +75,30 @@ one_slack p w s t h k =
     let c = w.constraint in
     let kind : s.is_whole ≡ t.is_whole = one_test s.is_whole t.is_whole _ h.is_whole k.is_whole in
     let scale : h.scale ≡ k.scale =
-    one_scale c.right c.entries t.is_whole h.scale k.scale (subst (λ (b : Bool). IsScale c.right c.entries b h.scale) kind h.scale_is) k.scale_is in
-    let factor : whole (signed c.sense h.scale) ≡ whole (signed c.sense k.scale) = ap (λ (n : ℕ). whole (signed c.sense n)) scale in
+    one_scale c.right c.entries t.is_whole h.scale k.scale
+    (subst (λ (b : Bool). IsScale c.right c.entries b h.scale) kind h.scale_is) k.scale_is in
+    let factor : whole (signed c.sense h.scale) ≡ whole (signed c.sense k.scale) =
+    ap (λ (n : ℕ). whole (signed c.sense n)) scale in
     same_piece s t kind
-    (cancel_signed c.sense k.scale (rational s.entry) (rational t.entry) (scale_some c.right c.entries t.is_whole k.scale k.scale_is)
+    (cancel_signed c.sense k.scale (rational s.entry) (rational t.entry)
+    (scale_some c.right c.entries t.is_whole k.scale k.scale_is)
     (ap (λ f. f *ℚ rational s.entry) (sym factor) ∙ h.entry_is ∙ sym k.entry_is))
-    (zip_one (IsTimes (whole (signed c.sense k.scale))) (one_times (whole (signed c.sense k.scale))) c.entries s.inequality.entries
-    t.inequality.entries (subst (λ f. AllZip (IsTimes f) c.entries s.inequality.entries) factor h.slack_is.entries_are) k.slack_is.entries_are)
+    (zip_one (IsTimes (whole (signed c.sense k.scale))) (one_times (whole (signed c.sense k.scale)))
+    c.entries s.inequality.entries
+    t.inequality.entries
+    (subst (λ f. AllZip (IsTimes f) c.entries s.inequality.entries) factor
+    h.slack_is.entries_are) k.slack_is.entries_are)
     (h.slack_is.right_is ∙ ap (λ f. f *ℚ rational c.right) factor ∙ sym k.slack_is.right_is)
 
 -- ---- one row
 
-pub one_pieces : (p : Problem) (ms : List Frac) (ups : List Bool) (ps qs : List Piece) (r s : Frac) → IsRow p ms ups ps r → IsRow p ms ups qs s →
+pub one_pieces : (p : Problem) (ms : List Frac) (ups : List Bool) (ps qs : List Piece)
+    (r s : Frac) → IsRow p ms ups ps r → IsRow p ms ups qs s →
     ps ≡ qs
 one_pieces p ms ups ps qs r s row other =
     row.pieces_are
     ∙ ap₂ (λ (us vs : List Piece). us ++ vs)
-    (made_one HasNoSlack (IsSlack p) (one_slack p) (weighted ms p.constraints) row.slacks other.slacks row.slacks_are other.slacks_are)
+    (made_one HasNoSlack (IsSlack p) (one_slack p)
+    (weighted ms p.constraints) row.slacks other.slacks row.slacks_are other.slacks_are)
     (one_bounds p ms ups ps qs r s row other)
     ∙ sym other.pieces_are

@@ -18,12 +18,14 @@ same_parts : (x y : Rational) → x.top ≡ y.top → x.bottom ≡ y.bottom → 
 same_parts x y e f = λ i. record {
   top = e i;
   bottom = f i;
-  reduced = is_prop→PathP (λ j. IsReduced (e j) (f j)) (λ j. reduced_prop (e j) (f j)) x.reduced y.reduced i;
+  reduced = is_prop→PathP (λ j. IsReduced (e j) (f j)) (λ j. reduced_prop (e j) (f j)) x.reduced
+      y.reduced i;
 }
 
 pub equal_q : (x y : Rational) → x.top *ℤ y.bottom ≡ y.top *ℤ x.bottom → x ≡ y
 equal_q x y h =
-    let parts = same_ratio x.top x.bottom y.top y.bottom x.reduced.coprime y.reduced.coprime x.reduced.positive y.reduced.positive h in
+    let parts = same_ratio x.top x.bottom y.top y.bottom x.reduced.coprime y.reduced.coprime
+    x.reduced.positive y.reduced.positive h in
     same_parts x y parts.0 parts.1
 
 abbrev pub ratio : Rational → Ratio
@@ -32,12 +34,14 @@ ratio x = record { top = x.top; bottom = x.bottom; positive = x.reduced.positive
 pub sum_is : (x y : Rational) → IsSum (ratio x) (ratio y) (ratio (x +ℚ y))
 unfolding ◌+ℚ◌ over
 sum_is x y =
-    (reduced (x.top *ℤ y.bottom +ℤ y.top *ℤ x.bottom) (x.bottom *ℤ y.bottom) (mul_positive_z x.bottom y.bottom x.reduced.positive y.reduced.positive)).1
+    (reduced (x.top *ℤ y.bottom +ℤ y.top *ℤ x.bottom) (x.bottom *ℤ y.bottom)
+    (mul_positive_z x.bottom y.bottom x.reduced.positive y.reduced.positive)).1
 
 pub product_is : (x y : Rational) → IsProduct (ratio x) (ratio y) (ratio (x *ℚ y))
 unfolding ◌*ℚ◌ over
 product_is x y =
-    (reduced (x.top *ℤ y.top) (x.bottom *ℤ y.bottom) (mul_positive_z x.bottom y.bottom x.reduced.positive y.reduced.positive)).1
+    (reduced (x.top *ℤ y.top) (x.bottom *ℤ y.bottom)
+    (mul_positive_z x.bottom y.bottom x.reduced.positive y.reduced.positive)).1
 
 pub whole_top : (z : ℤ) → (whole z).top ≡ z
 unfolding whole
@@ -50,28 +54,36 @@ whole_bottom z = refl
 -- ---- a ring
 
 pub add_comm_q : (x y : Rational) → x +ℚ y ≡ y +ℚ x
-add_comm_q x y = equal_q _ _ (sums_swapped (ratio x) (ratio y) (ratio (x +ℚ y)) (ratio (y +ℚ x)) (sum_is x y) (sum_is y x))
+add_comm_q x y = equal_q _ _
+    (sums_swapped (ratio x) (ratio y) (ratio (x +ℚ y)) (ratio (y +ℚ x)) (sum_is x y) (sum_is y x))
 
 pub add_assoc_q : (x y z : Rational) → (x +ℚ y) +ℚ z ≡ x +ℚ (y +ℚ z)
 add_assoc_q x y z =
-    equal_q _ _ (sums_regrouped (ratio x) (ratio y) (ratio z) (ratio (x +ℚ y)) (ratio ((x +ℚ y) +ℚ z)) (ratio (y +ℚ z)) (ratio (x +ℚ (y +ℚ z)))
+    equal_q _ _ (sums_regrouped (ratio x) (ratio y) (ratio z) (ratio (x +ℚ y))
+    (ratio ((x +ℚ y) +ℚ z)) (ratio (y +ℚ z)) (ratio (x +ℚ (y +ℚ z)))
     (sum_is x y) (sum_is (x +ℚ y) z) (sum_is y z) (sum_is x (y +ℚ z)))
 
 pub mul_comm_q : (x y : Rational) → x *ℚ y ≡ y *ℚ x
-mul_comm_q x y = equal_q _ _ (products_swapped (ratio x) (ratio y) (ratio (x *ℚ y)) (ratio (y *ℚ x)) (product_is x y) (product_is y x))
+mul_comm_q x y = equal_q _ _
+    (products_swapped (ratio x) (ratio y) (ratio (x *ℚ y)) (ratio (y *ℚ x)) (product_is x y)
+    (product_is y x))
 
 pub mul_assoc_q : (x y z : Rational) → (x *ℚ y) *ℚ z ≡ x *ℚ (y *ℚ z)
 mul_assoc_q x y z =
-    equal_q _ _ (products_regrouped (ratio x) (ratio y) (ratio z) (ratio (x *ℚ y)) (ratio ((x *ℚ y) *ℚ z)) (ratio (y *ℚ z)) (ratio (x *ℚ (y *ℚ z)))
+    equal_q _ _ (products_regrouped (ratio x) (ratio y) (ratio z) (ratio (x *ℚ y))
+    (ratio ((x *ℚ y) *ℚ z)) (ratio (y *ℚ z)) (ratio (x *ℚ (y *ℚ z)))
     (product_is x y) (product_is (x *ℚ y) z) (product_is y z) (product_is x (y *ℚ z)))
 
 pub mul_add_q : (x y z : Rational) → x *ℚ (y +ℚ z) ≡ x *ℚ y +ℚ x *ℚ z
 mul_add_q x y z =
-    equal_q _ _ (products_over_sums (ratio x) (ratio y) (ratio z) (ratio (y +ℚ z)) (ratio (x *ℚ (y +ℚ z))) (ratio (x *ℚ y)) (ratio (x *ℚ z))
-    (ratio (x *ℚ y +ℚ x *ℚ z)) (sum_is y z) (product_is x (y +ℚ z)) (product_is x y) (product_is x z) (sum_is (x *ℚ y) (x *ℚ z)))
+    equal_q _ _ (products_over_sums (ratio x) (ratio y) (ratio z) (ratio (y +ℚ z))
+    (ratio (x *ℚ (y +ℚ z))) (ratio (x *ℚ y)) (ratio (x *ℚ z))
+    (ratio (x *ℚ y +ℚ x *ℚ z)) (sum_is y z) (product_is x (y +ℚ z)) (product_is x y)
+    (product_is x z) (sum_is (x *ℚ y) (x *ℚ z)))
 
 pub add_mul_q : (x y z : Rational) → (x +ℚ y) *ℚ z ≡ x *ℚ z +ℚ y *ℚ z
-add_mul_q x y z = mul_comm_q (x +ℚ y) z ∙ mul_add_q z x y ∙ ap₂ (λ a b. a +ℚ b) (mul_comm_q z x) (mul_comm_q z y)
+add_mul_q x y z = mul_comm_q (x +ℚ y) z ∙ mul_add_q z x y
+    ∙ ap₂ (λ a b. a +ℚ b) (mul_comm_q z x) (mul_comm_q z y)
 
 sum_zero : (s b n d : ℤ) → s *ℤ (pos 1 *ℤ d) ≡ (pos 0 *ℤ d +ℤ n *ℤ pos 1) *ℤ b → s *ℤ d ≡ n *ℤ b
 sum_zero s b n d e =
@@ -88,7 +100,8 @@ pub one_mul_q : (x : Rational) → whole (pos 1) *ℚ x ≡ x
 unfolding whole
 one_mul_q x = equal_q _ _ (product_one _ _ x.top x.bottom (product_is (whole (pos 1)) x))
 
-product_zero : (s b n d : ℤ) → s *ℤ (pos 1 *ℤ d) ≡ (pos 0 *ℤ n) *ℤ b → pos 0 <ℤ d → s *ℤ pos 1 ≡ pos 0 *ℤ b
+product_zero : (s b n d : ℤ) → s *ℤ (pos 1 *ℤ d) ≡ (pos 0 *ℤ n) *ℤ b → pos 0 <ℤ d →
+    s *ℤ pos 1 ≡ pos 0 *ℤ b
 product_zero s b n d e some =
     let scaled : s *ℤ d ≡ pos 0 *ℤ d = ap (λ z. s *ℤ z) (sym (one_mul_z d)) ∙ e
     ∙ ap (λ z. z *ℤ b) (zero-*ℤ n) ∙ zero-*ℤ b ∙ sym (zero-*ℤ d) in
@@ -97,32 +110,39 @@ product_zero s b n d e some =
 
 pub zero_mul_q : (x : Rational) → whole (pos 0) *ℚ x ≡ whole (pos 0)
 unfolding whole
-zero_mul_q x = equal_q _ _ (product_zero _ _ x.top x.bottom (product_is (whole (pos 0)) x) x.reduced.positive)
+zero_mul_q x = equal_q _ _
+    (product_zero _ _ x.top x.bottom (product_is (whole (pos 0)) x) x.reduced.positive)
 
 pub mul_zero_q : (x : Rational) → x *ℚ whole (pos 0) ≡ whole (pos 0)
 mul_zero_q x = mul_comm_q x (whole (pos 0)) ∙ zero_mul_q x
 
 -- ---- whole numbers
 
-whole_sum : (s b x y : ℤ) → s *ℤ (pos 1 *ℤ pos 1) ≡ (x *ℤ pos 1 +ℤ y *ℤ pos 1) *ℤ b → (x +ℤ y) *ℤ b ≡ s *ℤ pos 1
+whole_sum : (s b x y : ℤ) → s *ℤ (pos 1 *ℤ pos 1) ≡ (x *ℤ pos 1 +ℤ y *ℤ pos 1) *ℤ b →
+    (x +ℤ y) *ℤ b ≡ s *ℤ pos 1
 whole_sum s b x y e = ap (λ z. z *ℤ b) (omega (arith, ints)) ∙ sym e ∙ omega (arith, ints)
 
 pub whole_add : (x y : ℤ) → whole (x +ℤ y) ≡ whole x +ℚ whole y
 unfolding whole
-whole_add x y = equal_q _ _ (whole_sum (whole x +ℚ whole y).top (whole x +ℚ whole y).bottom x y (sum_is (whole x) (whole y)))
+whole_add x y = equal_q _ _
+    (whole_sum (whole x +ℚ whole y).top (whole x +ℚ whole y).bottom x y
+    (sum_is (whole x) (whole y)))
 
 whole_product : (s b x y : ℤ) → s *ℤ (pos 1 *ℤ pos 1) ≡ (x *ℤ y) *ℤ b → (x *ℤ y) *ℤ b ≡ s *ℤ pos 1
 whole_product s b x y e = sym e ∙ omega (arith, ints)
 
 pub whole_mul : (x y : ℤ) → whole (x *ℤ y) ≡ whole x *ℚ whole y
 unfolding whole
-whole_mul x y = equal_q _ _ (whole_product (whole x *ℚ whole y).top (whole x *ℚ whole y).bottom x y (product_is (whole x) (whole y)))
+whole_mul x y = equal_q _ _
+    (whole_product (whole x *ℚ whole y).top (whole x *ℚ whole y).bottom x y
+    (product_is (whole x) (whole y)))
 
 pub whole_neg : (x : ℤ) → whole (neg_ℤ x) ≡ neg_ℚ (whole x)
 whole_neg x = ap whole (omega (arith, ints)) ∙ whole_mul (negsuc 0) x
 
 pub whole_sub : (x y : ℤ) → whole (x -ℤ y) ≡ whole x -ℚ whole y
-whole_sub x y = ap whole (omega (arith, ints)) ∙ whole_add x (neg_ℤ y) ∙ ap (λ w. whole x +ℚ w) (whole_neg y)
+whole_sub x y = ap whole (omega (arith, ints)) ∙ whole_add x (neg_ℤ y)
+    ∙ ap (λ w. whole x +ℚ w) (whole_neg y)
 
 pub whole_injective : (x y : ℤ) → whole x ≡ whole y → x ≡ y
 unfolding whole
@@ -139,11 +159,14 @@ neg_add_q x y = mul_add_q (whole (negsuc 0)) x y
 -- ---- regrouping
 
 pub add_left_comm_q : (x y z : Rational) → x +ℚ (y +ℚ z) ≡ y +ℚ (x +ℚ z)
-add_left_comm_q x y z = sym (add_assoc_q x y z) ∙ ap (λ w. w +ℚ z) (add_comm_q x y) ∙ add_assoc_q y x z
+add_left_comm_q x y z = sym (add_assoc_q x y z) ∙ ap (λ w. w +ℚ z) (add_comm_q x y)
+    ∙ add_assoc_q y x z
 
 pub mul_left_comm_q : (x y z : Rational) → x *ℚ (y *ℚ z) ≡ y *ℚ (x *ℚ z)
-mul_left_comm_q x y z = sym (mul_assoc_q x y z) ∙ ap (λ w. w *ℚ z) (mul_comm_q x y) ∙ mul_assoc_q y x z
+mul_left_comm_q x y z = sym (mul_assoc_q x y z) ∙ ap (λ w. w *ℚ z) (mul_comm_q x y)
+    ∙ mul_assoc_q y x z
 
 pub mul_mul_comm_q : (x y z w : Rational) → (x *ℚ y) *ℚ (z *ℚ w) ≡ (x *ℚ z) *ℚ (y *ℚ w)
 mul_mul_comm_q x y z w =
-    mul_assoc_q x y (z *ℚ w) ∙ ap (λ v. x *ℚ v) (mul_left_comm_q y z w) ∙ sym (mul_assoc_q x z (y *ℚ w))
+    mul_assoc_q x y (z *ℚ w) ∙ ap (λ v. x *ℚ v) (mul_left_comm_q y z w)
+    ∙ sym (mul_assoc_q x z (y *ℚ w))

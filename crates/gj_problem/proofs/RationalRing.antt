@@ -55,7 +55,8 @@ joined_is atoms (i ∷ is) js =
 plus_some_is : (atoms : List Rational) (z : ℤ) (is : List ℕ) (p : Poly) →
     total atoms (plus_some z is p) ≡ whole z *ℚ product_of atoms is +ℚ total atoms p
 plus_some_is atoms (pos zero) is p =
-    sym (ap (λ w. w +ℚ total atoms p) (zero_mul_q (product_of atoms is)) ∙ zero_add_q (total atoms p))
+    sym (ap (λ w. w +ℚ total atoms p) (zero_mul_q (product_of atoms is))
+    ∙ zero_add_q (total atoms p))
 plus_some_is atoms (pos (suc n)) is p = refl
 plus_some_is atoms (negsuc n) is p = refl
 
@@ -72,12 +73,15 @@ term_step atoms z is y js p h before e = refl
 term_step atoms z is y js p h same e =
     plus_some_is atoms (z +ℤ y) js p
     ∙ ap (λ w. w +ℚ total atoms p)
-    (ap (λ w. w *ℚ product_of atoms js) (whole_add z y) ∙ add_mul_q (whole z) (whole y) (product_of atoms js))
+    (ap (λ w. w *ℚ product_of atoms js) (whole_add z y)
+    ∙ add_mul_q (whole z) (whole y) (product_of atoms js))
     ∙ add_assoc_q (whole z *ℚ product_of atoms js) (whole y *ℚ product_of atoms js) (total atoms p)
-    ∙ ap (λ ks. whole z *ℚ product_of atoms ks +ℚ (whole y *ℚ product_of atoms js +ℚ total atoms p)) (sym (order_same is js e))
+    ∙ ap (λ ks. whole z *ℚ product_of atoms ks +ℚ (whole y *ℚ product_of atoms js +ℚ total atoms p))
+    (sym (order_same is js e))
 term_step atoms z is y js p h after e =
     ap (λ w. whole y *ℚ product_of atoms js +ℚ w) h
-    ∙ add_left_comm_q (whole y *ℚ product_of atoms js) (whole z *ℚ product_of atoms is) (total atoms p)
+    ∙ add_left_comm_q (whole y *ℚ product_of atoms js) (whole z *ℚ product_of atoms is)
+    (total atoms p)
 
 with_term_is : (atoms : List Rational) (z : ℤ) (is : List ℕ) (p : Poly) →
     total atoms (with_term z is p) ≡ whole z *ℚ product_of atoms is +ℚ total atoms p
@@ -85,7 +89,8 @@ with_term_is atoms z is none = refl
 with_term_is atoms z is (plus y js p) =
     term_step atoms z is y js p (with_term_is atoms z is p) (order is js) refl
 
-sum_of_is : (atoms : List Rational) (p q : Poly) → total atoms (sum_of p q) ≡ total atoms p +ℚ total atoms q
+sum_of_is : (atoms : List Rational) (p q : Poly) →
+    total atoms (sum_of p q) ≡ total atoms p +ℚ total atoms q
 sum_of_is atoms none q = sym (zero_add_q (total atoms q))
 sum_of_is atoms (plus z is p) q =
     with_term_is atoms z is (sum_of p q)
@@ -101,9 +106,11 @@ times_term_is atoms z is (plus y js p) =
     ∙ mul_mul_comm_q (whole z) (whole y) (product_of atoms is) (product_of atoms js) in
     with_term_is atoms (z *ℤ y) (joined is js) (times_term z is p)
     ∙ ap₂ (λ v w. v +ℚ w) factor rest
-    ∙ sym (mul_add_q (whole z *ℚ product_of atoms is) (whole y *ℚ product_of atoms js) (total atoms p))
+    ∙ sym (mul_add_q (whole z *ℚ product_of atoms is) (whole y *ℚ product_of atoms js)
+    (total atoms p))
 
-times_is : (atoms : List Rational) (p q : Poly) → total atoms (times p q) ≡ total atoms p *ℚ total atoms q
+times_is : (atoms : List Rational) (p q : Poly) →
+    total atoms (times p q) ≡ total atoms p *ℚ total atoms q
 times_is atoms none q = sym (zero_mul_q (total atoms q))
 times_is atoms (plus z is p) q =
     sum_of_is atoms (times_term z is q) (times p q)
@@ -113,17 +120,22 @@ times_is atoms (plus z is p) q =
 opposite_is : (atoms : List Rational) (p : Poly) → total atoms (opposite p) ≡ neg_ℚ (total atoms p)
 opposite_is atoms none = sym (mul_zero_q (whole (negsuc 0)))
 opposite_is atoms (plus z is p) =
-    ap₂ (λ v w. v +ℚ w) (ap (λ w. w *ℚ product_of atoms is) (whole_neg z) ∙ neg_mul_q (whole z) (product_of atoms is)) (opposite_is atoms p)
+    ap₂ (λ v w. v +ℚ w) (ap (λ w. w *ℚ product_of atoms is) (whole_neg z)
+    ∙ neg_mul_q (whole z) (product_of atoms is)) (opposite_is atoms p)
     ∙ sym (neg_add_q (whole z *ℚ product_of atoms is) (total atoms p))
 
 normal_is : (atoms : List Rational) (e : Expr) → total atoms (normal e) ≡ value atoms e
 normal_is atoms (var i) =
-    add_comm_q _ (whole (pos 0)) ∙ zero_add_q _ ∙ one_mul_q _ ∙ mul_comm_q (atom atoms i) (whole (pos 1)) ∙ one_mul_q (atom atoms i)
-normal_is atoms (num z) = plus_some_is atoms z [] none ∙ add_comm_q _ (whole (pos 0)) ∙ zero_add_q _ ∙ mul_comm_q (whole z) (whole (pos 1)) ∙ one_mul_q (whole z)
+    add_comm_q _ (whole (pos 0)) ∙ zero_add_q _ ∙ one_mul_q _
+    ∙ mul_comm_q (atom atoms i) (whole (pos 1)) ∙ one_mul_q (atom atoms i)
+normal_is atoms (num z) = plus_some_is atoms z [] none ∙ add_comm_q _ (whole (pos 0)) ∙ zero_add_q _
+    ∙ mul_comm_q (whole z) (whole (pos 1)) ∙ one_mul_q (whole z)
 normal_is atoms (add e f) =
-    sum_of_is atoms (normal e) (normal f) ∙ ap₂ (λ v w. v +ℚ w) (normal_is atoms e) (normal_is atoms f)
+    sum_of_is atoms (normal e) (normal f)
+    ∙ ap₂ (λ v w. v +ℚ w) (normal_is atoms e) (normal_is atoms f)
 normal_is atoms (mul e f) =
-    times_is atoms (normal e) (normal f) ∙ ap₂ (λ v w. v *ℚ w) (normal_is atoms e) (normal_is atoms f)
+    times_is atoms (normal e) (normal f)
+    ∙ ap₂ (λ v w. v *ℚ w) (normal_is atoms e) (normal_is atoms f)
 normal_is atoms (neg e) = opposite_is atoms (normal e) ∙ ap neg_ℚ (normal_is atoms e)
 
 -- ---- reading an expression off a number
@@ -131,17 +143,21 @@ normal_is atoms (neg e) = opposite_is atoms (normal e) ∙ ap neg_ℚ (normal_is
 pub data Reading (atoms : List Rational) (x : Rational) : Type 0 where
   reading : (e : Expr) → value atoms e ≡ x → Reading atoms x
 
-abbrev pub read_add : {atoms : List Rational} {x y : Rational} → Reading atoms x → Reading atoms y → Reading atoms (x +ℚ y)
+abbrev pub read_add : {atoms : List Rational} {x y : Rational} → Reading atoms x → Reading atoms y →
+    Reading atoms (x +ℚ y)
 read_add (reading e p) (reading f q) = reading (add e f) (ap₂ (λ v w. v +ℚ w) p q)
 
-abbrev pub read_mul : {atoms : List Rational} {x y : Rational} → Reading atoms x → Reading atoms y → Reading atoms (x *ℚ y)
+abbrev pub read_mul : {atoms : List Rational} {x y : Rational} → Reading atoms x → Reading atoms y →
+    Reading atoms (x *ℚ y)
 read_mul (reading e p) (reading f q) = reading (mul e f) (ap₂ (λ v w. v *ℚ w) p q)
 
 -- a numeral: at a variable the test does not compute
-abbrev pub read_pos : {atoms : List Rational} (n : ℕ) → eqb n n ≡ true → Reading atoms (whole (pos n))
+abbrev pub read_pos : {atoms : List Rational} (n : ℕ) → eqb n n ≡ true →
+    Reading atoms (whole (pos n))
 read_pos n h = reading (num (pos n)) refl
 
-abbrev pub read_negsuc : {atoms : List Rational} (n : ℕ) → eqb n n ≡ true → Reading atoms (whole (negsuc n))
+abbrev pub read_negsuc : {atoms : List Rational} (n : ℕ) → eqb n n ≡ true →
+    Reading atoms (whole (negsuc n))
 read_negsuc n h = reading (num (negsuc n)) refl
 
 abbrev pub read_0 : {atoms : List Rational} {x : Rational} → Reading (x ∷ atoms) x
@@ -153,52 +169,86 @@ read_1 = reading (var 1) refl
 abbrev pub read_2 : {atoms : List Rational} {y0 y1 x : Rational} → Reading (y0 ∷ y1 ∷ x ∷ atoms) x
 read_2 = reading (var 2) refl
 
-abbrev pub read_3 : {atoms : List Rational} {y0 y1 y2 x : Rational} → Reading (y0 ∷ y1 ∷ y2 ∷ x ∷ atoms) x
+abbrev pub read_3 : {atoms : List Rational} {y0 y1 y2 x : Rational} →
+    Reading (y0 ∷ y1 ∷ y2 ∷ x ∷ atoms) x
 read_3 = reading (var 3) refl
 
-abbrev pub read_4 : {atoms : List Rational} {y0 y1 y2 y3 x : Rational} → Reading (y0 ∷ y1 ∷ y2 ∷ y3 ∷ x ∷ atoms) x
+abbrev pub read_4 : {atoms : List Rational} {y0 y1 y2 y3 x : Rational} →
+    Reading (y0 ∷ y1 ∷ y2 ∷ y3 ∷ x ∷ atoms) x
 read_4 = reading (var 4) refl
 
-abbrev pub read_5 : {atoms : List Rational} {y0 y1 y2 y3 y4 x : Rational} → Reading (y0 ∷ y1 ∷ y2 ∷ y3 ∷ y4 ∷ x ∷ atoms) x
+abbrev pub read_5 : {atoms : List Rational} {y0 y1 y2 y3 y4 x : Rational} →
+    Reading (y0 ∷ y1 ∷ y2 ∷ y3 ∷ y4 ∷ x ∷ atoms) x
 read_5 = reading (var 5) refl
 
-abbrev pub read_6 : {atoms : List Rational} {y0 y1 y2 y3 y4 y5 x : Rational} → Reading (y0 ∷ y1 ∷ y2 ∷ y3 ∷ y4 ∷ y5 ∷ x ∷ atoms) x
+abbrev pub read_6 : {atoms : List Rational} {y0 y1 y2 y3 y4 y5 x : Rational} →
+    Reading (y0 ∷ y1 ∷ y2 ∷ y3 ∷ y4 ∷ y5 ∷ x ∷ atoms) x
 read_6 = reading (var 6) refl
 
-abbrev pub read_7 : {atoms : List Rational} {y0 y1 y2 y3 y4 y5 y6 x : Rational} → Reading (y0 ∷ y1 ∷ y2 ∷ y3 ∷ y4 ∷ y5 ∷ y6 ∷ x ∷ atoms) x
+abbrev pub read_7 : {atoms : List Rational} {y0 y1 y2 y3 y4 y5 y6 x : Rational} →
+    Reading (y0 ∷ y1 ∷ y2 ∷ y3 ∷ y4 ∷ y5 ∷ y6 ∷ x ∷ atoms) x
 read_7 = reading (var 7) refl
 
-abbrev pub read_8 : {atoms : List Rational} {y0 y1 y2 y3 y4 y5 y6 y7 x : Rational} → Reading (y0 ∷ y1 ∷ y2 ∷ y3 ∷ y4 ∷ y5 ∷ y6 ∷ y7 ∷ x ∷ atoms) x
+abbrev pub read_8 : {atoms : List Rational} {y0 y1 y2 y3 y4 y5 y6 y7 x : Rational} →
+    Reading (y0 ∷ y1 ∷ y2 ∷ y3 ∷ y4 ∷ y5 ∷ y6 ∷ y7 ∷ x ∷ atoms) x
 read_8 = reading (var 8) refl
 
-abbrev pub read_9 : {atoms : List Rational} {y0 y1 y2 y3 y4 y5 y6 y7 y8 x : Rational} → Reading (y0 ∷ y1 ∷ y2 ∷ y3 ∷ y4 ∷ y5 ∷ y6 ∷ y7 ∷ y8 ∷ x ∷ atoms) x
+abbrev pub read_9 : {atoms : List Rational} {y0 y1 y2 y3 y4 y5 y6 y7 y8 x : Rational} →
+    Reading (y0 ∷ y1 ∷ y2 ∷ y3 ∷ y4 ∷ y5 ∷ y6 ∷ y7 ∷ y8 ∷ x ∷ atoms) x
 read_9 = reading (var 9) refl
 
-abbrev pub read_10 : {atoms : List Rational} {y0 y1 y2 y3 y4 y5 y6 y7 y8 y9 x : Rational} → Reading (y0 ∷ y1 ∷ y2 ∷ y3 ∷ y4 ∷ y5 ∷ y6 ∷ y7 ∷ y8 ∷ y9 ∷ x ∷ atoms) x
+abbrev pub read_10 : {atoms : List Rational} {y0 y1 y2 y3 y4 y5 y6 y7 y8 y9 x : Rational} →
+    Reading (y0 ∷ y1 ∷ y2 ∷ y3 ∷ y4 ∷ y5 ∷ y6 ∷ y7 ∷ y8 ∷ y9 ∷ x ∷ atoms) x
 read_10 = reading (var 10) refl
 
-abbrev pub read_11 : {atoms : List Rational} {y0 y1 y2 y3 y4 y5 y6 y7 y8 y9 y10 x : Rational} → Reading (y0 ∷ y1 ∷ y2 ∷ y3 ∷ y4 ∷ y5 ∷ y6 ∷ y7 ∷ y8 ∷ y9 ∷ y10 ∷ x ∷ atoms) x
+abbrev pub read_11 : {atoms : List Rational} {y0 y1 y2 y3 y4 y5 y6 y7 y8 y9 y10 x : Rational} →
+    Reading (y0 ∷ y1 ∷ y2 ∷ y3 ∷ y4 ∷ y5 ∷ y6 ∷ y7 ∷ y8 ∷ y9 ∷ y10 ∷ x ∷ atoms) x
 read_11 = reading (var 11) refl
 
-abbrev pub read_12 : {atoms : List Rational} {y0 y1 y2 y3 y4 y5 y6 y7 y8 y9 y10 y11 x : Rational} → Reading (y0 ∷ y1 ∷ y2 ∷ y3 ∷ y4 ∷ y5 ∷ y6 ∷ y7 ∷ y8 ∷ y9 ∷ y10 ∷ y11 ∷ x ∷ atoms) x
+abbrev pub read_12 : {atoms : List Rational} {y0 y1 y2 y3 y4 y5 y6 y7 y8 y9 y10 y11 x : Rational} →
+    Reading (y0 ∷ y1 ∷ y2 ∷ y3 ∷ y4 ∷ y5 ∷ y6 ∷ y7 ∷ y8 ∷ y9 ∷ y10 ∷ y11 ∷ x ∷ atoms) x
 read_12 = reading (var 12) refl
 
-abbrev pub read_13 : {atoms : List Rational} {y0 y1 y2 y3 y4 y5 y6 y7 y8 y9 y10 y11 y12 x : Rational} → Reading (y0 ∷ y1 ∷ y2 ∷ y3 ∷ y4 ∷ y5 ∷ y6 ∷ y7 ∷ y8 ∷ y9 ∷ y10 ∷ y11 ∷ y12 ∷ x ∷ atoms) x
+abbrev pub read_13 : {atoms : List Rational}
+    {y0 y1 y2 y3 y4 y5 y6 y7 y8 y9 y10 y11 y12 x : Rational} →
+    Reading (y0 ∷ y1 ∷ y2 ∷ y3 ∷ y4 ∷ y5 ∷ y6 ∷ y7 ∷ y8 ∷ y9 ∷ y10 ∷ y11 ∷ y12 ∷ x ∷ atoms) x
 read_13 = reading (var 13) refl
 
 -- expressions over the same atoms that are worth x and y
 pub data Readings (atoms : List Rational) (x y : Rational) : Type 0 where
   readings : (e f : Expr) → value atoms e ≡ x → value atoms f ≡ y → Readings atoms x y
 
-abbrev pub read_both : {atoms : List Rational} {x y : Rational} → Reading atoms x → Reading atoms y → Readings atoms x y
+abbrev pub read_both : {atoms : List Rational} {x y : Rational} → Reading atoms x →
+    Reading atoms y → Readings atoms x y
 read_both (reading e p) (reading f q) = readings e f p q
 
-pub ruleset ring_q = (read_both, read_add, read_mul, read_pos, read_negsuc, read_0, read_1, read_2, read_3, read_4, read_5, read_6, read_7, read_8, read_9, read_10, read_11, read_12, read_13)
+pub ruleset ring_q = (
+  read_both,
+  read_add,
+  read_mul,
+  read_pos,
+  read_negsuc,
+  read_0,
+  read_1,
+  read_2,
+  read_3,
+  read_4,
+  read_5,
+  read_6,
+  read_7,
+  read_8,
+  read_9,
+  read_10,
+  read_11,
+  read_12,
+  read_13,
+)
 
 abbrev pub SameForm : {atoms : List Rational} {x y : Rational} → Readings atoms x y → Type 0
 SameForm (readings e f p q) = normal e ≡ normal f
 
 -- two sums of products are equal if they have one normal form
-pub by_ring_q : (atoms : List Rational) {x y : Rational} → (h : Readings atoms x y) → SameForm h → x ≡ y
+pub by_ring_q : (atoms : List Rational) {x y : Rational} → (h : Readings atoms x y) → SameForm h →
+    x ≡ y
 by_ring_q atoms (readings e f p q) form =
     sym p ∙ sym (normal_is atoms e) ∙ ap (total atoms) form ∙ normal_is atoms f ∙ q

@@ -23,7 +23,8 @@ use Rattle.gj_problem.specs.Rows.{dot, IsMultiple, IsOneColumn, HasWholeSurplus}
 
 -- the numbers, each times the surplus of its piece
 abbrev pub combined_at : List Rational → List Frac → List Piece → Rational
-combined_at point numbers pieces = dot numbers (map (surplus_at point) (map (λ s. s.inequality) pieces))
+combined_at point numbers pieces =
+    dot numbers (map (surplus_at point) (map (λ s. s.inequality) pieces))
 
 -- the entries, each times the surplus of its piece
 abbrev pub pieces_at : List Rational → List Piece → Rational
@@ -33,7 +34,8 @@ pieces_at point pieces = combined_at point (map (λ s. s.entry) pieces) pieces
 abbrev pub AreMadeOf : {A B : Type 0} → (A → Type 0) → (A → B → Type 0) → List A → List B → Type 0
 AreMadeOf Passed Makes [] made = made ≡ []
 AreMadeOf {A} {B} Passed Makes (x ∷ xs) made = (Passed x × AreMadeOf Passed Makes xs made)
-    ⊎ ((Passed x → ⊥) × (s : B) × (rest : List B) × (made ≡ s ∷ rest) × Makes x s × AreMadeOf Passed Makes xs rest)
+    ⊎ ((Passed x → ⊥) × (s : B) × (rest : List B) × (made ≡ s ∷ rest) × Makes x s
+    × AreMadeOf Passed Makes xs rest)
 
 -- ---- adding up
 
@@ -52,12 +54,15 @@ weighted (m ∷ ms) [] = []
 abbrev pub aggregate_at : List Rational → List Weighted → Rational
 aggregate_at point [] = whole (pos 0)
 aggregate_at point (w ∷ ws) =
-    rational w.multiplier *ℚ (sum_at point w.constraint.entries -ℚ rational w.constraint.right) +ℚ aggregate_at point ws
+    rational w.multiplier *ℚ (sum_at point w.constraint.entries -ℚ rational w.constraint.right)
+    +ℚ aggregate_at point ws
 
 -- the constraints add up to these coefficients, one for each column, against this right side
-pub record IsAggregate (p : Problem) (ws : List Weighted) (coefficients : List Frac) (right : Frac) : Type 0 where
+pub record IsAggregate (p : Problem) (ws : List Weighted) (coefficients : List Frac)
+    (right : Frac) : Type 0 where
   pub count : length coefficients ≡ length p.columns
-  pub adds : (point : List Rational) → dot coefficients point -ℚ rational right ≡ aggregate_at point ws
+  pub adds : (point : List Rational) → dot coefficients point -ℚ rational right
+      ≡ aggregate_at point ws
 
 -- ---- slacks
 
@@ -87,15 +92,18 @@ pub record IsSlack (p : Problem) (w : Weighted) (s : Piece) : Type 0 where
   pub is_whole : IsTrue s.is_whole ↔ HasWholeColumns p w.constraint
   pub scale : ℕ
   pub scale_is : IsScale w.constraint.right w.constraint.entries s.is_whole scale
-  pub slack_is : IsMultiple (whole (signed w.constraint.sense scale)) w.constraint.entries w.constraint.right s.inequality
-  pub entry_is : whole (signed w.constraint.sense scale) *ℚ rational s.entry ≡ neg_ℚ (rational w.multiplier)
+  pub slack_is : IsMultiple (whole (signed w.constraint.sense scale)) w.constraint.entries
+      w.constraint.right s.inequality
+  pub entry_is : whole (signed w.constraint.sense scale) *ℚ rational s.entry
+      ≡ neg_ℚ (rational w.multiplier)
 
 -- ---- bounds
 
 -- each column, the first with this index, with its coefficient
 abbrev pub held : ℕ → List Column → List Frac → List Bool → List Held
 held j (column ∷ columns) (c ∷ cs) (up ∷ ups) =
-    record { index = j; column = column; coefficient = c; at_upper = up } ∷ held (j + 1) columns cs ups
+    record { index = j; column = column; coefficient = c; at_upper = up } ∷ held
+    (j + 1) columns cs ups
 held j [] cs ups = []
 held j (column ∷ columns) [] ups = []
 held j (column ∷ columns) (c ∷ cs) [] = []
@@ -154,7 +162,8 @@ pub record IsFree (h : Held) : Type 0 where
 -- ---- the row
 
 -- the row with these pieces, those of slacks first, and with this right side
-pub record IsRow (p : Problem) (multipliers : List Frac) (at_upper : List Bool) (pieces : List Piece) (right : Frac) : Type 0 where
+pub record IsRow (p : Problem) (multipliers : List Frac) (at_upper : List Bool)
+    (pieces : List Piece) (right : Frac) : Type 0 where
   pub coefficients : List Frac
   pub against : Frac
   pub sum : IsAggregate p (weighted multipliers p.constraints) coefficients against
@@ -177,7 +186,8 @@ pub record IsFirstFreeOf (hs : List Held) (j : ℕ) : Type 0 where
   pub index : j ≡ column.index
 
 -- the first free column of the sum
-pub record IsFirstFree (p : Problem) (multipliers : List Frac) (at_upper : List Bool) (j : ℕ) : Type 0 where
+pub record IsFirstFree (p : Problem) (multipliers : List Frac) (at_upper : List Bool) (j : ℕ) :
+    Type 0 where
   pub coefficients : List Frac
   pub against : Frac
   pub sum : IsAggregate p (weighted multipliers p.constraints) coefficients against
@@ -198,9 +208,11 @@ AddsUpAt point pieces right = (z : ℤ) × (pieces_at point pieces +ℚ whole z 
 -- 1
 abbrev pub IsCutOver : Problem → List Piece → List Frac → Type 0
 IsCutOver p pieces coefficients =
-    (point : List Rational) → IsFeasible p point → whole (pos 1) ≤ℚ combined_at point coefficients pieces
+    (point : List Rational) → IsFeasible p point →
+    whole (pos 1) ≤ℚ combined_at point coefficients pieces
 
 -- the inequality says the same in the columns of the problem
 abbrev pub IsTurnedBack : List Piece → List Frac → Inequality → Type 0
 IsTurnedBack pieces coefficients q =
-    (point : List Rational) → surplus_at point q ≡ combined_at point coefficients pieces -ℚ whole (pos 1)
+    (point : List Rational) →
+    surplus_at point q ≡ combined_at point coefficients pieces -ℚ whole (pos 1)

@@ -25,4 +25,5 @@ pub record AreEntriesOfFirst (k : ℕ) (cs : List Frac) (entries : List Entry) :
   pub terms : AreTermsWithin 0 k entries
 
 abbrev pub AreEntriesOver : ℤ → List ℤ → ℕ → List Entry → Type 0
-AreEntriesOver d ns k entries = (cs : List Frac) → AllZip (λ (n : ℤ) (x : Frac). IsRatio x n d) ns cs → AreEntriesOfFirst k cs entries
+AreEntriesOver d ns k entries = (cs : List Frac) →
+    AllZip (λ (n : ℤ) (x : Frac). IsRatio x n d) ns cs → AreEntriesOfFirst k cs entries

@@ -8,5 +8,6 @@ use Rattle.gj_problem.specs.Aggregates.{IsRow, IsFirstFree}
 
 -- it is the row of the multipliers, or its first free column
 abbrev pub IsMadeRow : Problem → List Frac → List Bool → MadeRow → Type 0
-IsMadeRow p multipliers at_upper (Row row) = IsRow p multipliers at_upper (row.slacks.items ++ row.bounds.items) row.right
+IsMadeRow p multipliers at_upper (Row row) =
+    IsRow p multipliers at_upper (row.slacks.items ++ row.bounds.items) row.right
 IsMadeRow p multipliers at_upper (Free j) = IsFirstFree p multipliers at_upper j

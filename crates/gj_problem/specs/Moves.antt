@@ -27,7 +27,8 @@ pub record IsMovedDown (IsUpper : Frac → Type 0) (x y shift : Rational) : Type
   pub shift_is : shift ≡ (y -ℚ x) *ℚ rational bound
 
 abbrev pub IsMovedBy : (Frac → Type 0) → (Frac → Type 0) → Rational → Rational → Rational → Type 0
-IsMovedBy IsLower IsUpper x y shift = IsUnmoved x y shift ⊎ (IsMovedUp IsLower x y shift ⊎ IsMovedDown IsUpper x y shift)
+IsMovedBy IsLower IsUpper x y shift = IsUnmoved x y shift
+    ⊎ (IsMovedUp IsLower x y shift ⊎ IsMovedDown IsUpper x y shift)
 
 -- ---- bounds
 
@@ -46,7 +47,8 @@ HasUpper c b = (u : Frac) × (c.upper ≡ Some u) × IsUpperBound c.is_whole u b
 abbrev pub AreMovedBy : List Column → (ℕ → Rational) → (ℕ → Rational) → Rational → Type 0
 AreMovedBy [] xs ys total = total ≡ whole (pos 0)
 AreMovedBy (c ∷ columns) xs ys total =
-    (shift : Rational) × (rest : Rational) × IsMovedBy (HasLower c) (HasUpper c) (xs zero) (ys zero) shift
+    (shift : Rational) × (rest : Rational) × IsMovedBy (HasLower c) (HasUpper c) (xs zero)
+    (ys zero) shift
     × AreMovedBy columns (λ j. xs (suc j)) (λ j. ys (suc j)) rest × (total ≡ shift +ℚ rest)
 
 -- ---- to a grid

@@ -47,7 +47,8 @@ surplus_at point q = sum_at point q.entries -ℚ rational q.right
 -- no entry is 0, and the columns ascend, from the j-th on and below the k-th
 abbrev pub AreTermsWithin : ℕ → ℕ → List Entry → Type 0
 AreTermsWithin j k [] = j ≤ k
-AreTermsWithin j k (e ∷ entries) = (j ≤ e.column) × (numerator e.value ≢ pos 0) × AreTermsWithin (e.column + 1) k entries
+AreTermsWithin j k (e ∷ entries) = (j ≤ e.column) × (numerator e.value ≢ pos 0)
+    × AreTermsWithin (e.column + 1) k entries
 
 -- each column of the problem has at most one entry, not 0, in the order of the columns
 abbrev pub HasTerms : Problem → Inequality → Type 0
@@ -55,7 +56,8 @@ HasTerms p q = AreTermsWithin 0 (length p.columns) q.entries
 
 -- the inequality holds at all feasible points
 abbrev pub Holds : Problem → Inequality → Type 0
-Holds p q = (point : List Rational) → IsFeasible p point → rational q.right ≤ℚ sum_at point q.entries
+Holds p q = (point : List Rational) → IsFeasible p point →
+    rational q.right ≤ℚ sum_at point q.entries
 
 -- c is the column at an index
 pub record IsColumn (p : Problem) (j : ℕ) (c : Column) : Type 0 where

@@ -40,7 +40,8 @@ reduced n d some =
           coprime = coprime_signed_quotients n d (pos g) p q h g_some p_is q_is;
         };
       },
-      ap (λ z. p *ℤ z) (sym q_is) ∙ ap (λ z. p *ℤ z) (mul_comm_z q (pos g)) ∙ sym (mul_assoc_z p (pos g) q) ∙ ap (λ z. z *ℤ q) p_is,
+      ap (λ z. p *ℤ z) (sym q_is) ∙ ap (λ z. p *ℤ z) (mul_comm_z q (pos g))
+          ∙ sym (mul_assoc_z p (pos g) q) ∙ ap (λ z. z *ℤ q) p_is,
     )
 
 unfoldable pub over : (n d : ℤ) → pos 0 <ℤ d → Rational
@@ -58,11 +59,13 @@ whole z = record { top = z; bottom = pos 1; reduced = over_one z }
 
 infixl 6 ◌+ℚ◌
 unfoldable pub ◌+ℚ◌ : Rational → Rational → Rational
-x +ℚ y = over (x.top *ℤ y.bottom +ℤ y.top *ℤ x.bottom) (x.bottom *ℤ y.bottom) (mul_positive_z x.bottom y.bottom x.reduced.positive y.reduced.positive)
+x +ℚ y = over (x.top *ℤ y.bottom +ℤ y.top *ℤ x.bottom) (x.bottom *ℤ y.bottom)
+    (mul_positive_z x.bottom y.bottom x.reduced.positive y.reduced.positive)
 
 infixl 7 ◌*ℚ◌
 unfoldable pub ◌*ℚ◌ : Rational → Rational → Rational
-x *ℚ y = over (x.top *ℤ y.top) (x.bottom *ℤ y.bottom) (mul_positive_z x.bottom y.bottom x.reduced.positive y.reduced.positive)
+x *ℚ y = over (x.top *ℤ y.top) (x.bottom *ℤ y.bottom)
+    (mul_positive_z x.bottom y.bottom x.reduced.positive y.reduced.positive)
 
 abbrev pub neg_ℚ : Rational → Rational
 neg_ℚ x = whole (negsuc 0) *ℚ x
@@ -82,4 +85,9 @@ IsWholeNumber x = (z : ℤ) × (x ≡ whole z)
 
 -- the number that a `Frac` is
 abbrev pub rational : Frac → Rational
-rational x = record { top = x.num; bottom = x.den; reduced = record { positive = x.lowest.positive; coprime = x.lowest.coprime } }
+rational x = record {
+  top = x.num;
+  bottom = x.den;
+  reduced =
+      record { positive = x.lowest.positive; coprime = x.lowest.coprime };
+}

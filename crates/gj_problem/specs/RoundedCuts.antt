@@ -23,10 +23,12 @@ upper_of p j = slice_index_or (map (λ c. c.upper) p.columns) j None
 -- ---- entries that are moved
 
 -- each entry is moved, as Moves says it of the bounds of its column and of its coefficients
-abbrev pub AreMovedAs : (Option Frac → Option Frac → Rational → Rational → Rational → Type 0) → Problem → List Entry → List Entry → List Rational → Type 0
+abbrev pub AreMovedAs : (Option Frac → Option Frac → Rational → Rational → Rational → Type 0) →
+    Problem → List Entry → List Entry → List Rational → Type 0
 AreMovedAs Moves p [] [] [] = Unit {0}
 AreMovedAs Moves p (e ∷ es) (e' ∷ es') (shift ∷ shifts) = (e'.column ≡ e.column)
-    × Moves (lower_of p e.column) (upper_of p e.column) (rational e.value) (rational e'.value) shift × AreMovedAs Moves p es es' shifts
+    × Moves (lower_of p e.column) (upper_of p e.column) (rational e.value) (rational e'.value) shift
+    × AreMovedAs Moves p es es' shifts
 AreMovedAs Moves p es es' shifts = ⊥
 
 abbrev pub total_of : List Rational → Rational
@@ -47,7 +49,8 @@ pub record IsRounded (p : Problem) (q rounded : Inequality) : Type 0 where
 
 -- moved so, to a coefficient on the grid
 abbrev pub IsMoved : ℕ → Option Frac → Option Frac → Rational → Rational → Rational → Type 0
-IsMoved n lower upper x y shift = IsGridCoefficient n lower upper x y × IsChanged lower upper x y shift
+IsMoved n lower upper x y shift = IsGridCoefficient n lower upper x y
+    × IsChanged lower upper x y shift
 
 abbrev pub AreMoved : Problem → ℕ → List Entry → List Entry → List Rational → Type 0
 AreMoved p n es es' shifts = AreMovedAs (IsMoved n) p es es' shifts
@@ -93,19 +96,22 @@ IsWideTimes n x = (m : Frac) × (rational m ≡ whole (pos n)) × (FitsProduct m
 -- the change from x to y, or its product with the bound, does not fit
 abbrev pub IsWideChange : Frac → Frac → Frac → Type 0
 IsWideChange x y bound = (m : Frac) × (rational m ≡ neg_ℚ (rational x))
-    × ((FitsSum y m → ⊥) ⊎ ((d : Frac) × (rational d ≡ rational y -ℚ rational x) × (FitsProduct d bound → ⊥)))
+    × ((FitsSum y m → ⊥)
+    ⊎ ((d : Frac) × (rational d ≡ rational y -ℚ rational x) × (FitsProduct d bound → ⊥)))
 
 -- to round x by these bounds takes a number that does not fit
 abbrev pub IsWideMove : ℕ → Option Frac → Option Frac → Frac → Type 0
 IsWideMove n (Some l) upper x = ((m : Frac) × (rational m ≡ neg_ℚ (rational x)) × IsWideTimes n m)
     ⊎ ((y : Frac) × IsBelowOnGrid n (neg_ℚ (rational x)) (neg_ℚ (rational y)) × IsWideChange x y l)
-IsWideMove n None (Some u) x = IsWideTimes n x ⊎ ((y : Frac) × IsBelowOnGrid n (rational x) (rational y) × IsWideChange x y u)
+IsWideMove n None (Some u) x = IsWideTimes n x
+    ⊎ ((y : Frac) × IsBelowOnGrid n (rational x) (rational y) × IsWideChange x y u)
 IsWideMove n None None x = IsWideTimes n x
 
 -- the entry has such a move, or the right side with its shift does not fit
 abbrev pub IsWideEntryAt : Problem → ℕ → Frac → Entry → Type 0
 IsWideEntryAt p n right e = IsWideMove n (lower_of p e.column) (upper_of p e.column) e.value
-    ⊎ ((y : Frac) × (shift : Frac) × IsMoved n (lower_of p e.column) (upper_of p e.column) (rational e.value) (rational y) (rational shift)
+    ⊎ ((y : Frac) × (shift : Frac) × IsMoved n (lower_of p e.column) (upper_of p e.column)
+    (rational e.value) (rational y) (rational shift)
     × (FitsSum right shift → ⊥))
 
 -- so it is at some entry, when those before it have been moved, or at the right side once all are
@@ -118,7 +124,8 @@ pub record IsWideRounding (p : Problem) (n : ℕ) (q : Inequality) : Type 0 wher
   pub moved_before : AreMoved p n before moved shifts
   pub right : Frac
   pub right_is : rational right ≡ rational q.right +ℚ total_of shifts
-  pub wide : ((after ≡ []) × IsWideTimes n right) ⊎ ((e : Entry) × (rest : List Entry) × (after ≡ e ∷ rest) × IsWideEntryAt p n right e)
+  pub wide : ((after ≡ []) × IsWideTimes n right)
+      ⊎ ((e : Entry) × (rest : List Entry) × (after ≡ e ∷ rest) × IsWideEntryAt p n right e)
 
 -- the inequality rounded, its first free entry, or a number that does not fit
 abbrev pub IsRoundedOf : Problem → ℕ → Inequality → RoundedCut → Type 0

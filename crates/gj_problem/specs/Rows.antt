@@ -20,7 +20,8 @@ dot (c ∷ cs) (v ∷ values) = rational c *ℚ v +ℚ dot cs values
 
 -- the surplus of the inequality is a whole number at all feasible points
 abbrev pub HasWholeSurplus : Problem → Inequality → Type 0
-HasWholeSurplus p q = (point : List Rational) → IsFeasible p point → IsWholeNumber (surplus_at point q)
+HasWholeSurplus p q = (point : List Rational) → IsFeasible p point →
+    IsWholeNumber (surplus_at point q)
 
 -- ---- inequalities that hold
 
@@ -32,11 +33,14 @@ IsSignFor AtLeast m = pos 0 ≤ℤ m
 IsSignFor Equal m = Unit {0}
 
 abbrev pub IsConstraintTimes : Constraint → ℤ → Inequality → Type 0
-IsConstraintTimes c m q = (point : List Rational) → surplus_at point q ≡ whole m *ℚ (sum_at point c.entries -ℚ rational c.right)
+IsConstraintTimes c m q = (point : List Rational) →
+    surplus_at point q ≡ whole m *ℚ (sum_at point c.entries -ℚ rational c.right)
 
 -- the inequality has these entries, and the right side, each times x
-pub record IsMultiple (x : Rational) (entries : List Entry) (right : Frac) (q : Inequality) : Type 0 where
-  pub entries_are : AllZip (λ (e f : Entry). (f.column ≡ e.column) × (rational f.value ≡ x *ℚ rational e.value)) entries q.entries
+pub record IsMultiple (x : Rational) (entries : List Entry) (right : Frac) (q : Inequality) :
+    Type 0 where
+  pub entries_are : AllZip (λ (e f : Entry). (f.column ≡ e.column)
+      × (rational f.value ≡ x *ℚ rational e.value)) entries q.entries
   pub right_is : rational q.right ≡ x *ℚ rational right
 
 -- the inequality has one entry, x in column j, and the right side b

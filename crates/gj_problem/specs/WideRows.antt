@@ -21,7 +21,8 @@ numbers_of right entries = right ∷ map (λ e. e.value) entries
 -- the columns are whole, and the least common denominator of the numbers is 2^127 or more
 abbrev pub IsWideScale : Frac → List Entry → Bool → Type 0
 IsWideScale right entries is_whole =
-    (is_whole ≡ true) × ((n : ℕ) → IsLeastCommonDenominator (numbers_of right entries) n → 2 ^ 127 ≤ n)
+    (is_whole ≡ true) × ((n : ℕ) → IsLeastCommonDenominator (numbers_of right entries) n →
+    2 ^ 127 ≤ n)
 
 -- the factor times some number of the constraint does not fit
 abbrev pub IsWideMultiple : Frac → Frac → List Entry → Type 0
@@ -35,7 +36,8 @@ pub record IsWideScaled (w : Weighted) (is_whole : Bool) : Type 0 where
   pub factor_is : rational factor ≡ whole (signed w.constraint.sense scale)
   pub turned : Frac
   pub turned_is : rational turned ≡ neg_ℚ (rational w.multiplier)
-  pub wide : (FitsQuotient turned factor → ⊥) ⊎ IsWideMultiple factor w.constraint.right w.constraint.entries
+  pub wide : (FitsQuotient turned factor → ⊥)
+      ⊎ IsWideMultiple factor w.constraint.right w.constraint.entries
 
 -- a number of the slack of the constraint does not fit
 abbrev pub IsWideSlack : Problem → Weighted → Type 0
@@ -45,9 +47,11 @@ IsWideSlack p w = (is_whole : Bool) × (IsTrue is_whole ↔ HasWholeColumns p w.
 -- ---- the sum
 
 -- a number of the sum with the constraint added, or of its slack, does not fit
-pub record IsWideNext (p : Problem) (coefficients : List Frac) (against : Frac) (w : Weighted) : Type 0 where
+pub record IsWideNext (p : Problem) (coefficients : List Frac) (against : Frac) (w : Weighted) :
+    Type 0 where
   pub named : numerator w.multiplier ≢ pos 0
-  pub wide : (IsWideWithin coefficients w.multiplier w.constraint.entries ⊎ IsWideAt against w.multiplier w.constraint.right)
+  pub wide : (IsWideWithin coefficients w.multiplier w.constraint.entries
+      ⊎ IsWideAt against w.multiplier w.constraint.right)
       ⊎ ((HasNoSlack w → ⊥) × IsWideSlack p w)
 
 -- so it is with some constraint, when those before it have been added
@@ -89,5 +93,6 @@ pub record AreWideTurns (hs : List Held) (against : Frac) : Type 0 where
 -- a number of the row of the multipliers does not fit
 abbrev pub IsWideRow : Problem → List Frac → List Bool → Type 0
 IsWideRow p multipliers at_upper = IsWideSum p (weighted multipliers p.constraints)
-    ⊎ ((coefficients : List Frac) × (against : Frac) × IsAggregate p (weighted multipliers p.constraints) coefficients against
+    ⊎ ((coefficients : List Frac) × (against : Frac)
+    × IsAggregate p (weighted multipliers p.constraints) coefficients against
     × AreWideTurns (held 0 p.columns coefficients at_upper) against)

@@ -5,6 +5,7 @@ use Rattle.gj_lex.specs.SpelledNumbers.{IsFractionWord}
 use Rattle.gj_lex.specs.declared.spelling.Spelling.TheVariants.{Lenient}
 use Rattle.gj_problem_text.specs.Tasks.{IsBound}
 
-pub no_bound : (word : List ℕ) → word ≢ codes "-" → ((x : Frac) → IsFractionWord Lenient word x → ⊥) → IsBound word → ⊥
+pub no_bound : (word : List ℕ) → word ≢ codes "-" →
+    ((x : Frac) → IsFractionWord Lenient word x → ⊥) → IsBound word → ⊥
 no_bound word other none (None, is) = other is
 no_bound word other none (Some x, is) = none x is.1

@@ -27,20 +27,24 @@ head (round n) = codes "round"
 no_words : (v : List ℕ) (vs : List (List ℕ)) → [] ≡ v ∷ vs → ⊥
 no_words v vs e = cc
 
-alike_numbers : (xs ys : List Frac) (words : List (List ℕ)) → with_numbers (map fraction xs) words ≡ with_numbers (map fraction ys) words →
+alike_numbers : (xs ys : List Frac) (words : List (List ℕ)) →
+    with_numbers (map fraction xs) words ≡ with_numbers (map fraction ys) words →
     AreAlike (map fraction xs) (map fraction ys)
 alike_numbers [] [] words e = tt
 alike_numbers [] (y ∷ ys) words e = absurd (no_words _ _ e)
 alike_numbers (x ∷ xs) [] words e = absurd (no_words _ _ (sym e))
-alike_numbers (x ∷ xs) (y ∷ ys) words e = alike_numbers xs ys (others_of words) (head_and_tail _ _ _ _ e).1
+alike_numbers (x ∷ xs) (y ∷ ys) words e =
+    alike_numbers xs ys (others_of words) (head_and_tail _ _ _ _ e).1
 
-alike_lines : (a b : ProblemLine) (words : List (List ℕ)) → with_numbers (problem_fields a) words ≡ with_numbers (problem_fields b) words →
+alike_lines : (a b : ProblemLine) (words : List (List ℕ)) →
+    with_numbers (problem_fields a) words ≡ with_numbers (problem_fields b) words →
     AreAlike (problem_fields a) (problem_fields b)
 alike_lines (column m j k h) (column n j' k' h') words e = tt
 alike_lines (constraint m s x) (constraint n t y) words e = tt
 alike_lines (entry m x) (entry n y) words e = tt
 alike_lines (upper m) (upper n) words e = tt
-alike_lines (sum xs) (sum ys) words e = alike_numbers xs ys (others_of words) (head_and_tail _ _ _ _ e).1
+alike_lines (sum xs) (sum ys) words e =
+    alike_numbers xs ys (others_of words) (head_and_tail _ _ _ _ e).1
 alike_lines (grid m) (grid n) words e = tt
 alike_lines (round m) (round n) words e = tt
 alike_lines a b words e = absurd (apart (head a) (head b) refl (ap first_of e))
@@ -90,10 +94,12 @@ told_line (entry m x) (entry n y) e =
     let value : x ≡ y = cc in
     λ i. entry (name i) (value i)
 told_line (upper m) (upper n) e = let name : m ≡ n = cc in ap upper name
-told_line (sum xs) (sum ys) e = let numbers : map fraction xs ≡ map fraction ys = cc in ap sum (one_list xs ys numbers)
+told_line (sum xs) (sum ys) e = let numbers : map fraction xs ≡ map fraction ys = cc in
+    ap sum (one_list xs ys numbers)
 told_line (grid m) (grid n) e = let same : m ≡ n = cc in ap grid same
 told_line (round m) (round n) e = let same : m ≡ n = cc in ap round same
-told_line a b e = absurd (apart (head a) (head b) refl (ap (λ fields. first_of (words_of fields)) e))
+told_line a b e = absurd
+    (apart (head a) (head b) refl (ap (λ fields. first_of (words_of fields)) e))
 
 problem_form_is_clear : IsClearForm problem_form
 problem_form_is_clear = record { of_form = λ a h. tt; alike = alike_lines; tell = told_line }

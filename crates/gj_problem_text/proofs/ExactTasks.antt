@@ -24,7 +24,8 @@ pub never : IsOnce Never
 never e d h k = absurd h
 
 -- a demand is not met, or the next ones have one reason
-pub unless : (So : Type 0) (because : Reason) (Next : Reason → Type 0) → IsOnce Next → IsOnce (Unless So because Next)
+pub unless : (So : Type 0) (because : Reason) (Next : Reason → Type 0) → IsOnce Next →
+    IsOnce (Unless So because Next)
 unless So because Next once e d (inl h) (inl k) = h.1 ∙ sym k.1
 unless So because Next once e d (inl h) (inr k) = absurd (h.0 k.0)
 unless So because Next once e d (inr h) (inl k) = absurd (k.0 h.0)
@@ -37,7 +38,8 @@ met So Because Next so next (inr h) = next h.1
 
 -- ---- one task
 
-pub one_bound : (word : List ℕ) (a b : Option Frac) → SpellsBound word a → SpellsBound word b → a ≡ b
+pub one_bound : (word : List ℕ) (a b : Option Frac) → SpellsBound word a → SpellsBound word b →
+    a ≡ b
 one_bound word None None h k = refl
 one_bound word None (Some y) h k = absurd (k.0 h)
 one_bound word (Some x) None h k = absurd (h.0 k)
@@ -57,16 +59,19 @@ with_column s name is_whole first last = record s {
   };
 }
 
-one_column : (s : Task) (name : List ℕ) (is_whole : Bool) (low high : List ℕ) (t u : Task) → AddsColumn s name is_whole low high t →
+one_column : (s : Task) (name : List ℕ) (is_whole : Bool) (low high : List ℕ) (t u : Task) →
+    AddsColumn s name is_whole low high t →
     AddsColumn s name is_whole low high u → t ≡ u
 one_column s name is_whole low high t u h k =
-    h.added ∙ ap₂ (with_column s name is_whole) (one_bound low h.lower k.lower h.lower_is k.lower_is)
+    h.added ∙ ap₂ (with_column s name is_whole)
+    (one_bound low h.lower k.lower h.lower_is k.lower_is)
     (one_bound high h.upper k.upper h.upper_is k.upper_is) ∙ sym k.added
 
 abbrev ended : Entry → List Constraint → Constraint → List Constraint
 ended e others last = others ++ record last { entries = last.entries ++ e ∷ [] } ∷ []
 
-one_longer : (old : List Constraint) (e : Entry) (new other : List Constraint) → AreLonger old e new → AreLonger old e other → new ≡ other
+one_longer : (old : List Constraint) (e : Entry) (new other : List Constraint) →
+    AreLonger old e new → AreLonger old e other → new ≡ other
 one_longer old e new other h k =
     let same = same_from_push h.others k.others h.last k.last (sym h.old_is ∙ k.old_is) in
     h.new_is ∙ ap₂ (ended e) same.0 same.1 ∙ sym k.new_is
@@ -77,20 +82,25 @@ with_constraints s constraints = record s {
   entries = s.entries + 1;
 }
 
-one_entry : (s : Task) (name : List ℕ) (value : Frac) (t u : Task) → AddsEntry s name value t → AddsEntry s name value u → t ≡ u
+one_entry : (s : Task) (name : List ℕ) (value : Frac) (t u : Task) → AddsEntry s name value t →
+    AddsEntry s name value u → t ≡ u
 one_entry s name value t u h k =
     let index = one_index h.index k.index (index_of s name) h.index_is k.index_is in
-    let longer = subst (λ (i : ℕ). AreLonger s.problem.constraints (record { column = i; value = value }) h.constraints) index h.longer in
+    let longer = subst (λ (i : ℕ). AreLonger s.problem.constraints
+    (record { column = i; value = value }) h.constraints) index h.longer in
     h.added ∙ ap (with_constraints s)
-    (one_longer s.problem.constraints (record { column = k.index; value = value }) h.constraints k.constraints longer k.longer)
+    (one_longer s.problem.constraints (record { column = k.index; value = value }) h.constraints
+    k.constraints longer k.longer)
     ∙ sym k.added
 
 abbrev with_upper : Task → ℕ → Task
 with_upper s j = record s { requests = s.requests ++ Upper j ∷ [] }
 
-one_upper : (s : Task) (name : List ℕ) (t u : Task) → AddsUpper s name t → AddsUpper s name u → t ≡ u
+one_upper : (s : Task) (name : List ℕ) (t u : Task) → AddsUpper s name t → AddsUpper s name u →
+    t ≡ u
 one_upper s name t u h k =
-    h.added ∙ ap (with_upper s) (one_index h.index k.index (index_of s name) h.index_is k.index_is) ∙ sym k.added
+    h.added ∙ ap (with_upper s) (one_index h.index k.index (index_of s name) h.index_is k.index_is)
+    ∙ sym k.added
 
 pub one_task : (s : Task) (line : ProblemLine) (t u : Task) → Adds s line t → Adds s line u → t ≡ u
 one_task s (column name is_whole low high) t u h k = one_column s name is_whole low high t u h k
@@ -103,10 +113,12 @@ one_task s (round n) t u h k = h.added ∙ sym k.added
 
 -- ---- one reason
 
-pub one_reason : (s : Task) (line : ProblemLine) (e d : Reason) → Refuses s line e → Refuses s line d → e ≡ d
+pub one_reason : (s : Task) (line : ProblemLine) (e d : Reason) → Refuses s line e →
+    Refuses s line d → e ≡ d
 one_reason s (column name is_whole low high) e d =
     unless _ _ _ (unless _ _ _ (unless _ _ _ (unless _ _ _ (unless _ _ Never never)))) e d
-one_reason s (constraint name sense right) e d = unless _ _ _ (unless _ _ _ (unless _ _ Never never)) e d
+one_reason s (constraint name sense right) e d =
+    unless _ _ _ (unless _ _ _ (unless _ _ Never never)) e d
 one_reason s (entry name value) e d = unless _ _ _ (unless _ _ _ (unless _ _ Never never)) e d
 one_reason s (upper name) e d = unless _ _ Never never e d
 one_reason s (sum multipliers) e d = unless _ _ Never never e d
@@ -115,12 +127,17 @@ one_reason s (round n) e d = unless _ _ Never never e d
 
 -- ---- not both
 
-pub not_both : (s : Task) (line : ProblemLine) (t : Task) (e : Reason) → Adds s line t → Refuses s line e → ⊥
+pub not_both : (s : Task) (line : ProblemLine) (t : Task) (e : Reason) → Adds s line t →
+    Refuses s line e → ⊥
 not_both s (column name is_whole low high) t e h r =
     met _ _ _ h.is_name
-    (met (IsBound low) _ _ (h.lower, h.lower_is) (met (IsBound high) _ _ (h.upper, h.upper_is) (met _ _ _ h.few (met _ _ _ h.new (λ k. k))))) r
-not_both s (constraint name sense right) t e h r = met _ _ _ h.before (met _ _ _ h.is_name (met _ _ _ h.few (λ k. k))) r
-not_both s (entry name value) t e h r = met _ _ _ h.takes (met _ _ _ h.few (met (IsKnown s name) _ _ (h.index, h.index_is) (λ k. k))) r
+    (met (IsBound low) _ _ (h.lower, h.lower_is)
+    (met (IsBound high) _ _ (h.upper, h.upper_is) (met _ _ _ h.few (met _ _ _ h.new (λ k. k)))))
+    r
+not_both s (constraint name sense right) t e h r =
+    met _ _ _ h.before (met _ _ _ h.is_name (met _ _ _ h.few (λ k. k))) r
+not_both s (entry name value) t e h r =
+    met _ _ _ h.takes (met _ _ _ h.few (met (IsKnown s name) _ _ (h.index, h.index_is) (λ k. k))) r
 not_both s (upper name) t e h r = met (IsKnown s name) _ _ (h.index, h.index_is) (λ k. k) r
 not_both s (sum multipliers) t e h r = met _ _ _ h.count (λ k. k) r
 not_both s (grid n) t e h r = met _ _ _ h.none (λ k. k) r
@@ -128,4 +145,5 @@ not_both s (round n) t e h r = met _ _ _ h.none (λ k. k) r
 
 pub task_rule_is_exact : (s : Task) → IsExactRule (task_rule s).Spells (task_rule s).Breaks
 task_rule_is_exact s =
-    made_rule_is_exact (Adds s) (Refuses s) told_rule told_rule_is_exact (one_task s) (one_reason s) (not_both s)
+    made_rule_is_exact (Adds s) (Refuses s) told_rule told_rule_is_exact (one_task s) (one_reason s)
+    (not_both s)

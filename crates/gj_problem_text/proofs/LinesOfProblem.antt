@@ -23,25 +23,31 @@ ends s = made_part (λ u next. next ≡ inr s) end_line
 abbrev pub goes_on : Task → Part (Task ⊎ Task)
 goes_on s = made_part (λ t next. next ≡ inl t) (line_part Lenient (task_rule s))
 
-module _ (text : List ℕ) (s : Task) (rest : List ℕ) (h : LeadsOn next_line no_task text s rest) where
-  pub line_on : (t : Task) (behind : List ℕ) → (BeginsWithWord Lenient (codes "end") rest → ⊥) →
-      (line_part Lenient (task_rule s)).Reads rest t behind → LeadsOn next_line no_task text t behind
-  line_on t behind not one = leads_on next_line no_task text s t rest behind h (inr (not, (t, one, refl)))
+module _ (text : List ℕ) (s : Task) (rest : List ℕ) (h : LeadsOn next_line no_task text s rest)
+  where
+    pub line_on : (t : Task) (behind : List ℕ) → (BeginsWithWord Lenient (codes "end") rest → ⊥) →
+        (line_part Lenient (task_rule s)).Reads rest t behind →
+        LeadsOn next_line no_task text t behind
+    line_on t behind not one =
+        leads_on next_line no_task text s t rest behind h (inr (not, (t, one, refl)))
 
-  pub fault_in_line : (e : PartFault) → (BeginsWithWord Lenient (codes "end") rest → ⊥) →
-      IsFaultOf (line_part Lenient (task_rule s)) rest e → IsFaultOf lines_part text e
-  fault_in_line e not fault =
-      leads_to_fault next_line no_task text s rest e h
-      (fault_else Begins (ends s) (goes_on s) rest e not
-      (fault_in_made (λ (t : Task) (next : Task ⊎ Task). next ≡ inl t) (line_part Lenient (task_rule s)) rest e fault))
+    pub fault_in_line : (e : PartFault) → (BeginsWithWord Lenient (codes "end") rest → ⊥) →
+        IsFaultOf (line_part Lenient (task_rule s)) rest e → IsFaultOf lines_part text e
+    fault_in_line e not fault =
+        leads_to_fault next_line no_task text s rest e h
+        (fault_else Begins (ends s) (goes_on s) rest e not
+        (fault_in_made (λ (t : Task) (next : Task ⊎ Task). next ≡ inl t)
+        (line_part Lenient (task_rule s)) rest e fault))
 
-  pub lines_end : (behind : List ℕ) → BeginsWithWord Lenient (codes "end") rest →
-      (line_part Lenient (words_rule end_words)).Reads rest tt behind → lines_part.Reads text s behind
-  lines_end behind is one = leads_to_end next_line no_task text s rest s behind h (inl (is, (tt, one, refl)))
+    pub lines_end : (behind : List ℕ) → BeginsWithWord Lenient (codes "end") rest →
+        (line_part Lenient (words_rule end_words)).Reads rest tt behind →
+        lines_part.Reads text s behind
+    lines_end behind is one = leads_to_end next_line no_task text s rest s behind h
+        (inl (is, (tt, one, refl)))
 
-  pub fault_at_end : (e : PartFault) → BeginsWithWord Lenient (codes "end") rest →
-      IsFaultOf (line_part Lenient (words_rule end_words)) rest e → IsFaultOf lines_part text e
-  fault_at_end e is fault =
-      leads_to_fault next_line no_task text s rest e h
-      (fault_where Begins (ends s) (goes_on s) rest e is
-      (fault_in_made (λ (u : Unit {0}) (next : Task ⊎ Task). next ≡ inr s) end_line rest e fault))
+    pub fault_at_end : (e : PartFault) → BeginsWithWord Lenient (codes "end") rest →
+        IsFaultOf (line_part Lenient (words_rule end_words)) rest e → IsFaultOf lines_part text e
+    fault_at_end e is fault =
+        leads_to_fault next_line no_task text s rest e h
+        (fault_where Begins (ends s) (goes_on s) rest e is
+        (fault_in_made (λ (u : Unit {0}) (next : Task ⊎ Task). next ≡ inr s) end_line rest e fault))

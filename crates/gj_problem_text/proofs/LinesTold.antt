@@ -33,11 +33,13 @@ no_entry_value name w none = inr (refl, (entry name zero, refl, tt), other)
     other (grid n) h = apart (codes "entry") (codes "grid") refl h.0.0
     other (round n) h = apart (codes "entry") (codes "round") refl h.0.0
 
-pub no_right_side : (name w : List ℕ) (sense : Sense) → ((x : Frac) → IsFractionWord Lenient w x → ⊥) →
+pub no_right_side : (name w : List ℕ) (sense : Sense) →
+    ((x : Frac) → IsFractionWord Lenient w x → ⊥) →
     told_rule.Breaks (codes "constraint" ∷ name ∷ sense_word sense ∷ w ∷ []) reason.Number
 no_right_side name w sense none = inr (refl, (constraint name sense zero, refl, tt), other)
   where
-    other : (a : ProblemLine) → Spell Lenient problem_form (codes "constraint" ∷ name ∷ sense_word sense ∷ w ∷ []) a → ⊥
+    other : (a : ProblemLine) →
+        Spell Lenient problem_form (codes "constraint" ∷ name ∷ sense_word sense ∷ w ∷ []) a → ⊥
     other (constraint v s x) h = none x h.0.1.1.1.0
     other (column v k l u) h = apart (codes "constraint") (codes "column") refl h.0.0
     other (entry v x) h = apart (codes "constraint") (codes "entry") refl h.0.0
@@ -60,7 +62,8 @@ no_grid w none = inr (refl, (grid 0, refl, tt), other)
     other (round n) h = apart (codes "grid") (codes "round") refl h.0.0
 
 -- a word that spells 0 is of no grid
-pub zero_is_no_grid : (w : List ℕ) (n : ℕ) → IsCountWord Lenient w n → n ≡ 0 → told_rule.Breaks (codes "grid" ∷ w ∷ []) reason.Number
+pub zero_is_no_grid : (w : List ℕ) (n : ℕ) → IsCountWord Lenient w n → n ≡ 0 →
+    told_rule.Breaks (codes "grid" ∷ w ∷ []) reason.Number
 zero_is_no_grid w n counted is =
     no_grid w (λ m some below h. let same = one_count Lenient w m n h counted in omega arith)
 
@@ -77,7 +80,8 @@ no_round w none = inr (refl, (round 0, refl, tt), other)
     other (sum xs) h = apart (codes "round") (codes "sum") refl h.0.0
     other (grid n) h = apart (codes "round") (codes "grid") refl h.0.0
 
-pub zero_is_no_round : (w : List ℕ) (n : ℕ) → IsCountWord Lenient w n → n ≡ 0 → told_rule.Breaks (codes "round" ∷ w ∷ []) reason.Number
+pub zero_is_no_round : (w : List ℕ) (n : ℕ) → IsCountWord Lenient w n → n ≡ 0 →
+    told_rule.Breaks (codes "round" ∷ w ∷ []) reason.Number
 zero_is_no_round w n counted is =
     no_round w (λ m some below h. let same = one_count Lenient w m n h counted in omega arith)
 
@@ -95,8 +99,10 @@ any_numbers : (words : List (List ℕ)) → words ≡ with_numbers (map fraction
 any_numbers [] = refl
 any_numbers (w ∷ words) = ap (λ ws. w ∷ ws) (any_numbers words)
 
-no_sum : (words : List (List ℕ)) → ((xs : List Frac) → SpellNumbers xs words → ⊥) → told_rule.Breaks (codes "sum" ∷ words) reason.Number
-no_sum words none = inr (refl, (sum (zeros words), ap (λ ws. codes "sum" ∷ ws) (any_numbers words), tt), other)
+no_sum : (words : List (List ℕ)) → ((xs : List Frac) → SpellNumbers xs words → ⊥) →
+    told_rule.Breaks (codes "sum" ∷ words) reason.Number
+no_sum words none = inr
+    (refl, (sum (zeros words), ap (λ ws. codes "sum" ∷ ws) (any_numbers words), tt), other)
   where
     other : (a : ProblemLine) → Spell Lenient problem_form (codes "sum" ∷ words) a → ⊥
     other (sum xs) h = none xs h.0.1
@@ -108,11 +114,14 @@ no_sum words none = inr (refl, (sum (zeros words), ap (λ ws. codes "sum" ∷ ws
     other (round n) h = apart (codes "sum") (codes "round") refl h.0.0
 
 -- of all words these numbers are read, and the others are left
-pub record AreRead (words : List (List ℕ)) (numbers : List Frac) (left : List (List ℕ)) : Type 0 where
+pub record AreRead (words : List (List ℕ)) (numbers : List Frac) (left : List (List ℕ)) :
+    Type 0 where
   pub spelled : (xs : List Frac) → SpellNumbers xs left → SpellNumbers (numbers ++ xs) words
-  pub broken : ((xs : List Frac) → SpellNumbers xs left → ⊥) → (xs : List Frac) → SpellNumbers xs words → ⊥
+  pub broken : ((xs : List Frac) → SpellNumbers xs left → ⊥) → (xs : List Frac) →
+      SpellNumbers xs words → ⊥
 
-pub one_more_read : (words left behind : List (List ℕ)) (numbers : List Frac) (w : List ℕ) (x : Frac) → AreRead words numbers left →
+pub one_more_read : (words left behind : List (List ℕ)) (numbers : List Frac) (w : List ℕ)
+    (x : Frac) → AreRead words numbers left →
     left ≡ w ∷ behind → IsFractionWord Lenient w x → AreRead words (numbers ++ x ∷ []) behind
 one_more_read words left behind numbers w x h e is = record {
   spelled = λ xs k. subst (λ ys. SpellNumbers ys words) (sym (append_assoc numbers (x ∷ []) xs))
@@ -120,18 +129,29 @@ one_more_read words left behind numbers w x h e is = record {
   broken = λ none. h.broken (λ xs k. behind_none none xs (subst (SpellNumbers xs) e k));
 }
   where
-    behind_none : ((xs : List Frac) → SpellNumbers xs behind → ⊥) → (xs : List Frac) → SpellNumbers xs (w ∷ behind) → ⊥
+    behind_none : ((xs : List Frac) → SpellNumbers xs behind → ⊥) → (xs : List Frac) →
+        SpellNumbers xs (w ∷ behind) → ⊥
     behind_none none [] k = k
     behind_none none (y ∷ ys) k = none ys k.1
 
-pub all_read : (words left : List (List ℕ)) (numbers : List Frac) → AreRead words numbers left → left ≡ [] →
+pub all_read : (words left : List (List ℕ)) (numbers : List Frac) → AreRead words numbers left →
+    left ≡ [] →
     told_rule.Spells (codes "sum" ∷ words) (sum numbers)
-all_read words left numbers h e =
-    ((refl, subst (λ ys. SpellNumbers ys words) (append-nil numbers) (h.spelled [] (subst (SpellNumbers []) (sym e) tt))), tt)
+all_read words left numbers h e = (
+  (
+    refl,
+    subst (λ ys. SpellNumbers ys words) (append-nil numbers)
+        (h.spelled [] (subst (SpellNumbers []) (sym e) tt)),
+  ),
+  tt,
+)
 
-pub not_read : (words left behind : List (List ℕ)) (numbers : List Frac) (w : List ℕ) → AreRead words numbers left → left ≡ w ∷ behind →
-    ((x : Frac) → IsFractionWord Lenient w x → ⊥) → told_rule.Breaks (codes "sum" ∷ words) reason.Number
-not_read words left behind numbers w h e none = no_sum words (h.broken (λ xs k. no_first xs (subst (SpellNumbers xs) e k)))
+pub not_read : (words left behind : List (List ℕ)) (numbers : List Frac) (w : List ℕ) →
+    AreRead words numbers left → left ≡ w ∷ behind →
+    ((x : Frac) → IsFractionWord Lenient w x → ⊥) →
+    told_rule.Breaks (codes "sum" ∷ words) reason.Number
+not_read words left behind numbers w h e none =
+    no_sum words (h.broken (λ xs k. no_first xs (subst (SpellNumbers xs) e k)))
   where
     no_first : (xs : List Frac) → SpellNumbers xs (w ∷ behind) → ⊥
     no_first [] k = k

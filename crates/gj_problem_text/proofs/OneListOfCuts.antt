@@ -53,7 +53,8 @@ module _ (names : List (List ℕ)) where
   lines_of (Free j) = free (name_at names j) ∷ []
   lines_of Wide = wide ∷ []
 
-  terms_are : (es : List Entry) → flat_map (cut_term_line names) es ≡ flat_map line_bytes (map term_at es)
+  terms_are : (es : List Entry) →
+      flat_map (cut_term_line names) es ≡ flat_map line_bytes (map term_at es)
   terms_are [] = refl
   terms_are (e ∷ es) = ap (λ t. cut_term_line names e ++ t) (terms_are es)
 
@@ -64,13 +65,16 @@ module _ (names : List (List ℕ)) where
   lines_are (Free j) = sym (append-nil (line_bytes (free (name_at names j))))
   lines_are Wide = sym (append-nil (line_bytes wide))
 
-  text_is : (cs : List SafeCut) → flat_map (cut_lines names) cs ≡ flat_map line_bytes (flat_map lines_of cs)
+  text_is : (cs : List SafeCut) →
+      flat_map (cut_lines names) cs ≡ flat_map line_bytes (flat_map lines_of cs)
   text_is [] = refl
-  text_is (c ∷ cs) = ap₂ (λ s t. s ++ t) (lines_are c) (text_is cs) ∙ sym (flat_map-append line_bytes (lines_of c) (flat_map lines_of cs))
+  text_is (c ∷ cs) = ap₂ (λ s t. s ++ t) (lines_are c) (text_is cs)
+      ∙ sym (flat_map-append line_bytes (lines_of c) (flat_map lines_of cs))
 
 -- ---- the words of a line tell it
 
-second : (words others : List (List ℕ)) → words ≡ others → first_of (others_of words) ≡ first_of (others_of others)
+second : (words others : List (List ℕ)) → words ≡ others →
+    first_of (others_of words) ≡ first_of (others_of others)
 second words others e = ap (λ ws. first_of (others_of ws)) e
 
 abbrev head : SafeLine → List ℕ
@@ -84,7 +88,8 @@ head wide = codes "skip"
 one_line : (a b : SafeLine) → words_of (fields_of a) ≡ words_of (fields_of b) → a ≡ b
 one_line (cut x) (cut y) e = ap cut (same_from_fraction_text x y (second _ _ e))
 one_line (term m x) (term n y) e =
-    ap₂ term (second _ _ e) (same_from_fraction_text x y (ap (λ ws. first_of (others_of (others_of ws))) e))
+    ap₂ term (second _ _ e)
+    (same_from_fraction_text x y (ap (λ ws. first_of (others_of (others_of ws))) e))
 one_line integral integral e = refl
 one_line other other e = refl
 one_line (free m) (free n) e = ap free (ap (λ ws. first_of (others_of (others_of ws))) e)
@@ -155,22 +160,30 @@ module _ (names : List (List ℕ)) (are : AreNames names) where
   abbrev IsBelow : Entry → Type 0
   IsBelow e = e.column < length names
 
-  same_terms : (es ds : List Entry) (xs ys : List SafeLine) → All IsBelow es → All IsBelow ds → NoTermFirst xs → NoTermFirst ys →
+  same_terms : (es ds : List Entry) (xs ys : List SafeLine) → All IsBelow es → All IsBelow ds →
+      NoTermFirst xs → NoTermFirst ys →
       map (term_at names) es ++ xs ≡ map (term_at names) ds ++ ys → (es ≡ ds) × (xs ≡ ys)
   same_terms [] [] xs ys g h start end e = (refl, e)
   same_terms [] (d ∷ ds) xs ys g h start end e = absurd (subst NoTermFirst e start)
   same_terms (d ∷ es) [] xs ys g h start end e = absurd (subst NoTermFirst (sym e) end)
   same_terms (a ∷ es) (b ∷ ds) xs ys g h start end e =
-      let both = head_and_tail (term_at names a) (term_at names b) (map (term_at names) es ++ xs) (map (term_at names) ds ++ ys) e in
+      let both = head_and_tail (term_at names a) (term_at names b) (map (term_at names) es ++ xs)
+      (map (term_at names) ds ++ ys) e in
       let one = one_term (name_at names a.column) (name_at names b.column) a.value b.value both.0 in
-      let column = are.different a.column b.column (All-head IsBelow a es g) (All-head IsBelow b ds h) one.0 in
-      let rest = same_terms es ds xs ys (All-tail IsBelow a es g) (All-tail IsBelow b ds h) start end both.1 in
-      (ap₂ (λ (f : Entry) fs. f ∷ fs) (ap₂ (λ j x. record { column = j; value = x }) column one.1) rest.0, rest.1)
+      let column = are.different a.column b.column (All-head IsBelow a es g)
+      (All-head IsBelow b ds h) one.0 in
+      let rest = same_terms es ds xs ys (All-tail IsBelow a es g)
+      (All-tail IsBelow b ds h) start end both.1 in (
+        ap₂ (λ (f : Entry) fs. f ∷ fs) (ap₂ (λ j x. record { column = j; value = x }) column one.1)
+            rest.0,
+        rest.1,
+      )
 
   abbrev IsKnownCut : SafeCut → Type 0
   IsKnownCut = HasColumnsBelow (length names)
 
-  same_cuts : (cs ds : List SafeCut) → All IsKnownCut cs → All IsKnownCut ds → flat_map (lines_of names) cs ≡ flat_map (lines_of names) ds → cs ≡ ds
+  same_cuts : (cs ds : List SafeCut) → All IsKnownCut cs → All IsKnownCut ds →
+      flat_map (lines_of names) cs ≡ flat_map (lines_of names) ds → cs ≡ ds
   same_cuts [] [] g h e = refl
   same_cuts [] (Cut q ∷ ds) g h e = absurd (apart [] (codes "cut") refl (ap line_kind e))
   same_cuts [] (Integral ∷ ds) g h e = absurd (apart [] (codes "integral") refl (ap line_kind e))
@@ -183,28 +196,39 @@ module _ (names : List (List ℕ)) (are : AreNames names) where
   same_cuts (Free j ∷ cs) [] g h e = absurd (apart (codes "free") [] refl (ap line_kind e))
   same_cuts (Wide ∷ cs) [] g h e = absurd (apart (codes "wide") [] refl (ap line_kind e))
   same_cuts (Cut q ∷ cs) (Cut r ∷ ds) g h e =
-      let both = head_and_tail (cut q.right) (cut r.right) (map (term_at names) q.entries ++ flat_map (lines_of names) cs)
+      let both = head_and_tail (cut q.right) (cut r.right)
+      (map (term_at names) q.entries ++ flat_map (lines_of names) cs)
       (map (term_at names) r.entries ++ flat_map (lines_of names) ds) e in
-      let terms = same_terms q.entries r.entries (flat_map (lines_of names) cs) (flat_map (lines_of names) ds)
-      (All-head IsKnownCut (Cut q) cs g) (All-head IsKnownCut (Cut r) ds h) (no_term_first cs) (no_term_first ds) both.1 in
+      let terms = same_terms q.entries r.entries (flat_map (lines_of names) cs)
+      (flat_map (lines_of names) ds)
+      (All-head IsKnownCut (Cut q) cs g) (All-head IsKnownCut (Cut r) ds h) (no_term_first cs)
+      (no_term_first ds) both.1 in
       ap₂ (λ (c : SafeCut) es. c ∷ es)
-      (ap₂ (λ es x. Cut (record { entries = es; right = x })) terms.0 (one_right q.right r.right both.0))
-      (same_cuts cs ds (All-tail IsKnownCut (Cut q) cs g) (All-tail IsKnownCut (Cut r) ds h) terms.1)
+      (ap₂ (λ es x. Cut (record { entries = es; right = x })) terms.0
+      (one_right q.right r.right both.0))
+      (same_cuts cs ds (All-tail IsKnownCut (Cut q) cs g)
+      (All-tail IsKnownCut (Cut r) ds h) terms.1)
   same_cuts (Integral ∷ cs) (Integral ∷ ds) g h e =
       ap (λ (es : List SafeCut). Integral ∷ es)
-      (same_cuts cs ds (All-tail IsKnownCut Integral cs g) (All-tail IsKnownCut Integral ds h) (head_and_tail _ _ _ _ e).1)
+      (same_cuts cs ds (All-tail IsKnownCut Integral cs g) (All-tail IsKnownCut Integral ds h)
+      (head_and_tail _ _ _ _ e).1)
   same_cuts (OtherFraction ∷ cs) (OtherFraction ∷ ds) g h e =
       ap (λ (es : List SafeCut). OtherFraction ∷ es)
-      (same_cuts cs ds (All-tail IsKnownCut OtherFraction cs g) (All-tail IsKnownCut OtherFraction ds h) (head_and_tail _ _ _ _ e).1)
+      (same_cuts cs ds (All-tail IsKnownCut OtherFraction cs g)
+      (All-tail IsKnownCut OtherFraction ds h) (head_and_tail _ _ _ _ e).1)
   same_cuts (Wide ∷ cs) (Wide ∷ ds) g h e =
       ap (λ (es : List SafeCut). Wide ∷ es)
-      (same_cuts cs ds (All-tail IsKnownCut Wide cs g) (All-tail IsKnownCut Wide ds h) (head_and_tail _ _ _ _ e).1)
+      (same_cuts cs ds (All-tail IsKnownCut Wide cs g) (All-tail IsKnownCut Wide ds h)
+      (head_and_tail _ _ _ _ e).1)
   same_cuts (Free j ∷ cs) (Free k ∷ ds) g h e =
-      let both = head_and_tail (free (name_at names j)) (free (name_at names k)) (flat_map (lines_of names) cs) (flat_map (lines_of names) ds) e in
-      let column = are.different j k (All-head IsKnownCut (Free j) cs g) (All-head IsKnownCut (Free k) ds h)
+      let both = head_and_tail (free (name_at names j)) (free (name_at names k))
+      (flat_map (lines_of names) cs) (flat_map (lines_of names) ds) e in
+      let column = are.different j k (All-head IsKnownCut (Free j) cs g)
+      (All-head IsKnownCut (Free k) ds h)
       (one_name (name_at names j) (name_at names k) both.0) in
       ap₂ (λ (c : SafeCut) es. c ∷ es) (ap Free column)
-      (same_cuts cs ds (All-tail IsKnownCut (Free j) cs g) (All-tail IsKnownCut (Free k) ds h) both.1)
+      (same_cuts cs ds (All-tail IsKnownCut (Free j) cs g)
+      (All-tail IsKnownCut (Free k) ds h) both.1)
   same_cuts (c ∷ cs) (d ∷ ds) g h e = absurd (apart (kind c) (kind d) refl (ap line_kind e))
 
   -- ---- all lines are good
@@ -220,7 +244,8 @@ module _ (names : List (List ℕ)) (are : AreNames names) where
       (known (codes "term") refl, (good_name e.column (All-head IsBelow e es h), tt))
       (good_terms es ls (All-tail IsBelow e es h) good)
 
-  good_lines : (cs : List SafeCut) → All IsKnownCut cs → All IsGoodLine (flat_map (lines_of names) cs)
+  good_lines : (cs : List SafeCut) → All IsKnownCut cs →
+      All IsGoodLine (flat_map (lines_of names) cs)
   good_lines [] h = All-nil IsGoodLine
   good_lines (Cut q ∷ cs) h =
       let later = flat_map (lines_of names) cs in
@@ -247,9 +272,11 @@ module _ (names : List (List ℕ)) (are : AreNames names) where
       (known (codes "skip") refl, known (codes "wide") refl)
       (good_lines cs (All-tail IsKnownCut Wide cs h))
 
-  pub one_list : (cs ds : List SafeCut) → All IsKnownCut cs → All IsKnownCut ds → flat_map (cut_lines names) cs ≡ flat_map (cut_lines names) ds →
+  pub one_list : (cs ds : List SafeCut) → All IsKnownCut cs → All IsKnownCut ds →
+      flat_map (cut_lines names) cs ≡ flat_map (cut_lines names) ds →
       cs ≡ ds
   one_list cs ds g h e =
       same_cuts cs ds g h
-      (same_lines safe_form form_is_clear (flat_map (lines_of names) cs) (flat_map (lines_of names) ds)
+      (same_lines safe_form form_is_clear (flat_map (lines_of names) cs)
+      (flat_map (lines_of names) ds)
       (good_lines cs g) (good_lines ds h) (sym (text_is names cs) ∙ e ∙ text_is names ds))

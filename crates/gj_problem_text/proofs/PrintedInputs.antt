@@ -128,7 +128,8 @@ begins_as_function f function behind text canonical is =
     ∙ first_line (line (codes "gj-function 1")) canonical.lines (line (codes "end")) behind in (
       codes "1" ∷ [],
       begins_so Lenient text rest (codes "gj-function" ∷ codes "1" ∷ [])
-          (words_line Lenient (codes "gj-function") (codes "1" ∷ []) text rest refl (λ z. omega arith)
+          (words_line Lenient (codes "gj-function") (codes "1" ∷ []) text rest refl
+          (λ z. omega arith)
           whole),
     )
 

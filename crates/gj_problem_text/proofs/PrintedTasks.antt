@@ -439,7 +439,8 @@ task_is_told names s h =
     let constrained = with_constraints columned s.problem.constraints in
     let relaxed = record constrained { round = s.round } in
     let gridded = record relaxed { grid = s.grid } in
-    let columns = adds_columns no_task s.names s.problem.columns h.column_names h.columns h.columns_few in
+    let columns = adds_columns no_task s.names s.problem.columns h.column_names h.columns
+    h.columns_few in
     let constraints = adds_constraints columned names s.problem.constraints h.column_names refl
     h.are_names h.constraints (omega (arith, h.constraints, h.constraints_few)) h.known
     (omega (arith, h.entries, h.entries_few)) in

@@ -23,7 +23,8 @@ behind_title = then_part rule_line (λ u. behind_rule)
 module _ (text behind : List ℕ) (title : title_line.Reads text tt behind) where
   pub fault_in_rule : (e : PartFault) → IsFaultOf rule_line behind e → IsFaultOf problem_text text e
   fault_in_rule e fault =
-      fault_in_next title_line (λ t. behind_title) text tt behind e title (fault_in_first rule_line (λ u. behind_rule) behind e fault)
+      fault_in_next title_line (λ t. behind_title) text tt behind e title
+      (fault_in_first rule_line (λ u. behind_rule) behind e fault)
 
   module _ (lines : List ℕ) (rule : rule_line.Reads behind tt lines) where
     in_rest : (e : PartFault) → IsFaultOf behind_rule lines e → IsFaultOf problem_text text e
@@ -31,13 +32,19 @@ module _ (text behind : List ℕ) (title : title_line.Reads text tt behind) wher
         fault_in_next title_line (λ t. behind_title) text tt behind e title
         (fault_in_next rule_line (λ u. behind_rule) behind tt lines e rule fault)
 
-    pub fault_in_lines : (e : PartFault) → IsFaultOf lines_part lines e → IsFaultOf problem_text text e
-    fault_in_lines e fault = in_rest e (fault_in_first lines_part (λ task. end_part Lenient task) lines e fault)
+    pub fault_in_lines : (e : PartFault) → IsFaultOf lines_part lines e →
+        IsFaultOf problem_text text e
+    fault_in_lines e fault =
+        in_rest e (fault_in_first lines_part (λ task. end_part Lenient task) lines e fault)
 
-    pub fault_behind : (task : Task) (rest : List ℕ) (e : PartFault) → lines_part.Reads lines task rest → IsTail Lenient rest e →
+    pub fault_behind : (task : Task) (rest : List ℕ) (e : PartFault) →
+        lines_part.Reads lines task rest → IsTail Lenient rest e →
         IsFaultOf problem_text text e
     fault_behind task rest e h tail =
-        in_rest e (fault_in_next lines_part (λ task. end_part Lenient task) lines task rest e h (tail_refused Lenient task rest e tail))
+        in_rest e (fault_in_next lines_part (λ task. end_part Lenient task) lines task rest e h
+        (tail_refused Lenient task rest e tail))
 
-    pub whole_text : (task : Task) (rest : List ℕ) → lines_part.Reads lines task rest → HasNothing Lenient rest → IsProblemText text task
-    whole_text task rest h nothing = (rest, (tt, behind, title, (tt, lines, rule, (task, rest, h, (refl, refl, nothing)))))
+    pub whole_text : (task : Task) (rest : List ℕ) → lines_part.Reads lines task rest →
+        HasNothing Lenient rest → IsProblemText text task
+    whole_text task rest h nothing =
+        (rest, (tt, behind, title, (tt, lines, rule, (task, rest, h, (refl, refl, nothing)))))

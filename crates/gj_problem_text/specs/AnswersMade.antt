@@ -10,8 +10,11 @@ use Rattle.gj_problem_text.specs.declared.task.Request.TheVariants.{Upper, Sum}
 use Rattle.gj_problem_text.specs.declared.task.Task.{Task}
 
 -- a column is turned, or the lines of a cut that holds are appended
-abbrev pub IsRequestStep : CutRule → Task → List Bool → List ℕ → Request → List Bool → List ℕ → Type 0
-IsRequestStep r s at_upper text (Upper j) next_upper next = (next_upper ≡ slice_set at_upper j true) × (next ≡ text)
+abbrev pub IsRequestStep : CutRule → Task → List Bool → List ℕ → Request → List Bool → List ℕ →
+    Type 0
+IsRequestStep r s at_upper text (Upper j) next_upper next = (next_upper ≡ slice_set at_upper j true)
+    × (next ≡ text)
 IsRequestStep r s at_upper text (Sum multipliers) next_upper next =
     (next_upper ≡ at_upper)
-    × ((cut : SafeCut) × IsAnswer r s multipliers at_upper cut × SafeCutHolds s.problem cut × (next ≡ text ++ cut_lines s.names cut))
+    × ((cut : SafeCut) × IsAnswer r s multipliers at_upper cut × SafeCutHolds s.problem cut
+    × (next ≡ text ++ cut_lines s.names cut))

@@ -44,7 +44,8 @@ cut_lines names Wide = line (codes "skip wide")
 -- each is a name, and no two are the same
 pub record AreNames (names : List (List ℕ)) : Type 0 where
   pub are : All IsName names
-  pub different : (i j : ℕ) → i < length names → j < length names → name_at names i ≡ name_at names j → i ≡ j
+  pub different : (i j : ℕ) → i < length names → j < length names →
+      name_at names i ≡ name_at names j → i ≡ j
 
 -- the columns that the cut names are below the n-th
 abbrev pub HasColumnsBelow : ℕ → SafeCut → Type 0
@@ -62,4 +63,5 @@ pub record IsCutsTextBy (r : CutRule) (s : Task) (text : List ℕ) : Type 0 wher
   pub hold : All (SafeCutHolds s.problem) cuts
   pub rule_lines : List ℕ
   pub rule_lines_are : AreSubjectLines (subject_of_rule r) rule_lines
-  pub text_is : text ≡ line (codes "gj-safe 1") ++ rule_lines ++ flat_map (cut_lines s.names) cuts ++ line (codes "end")
+  pub text_is : text ≡ line (codes "gj-safe 1") ++ rule_lines ++ flat_map (cut_lines s.names) cuts
+      ++ line (codes "end")

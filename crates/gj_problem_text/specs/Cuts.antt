@@ -34,21 +34,25 @@ abbrev pub IsCutBy : CutRule → Option ℕ → Problem → List Frac → List B
 IsCutBy Gmic None p multipliers at_upper cut = IsGmicSafeCutOf p multipliers at_upper cut
 IsCutBy Gmic (Some n) p multipliers at_upper cut = IsGmicRelaxedCutOf n p multipliers at_upper cut
 IsCutBy (Table f) None p multipliers at_upper cut = IsFunctionSafeCutOf f p multipliers at_upper cut
-IsCutBy (Table f) (Some n) p multipliers at_upper cut = IsFunctionRelaxedCutOf f n p multipliers at_upper cut
+IsCutBy (Table f) (Some n) p multipliers at_upper cut =
+    IsFunctionRelaxedCutOf f n p multipliers at_upper cut
 
 -- what is answered to the multipliers, if these columns are turned by their upper bounds; it is
 -- `Wide` where a number does not fit, and so is the cut before it is rounded
 abbrev pub IsAnswer : CutRule → Task → List Frac → List Bool → SafeCut → Type 0
 IsAnswer r s multipliers at_upper answer =
-    (cut : SafeCut) × IsCutBy r s.round s.problem multipliers at_upper cut × TellsWide (IsCutBy r s.round s.problem multipliers at_upper) cut
+    (cut : SafeCut) × IsCutBy r s.round s.problem multipliers at_upper cut
+    × TellsWide (IsCutBy r s.round s.problem multipliers at_upper) cut
     × IsOnGridOf s.problem s.grid cut answer × TellsWide (IsOnGridOf s.problem s.grid cut) answer
 
 -- what is answered to the requests, in their order
 abbrev pub AreAnswers : CutRule → Task → List Bool → List Request → List SafeCut → Type 0
 AreAnswers r s at_upper [] cuts = cuts ≡ []
-AreAnswers r s at_upper (Upper j ∷ requests) cuts = AreAnswers r s (slice_set at_upper j true) requests cuts
+AreAnswers r s at_upper (Upper j ∷ requests) cuts =
+    AreAnswers r s (slice_set at_upper j true) requests cuts
 AreAnswers r s at_upper (Sum multipliers ∷ requests) cuts =
-    (cut : SafeCut) × (others : List SafeCut) × (cuts ≡ cut ∷ others) × IsAnswer r s multipliers at_upper cut
+    (cut : SafeCut) × (others : List SafeCut) × (cuts ≡ cut ∷ others)
+    × IsAnswer r s multipliers at_upper cut
     × AreAnswers r s at_upper requests others
 
 -- at first no column is turned by its upper bound

@@ -51,7 +51,12 @@ HasProblemLine (round n) = IsGrid n
 HasProblemLine line = Unit {0}
 
 abbrev pub problem_form : LineForm ProblemLine
-problem_form = record { fields = problem_fields; HasForm = λ line. Unit {0}; HasLine = HasProblemLine }
+problem_form = record {
+  fields = problem_fields;
+  HasForm = λ line. Unit {0};
+  HasLine =
+      HasProblemLine;
+}
 
 abbrev pub told_rule : LineRule ProblemLine
 told_rule = rule_in Lenient problem_form

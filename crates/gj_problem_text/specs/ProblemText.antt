@@ -16,12 +16,21 @@ abbrev pub rule_words : List (List ℕ)
 rule_words = codes "rule" ∷ codes "gmic" ∷ []
 
 abbrev pub no_task : Task
-no_task = record { names = []; problem = record { columns = []; constraints = [] }; entries = 0; requests = []; grid = None; round = None }
+no_task = record {
+  names = [];
+  problem = record { columns = []; constraints = [] };
+  entries =
+      0;
+  requests = [];
+  grid = None;
+  round = None;
+}
 
 -- the next line: `end`, if it begins so, or one more
 abbrev pub next_line : Task → Part (Task ⊎ Task)
 next_line s =
-    where_part (BeginsWithWord Lenient (codes "end")) (made_part (λ u next. next ≡ inr s) (line_part Lenient (words_rule end_words)))
+    where_part (BeginsWithWord Lenient (codes "end"))
+    (made_part (λ u next. next ≡ inr s) (line_part Lenient (words_rule end_words)))
     (made_part (λ t next. next ≡ inl t) (line_part Lenient (task_rule s)))
 
 abbrev pub lines_part : Part Task
@@ -31,7 +40,8 @@ lines_part = loop_part next_line no_task
 -- and nothing behind it
 abbrev pub problem_text : Part Task
 problem_text =
-    then_part (line_part Lenient (words_rule title_words)) (λ t. then_part (line_part Lenient (words_rule rule_words))
+    then_part (line_part Lenient (words_rule title_words))
+    (λ t. then_part (line_part Lenient (words_rule rule_words))
     (λ u. then_part lines_part (λ task. end_part Lenient task)))
 
 -- the text is a problem text of the task, and only lines that are skipped follow

@@ -16,7 +16,8 @@ use Rattle.gj_problem_text.specs.declared.task.Task.{Task}
 -- behind a function: the line `gj-problem 1`, lines of the problem, the line `end`, and nothing
 -- behind it
 abbrev pub unruled_text : Part Task
-unruled_text = then_part (line_part Lenient (words_rule title_words)) (λ t. then_part lines_part (λ task. end_part Lenient task))
+unruled_text = then_part (line_part Lenient (words_rule title_words))
+    (λ t. then_part lines_part (λ task. end_part Lenient task))
 
 abbrev pub by_rule : CutRule → Part Task → Part SafeInput
 by_rule r = made_part (λ task asked. asked ≡ record { «rule» = r; task = task })

@@ -51,7 +51,8 @@ SpellsBound word (Some x) = (word ≢ codes "-") × IsFractionWord Lenient word 
 abbrev pub IsBound : List ℕ → Type 0
 IsBound word = (b : Option Frac) × SpellsBound word b
 
-pub record AddsColumn (s : Task) (name : List ℕ) (is_whole : Bool) (low high : List ℕ) (t : Task) : Type 0 where
+pub record AddsColumn (s : Task) (name : List ℕ) (is_whole : Bool) (low high : List ℕ) (t : Task) :
+    Type 0 where
   pub is_name : IsName name
   pub lower : Option Frac
   pub lower_is : SpellsBound low lower
@@ -62,24 +63,29 @@ pub record AddsColumn (s : Task) (name : List ℕ) (is_whole : Bool) (low high :
   pub added : t ≡ record s {
     names = s.names ++ name ∷ [];
     problem = record (s.problem) {
-      columns = s.problem.columns ++ record { is_whole = is_whole; lower = lower; upper = upper } ∷ [];
+      columns = s.problem.columns ++ record { is_whole = is_whole; lower = lower; upper = upper }
+          ∷ [];
     };
   }
 
 abbrev pub RefusesColumn : Task → List ℕ → List ℕ → List ℕ → Reason → Type 0
 RefusesColumn s name low high =
-    Unless (IsName name) reason.Form (Unless (IsBound low) reason.Number (Unless (IsBound high) reason.Number
-    (Unless (length s.names < most_columns) reason.Large (Unless (index_of s name ≡ None) reason.Place Never))))
+    Unless (IsName name) reason.Form
+    (Unless (IsBound low) reason.Number (Unless (IsBound high) reason.Number
+    (Unless (length s.names < most_columns) reason.Large
+    (Unless (index_of s name ≡ None) reason.Place Never))))
 
 -- ---- constraints and their entries: before the first row that is asked for
 
-pub record AddsConstraint (s : Task) (name : List ℕ) (sense : Sense) (right : Frac) (t : Task) : Type 0 where
+pub record AddsConstraint (s : Task) (name : List ℕ) (sense : Sense) (right : Frac) (t : Task) :
+    Type 0 where
   pub before : s.requests ≡ []
   pub is_name : IsName name
   pub few : length s.problem.constraints < most_constraints
   pub added : t ≡ record s {
     problem = record (s.problem) {
-      constraints = s.problem.constraints ++ record { entries = []; sense = sense; right = right } ∷ [];
+      constraints = s.problem.constraints ++ record { entries = []; sense = sense; right = right }
+          ∷ [];
     };
   }
 
@@ -105,7 +111,8 @@ pub record AddsEntry (s : Task) (name : List ℕ) (value : Frac) (t : Task) : Ty
   pub index : ℕ
   pub index_is : index_of s name ≡ Some index
   pub constraints : List Constraint
-  pub longer : AreLonger s.problem.constraints (record { column = index; value = value }) constraints
+  pub longer : AreLonger s.problem.constraints (record { column = index; value = value })
+      constraints
   pub added : t ≡ record s {
     problem = record (s.problem) { constraints = constraints };
     entries = s.entries + 1;
@@ -113,7 +120,9 @@ pub record AddsEntry (s : Task) (name : List ℕ) (value : Frac) (t : Task) : Ty
 
 abbrev pub RefusesEntry : Task → List ℕ → Reason → Type 0
 RefusesEntry s name =
-    Unless (TakesEntries s) reason.Form (Unless (s.entries < most_entries) reason.Large (Unless (IsKnown s name) reason.Place Never))
+    Unless (TakesEntries s) reason.Form
+    (Unless (s.entries < most_entries) reason.Large
+    (Unless (IsKnown s name) reason.Place Never))
 
 -- ---- rows
 
@@ -153,7 +162,8 @@ Refuses s (column name is_whole low high) e = RefusesColumn s name low high e
 Refuses s (constraint name sense right) e = RefusesConstraint s name e
 Refuses s (entry name value) e = RefusesEntry s name e
 Refuses s (upper name) e = Unless (IsKnown s name) reason.Place Never e
-Refuses s (sum multipliers) e = Unless (length multipliers ≡ length s.problem.constraints) reason.Form Never e
+Refuses s (sum multipliers) e =
+    Unless (length multipliers ≡ length s.problem.constraints) reason.Form Never e
 Refuses s (grid n) e = Unless (s.grid ≡ None) reason.Form Never e
 Refuses s (round n) e = Unless (s.round ≡ None) reason.Form Never e
 

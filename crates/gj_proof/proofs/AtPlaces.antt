@@ -5,7 +5,8 @@ use Rattle.std.proofs.lemmas.List.{length-append, length-take-le, take_more}
 use Rattle.gj_proof.specs.Rules.{AtIndex}
 
 -- a list is split at an index in one way
-one_split : {A : Type 0} (b c : List A) (x y : A) (xs ys : List A) → b ++ x ∷ xs ≡ c ++ y ∷ ys → length b ≡ length c →
+one_split : {A : Type 0} (b c : List A) (x y : A) (xs ys : List A) → b ++ x ∷ xs ≡ c ++ y ∷ ys →
+    length b ≡ length c →
     (b ≡ c) × (x ≡ y)
 one_split [] [] x y xs ys e l = (refl, cc)
 one_split [] (z ∷ c) x y xs ys e l = absurd (omega arith)
@@ -19,14 +20,16 @@ one_split (z ∷ b) (w ∷ c) x y xs ys e l =
     (whole, rest.1)
 
 -- what the item behind the first ones has, the item at their number has
-pub at_index : {A : Type 0} (items : List A) (P : List A → A → Type 0) (before : List A) (x : A) (after : List A) →
+pub at_index : {A : Type 0} (items : List A) (P : List A → A → Type 0) (before : List A) (x : A)
+    (after : List A) →
     items ≡ before ++ x ∷ after → P before x → AtIndex items (length before) P
 at_index items P before x after place h b y ys other same =
     let one = one_split before b x y after ys (sym place ∙ other) (sym same) in
     subst₂ P one.0 one.1 h
 
 -- an item by its index
-pub at_place : {A : Type 0} (items : List A) (P : List A → A → Type 0) (j : ℕ) (x : A) → j < length items →
+pub at_place : {A : Type 0} (items : List A) (P : List A → A → Type 0) (j : ℕ) (x : A) →
+    j < length items →
     x ≡ get_or items j x → P (take j items) x → AtIndex items j P
 at_place items P j x below is h =
     subst (λ (i : ℕ). AtIndex items i P) (length-take-le j items (omega arith))
@@ -34,16 +37,20 @@ at_place items P j x below is h =
     (split_at items j x below ∙ ap (λ y. take j items ++ y ∷ drop (suc j) items) (sym is)) h)
 
 -- the way back
-pub place_has : {A : Type 0} (items : List A) (P : List A → A → Type 0) (j : ℕ) (x : A) → j < length items →
+pub place_has : {A : Type 0} (items : List A) (P : List A → A → Type 0) (j : ℕ) (x : A) →
+    j < length items →
     x ≡ get_or items j x → AtIndex items j P → P (take j items) x
 place_has items P j x below is h =
     h (take j items) x (drop (suc j) items)
-    (split_at items j x below ∙ ap (λ y. take j items ++ y ∷ drop (suc j) items) (sym is)) (length-take-le j items (omega arith))
+    (split_at items j x below ∙ ap (λ y. take j items ++ y ∷ drop (suc j) items) (sym is))
+    (length-take-le j items (omega arith))
 
 -- one more item
-pub with_place : {A : Type 0} (items : List A) (j : ℕ) (x : A) → j < length items → x ≡ get_or items j x →
+pub with_place : {A : Type 0} (items : List A) (j : ℕ) (x : A) → j < length items →
+    x ≡ get_or items j x →
     take (j + 1) items ≡ take j items ++ x ∷ []
-with_place items j x below is = take_more items j x below ∙ ap (λ y. take j items ++ y ∷ []) (sym is)
+with_place items j x below is = take_more items j x below
+    ∙ ap (λ y. take j items ++ y ∷ []) (sym is)
 
 -- a list is split at each of its indices
 pub record IsSplitAt {A : Type 0} (items : List A) (j : ℕ) : Type 0 where
@@ -55,7 +62,8 @@ pub record IsSplitAt {A : Type 0} (items : List A) (j : ℕ) : Type 0 where
 
 pub split_there : {A : Type 0} (items : List A) (j : ℕ) → j < length items → IsSplitAt items j
 split_there [] j below = absurd (omega arith)
-split_there (x ∷ items) zero below = record { before = []; item = x; after = items; place = refl; index = refl }
+split_there (x ∷ items) zero below =
+    record { before = []; item = x; after = items; place = refl; index = refl }
 split_there (x ∷ items) (suc j) below =
     let rest = split_there items j (omega arith) in
     record {

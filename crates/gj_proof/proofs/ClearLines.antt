@@ -43,7 +43,12 @@ one_title Whole Residues e = absurd (apart (codes "1") (codes "2") refl cc)
 one_title Residues Whole e = absurd (apart (codes "2") (codes "1") refl cc)
 
 pub title_is_clear : IsClear title_form
-title_is_clear = record { of_form = λ n h. tt; good = λ n h. good_title n; one = λ m n h k. one_title m n }
+title_is_clear = record {
+  of_form = λ n h. tt;
+  good = λ n h. good_title n;
+  one =
+      λ m n h k. one_title m n;
+}
 
 claim_is_plain : (w : ClaimWord) → IsPlain (claim_word_text w)
 claim_is_plain words.Minimal = known (codes "minimal") refl
@@ -52,7 +57,8 @@ claim_is_plain words.Cut = known (codes "cut") refl
 claim_is_plain (words.Extreme n) = known (codes "extreme") refl
 claim_is_plain words.NotExtreme = known (codes "not-extreme") refl
 
-one_claim : (w v : ClaimWord) → claim_word_text w ≡ claim_word_text v → numbers_of_word w ≡ numbers_of_word v → w ≡ v
+one_claim : (w v : ClaimWord) → claim_word_text w ≡ claim_word_text v →
+    numbers_of_word w ≡ numbers_of_word v → w ≡ v
 one_claim words.Minimal words.Minimal e h = refl
 one_claim words.NotMinimal words.NotMinimal e h = refl
 one_claim words.Cut words.Cut e h = refl
@@ -64,7 +70,8 @@ pub claim_is_clear : (n : Numbers) → IsClear (claim_form n)
 claim_is_clear n = record {
   of_form = λ w h. h;
   good = λ w h. (known (codes "claim") refl, claim_is_plain w);
-  one = λ w v h k e. one_claim w v (let same : claim_word_text w ≡ claim_word_text v = cc in same) (h ∙ sym k);
+  one = λ w v h k e. one_claim w v (let same : claim_word_text w ≡ claim_word_text v = cc in same)
+      (h ∙ sym k);
 }
 
 -- ---- violations
@@ -75,31 +82,43 @@ good_violation (violation.Negative x) = (known (codes "negative") refl, tt)
 good_violation (violation.Asymmetric x) = (known (codes "asymmetric") refl, tt)
 good_violation (violation.Superadditive x y) = (known (codes "superadditive") refl, (tt, tt))
 
-one_violation : (a b : Violation) → words_of (violation_fields a) ≡ words_of (violation_fields b) → a ≡ b
+one_violation : (a b : Violation) → words_of (violation_fields a) ≡ words_of (violation_fields b) →
+    a ≡ b
 one_violation violation.Zero violation.Zero e = refl
 one_violation (violation.Negative x) (violation.Negative y) e =
     let a = violation.Negative x in
     let b = violation.Negative y in
-    let same = same_fields (violation_fields a) (violation_fields b) tt (good_violation a) (good_violation b) e in
+    let same = same_fields (violation_fields a) (violation_fields b) tt (good_violation a)
+    (good_violation b) e in
     ap violation.Negative cc
 one_violation (violation.Asymmetric x) (violation.Asymmetric y) e =
     let a = violation.Asymmetric x in
     let b = violation.Asymmetric y in
-    let same = same_fields (violation_fields a) (violation_fields b) tt (good_violation a) (good_violation b) e in
+    let same = same_fields (violation_fields a) (violation_fields b) tt (good_violation a)
+    (good_violation b) e in
     ap violation.Asymmetric cc
 one_violation (violation.Superadditive x y) (violation.Superadditive z w) e =
     let a = violation.Superadditive x y in
     let b = violation.Superadditive z w in
-    let same = same_fields (violation_fields a) (violation_fields b) tt (good_violation a) (good_violation b) e in
+    let same = same_fields (violation_fields a) (violation_fields b) tt (good_violation a)
+    (good_violation b) e in
     let first : x ≡ z = cc in
     let second : y ≡ w = cc in
     λ i. violation.Superadditive (first i) (second i)
-one_violation (violation.Negative x) (violation.Asymmetric y) e = absurd (apart (codes "negative") (codes "asymmetric") refl cc)
-one_violation (violation.Asymmetric x) (violation.Negative y) e = absurd (apart (codes "asymmetric") (codes "negative") refl cc)
+one_violation (violation.Negative x) (violation.Asymmetric y) e =
+    absurd (apart (codes "negative") (codes "asymmetric") refl cc)
+one_violation (violation.Asymmetric x) (violation.Negative y) e =
+    absurd (apart (codes "asymmetric") (codes "negative") refl cc)
 one_violation a b e = absurd cc
 
 pub violation_is_clear : IsClear violation_form
-violation_is_clear = record { of_form = λ a h. tt; good = λ a h. good_violation a; one = λ a b h k. one_violation a b }
+violation_is_clear =
+    record {
+      of_form = λ a h. tt;
+      good = λ a h. good_violation a;
+      one =
+          λ a b h k. one_violation a b;
+    }
 
 -- ---- rows of cuts
 
@@ -115,15 +134,18 @@ reason_is_plain Other = known (codes "other") refl
 
 good_head : (k : RowKind) (name : List ℕ) (x : Frac) → IsName name → AreGood (head_fields k name x)
 good_head WithCut name x h = (known (codes "cut") refl, (name_is_plain name h, tt))
-good_head (Skipped r) name x h = (known (codes "skip") refl, (name_is_plain name h, (tt, reason_is_plain r)))
+good_head (Skipped r) name x h =
+    (known (codes "skip") refl, (name_is_plain name h, (tt, reason_is_plain r)))
 
 one_head : (k l : RowKind) (n m : List ℕ) (x y : Frac) → IsName n → IsName m →
     words_of (head_fields k n x) ≡ words_of (head_fields l m y) → (k ≡ l) × (n ≡ m) × (x ≡ y)
 one_head WithCut WithCut n m x y h i e =
-    let same = same_fields (head_fields WithCut n x) (head_fields WithCut m y) tt (good_head WithCut n x h) (good_head WithCut m y i) e in
+    let same = same_fields (head_fields WithCut n x) (head_fields WithCut m y) tt
+    (good_head WithCut n x h) (good_head WithCut m y i) e in
     (refl, cc, cc)
 one_head (Skipped r) (Skipped s) n m x y h i e =
-    let same = same_fields (head_fields (Skipped r) n x) (head_fields (Skipped s) m y) tt (good_head (Skipped r) n x h)
+    let same = same_fields (head_fields (Skipped r) n x) (head_fields (Skipped s) m y) tt
+    (good_head (Skipped r) n x h)
     (good_head (Skipped s) m y i) e in
     (ap Skipped (one_word r s cc), cc, cc)
 one_head k l n m x y h i e = absurd cc
@@ -143,9 +165,11 @@ term_is_clear = record { of_form = λ a h. h; good = good; one = one }
     good : (t : CutTerm) → IsName t.name → AreGood (term_form.fields t)
     good t h = (known (codes "term") refl, (name_is_plain t.name h, (tt, tt)))
 
-    one : (t u : CutTerm) → IsName t.name → IsName u.name → words_of (term_form.fields t) ≡ words_of (term_form.fields u) → t ≡ u
+    one : (t u : CutTerm) → IsName t.name → IsName u.name →
+        words_of (term_form.fields t) ≡ words_of (term_form.fields u) → t ≡ u
     one t u h k e =
-        let same = same_fields (term_form.fields t) (term_form.fields u) tt (good t h) (good u k) e in
+        let same = same_fields (term_form.fields t) (term_form.fields u) tt (good t h)
+        (good u k) e in
         let name : t.name ≡ u.name = cc in
         let entry : t.entry ≡ u.entry = cc in
         let cut : t.cut ≡ u.cut = cc in
@@ -176,7 +200,13 @@ cover_is_clear q small = record { of_form = λ a h. h.not_vertex; good = good; o
     good : (l : CoverLine) → IsCoverLineBelow q l → AreGood (cover_fields l)
     good l h = (
       known (codes "cover") refl,
-      (omega (arith, h.interval), (omega (arith, h.from), (kind_is_plain l.face.kind, (omega (arith, h.first), omega (arith, h.second))))),
+      (
+        omega (arith, h.interval),
+        (
+          omega (arith, h.from),
+          (kind_is_plain l.face.kind, (omega (arith, h.first), omega (arith, h.second))),
+        ),
+      ),
     )
 
     one : (l m : CoverLine) → IsCoverLineBelow q l → IsCoverLineBelow q m →
@@ -188,7 +218,12 @@ cover_is_clear q small = record { of_form = λ a h. h.not_vertex; good = good; o
         let kind = one_kind l.face.kind m.face.kind cc in
         let a : l.face.a ≡ m.face.a = cc in
         let b : l.face.b ≡ m.face.b = cc in
-        λ i. record { interval = interval i; from = from i; face = record { kind = kind i; a = a i; b = b i } }
+        λ i. record {
+          interval = interval i;
+          from = from i;
+          face =
+              record { kind = kind i; a = a i; b = b i };
+        }
 
 -- ---- the modulus, the names of rows, and columns
 
@@ -207,11 +242,13 @@ row_name_is_clear q small = record { of_form = λ a h. tt; good = good; one = on
     good F h = (known (codes "row") refl, known (codes "f") refl)
     good (Pair a b) h = (known (codes "row") refl, (omega (arith, h.1, h.2), omega (arith, h.2)))
 
-    one : (m n : RowName) → IsRowNameBelow q m → IsRowNameBelow q n → words_of (row_name_fields m) ≡ words_of (row_name_fields n) → m ≡ n
+    one : (m n : RowName) → IsRowNameBelow q m → IsRowNameBelow q n →
+        words_of (row_name_fields m) ≡ words_of (row_name_fields n) → m ≡ n
     one Period Period h k e = refl
     one F F h k e = refl
     one (Pair a b) (Pair c d) h k e =
-        let same = same_fields (row_name_fields (Pair a b)) (row_name_fields (Pair c d)) tt (good (Pair a b) h) (good (Pair c d) k) e in
+        let same = same_fields (row_name_fields (Pair a b)) (row_name_fields (Pair c d)) tt
+        (good (Pair a b) h) (good (Pair c d) k) e in
         let first : a ≡ c = cc in
         let second : b ≡ d = cc in
         λ i. Pair (first i) (second i)
@@ -222,7 +259,8 @@ column_is_clear w plain = record {
   of_form = λ a h. tt;
   good = λ c h. (plain, omega arith);
   one = λ c d h k e.
-      let same = same_fields ((column_form w).fields c) ((column_form w).fields d) tt (plain, omega arith) (plain, omega arith) e in
+      let same = same_fields ((column_form w).fields c) ((column_form w).fields d) tt
+      (plain, omega arith) (plain, omega arith) e in
       cc;
 }
 
@@ -238,9 +276,11 @@ halves_is_clear = record { of_form = λ a h. tt; good = good; one = one }
         let top = b.scale_high in
         (known (codes "halves") refl, (omega arith, omega (arith, ints)))
 
-    one : (g h : HalvesHead) → IsHeadInBounds g → IsHeadInBounds h → words_of (halves_form.fields g) ≡ words_of (halves_form.fields h) → g ≡ h
+    one : (g h : HalvesHead) → IsHeadInBounds g → IsHeadInBounds h →
+        words_of (halves_form.fields g) ≡ words_of (halves_form.fields h) → g ≡ h
     one g h b c e =
-        let same = same_fields (halves_form.fields g) (halves_form.fields h) tt (good g b) (good h c) e in
+        let same = same_fields (halves_form.fields g) (halves_form.fields h) tt (good g b)
+        (good h c) e in
         let order : g.order ≡ h.order = cc in
         let scale : g.scale ≡ h.scale = cc in
         λ i. record { order = order i; scale = scale i }
@@ -251,9 +291,11 @@ pair_is_clear = record { of_form = λ a h. tt; good = good; one = one }
     good : (p : ℤ × ℤ) → Fits p.0 × Fits p.1 → AreGood (pair_form.fields p)
     good p h = (known (codes "pair") refl, (h.0, h.1))
 
-    one : (p r : ℤ × ℤ) → Fits p.0 × Fits p.1 → Fits r.0 × Fits r.1 → words_of (pair_form.fields p) ≡ words_of (pair_form.fields r) → p ≡ r
+    one : (p r : ℤ × ℤ) → Fits p.0 × Fits p.1 → Fits r.0 × Fits r.1 →
+        words_of (pair_form.fields p) ≡ words_of (pair_form.fields r) → p ≡ r
     one p r h k e =
-        let same = same_fields (pair_form.fields p) (pair_form.fields r) tt (good p h) (good r k) e in
+        let same = same_fields (pair_form.fields p) (pair_form.fields r) tt (good p h)
+        (good r k) e in
         let first : p.0 ≡ r.0 = cc in
         let second : p.1 ≡ r.1 = cc in
         λ i. (first i, second i)

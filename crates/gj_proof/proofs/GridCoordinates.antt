@@ -28,9 +28,11 @@ coordinate n i x below is =
     let turned = mul_comm_z (pos n) (denominator x) in
     record {
       not_negative = mul_le_cancel_right_z (pos 0) (numerator x) (pos n) some
-          (subst (λ (z : ℤ). z ≤ℤ (numerator x *ℤ pos n)) (sym zero) (subst (λ (z : ℤ). pos 0 ≤ℤ z) (sym is) product));
+          (subst (λ (z : ℤ). z ≤ℤ (numerator x *ℤ pos n)) (sym zero)
+          (subst (λ (z : ℤ). pos 0 ≤ℤ z) (sym is) product));
       below_one = mul_lt_cancel_right_z (numerator x) (denominator x) (pos n) some
-          (subst (λ (z : ℤ). z <ℤ (denominator x *ℤ pos n)) (sym is) (subst (λ (z : ℤ). (pos i *ℤ denominator x) <ℤ z) turned less));
+          (subst (λ (z : ℤ). z <ℤ (denominator x *ℤ pos n)) (sym is)
+          (subst (λ (z : ℤ). (pos i *ℤ denominator x) <ℤ z) turned less));
     }
 
 -- its denominator divides n
@@ -39,7 +41,8 @@ divides n i x is =
     let bottom = x.lowest.positive in
     let bottom_le : pos 0 ≤ℤ denominator x = omega (arith, ints) in
     let whole : pos n *ℤ numerator x ≡ pos i *ℤ pos (unsigned_abs (denominator x)) =
-    mul_comm_z (pos n) (numerator x) ∙ is ∙ ap (λ z. pos i *ℤ z) (sym (pos_abs_z (denominator x) bottom_le)) in
+    mul_comm_z (pos n) (numerator x) ∙ is
+    ∙ ap (λ z. pos i *ℤ z) (sym (pos_abs_z (denominator x) bottom_le)) in
     whole_multiple (numerator x) (pos i) (unsigned_abs (denominator x)) n x.lowest.coprime whole
 
 all_one : (P : Frac → Type 0) (x : Frac) → P x → All P (x ∷ [])
@@ -49,7 +52,8 @@ all_two : (P : Frac → Type 0) (x y : Frac) → P x → P y → All P (x ∷ y 
 all_two P x y h k = All-cons P x (y ∷ []) h (all_one P y k)
 
 -- a violation that is shown at points of a grid of order at most 2^62 meets the rule `point`
-pub meets_point : (f : FunctionData) (v : Violation) (h : ℕ) → f.order * h ≤ 2 ^ 62 → IsAtGridPoints f h v → ShowsViolation f v → MeetsPoint f v
+pub meets_point : (f : FunctionData) (v : Violation) (h : ℕ) → f.order * h ≤ 2 ^ 62 →
+    IsAtGridPoints f h v → ShowsViolation f v → MeetsPoint f v
 meets_point f violation.Zero h fine g s = record {
   coordinates = All-nil IsCoordinate;
   common = (1, omega arith, omega arith, All-nil (λ x. unsigned_abs (denominator x) ∣ 1));
@@ -57,21 +61,35 @@ meets_point f violation.Zero h fine g s = record {
 }
 meets_point f (violation.Negative x) h fine (i, below, is) s = record {
   coordinates = all_one IsCoordinate x (coordinate (f.order * h) i x below is);
-  common = (f.order * h, omega arith, fine, all_one (λ z. unsigned_abs (denominator z) ∣ f.order * h) x (divides (f.order * h) i x is));
-  shown = s;
-}
-meets_point f (violation.Asymmetric x) h fine (i, below, is) s = record {
-  coordinates = all_one IsCoordinate x (coordinate (f.order * h) i x below is);
-  common = (f.order * h, omega arith, fine, all_one (λ z. unsigned_abs (denominator z) ∣ f.order * h) x (divides (f.order * h) i x is));
-  shown = s;
-}
-meets_point f (violation.Superadditive x y) h fine ((i, below, is), (j, less, at_j)) s = record {
-  coordinates = all_two IsCoordinate x y (coordinate (f.order * h) i x below is) (coordinate (f.order * h) j y less at_j);
   common = (
     f.order * h,
     omega arith,
     fine,
-    all_two (λ z. unsigned_abs (denominator z) ∣ f.order * h) x y (divides (f.order * h) i x is) (divides (f.order * h) j y at_j),
+    all_one
+        (λ z. unsigned_abs (denominator z) ∣ f.order * h) x (divides (f.order * h) i x is),
+  );
+  shown = s;
+}
+meets_point f (violation.Asymmetric x) h fine (i, below, is) s = record {
+  coordinates = all_one IsCoordinate x (coordinate (f.order * h) i x below is);
+  common = (
+    f.order * h,
+    omega arith,
+    fine,
+    all_one
+        (λ z. unsigned_abs (denominator z) ∣ f.order * h) x (divides (f.order * h) i x is),
+  );
+  shown = s;
+}
+meets_point f (violation.Superadditive x y) h fine ((i, below, is), (j, less, at_j)) s = record {
+  coordinates = all_two IsCoordinate x y (coordinate (f.order * h) i x below is)
+      (coordinate (f.order * h) j y less at_j);
+  common = (
+    f.order * h,
+    omega arith,
+    fine,
+    all_two (λ z. unsigned_abs (denominator z) ∣ f.order * h) x y (divides (f.order * h) i x is)
+        (divides (f.order * h) j y at_j),
   );
   shown = s;
 }

@@ -13,19 +13,23 @@ abbrev pub own_line : ProofLine → List ℕ → OwnLine
 own_line name bytes = record { name = name; bytes = bytes }
 
 -- one for each covered interval
-pub length-covered : (i : ℕ) (lines : List CoverLine) → length (covered_lines i lines) ≡ length lines
+pub length-covered : (i : ℕ) (lines : List CoverLine) →
+    length (covered_lines i lines) ≡ length lines
 length-covered i [] = refl
 length-covered i (l ∷ lines) = ap suc (length-covered (i + 1) lines)
 
 -- one for each step
-pub length-reductions : (g r : ℕ) (columns : List ℕ) → length (reduction_lines g r columns) ≡ length columns
+pub length-reductions : (g r : ℕ) (columns : List ℕ) →
+    length (reduction_lines g r columns) ≡ length columns
 length-reductions g r [] = refl
 length-reductions g r (c ∷ columns) = ap suc (length-reductions g (r + 1) columns)
 
 -- of a group, two more than its steps
-pub length-group : (g : ℕ) (row : PivotRow) → length (group_lines g (row ∷ [])) ≡ length row.reduce + 2
+pub length-group : (g : ℕ) (row : PivotRow) →
+    length (group_lines g (row ∷ [])) ≡ length row.reduce + 2
 length-group g row =
-    let both = length-append (own_line (group g) (group_line row.name) ∷ reduction_lines g 0 row.reduce)
+    let both = length-append
+    (own_line (group g) (group_line row.name) ∷ reduction_lines g 0 row.reduce)
     (own_line (group_pivot g) (pivot_line row.pivot) ∷ []) in
     let steps = length-reductions g 0 row.reduce in
     omega arith

@@ -24,7 +24,8 @@ bytes ls = flat_map (λ l. l.bytes) ls
 
 pub bytes_append : (a b : List OwnLine) → bytes (a ++ b) ≡ bytes a ++ bytes b
 bytes_append [] b = refl
-bytes_append (l ∷ a) b = ap (λ t. l.bytes ++ t) (bytes_append a b) ∙ sym (append_assoc l.bytes (bytes a) (bytes b))
+bytes_append (l ∷ a) b = ap (λ t. l.bytes ++ t) (bytes_append a b)
+    ∙ sym (append_assoc l.bytes (bytes a) (bytes b))
 
 -- ---- their names differ
 
@@ -33,7 +34,8 @@ abbrev pub Differ : List ProofLine → Type 0
 Differ [] = Unit {0}
 Differ (l ∷ more) = All (λ k. k ≢ l) more × Differ more
 
-pub differ_append : (a b : List ProofLine) → Differ a → Differ b → All (λ l. All (λ k. k ≢ l) b) a → Differ (a ++ b)
+pub differ_append : (a b : List ProofLine) → Differ a → Differ b → All (λ l. All (λ k. k ≢ l) b) a →
+    Differ (a ++ b)
 differ_append [] b h k apart = k
 differ_append (l ∷ a) b h k apart =
     let P : ProofLine → Type 0 = λ l. All (λ k. k ≢ l) b in (
@@ -42,7 +44,8 @@ differ_append (l ∷ a) b h k apart =
     )
 
 -- one that stands between others differs from those before it
-pub differs_from_those_before : (a b : List ProofLine) (l : ProofLine) → Differ (a ++ l ∷ b) → All (λ k. k ≢ l) a
+pub differs_from_those_before : (a b : List ProofLine) (l : ProofLine) → Differ (a ++ l ∷ b) →
+    All (λ k. k ≢ l) a
 differs_from_those_before [] b l h = All-nil (λ k. k ≢ l)
 differs_from_those_before (m ∷ a) b l h =
     let here : l ≢ m = All-head (λ k. k ≢ m) l b (All-back (λ k. k ≢ m) a (l ∷ b) h.0) in

@@ -13,12 +13,15 @@ use Rattle.gj_proof.specs.declared.cut.CutRule.TheVariants.{Gmic, Table}
 use Rattle.gj_proof.proofs.ReadTexts.{proof_text_is_exact, text_is_read}
 use Rattle.gj_proof.proofs.LineLists.{title_line, claim_line}
 
-pub one_claim : (c d : Claim) (text : List ℕ) → IsBounded c → IsBounded d → IsProofText c text → IsProofText d text → c ≡ d
+pub one_claim : (c d : Claim) (text : List ℕ) → IsBounded c → IsBounded d → IsProofText c text →
+    IsProofText d text → c ≡ d
 one_claim c d text b e p q =
-    (proof_text_is_exact.one_thing text c d [] [] (text_is_read c text b p) (text_is_read d text e q)).0
+    (proof_text_is_exact.one_thing text c d [] [] (text_is_read c text b p)
+    (text_is_read d text e q)).0
 
 -- a subject has one text
-one_subject : (c : Claim) (s t : List ℕ) → IsBounded c → AreSubjectLines (subject_of c) s → AreSubjectLines (subject_of c) t → s ≡ t
+one_subject : (c : Claim) (s t : List ℕ) → IsBounded c → AreSubjectLines (subject_of c) s →
+    AreSubjectLines (subject_of c) t → s ≡ t
 one_subject (Minimal f) s t b l m = one_text_of_lines f s t b l m
 one_subject (NotMinimal f v) s t b l m = one_text_of_lines f s t b l m
 one_subject (Cut (Table f) rows) s t b l m = one_text_of_lines f s t b.0 l m
@@ -36,8 +39,11 @@ one_text c s t b p q =
     ∙ sym q.spelled
 
 -- the text of a claim has no fault
-pub no_fault : (c : Claim) (text : List ℕ) (n : ℕ) (e : Reason) → IsBounded c → IsProofText c text → IsFirstFaultOfProof text n e → ⊥
-no_fault c text n e b p h = numbers.no_first_fault proof_text proof_text_is_exact text c [] n e (text_is_read c text b p) h
+pub no_fault : (c : Claim) (text : List ℕ) (n : ℕ) (e : Reason) → IsBounded c → IsProofText c text →
+    IsFirstFaultOfProof text n e → ⊥
+no_fault c text n e b p h = numbers.no_first_fault proof_text proof_text_is_exact text c [] n e
+    (text_is_read c text b p) h
 
-pub one_fault : (text : List ℕ) (n m : ℕ) (e d : Reason) → IsFirstFaultOfProof text n e → IsFirstFaultOfProof text m d → (n ≡ m) × (e ≡ d)
+pub one_fault : (text : List ℕ) (n m : ℕ) (e d : Reason) → IsFirstFaultOfProof text n e →
+    IsFirstFaultOfProof text m d → (n ≡ m) × (e ≡ d)
 one_fault text n m e d h k = numbers.one_first_fault proof_text proof_text_is_exact text n m e d h k

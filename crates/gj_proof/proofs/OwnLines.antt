@@ -23,7 +23,8 @@ use Rattle.gj_proof.proofs.ExtremeLines.{IsCoveredFrom, covered_are, IsBehindCov
 
 -- ---- the bytes of the lines of cuts
 
-term_bytes : (i j : ℕ) (terms : List CutTerm) → bytes (term_lines i j terms) ≡ flat_map term_line terms
+term_bytes : (i j : ℕ) (terms : List CutTerm) →
+    bytes (term_lines i j terms) ≡ flat_map term_line terms
 term_bytes i j [] = refl
 term_bytes i j (t ∷ terms) = ap (λ u. term_line t ++ u) (term_bytes i (j + 1) terms)
 
@@ -31,7 +32,8 @@ row_bytes : (i : ℕ) (rows : List CutLine) → bytes (row_lines i rows) ≡ fla
 row_bytes i [] = refl
 row_bytes i (l ∷ rows) =
     ap (λ t. row_line l ++ t) (bytes_append (term_lines i 0 (terms_of l)) (row_lines (i + 1) rows))
-    ∙ sym (append_assoc (row_line l) (bytes (term_lines i 0 (terms_of l))) (bytes (row_lines (i + 1) rows)))
+    ∙ sym (append_assoc (row_line l) (bytes (term_lines i 0 (terms_of l)))
+    (bytes (row_lines (i + 1) rows)))
     ∙ ap (λ t. row_line l ++ t ++ bytes (row_lines (i + 1) rows)) (term_bytes i 0 (terms_of l))
     ∙ ap (λ t. row_text l ++ t) (row_bytes (i + 1) rows)
 
@@ -46,14 +48,17 @@ own_bytes (NotExtreme f h) = halves_bytes h
 
 -- ---- parts of them
 
-pub term_lines_append : (i j : ℕ) (a b : List CutTerm) → term_lines i j (a ++ b) ≡ term_lines i j a ++ term_lines i (j + length a) b
+pub term_lines_append : (i j : ℕ) (a b : List CutTerm) →
+    term_lines i j (a ++ b) ≡ term_lines i j a ++ term_lines i (j + length a) b
 term_lines_append i j [] b = let e : j ≡ j + 0 = omega arith in ap (λ k. term_lines i k b) e
 term_lines_append i j (t ∷ a) b =
     let e : j + 1 + length a ≡ j + suc (length a) = omega arith in
     let l : OwnLine = record { name = ProofLine.term i j; bytes = term_line t } in
-    ap (λ ls. l ∷ ls) (term_lines_append i (j + 1) a b ∙ ap (λ k. term_lines i (j + 1) a ++ term_lines i k b) e)
+    ap (λ ls. l ∷ ls) (term_lines_append i (j + 1) a b
+    ∙ ap (λ k. term_lines i (j + 1) a ++ term_lines i k b) e)
 
-pub row_lines_append : (i : ℕ) (a b : List CutLine) → row_lines i (a ++ b) ≡ row_lines i a ++ row_lines (i + length a) b
+pub row_lines_append : (i : ℕ) (a b : List CutLine) →
+    row_lines i (a ++ b) ≡ row_lines i a ++ row_lines (i + length a) b
 row_lines_append i [] b = let e : i ≡ i + 0 = omega arith in ap (λ k. row_lines k b) e
 row_lines_append i (l ∷ a) b =
     let e : i + 1 + length a ≡ i + suc (length a) = omega arith in
@@ -92,8 +97,10 @@ term_is_of_row i l h = absurd h
 terms_are : (i j : ℕ) (terms : List CutTerm) → All (IsTermFrom i j) (names (term_lines i j terms))
 terms_are i j [] = All-nil (IsTermFrom i j)
 terms_are i j (t ∷ terms) =
-    All-cons (IsTermFrom i j) (ProofLine.term i j) (names (term_lines i (j + 1) terms)) (refl, omega arith)
-    (All-weaker (IsTermFrom i (j + 1)) (IsTermFrom i j) (later_term i j) (names (term_lines i (j + 1) terms)) (terms_are i (j + 1) terms))
+    All-cons (IsTermFrom i j) (ProofLine.term i j) (names (term_lines i (j + 1) terms))
+    (refl, omega arith)
+    (All-weaker (IsTermFrom i (j + 1)) (IsTermFrom i j) (later_term i j)
+    (names (term_lines i (j + 1) terms)) (terms_are i (j + 1) terms))
 
 rows_are : (i : ℕ) (rows : List CutLine) → All (IsRowFrom i) (names (row_lines i rows))
 rows_are i [] = All-nil (IsRowFrom i)
@@ -102,8 +109,10 @@ rows_are i (l ∷ rows) =
     let more = row_lines (i + 1) rows in
     let all : All (IsRowFrom i) (names terms ++ names more) =
     All-append (IsRowFrom i) (names terms) (names more)
-    (All-weaker (IsTermFrom i 0) (IsRowFrom i) (term_is_of_row i) (names terms) (terms_are i 0 (terms_of l)))
-    (All-weaker (IsRowFrom (i + 1)) (IsRowFrom i) (later_row i) (names more) (rows_are (i + 1) rows)) in
+    (All-weaker (IsTermFrom i 0) (IsRowFrom i) (term_is_of_row i) (names terms)
+    (terms_are i 0 (terms_of l)))
+    (All-weaker (IsRowFrom (i + 1)) (IsRowFrom i) (later_row i) (names more)
+    (rows_are (i + 1) rows)) in
     All-cons (IsRowFrom i) (ProofLine.cut i) (names (terms ++ more)) (omega arith)
     (subst (All (IsRowFrom i)) (sym (map-append (λ (o : OwnLine). o.name) terms more)) all)
 
@@ -127,7 +136,8 @@ term_apart i l m h k e = both l h (subst (IsRowFrom (i + 1)) e k)
 terms_differ : (i j : ℕ) (terms : List CutTerm) → Differ (names (term_lines i j terms))
 terms_differ i j [] = tt
 terms_differ i j (t ∷ terms) = (
-  All-weaker (IsTermFrom i (j + 1)) (λ k. k ≢ ProofLine.term i j) (not_this_term i j) (names (term_lines i (j + 1) terms))
+  All-weaker (IsTermFrom i (j + 1)) (λ k. k ≢ ProofLine.term i j) (not_this_term i j)
+      (names (term_lines i (j + 1) terms))
       (terms_are i (j + 1) terms),
   terms_differ i (j + 1) terms,
 )
@@ -148,7 +158,8 @@ rows_differ i (l ∷ rows) =
     let others : Differ (terms ++ more) =
     differ_append terms more (terms_differ i 0 (terms_of l)) (rows_differ (i + 1) rows)
     (All-weaker (IsTermFrom i 0) (λ l. All (λ k. k ≢ l) more)
-    (λ l h. All-weaker (IsRowFrom (i + 1)) (λ k. k ≢ l) (λ m k. term_apart i l m h k) more more_here) terms terms_here) in (
+    (λ l h. All-weaker (IsRowFrom (i + 1)) (λ k. k ≢ l)
+    (λ m k. term_apart i l m h k) more more_here) terms terms_here) in (
       subst (All (λ k. k ≢ ProofLine.cut i)) (sym joined) first,
       subst Differ (sym joined) others,
     )
@@ -196,11 +207,13 @@ pair_is_own : (l : ProofLine) → IsPairFrom 0 l → IsOwn l
 pair_is_own (ProofLine.pair k) h = tt
 pair_is_own l h = absurd h
 
-extreme_are_own : (n : Numbers) (lines : List CoverLine) (rows : List PivotRow) → All IsOwn (names (extreme_lines n lines rows))
+extreme_are_own : (n : Numbers) (lines : List CoverLine) (rows : List PivotRow) →
+    All IsOwn (names (extreme_lines n lines rows))
 extreme_are_own n lines rows =
     let first = names (covered_lines 0 lines) in
     let more = names (behind_cover n rows) in
-    subst (All IsOwn) (sym (map-append (λ (o : OwnLine). o.name) (covered_lines 0 lines) (behind_cover n rows)))
+    subst (All IsOwn) (sym
+    (map-append (λ (o : OwnLine). o.name) (covered_lines 0 lines) (behind_cover n rows)))
     (All-append IsOwn first more
     (All-weaker (IsCoveredFrom 0) IsOwn covered_is_own first (covered_are 0 lines))
     (All-weaker IsBehindCover IsOwn behind_is_own more (behind_are n rows)))
@@ -208,7 +221,8 @@ extreme_are_own n lines rows =
 pub own_lines_are_own : (c : Claim) → All IsOwn (names (own_lines c))
 own_lines_are_own (Minimal f) = All-nil IsOwn
 own_lines_are_own (NotMinimal f v) = All-cons IsOwn ProofLine.violation_shown [] tt (All-nil IsOwn)
-own_lines_are_own (Cut rule rows) = All-weaker (IsRowFrom 0) IsOwn (row_is_own 0) (names (row_lines 0 rows)) (rows_are 0 rows)
+own_lines_are_own (Cut rule rows) =
+    All-weaker (IsRowFrom 0) IsOwn (row_is_own 0) (names (row_lines 0 rows)) (rows_are 0 rows)
 own_lines_are_own (Extreme f lines rows) = extreme_are_own Whole lines rows
 own_lines_are_own (ExtremeByResidues f lines rows) = extreme_are_own Residues lines rows
 own_lines_are_own (NotExtreme f h) =
@@ -219,35 +233,46 @@ own_lines_are_own (NotExtreme f h) =
 -- ---- line feeds
 
 feeds_of_row : (l : CutLine) → HasNames l → line_feeds (row_line l) ≡ 1
-feeds_of_row (cuts.Cut name right terms) h = one_feed head_form head_is_clear (head_of (cuts.Cut name right terms)) h.0
-feeds_of_row (cuts.Skip name right r) h = one_feed head_form head_is_clear (head_of (cuts.Skip name right r)) h
+feeds_of_row (cuts.Cut name right terms) h =
+    one_feed head_form head_is_clear (head_of (cuts.Cut name right terms)) h.0
+feeds_of_row (cuts.Skip name right r) h =
+    one_feed head_form head_is_clear (head_of (cuts.Skip name right r)) h
 
-terms_have_one_feed : (i j : ℕ) (terms : List CutTerm) → All (λ t. IsName t.name) terms → All HasOneFeed (term_lines i j terms)
+terms_have_one_feed : (i j : ℕ) (terms : List CutTerm) → All (λ t. IsName t.name) terms →
+    All HasOneFeed (term_lines i j terms)
 terms_have_one_feed i j [] named = All-nil HasOneFeed
 terms_have_one_feed i j (t ∷ terms) named =
     let P : CutTerm → Type 0 = λ t. IsName t.name in
-    All-cons HasOneFeed (record { name = ProofLine.term i j; bytes = term_line t }) (term_lines i (j + 1) terms)
-    (one_feed term_form term_is_clear t (All-head P t terms named)) (terms_have_one_feed i (j + 1) terms (All-tail P t terms named))
+    All-cons HasOneFeed (record { name = ProofLine.term i j; bytes = term_line t })
+    (term_lines i (j + 1) terms)
+    (one_feed term_form term_is_clear t (All-head P t terms named))
+    (terms_have_one_feed i (j + 1) terms (All-tail P t terms named))
 
 pub names_of_terms : (l : CutLine) → HasNames l → All (λ t. IsName t.name) (terms_of l)
 names_of_terms (cuts.Cut name right terms) h = h.1
 names_of_terms (cuts.Skip name right r) h = All-nil (λ t. IsName t.name)
 
-rows_have_one_feed : (i : ℕ) (rows : List CutLine) → All HasNames rows → All HasOneFeed (row_lines i rows)
+rows_have_one_feed : (i : ℕ) (rows : List CutLine) → All HasNames rows →
+    All HasOneFeed (row_lines i rows)
 rows_have_one_feed i [] named = All-nil HasOneFeed
 rows_have_one_feed i (l ∷ rows) named =
     let here = All-head HasNames l rows named in
-    All-cons HasOneFeed (record { name = ProofLine.cut i; bytes = row_line l }) (term_lines i 0 (terms_of l) ++ row_lines (i + 1) rows)
+    All-cons HasOneFeed (record { name = ProofLine.cut i; bytes = row_line l })
+    (term_lines i 0 (terms_of l) ++ row_lines (i + 1) rows)
     (feeds_of_row l here)
     (All-append HasOneFeed (term_lines i 0 (terms_of l)) (row_lines (i + 1) rows)
-    (terms_have_one_feed i 0 (terms_of l) (names_of_terms l here)) (rows_have_one_feed (i + 1) rows (All-tail HasNames l rows named)))
+    (terms_have_one_feed i 0 (terms_of l) (names_of_terms l here))
+    (rows_have_one_feed (i + 1) rows (All-tail HasNames l rows named)))
 
 pub own_lines_have_one_feed : (c : Claim) → IsBounded c → HasText c → All HasOneFeed (own_lines c)
 own_lines_have_one_feed (Minimal f) b t = All-nil HasOneFeed
 own_lines_have_one_feed (NotMinimal f v) b t =
-    All-cons HasOneFeed (record { name = ProofLine.violation_shown; bytes = violation_line v }) [] (one_feed violation_form violation_is_clear v tt)
+    All-cons HasOneFeed (record { name = ProofLine.violation_shown; bytes = violation_line v }) []
+    (one_feed violation_form violation_is_clear v tt)
     (All-nil HasOneFeed)
 own_lines_have_one_feed (Cut rule rows) b t = rows_have_one_feed 0 rows b.1
-own_lines_have_one_feed (Extreme f lines rows) b t = extreme_have_one_feed Whole f.order lines rows b.order_high t.1 t.2
-own_lines_have_one_feed (ExtremeByResidues f lines rows) b t = extreme_have_one_feed Residues f.order lines rows b.order_high t.1 t.2
+own_lines_have_one_feed (Extreme f lines rows) b t =
+    extreme_have_one_feed Whole f.order lines rows b.order_high t.1 t.2
+own_lines_have_one_feed (ExtremeByResidues f lines rows) b t =
+    extreme_have_one_feed Residues f.order lines rows b.order_high t.1 t.2
 own_lines_have_one_feed (NotExtreme f h) b t = halves_have_one_feed h t

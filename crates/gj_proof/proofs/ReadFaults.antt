@@ -17,36 +17,45 @@ use Rattle.gj_proof.proofs.ReadTexts.{title_part, word_part, last_part, violatio
 
 -- ---- in the claim
 
-pub fault_in_violation : (text middle : List ℕ) (f : FunctionData) (fault : PartFault) → (function_part Strict).Reads text f middle →
+pub fault_in_violation : (text middle : List ℕ) (f : FunctionData) (fault : PartFault) →
+    (function_part Strict).Reads text f middle →
     IsFaultOf violation_part middle fault → IsFaultOf (claim_part NotMinimal) text fault
 fault_in_violation text middle f fault reads h =
     fault_in_next (function_part Strict)
-    (λ g. made_part (λ (v : Violation) c. c ≡ claims.NotMinimal g v) violation_part) text f middle fault reads
+    (λ g. made_part (λ (v : Violation) c. c ≡ claims.NotMinimal g v) violation_part) text f middle
+    fault reads
     (fault_in_made (λ (v : Violation) c. c ≡ claims.NotMinimal f v) violation_part middle fault h)
 
 -- ---- in the text
 
-module _ (text m : List ℕ) (n : Numbers) (fault : PartFault) (title : title_part.Reads text n m) where
+module _ (text m : List ℕ) (n : Numbers) (fault : PartFault)
+    (title : title_part.Reads text n m) where
   behind_title : IsFaultOf (after_title n) m fault → IsFaultOf proof_text text fault
   behind_title h = fault_in_next title_part after_title text n m fault title h
 
   pub fault_in_word : IsFaultOf (word_part n) m fault → IsFaultOf proof_text text fault
   fault_in_word h =
-      behind_title (fault_in_first (named_claim n) after_claim m fault (fault_in_first (word_part n) claim_part m fault h))
+      behind_title (fault_in_first (named_claim n) after_claim m fault
+      (fault_in_first (word_part n) claim_part m fault h))
 
   module _ (inner : List ℕ) (w : ClaimWord) (word : (word_part n).Reads m w inner) where
     pub fault_in_claim : IsFaultOf (claim_part w) inner fault → IsFaultOf proof_text text fault
     fault_in_claim h =
-        behind_title (fault_in_first (named_claim n) after_claim m fault (fault_in_next (word_part n) claim_part m w inner fault word h))
+        behind_title (fault_in_first (named_claim n) after_claim m fault
+        (fault_in_next (word_part n) claim_part m w inner fault word h))
 
     module _ (rest : List ℕ) (c : Claim) (reads : (claim_part w).Reads inner c rest) where
       behind_claim : IsFaultOf (after_claim c) rest fault → IsFaultOf proof_text text fault
-      behind_claim h = behind_title (fault_in_next (named_claim n) after_claim m c rest fault (w, inner, word, reads) h)
+      behind_claim h = behind_title
+          (fault_in_next (named_claim n) after_claim m c rest fault (w, inner, word, reads) h)
 
       pub fault_in_last : IsFaultOf last_part rest fault → IsFaultOf proof_text text fault
-      fault_in_last h = behind_claim (fault_in_first last_part (λ _. end_part Strict c) rest fault h)
+      fault_in_last h = behind_claim
+          (fault_in_first last_part (λ _. end_part Strict c) rest fault h)
 
-      pub fault_behind_last : (behind : List ℕ) → last_part.Reads rest tt behind → IsTail Strict behind fault →
+      pub fault_behind_last : (behind : List ℕ) → last_part.Reads rest tt behind →
+          IsTail Strict behind fault →
           IsFaultOf proof_text text fault
       fault_behind_last behind end h =
-          behind_claim (fault_in_next last_part (λ _. end_part Strict c) rest tt behind fault end (tail_refused Strict c behind fault h))
+          behind_claim (fault_in_next last_part (λ _. end_part Strict c) rest tt behind fault end
+          (tail_refused Strict c behind fault h))

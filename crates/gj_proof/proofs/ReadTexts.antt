@@ -93,37 +93,49 @@ behind_subject f = made_part (makes_not_extreme f) halves_part
 
 claim_part_is_exact : (w : ClaimWord) → IsExactPart (claim_part w).Reads (claim_part w).Faults
 claim_part_is_exact Minimal =
-    made_part_is_exact (λ (f : FunctionData) c. c ≡ claims.Minimal f) (λ f c d h k. h ∙ sym k) (function_part Strict)
+    made_part_is_exact (λ (f : FunctionData) c. c ≡ claims.Minimal f) (λ f c d h k. h ∙ sym k)
+    (function_part Strict)
     (function_part_is_exact Strict)
 claim_part_is_exact NotMinimal =
-    let behind : FunctionData → Part Claim = λ f. made_part (λ (v : Violation) c. c ≡ claims.NotMinimal f v) violation_part in
+    let behind : FunctionData →
+    Part Claim = λ f. made_part (λ (v : Violation) c. c ≡ claims.NotMinimal f v)
+    violation_part in
     then_part_is_exact (function_part Strict) behind (function_part_is_exact Strict)
-    (λ f. made_part_is_exact (λ (v : Violation) c. c ≡ claims.NotMinimal f v) (λ v c d h k. h ∙ sym k) violation_part
+    (λ f. made_part_is_exact (λ (v : Violation) c. c ≡ claims.NotMinimal f v)
+    (λ v c d h k. h ∙ sym k) violation_part
     (part_is_exact violation_form violation_is_clear))
 claim_part_is_exact Cut =
-    let behind : CutRule → Part Claim = λ rule. made_part (λ (rows : List CutLine) c. c ≡ claims.Cut rule rows) rows_part in
+    let behind : CutRule →
+    Part Claim = λ rule. made_part (λ (rows : List CutLine) c. c ≡ claims.Cut rule rows)
+    rows_part in
     then_part_is_exact rule_part behind rule_part_is_exact
-    (λ rule. made_part_is_exact (λ (rows : List CutLine) c. c ≡ claims.Cut rule rows) (λ rows c d h k. h ∙ sym k) rows_part
+    (λ rule. made_part_is_exact (λ (rows : List CutLine) c. c ≡ claims.Cut rule rows)
+    (λ rows c d h k. h ∙ sym k) rows_part
     rows_are_exact)
 claim_part_is_exact (Extreme n) =
     then_read_is_exact (function_part Strict) (behind_function n) (function_part_is_exact Strict)
     (λ text f m h.
     let small = (within_bounds Strict text f m h).order_high in
     then_part_is_exact (covered_part f.order) (behind_cover n f) (covered_is_exact f.order small)
-    (λ lines. then_part_is_exact (modulus_part n) (λ t. behind_modulus n f lines) (modulus_is_exact n)
-    (λ t. made_part_is_exact (makes_extreme n f lines) (λ rows c d h k. h ∙ sym k) (groups_part f.order)
+    (λ lines. then_part_is_exact (modulus_part n) (λ t. behind_modulus n f lines)
+    (modulus_is_exact n)
+    (λ t. made_part_is_exact (makes_extreme n f lines) (λ rows c d h k. h ∙ sym k)
+    (groups_part f.order)
     (groups_are_exact f.order small))))
 claim_part_is_exact NotExtreme =
     then_part_is_exact (function_part Strict) behind_subject (function_part_is_exact Strict)
-    (λ f. made_part_is_exact (makes_not_extreme f) (λ h c d k l. k ∙ sym l) halves_part halves_are_exact)
+    (λ f. made_part_is_exact (makes_not_extreme f)
+    (λ h c d k l. k ∙ sym l) halves_part halves_are_exact)
 
 pub proof_text_is_exact : IsExactPart proof_text.Reads proof_text.Faults
 proof_text_is_exact =
     then_part_is_exact title_part after_title (part_is_exact title_form title_is_clear)
     (λ n. then_part_is_exact (named_claim n) after_claim
-    (then_part_is_exact (word_part n) claim_part (part_is_exact (claim_form n) (claim_is_clear n)) claim_part_is_exact)
+    (then_part_is_exact (word_part n) claim_part (part_is_exact (claim_form n) (claim_is_clear n))
+    claim_part_is_exact)
     (λ c. then_part_is_exact last_part (λ _. end_part Strict c)
-    (line_part_is_exact Strict (words_rule (codes "end" ∷ [])) (words_rule_is_exact (codes "end" ∷ [])))
+    (line_part_is_exact Strict (words_rule (codes "end" ∷ []))
+    (words_rule_is_exact (codes "end" ∷ [])))
     (λ _. end_part_is_exact Strict c)))
 
 -- ---- the lines as bytes
@@ -141,13 +153,16 @@ last_reads =
 
 -- ---- the rule of cuts
 
-gmic_reads : (rest : List ℕ) → (line_part Strict (words_rule gmic_words)).Reads (line (codes "rule gmic") ++ rest) tt rest
+gmic_reads : (rest : List ℕ) →
+    (line_part Strict (words_rule gmic_words)).Reads (line (codes "rule gmic") ++ rest) tt rest
 gmic_reads rest =
-    line_reads (words_rule gmic_words) (line (codes "rule gmic") ++ rest) rest gmic_words tt (λ e. cc) (plain_by_test gmic_words refl) refl
+    line_reads (words_rule gmic_words) (line (codes "rule gmic") ++ rest) rest gmic_words tt
+    (λ e. cc) (plain_by_test gmic_words refl) refl
     refl
 
 -- the lines of a function begin with none of that rule
-no_gmic_line : (text rest : List ℕ) (f : FunctionData) → (function_part Strict).Reads text f rest → BeginsWithLine Strict gmic_words text → ⊥
+no_gmic_line : (text rest : List ℕ) (f : FunctionData) → (function_part Strict).Reads text f rest →
+    BeginsWithLine Strict gmic_words text → ⊥
 no_gmic_line text rest f (q, next, (start, words, strict, (n, (spelled, has), order_is)), h) =
     other_line Strict text start words gmic_words next strict
     (λ e. not_both _ (sym (spelled_words Strict (order_form.fields n) words spelled) ∙ e))
@@ -162,7 +177,8 @@ rule_reads (Table f) lines rest b are =
     table_read (lines ++ rest) rest f (no_gmic_line (lines ++ rest) rest f reads) reads
 rule_reads Gmic lines rest b are =
     subst (λ t. rule_part.Reads (t ++ rest) Gmic rest) (sym are)
-    (gmic_read (line (codes "rule gmic") ++ rest) rest (begins_so Strict _ rest gmic_words (gmic_reads rest)) (gmic_reads rest))
+    (gmic_read (line (codes "rule gmic") ++ rest) rest
+    (begins_so Strict _ rest gmic_words (gmic_reads rest)) (gmic_reads rest))
 
 -- the line of the end begins as one
 end_begins : BeginsEnd last_line
@@ -171,7 +187,8 @@ end_begins = begins_so Strict last_line [] (codes "end" ∷ []) last_reads
 -- ---- a text of a claim is read as the claim
 
 -- the lines of a claim's subject and its own are read, and so is the whole
-whole_reads : (w : ClaimWord) (c : Claim) (inner text : List ℕ) → (claim_part w).Reads inner c last_line →
+whole_reads : (w : ClaimWord) (c : Claim) (inner text : List ℕ) →
+    (claim_part w).Reads inner c last_line →
     text ≡ title_line (numbers_of_word w) ++ (word_line w ++ inner) → proof_text.Reads text c []
 whole_reads w c inner text reads is =
     let n = numbers_of_word w in
@@ -189,13 +206,15 @@ whole_reads w c inner text reads is =
     ) in
     subst (λ t. proof_text.Reads t c []) (sym is) whole
 
-extreme_is_read : (n : Numbers) (f : FunctionData) (lines : List CoverLine) (rows : List PivotRow) (text : List ℕ) → IsWithinBounds f →
+extreme_is_read : (n : Numbers) (f : FunctionData) (lines : List CoverLine) (rows : List PivotRow)
+    (text : List ℕ) → IsWithinBounds f →
     IsExtremeText n f lines rows text → proof_text.Reads text (extreme_claim n f lines rows) []
 extreme_is_read n f lines rows text b p =
     let groups = flat_map group_text rows ++ last_line in
     let modulus = modulus_text n in
     let behind = flat_map cover_line lines ++ (modulus ++ groups) in
-    let covered = (covered_is_printed f.order b.order_high).reads lines (modulus ++ groups) (p.has_text.0, p.has_text.1) tt in
+    let covered = (covered_is_printed f.order b.order_high).reads lines (modulus ++ groups)
+    (p.has_text.0, p.has_text.1) tt in
     whole_reads (Extreme n) (extreme_claim n f lines rows) (p.subject ++ behind) text (
       f,
       behind,
@@ -208,17 +227,25 @@ extreme_is_read n f lines rows text b p =
           tt,
           groups,
           (modulus_is_printed n).reads tt groups tt tt,
-          (rows, (groups_are_printed f.order b.order_high).reads rows last_line p.has_text.2 end_begins, refl),
+          (
+            rows,
+            (groups_are_printed f.order b.order_high).reads rows last_line p.has_text.2
+                end_begins,
+            refl,
+          ),
         ),
       ),
     )
     (p.spelled
-    ∙ regroup (title_line n) (word_line (Extreme n)) p.subject (flat_map cover_line lines) modulus (flat_map group_text rows) last_line)
+    ∙ regroup (title_line n) (word_line (Extreme n)) p.subject (flat_map cover_line lines) modulus
+    (flat_map group_text rows) last_line)
   where
-    regroup : (a b c d m e g : List ℕ) → a ++ b ++ c ++ (d ++ (m ++ e)) ++ g ≡ a ++ (b ++ (c ++ (d ++ (m ++ (e ++ g)))))
+    regroup : (a b c d m e g : List ℕ) →
+        a ++ b ++ c ++ (d ++ (m ++ e)) ++ g ≡ a ++ (b ++ (c ++ (d ++ (m ++ (e ++ g)))))
     regroup a b c d m e g = simp append_assoc
 
-pub text_is_read : (c : Claim) (text : List ℕ) → IsBounded c → IsProofText c text → proof_text.Reads text c []
+pub text_is_read : (c : Claim) (text : List ℕ) → IsBounded c → IsProofText c text →
+    proof_text.Reads text c []
 text_is_read (claims.Minimal f) text b p =
     whole_reads Minimal (claims.Minimal f) (p.subject ++ last_line) text
     (f, canonical_lines_are_read Strict f p.subject last_line b p.are_subject_lines, refl)
@@ -227,26 +254,34 @@ text_is_read (claims.Minimal f) text b p =
     regroup : (a b c d : List ℕ) → a ++ b ++ c ++ [] ++ d ≡ a ++ (b ++ (c ++ d))
     regroup a b c d = simp (append-nil, append_assoc)
 text_is_read (claims.NotMinimal f v) text b p =
-    whole_reads NotMinimal (claims.NotMinimal f v) (p.subject ++ (violation_line v ++ last_line)) text (
+    whole_reads NotMinimal (claims.NotMinimal f v) (p.subject ++ (violation_line v ++ last_line))
+    text (
       f,
       violation_line v ++ last_line,
-      canonical_lines_are_read Strict f p.subject (violation_line v ++ last_line) b p.are_subject_lines,
+      canonical_lines_are_read Strict f p.subject
+          (violation_line v ++ last_line) b p.are_subject_lines,
       (v, line_is_read violation_form violation_is_clear v last_line tt, refl),
     )
-    (p.spelled ∙ regroup (title_line Whole) (word_line NotMinimal) p.subject (violation_line v) last_line)
+    (p.spelled ∙ regroup (title_line Whole) (word_line NotMinimal) p.subject
+    (violation_line v) last_line)
   where
     regroup : (a b c d e : List ℕ) → a ++ b ++ c ++ d ++ e ≡ a ++ (b ++ (c ++ (d ++ e)))
     regroup a b c d e = simp append_assoc
 text_is_read (claims.Cut rule rows) text b p =
     let behind = flat_map row_text rows ++ last_line in
-    whole_reads Cut (claims.Cut rule rows) (p.subject ++ behind) text
-    (rule, behind, rule_reads rule p.subject behind b.0 p.are_subject_lines, (rows, rows_are_printed.reads rows last_line b.1 end_begins, refl))
+    whole_reads Cut (claims.Cut rule rows) (p.subject ++ behind) text (
+      rule,
+      behind,
+      rule_reads rule p.subject behind b.0 p.are_subject_lines,
+      (rows, rows_are_printed.reads rows last_line b.1 end_begins, refl),
+    )
     (p.spelled
     ∙ regroup (title_line Whole) (word_line Cut) p.subject (flat_map row_text rows) last_line)
   where
     regroup : (a b c d e : List ℕ) → a ++ b ++ c ++ d ++ e ≡ a ++ (b ++ (c ++ (d ++ e)))
     regroup a b c d e = simp append_assoc
-text_is_read (claims.Extreme f lines rows) text b p = extreme_is_read Whole f lines rows text b (of_extreme_text f lines rows Whole text p)
+text_is_read (claims.Extreme f lines rows) text b p =
+    extreme_is_read Whole f lines rows text b (of_extreme_text f lines rows Whole text p)
 text_is_read (claims.ExtremeByResidues f lines rows) text b p =
     extreme_is_read Residues f lines rows text b (of_extreme_text f lines rows Residues text p)
 text_is_read (claims.NotExtreme f h) text b p =
@@ -265,7 +300,8 @@ text_is_read (claims.NotExtreme f h) text b p =
 
 -- ---- what is read is the text of a claim
 
-function_found : (text : List ℕ) (f : FunctionData) (rest : List ℕ) → (function_part Strict).Reads text f rest →
+function_found : (text : List ℕ) (f : FunctionData) (rest : List ℕ) →
+    (function_part Strict).Reads text f rest →
     IsWithinBounds f × (lines : List ℕ) × AreFunctionLines f lines × (text ≡ lines ++ rest)
 function_found text f rest h =
     let (lines, are, is) = strict_lines_are_canonical f text rest h in
@@ -278,7 +314,8 @@ pub record RuleFound (r : CutRule) (text rest : List ℕ) : Type 0 where
   pub are_lines : AreSubjectLines (subject_of_rule r) lines
   pub spelled : text ≡ lines ++ rest
 
-rule_found : (text rest : List ℕ) (r : CutRule) → rule_part.Reads text r rest → RuleFound r text rest
+rule_found : (text rest : List ℕ) (r : CutRule) → rule_part.Reads text r rest →
+    RuleFound r text rest
 rule_found text rest r (inl (is, (t, h, r_is))) =
     let (words, words_are, spelled) = line_found (words_rule gmic_words) text rest t h in
     let found : RuleFound Gmic text rest = record {
@@ -290,11 +327,14 @@ rule_found text rest r (inl (is, (t, h, r_is))) =
     subst (λ (r : CutRule). RuleFound r text rest) (sym r_is) found
 rule_found text rest r (inr (not, (f, h, r_is))) =
     let (within, lines, are, is) = function_found text f rest h in
-    let found : RuleFound (Table f) text rest = record { within = within; lines = lines; are_lines = are; spelled = is } in
+    let found : RuleFound (Table f) text rest =
+    record { within = within; lines = lines; are_lines = are; spelled = is } in
     subst (λ (r : CutRule). RuleFound r text rest) (sym r_is) found
 
-claim_found : (w : ClaimWord) (c : Claim) (text inner rest : List ℕ) → (claim_part w).Reads inner c rest →
-    text ≡ title_line (numbers_of_word w) ++ (word_line w ++ inner) → rest ≡ last_line → IsBounded c × IsProofText c text
+claim_found : (w : ClaimWord) (c : Claim) (text inner rest : List ℕ) →
+    (claim_part w).Reads inner c rest →
+    text ≡ title_line (numbers_of_word w) ++ (word_line w ++ inner) → rest ≡ last_line →
+    IsBounded c × IsProofText c text
 claim_found Minimal c text inner rest (f, reads, c_is) is rest_is =
     let (within, bytes, lines, inner_is) = function_found inner f rest reads in
     let P : Claim → Type 0 = λ d. IsBounded d × IsProofText d text in
@@ -304,7 +344,8 @@ claim_found Minimal c text inner rest (f, reads, c_is) is rest_is =
         has_text = tt;
         subject = bytes;
         are_subject_lines = lines;
-        spelled = is ∙ ap (λ t. title_line Whole ++ (word_line Minimal ++ t)) (inner_is ∙ ap (λ t. bytes ++ t) rest_is)
+        spelled = is ∙ ap (λ t. title_line Whole ++ (word_line Minimal ++ t))
+            (inner_is ∙ ap (λ t. bytes ++ t) rest_is)
             ∙ regroup (title_line Whole) (word_line Minimal) bytes last_line;
       },
     )
@@ -334,7 +375,8 @@ claim_found Cut c text inner rest (rule, middle, reads, (rows, more, c_is)) is r
     let subject = rule_found inner middle rule reads in
     let found = rows_are_printed.found middle rest rows more in
     let P : Claim → Type 0 = λ d. IsBounded d × IsProofText d text in
-    let own : middle ≡ flat_map row_text rows ++ last_line = found.0 ∙ ap (λ t. flat_map row_text rows ++ t) rest_is in
+    let own : middle ≡ flat_map row_text rows ++ last_line = found.0
+    ∙ ap (λ t. flat_map row_text rows ++ t) rest_is in
     subst P (sym c_is) (
       (subject.within, found.1),
       record {
@@ -342,35 +384,49 @@ claim_found Cut c text inner rest (rule, middle, reads, (rows, more, c_is)) is r
         subject = subject.lines;
         are_subject_lines = subject.are_lines;
         spelled = is
-            ∙ ap (λ t. title_line Whole ++ (word_line Cut ++ t)) (subject.spelled ∙ ap (λ t. subject.lines ++ t) own)
-            ∙ regroup (title_line Whole) (word_line Cut) subject.lines (flat_map row_text rows) last_line;
+            ∙ ap (λ t. title_line Whole ++ (word_line Cut ++ t))
+            (subject.spelled ∙ ap (λ t. subject.lines ++ t) own)
+            ∙ regroup (title_line Whole) (word_line Cut) subject.lines
+            (flat_map row_text rows) last_line;
       },
     )
   where
     regroup : (a b c d e : List ℕ) → a ++ (b ++ (c ++ (d ++ e))) ≡ a ++ b ++ c ++ d ++ e
     regroup a b c d e = simp append_assoc
-claim_found (Extreme n) c text inner rest (f, middle, reads, (lines, behind, covered, (t, groups, modulus_reads, (rows, more, c_is)))) is rest_is =
+claim_found (Extreme n) c text inner rest
+    (f, middle, reads, (lines, behind, covered, (t, groups, modulus_reads, (rows, more, c_is)))) is
+    rest_is =
     let (within, function, subject, inner_is) = function_found inner f middle reads in
     let small = within.order_high in
     let cover = (covered_is_printed f.order small).found middle behind lines covered in
     let modulus = modulus_text n in
     let found = (groups_are_printed f.order small).found groups rest rows more in
     let P : Claim → Type 0 = λ d. IsBounded d × IsProofText d text in
-    let groups_are : groups ≡ flat_map group_text rows ++ last_line = found.0 ∙ ap (λ t. flat_map group_text rows ++ t) rest_is in
-    let own : middle ≡ flat_map cover_line lines ++ (modulus ++ (flat_map group_text rows ++ last_line)) =
+    let groups_are : groups ≡ flat_map group_text rows ++ last_line = found.0
+    ∙ ap (λ t. flat_map group_text rows ++ t) rest_is in
+    let own : middle ≡ flat_map cover_line lines
+    ++ (modulus ++ (flat_map group_text rows ++ last_line)) =
     cover.0 ∙ ap (λ t. flat_map cover_line lines ++ t)
-    (((modulus_is_printed n).found behind groups t modulus_reads).0 ∙ ap (λ u. modulus ++ u) groups_are) in
+    (((modulus_is_printed n).found behind groups t modulus_reads).0
+    ∙ ap (λ u. modulus ++ u) groups_are) in
     let whole : IsExtremeText n f lines rows text = record {
       has_text = (cover.1.0, cover.1.1, found.1);
       subject = function;
       are_subject_lines = subject;
       spelled = is
-          ∙ ap (λ t. title_line n ++ (word_line (Extreme n) ++ t)) (inner_is ∙ ap (λ t. function ++ t) own)
-          ∙ regroup (title_line n) (word_line (Extreme n)) function (flat_map cover_line lines) modulus (flat_map group_text rows) last_line;
+          ∙ ap (λ t. title_line n ++ (word_line (Extreme n) ++ t))
+          (inner_is ∙ ap (λ t. function ++ t) own)
+          ∙ regroup (title_line n) (word_line (Extreme n)) function
+          (flat_map cover_line lines) modulus (flat_map group_text rows) last_line;
     } in
-    subst P (sym c_is) (extreme_is_bounded f lines rows n within, extreme_is_text f lines rows n text whole)
+    subst P (sym c_is) (
+      extreme_is_bounded f lines rows n within,
+      extreme_is_text f lines rows n
+          text whole,
+    )
   where
-    regroup : (a b c d m e g : List ℕ) → a ++ (b ++ (c ++ (d ++ (m ++ (e ++ g))))) ≡ a ++ b ++ c ++ (d ++ (m ++ e)) ++ g
+    regroup : (a b c d m e g : List ℕ) → a ++ (b ++ (c ++ (d ++ (m ++ (e ++ g)))))
+        ≡ a ++ b ++ c ++ (d ++ (m ++ e)) ++ g
     regroup a b c d m e g = simp append_assoc
 claim_found NotExtreme c text inner rest (f, middle, reads, (h, shown, c_is)) is rest_is =
     let (within, bytes, subject, inner_is) = function_found inner f middle reads in
@@ -392,23 +448,28 @@ claim_found NotExtreme c text inner rest (f, middle, reads, (h, shown, c_is)) is
     regroup : (a b c d e : List ℕ) → a ++ (b ++ (c ++ (d ++ e))) ≡ a ++ b ++ c ++ d ++ e
     regroup a b c d e = simp append_assoc
 
-pub read_is_text : (c : Claim) (text : List ℕ) → proof_text.Reads text c [] → IsBounded c × IsProofText c text
+pub read_is_text : (c : Claim) (text : List ℕ) → proof_text.Reads text c [] →
+    IsBounded c × IsProofText c text
 read_is_text c text
     (n, m, title, (d, rest, (w, inner, word, reads), (u, left, end, (c_is, nil, nothing)))) =
     let claimed = only_line (claim_form n) (claim_is_clear n) m inner w word in
     let numbers_are = claimed.1 in
     let (end_words, end_is, rest_is) = line_found (words_rule (codes "end" ∷ [])) rest left u end in
     let whole : text ≡ title_line (numbers_of_word w) ++ (word_line w ++ inner) =
-    (only_line title_form title_is_clear text m n title).0 ∙ ap (λ k. title_line k ++ m) (sym numbers_are)
+    (only_line title_form title_is_clear text m n title).0
+    ∙ ap (λ k. title_line k ++ m) (sym numbers_are)
     ∙ ap (λ t. title_line (numbers_of_word w) ++ t) claimed.0 in
     let last_is : rest ≡ last_line =
-    rest_is ∙ ap (λ ws. line (join_with_byte 32 ws) ++ left) end_is ∙ ap (λ t. last_line ++ t) nothing ∙ append-nil last_line in
+    rest_is ∙ ap (λ ws. line (join_with_byte 32 ws) ++ left) end_is
+    ∙ ap (λ t. last_line ++ t) nothing ∙ append-nil last_line in
     let P : Claim → Type 0 = λ a. IsBounded a × IsProofText a text in
     subst P (sym c_is) (claim_found w d text inner rest reads whole last_is)
 
 -- the lines of a text, read one after another, are those of a claim
-pub lines_read : (text m inner rest behind : List ℕ) (n : Numbers) (w : ClaimWord) (c : Claim) → title_part.Reads text n m →
-    (word_part n).Reads m w inner → (claim_part w).Reads inner c rest → last_part.Reads rest tt behind → behind ≡ [] →
+pub lines_read : (text m inner rest behind : List ℕ) (n : Numbers) (w : ClaimWord) (c : Claim) →
+    title_part.Reads text n m →
+    (word_part n).Reads m w inner → (claim_part w).Reads inner c rest →
+    last_part.Reads rest tt behind → behind ≡ [] →
     proof_text.Reads text c []
 lines_read text m inner rest behind n w c title word reads end ended =
     (n, m, title, (c, rest, (w, inner, word, reads), (tt, behind, end, (refl, ended, ended))))

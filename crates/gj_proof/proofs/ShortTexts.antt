@@ -36,8 +36,10 @@ use Rattle.gj_forms.proofs.WholeNumbers.{whole_is_short}
 
 violation_is_short : (v : Violation) → length (violation_line v) ≤ 176
 violation_is_short violation.Zero = omega arith
-violation_is_short (violation.Negative x) = omega (arith, fraction_is_short x, length-append (fraction_text x) (10 ∷ []))
-violation_is_short (violation.Asymmetric x) = omega (arith, fraction_is_short x, length-append (fraction_text x) (10 ∷ []))
+violation_is_short (violation.Negative x) =
+    omega (arith, fraction_is_short x, length-append (fraction_text x) (10 ∷ []))
+violation_is_short (violation.Asymmetric x) =
+    omega (arith, fraction_is_short x, length-append (fraction_text x) (10 ∷ []))
 violation_is_short (violation.Superadditive x y) =
     omega (
       arith,
@@ -90,22 +92,34 @@ halves_are_short h b =
 -- ---- texts
 
 -- a text is as long as its parts
-text_is_long : (a b c d e : List ℕ) → length (a ++ b ++ c ++ d ++ e) ≡ length a + length b + length c + length d + length e
-text_is_long a b c d e = omega (arith, length-append (a ++ b ++ c ++ d) e, length-append (a ++ b ++ c) d, length-append (a ++ b) c, length-append a b)
+text_is_long : (a b c d e : List ℕ) →
+    length (a ++ b ++ c ++ d ++ e) ≡ length a + length b + length c + length d + length e
+text_is_long a b c d e =
+    omega (
+      arith,
+      length-append (a ++ b ++ c ++ d) e,
+      length-append (a ++ b ++ c) d,
+      length-append
+          (a ++ b) c,
+      length-append a b,
+    )
 
-pub text_is_short : (c : Claim) (text : List ℕ) → IsShort c → IsBounded c → IsProofText c text → length text ≤ 1000000
+pub text_is_short : (c : Claim) (text : List ℕ) → IsShort c → IsBounded c → IsProofText c text →
+    length text ≤ 1000000
 text_is_short (Minimal f) text few b p =
     omega (
       arith,
       ap length p.spelled,
-      text_is_long (line (codes "gj-proof 1")) (line (codes "claim minimal")) p.subject [] (line (codes "end")),
+      text_is_long (line (codes "gj-proof 1")) (line (codes "claim minimal")) p.subject []
+          (line (codes "end")),
       function_lines_are_short f p.subject b p.are_subject_lines,
     )
 text_is_short (NotMinimal f v) text few b p =
     omega (
       arith,
       ap length p.spelled,
-      text_is_long (line (codes "gj-proof 1")) (line (codes "claim not-minimal")) p.subject (violation_line v) (line (codes "end")),
+      text_is_long (line (codes "gj-proof 1")) (line (codes "claim not-minimal")) p.subject
+          (violation_line v) (line (codes "end")),
       function_lines_are_short f p.subject b p.are_subject_lines,
       violation_is_short v,
     )
@@ -116,7 +130,8 @@ text_is_short (NotExtreme f h) text few b p =
     omega (
       arith,
       ap length p.spelled,
-      text_is_long (line (codes "gj-proof 1")) (line (codes "claim not-extreme")) p.subject (halves_text h)
+      text_is_long (line (codes "gj-proof 1")) (line (codes "claim not-extreme")) p.subject
+          (halves_text h)
           (line (codes "end")),
       function_lines_are_short f p.subject b p.are_subject_lines,
       halves_are_short h p.has_text,
@@ -136,7 +151,8 @@ face_word_is_short Upper = omega arith
 abbrev bytes_behind : List Field → List ℕ
 bytes_behind fields = 32 ∷ bytes_of fields
 
-cover_is_short : (q : ℕ) (l : CoverLine) → q ≤ 1000 → IsCoverLineBelow q l → length (cover_line l) ≤ 61
+cover_is_short : (q : ℕ) (l : CoverLine) → q ≤ 1000 → IsCoverLineBelow q l →
+    length (cover_line l) ≤ 61
 cover_is_short q l small h =
     let interval = h.interval in
     let from = h.from in
@@ -149,8 +165,11 @@ cover_is_short q l small h =
       count_is_short l.face.a (omega arith),
       count_is_short l.face.b (omega arith),
       face_word_is_short l.face.kind,
-      length-append (decimal l.interval) (bytes_behind (count l.from ∷ word (face_word l.face.kind) ∷ count l.face.a ∷ count l.face.b ∷ [])),
-      length-append (decimal l.from) (bytes_behind (word (face_word l.face.kind) ∷ count l.face.a ∷ count l.face.b ∷ [])),
+      length-append (decimal l.interval)
+          (bytes_behind (count l.from ∷ word (face_word l.face.kind) ∷ count l.face.a
+          ∷ count l.face.b ∷ [])),
+      length-append (decimal l.from)
+          (bytes_behind (word (face_word l.face.kind) ∷ count l.face.a ∷ count l.face.b ∷ [])),
       length-append (face_word l.face.kind) (bytes_behind (count l.face.a ∷ count l.face.b ∷ [])),
       length-append (decimal l.face.a) (bytes_behind (count l.face.b ∷ [])),
       length-append (decimal l.face.b) (10 ∷ []),
@@ -167,7 +186,8 @@ covers_are_short q (l ∷ lines) small h =
       length-append (cover_line l) (flat_map cover_line lines),
     )
 
-row_name_is_short : (q : ℕ) (name : RowName) → q ≤ 1000 → IsRowNameBelow q name → length (group_line name) ≤ 26
+row_name_is_short : (q : ℕ) (name : RowName) → q ≤ 1000 → IsRowNameBelow q name →
+    length (group_line name) ≤ 26
 row_name_is_short q Period small h = omega arith
 row_name_is_short q F small h = omega arith
 row_name_is_short q (Pair a b) small h =
@@ -183,7 +203,8 @@ row_name_is_short q (Pair a b) small h =
 column_is_short : (c : ℕ) → c < 1000 → length (decimal c) ≤ 3
 column_is_short c small = length-decimal-le_wide 3 c (omega arith) (omega arith) (omega arith)
 
-steps_are_short : (columns : List ℕ) → All (λ c. c < 1000) columns → length (flat_map reduction_line columns) ≤ 11 * length columns
+steps_are_short : (columns : List ℕ) → All (λ c. c < 1000) columns →
+    length (flat_map reduction_line columns) ≤ 11 * length columns
 steps_are_short [] h = omega arith
 steps_are_short (c ∷ columns) h =
     omega (
@@ -194,7 +215,8 @@ steps_are_short (c ∷ columns) h =
       length-append (reduction_line c) (flat_map reduction_line columns),
     )
 
-group_is_short : (q : ℕ) (row : PivotRow) → q ≤ 1000 → IsPivotRowBelow q row → length row.reduce ≤ 1000 → length (group_text row) ≤ 11036
+group_is_short : (q : ℕ) (row : PivotRow) → q ≤ 1000 → IsPivotRowBelow q row →
+    length row.reduce ≤ 1000 → length (group_text row) ≤ 11036
 group_is_short q row small h few =
     omega (
       arith,
@@ -202,18 +224,22 @@ group_is_short q row small h few =
       steps_are_short row.reduce h.reduce,
       column_is_short row.pivot h.pivot,
       length-append (decimal row.pivot) (10 ∷ []),
-      length-append (group_line row.name ++ flat_map reduction_line row.reduce) (pivot_line row.pivot),
+      length-append (group_line row.name ++ flat_map reduction_line row.reduce)
+          (pivot_line row.pivot),
       length-append (group_line row.name) (flat_map reduction_line row.reduce),
     )
 
-groups_are_short : (q : ℕ) (rows : List PivotRow) → q ≤ 1000 → All (IsPivotRowBelow q) rows → All (λ row. length row.reduce ≤ 1000) rows →
+groups_are_short : (q : ℕ) (rows : List PivotRow) → q ≤ 1000 → All (IsPivotRowBelow q) rows →
+    All (λ row. length row.reduce ≤ 1000) rows →
     length (flat_map group_text rows) ≤ 11036 * length rows
 groups_are_short q [] small h few = omega arith
 groups_are_short q (row ∷ rows) small h few =
     omega (
       arith,
-      group_is_short q row small (All-head (IsPivotRowBelow q) row rows h) (All-head (λ r. length r.reduce ≤ 1000) row rows few),
-      groups_are_short q rows small (All-tail (IsPivotRowBelow q) row rows h) (All-tail (λ r. length r.reduce ≤ 1000) row rows few),
+      group_is_short q row small (All-head (IsPivotRowBelow q) row rows h)
+          (All-head (λ r. length r.reduce ≤ 1000) row rows few),
+      groups_are_short q rows small (All-tail (IsPivotRowBelow q) row rows h)
+          (All-tail (λ r. length r.reduce ≤ 1000) row rows few),
       length-append (group_text row) (flat_map group_text rows),
     )
 
@@ -230,8 +256,10 @@ modulus_is_short Residues =
       length-decimal-le_wide 19 modulus (omega arith) (omega arith) (lit< tt),
     )
 
-pub extreme_text_is_short_by : (n : Numbers) (f : FunctionData) (lines : List CoverLine) (rows : List PivotRow) (text : List ℕ) →
-    IsWithinBounds f → HaveFewSteps rows → IsExtremeText n f lines rows text → length text ≤ longest_extreme_text
+pub extreme_text_is_short_by : (n : Numbers) (f : FunctionData) (lines : List CoverLine)
+    (rows : List PivotRow) (text : List ℕ) →
+    IsWithinBounds f → HaveFewSteps rows → IsExtremeText n f lines rows text →
+    length text ≤ longest_extreme_text
 extreme_text_is_short_by n f lines rows text b few p =
     let small = b.order_high in
     let groups = few.groups in
@@ -239,7 +267,8 @@ extreme_text_is_short_by n f lines rows text b few p =
     omega (
       arith,
       ap length p.spelled,
-      text_is_long (title_line n) (line (codes "claim extreme")) p.subject (extreme_text n lines rows)
+      text_is_long (title_line n) (line (codes "claim extreme")) p.subject
+          (extreme_text n lines rows)
           (line (codes "end")),
       length-append (flat_map cover_line lines) (modulus_text n ++ flat_map group_text rows),
       length-append (modulus_text n) (flat_map group_text rows),
@@ -250,7 +279,9 @@ extreme_text_is_short_by n f lines rows text b few p =
       groups_are_short f.order rows small p.has_text.2 few.steps,
     )
 
-pub extreme_text_is_short : (f : FunctionData) (lines : List CoverLine) (rows : List PivotRow) (text : List ℕ) → IsWithinBounds f →
+pub extreme_text_is_short : (f : FunctionData) (lines : List CoverLine) (rows : List PivotRow)
+    (text : List ℕ) → IsWithinBounds f →
     HaveFewSteps rows → IsProofText (Extreme f lines rows) text → length text ≤ longest_extreme_text
 extreme_text_is_short f lines rows text b few p =
-    extreme_text_is_short_by Whole f lines rows text b few (of_extreme_text f lines rows Whole text p)
+    extreme_text_is_short_by Whole f lines rows text b few
+    (of_extreme_text f lines rows Whole text p)

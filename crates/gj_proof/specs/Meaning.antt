@@ -15,7 +15,8 @@ use Rattle.gj_proof.specs.declared.cut.CutLine.TheVariants as cuts
 -- the cut of a row, if it has one, holds at every solution of the row that its right side and its
 -- terms spell
 abbrev pub CutLineHolds : CutLine → Type 0
-CutLineHolds (cuts.Cut name right terms) = CutHolds (map (λ t. t.entry) terms) right (map (λ t. t.cut) terms)
+CutLineHolds (cuts.Cut name right terms) =
+    CutHolds (map (λ t. t.entry) terms) right (map (λ t. t.cut) terms)
 CutLineHolds (cuts.Skip name right reason) = Unit {0}
 
 -- the halves are two different minimal tables, on a grid of order a multiple of the function's and
@@ -23,7 +24,8 @@ CutLineHolds (cuts.Skip name right reason) = Unit {0}
 abbrev pub ShowHalves : FunctionData → Halves → Type 0
 ShowHalves f h =
     (m : ℕ) × (c : ℕ) × (0 < m) × (h.order ≡ f.order * m) × (h.scale ≡ pos (c * (f.scale * m)))
-    × AreDifferentHalves (table f m) (f.order * m) (f.place * m) (f.scale * m) c (at h.first) (at h.second)
+    × AreDifferentHalves (table f m) (f.order * m) (f.place * m) (f.scale * m) c (at h.first)
+    (at h.second)
 
 -- a minimal function, its table on every grid; the violation shows that the function is not
 -- minimal; each cut holds; a continuous function that is extreme, by whatever rows: each of its

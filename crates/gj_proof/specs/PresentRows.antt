@@ -43,14 +43,16 @@ row_kept_by by f component n kept group = record {
   reduce = group.reduce;
   pivot = group.pivot;
   entries = entries_or_none
-      (by.keep (present_row_by by kept (begun_row by f component n group.name) group.reduce) group.pivot);
+      (by.keep (present_row_by by kept (begun_row by f component n group.name) group.reduce)
+      group.pivot);
 }
 
 abbrev pub row_kept : FunctionData → (ℕ → ℕ) → ℕ → List KeptRow → PivotRow → KeptRow
 row_kept f component n kept group = row_kept_by whole_numbers f component n kept group
 
 -- the rows that these groups keep, behind others
-abbrev pub rows_behind_by : Arithmetic → FunctionData → (ℕ → ℕ) → ℕ → List KeptRow → List PivotRow → List KeptRow
+abbrev pub rows_behind_by : Arithmetic → FunctionData → (ℕ → ℕ) → ℕ → List KeptRow → List PivotRow →
+    List KeptRow
 rows_behind_by by f component n kept [] = kept
 rows_behind_by by f component n kept (group ∷ more) =
     rows_behind_by by f component n (kept ++ row_kept_by by f component n kept group ∷ []) more

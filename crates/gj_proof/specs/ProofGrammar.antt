@@ -82,20 +82,40 @@ head_form = record {
 }
 
 abbrev pub term_form : LineForm CutTerm
-term_form = record { fields = term_fields; HasForm = λ t. IsName t.name; HasLine = λ t. IsName t.name }
+term_form = record {
+  fields = term_fields;
+  HasForm = λ t. IsName t.name;
+  HasLine =
+      λ t. IsName t.name;
+}
 
 abbrev pub cover_form : ℕ → LineForm CoverLine
-cover_form q = record { fields = cover_fields; HasForm = λ l. l.face.kind ≢ Vertex; HasLine = IsCoverLineBelow q }
+cover_form q = record {
+  fields = cover_fields;
+  HasForm = λ l. l.face.kind ≢ Vertex;
+  HasLine =
+      IsCoverLineBelow q;
+}
 
 abbrev pub modulus_form : LineForm (Unit {0})
 modulus_form = form_of (λ t. modulus_fields)
 
 abbrev pub row_name_form : ℕ → LineForm RowName
-row_name_form q = record { fields = row_name_fields; HasForm = λ n. Unit {0}; HasLine = IsRowNameBelow q }
+row_name_form q = record {
+  fields = row_name_fields;
+  HasForm = λ n. Unit {0};
+  HasLine =
+      IsRowNameBelow q;
+}
 
 -- a word and a column below 1,000
 abbrev pub column_form : List ℕ → LineForm ℕ
-column_form w = record { fields = column_fields w; HasForm = λ c. Unit {0}; HasLine = λ c. c < greatest_order }
+column_form w = record {
+  fields = column_fields w;
+  HasForm = λ c. Unit {0};
+  HasLine =
+      λ c. c < greatest_order;
+}
 
 -- the order and the scale are within the limits
 pub record IsHeadInBounds (h : HalvesHead) : Type 0 where
@@ -105,10 +125,20 @@ pub record IsHeadInBounds (h : HalvesHead) : Type 0 where
   pub scale_high : h.scale ≤ℤ pos greatest_halves_scale
 
 abbrev pub halves_form : LineForm HalvesHead
-halves_form = record { fields = λ h. halves_fields h.order h.scale; HasForm = λ h. Unit {0}; HasLine = IsHeadInBounds }
+halves_form = record {
+  fields = λ h. halves_fields h.order h.scale;
+  HasForm =
+      λ h. Unit {0};
+  HasLine = IsHeadInBounds;
+}
 
 abbrev pub pair_form : LineForm (ℤ × ℤ)
-pair_form = record { fields = pair_fields; HasForm = λ p. Unit {0}; HasLine = λ p. Fits p.0 × Fits p.1 }
+pair_form = record {
+  fields = pair_fields;
+  HasForm = λ p. Unit {0};
+  HasLine = λ p. Fits p.0
+      × Fits p.1;
+}
 
 -- a line of a form
 abbrev pub form_part : {A : Type 0} → LineForm A → Part A
@@ -154,13 +184,15 @@ modulus_part Residues = form_part modulus_form
 
 -- steps, as long as lines begin with `reduce`
 abbrev pub steps_part : Part (List ℕ)
-steps_part = while_part (BeginsWithWord Strict (codes "reduce")) (form_part (column_form (codes "reduce"))) []
+steps_part = while_part (BeginsWithWord Strict (codes "reduce"))
+    (form_part (column_form (codes "reduce"))) []
 
 abbrev pub group_part : ℕ → Part PivotRow
 group_part q =
     then_part (form_part (row_name_form q)) (λ name.
     then_part steps_part (λ columns.
-    made_part (λ c row. row ≡ record { name = name; reduce = columns; pivot = c }) (form_part (column_form (codes "pivot")))))
+    made_part (λ c row. row ≡ record { name = name; reduce = columns; pivot = c })
+    (form_part (column_form (codes "pivot")))))
 
 -- groups, up to a line `end`
 abbrev pub groups_part : ℕ → Part (List PivotRow)
@@ -175,7 +207,14 @@ pairs_part n = times_part (form_part pair_form) n []
 abbrev pub halves_part : Part Halves
 halves_part =
     then_part (form_part halves_form) (λ head.
-    made_part (λ pairs h. h ≡ record { order = head.order; scale = head.scale; first = map (λ p. p.0) pairs; second = map (λ p. p.1) pairs })
+    made_part (λ pairs h. h
+    ≡ record {
+      order = head.order;
+      scale = head.scale;
+      first = map (λ p. p.0) pairs;
+      second =
+          map (λ p. p.1) pairs;
+    })
     (pairs_part head.order))
 
 -- ---- the whole text
@@ -193,8 +232,10 @@ extreme_part numbers =
 abbrev pub claim_part : ClaimWord → Part Claim
 claim_part Minimal = made_part (λ f c. c ≡ claim.Minimal f) (function_part Strict)
 claim_part NotMinimal =
-    then_part (function_part Strict) (λ f. made_part (λ v c. c ≡ claim.NotMinimal f v) (form_part violation_form))
-claim_part Cut = then_part rule_part (λ rule. made_part (λ rows c. c ≡ claim.Cut rule rows) rows_part)
+    then_part (function_part Strict)
+    (λ f. made_part (λ v c. c ≡ claim.NotMinimal f v) (form_part violation_form))
+claim_part Cut = then_part rule_part
+    (λ rule. made_part (λ rows c. c ≡ claim.Cut rule rows) rows_part)
 claim_part (Extreme numbers) = extreme_part numbers
 claim_part NotExtreme =
     then_part (function_part Strict) (λ f. made_part (λ h c. c ≡ claim.NotExtreme f h) halves_part)

@@ -126,7 +126,8 @@ abbrev pub violation_fields : Violation → List Field
 violation_fields violation.Zero = word (codes "zero") ∷ []
 violation_fields (violation.Negative x) = word (codes "negative") ∷ fraction x ∷ []
 violation_fields (violation.Asymmetric x) = word (codes "asymmetric") ∷ fraction x ∷ []
-violation_fields (violation.Superadditive x y) = word (codes "superadditive") ∷ fraction x ∷ fraction y ∷ []
+violation_fields (violation.Superadditive x y) =
+    word (codes "superadditive") ∷ fraction x ∷ fraction y ∷ []
 
 abbrev pub violation_line : Violation → List ℕ
 violation_line v = bytes_of (violation_fields v)
@@ -141,7 +142,8 @@ reason_word Other = codes "other"
 -- `cut NAME B`, `skip NAME B integral` or `skip NAME B other`
 abbrev pub row_fields : CutLine → List Field
 row_fields (cuts.Cut name right terms) = word (codes "cut") ∷ word name ∷ fraction right ∷ []
-row_fields (cuts.Skip name right reason) = word (codes "skip") ∷ word name ∷ fraction right ∷ word (reason_word reason) ∷ []
+row_fields (cuts.Skip name right reason) = word (codes "skip") ∷ word name ∷ fraction right ∷ word
+    (reason_word reason) ∷ []
 
 abbrev pub row_line : CutLine → List ℕ
 row_line l = bytes_of (row_fields l)
@@ -201,7 +203,8 @@ modulus_text Residues = modulus_line
 
 -- the lines of covered intervals, that of the modulus, and those of the groups
 abbrev pub extreme_text : Numbers → List CoverLine → List PivotRow → List ℕ
-extreme_text numbers lines rows = flat_map cover_line lines ++ (modulus_text numbers ++ flat_map group_text rows)
+extreme_text numbers lines rows =
+    flat_map cover_line lines ++ (modulus_text numbers ++ flat_map group_text rows)
 
 -- ---- the lines of halves
 
@@ -267,7 +270,8 @@ longest_extreme_text = 12000000
 -- each interval has a line, and the lines and the rows are within the ranges of the form
 abbrev pub AreExtremeLines : FunctionData → List CoverLine → List PivotRow → Type 0
 AreExtremeLines f lines rows =
-    (length lines ≡ f.order) × All (IsCoverLineBelow f.order) lines × All (IsPivotRowBelow f.order) rows
+    (length lines ≡ f.order) × All (IsCoverLineBelow f.order) lines
+    × All (IsPivotRowBelow f.order) rows
 
 -- the ranges and counts of the claim are those of the form; names are names by their type
 abbrev pub HasText : Claim → Type 0
@@ -283,7 +287,8 @@ pub record IsProofText (c : Claim) (text : List ℕ) : Type 0 where
   pub has_text : HasText c
   pub subject : List ℕ
   pub are_subject_lines : AreSubjectLines (subject_of c) subject
-  pub spelled : text ≡ bytes_of (title_fields (numbers_of c)) ++ bytes_of (claim_fields (claim_word c)) ++ subject ++ own_text c
+  pub spelled : text ≡ bytes_of (title_fields (numbers_of c)) ++ bytes_of
+      (claim_fields (claim_word c)) ++ subject ++ own_text c
       ++ line (codes "end")
 
 -- ---- the lines by name
@@ -325,22 +330,26 @@ subject_lines gmic = rule_named ∷ []
 -- the lines of terms of the i-th row, from the j-th on
 abbrev pub term_lines : ℕ → ℕ → List CutTerm → List OwnLine
 term_lines i j [] = []
-term_lines i j (t ∷ terms) = record { name = term i j; bytes = term_line t } ∷ term_lines i (j + 1) terms
+term_lines i j (t ∷ terms) = record { name = term i j; bytes = term_line t } ∷ term_lines i
+    (j + 1) terms
 
 -- the lines of rows, each with those of its terms, from the i-th on
 abbrev pub row_lines : ℕ → List CutLine → List OwnLine
 row_lines i [] = []
-row_lines i (l ∷ more) = record { name = cut i; bytes = row_line l } ∷ term_lines i 0 (terms_of l) ++ row_lines (i + 1) more
+row_lines i (l ∷ more) = record { name = cut i; bytes = row_line l } ∷ term_lines i 0 (terms_of l)
+    ++ row_lines (i + 1) more
 
 -- the lines of covered intervals, from the i-th on
 abbrev pub covered_lines : ℕ → List CoverLine → List OwnLine
 covered_lines i [] = []
-covered_lines i (l ∷ more) = record { name = covered i; bytes = cover_line l } ∷ covered_lines (i + 1) more
+covered_lines i (l ∷ more) = record { name = covered i; bytes = cover_line l } ∷ covered_lines
+    (i + 1) more
 
 -- the lines of the steps of the g-th group, from the r-th on
 abbrev pub reduction_lines : ℕ → ℕ → List ℕ → List OwnLine
 reduction_lines g r [] = []
-reduction_lines g r (c ∷ more) = record { name = reduction g r; bytes = reduction_line c } ∷ reduction_lines g (r + 1) more
+reduction_lines g r (c ∷ more) = record { name = reduction g r; bytes = reduction_line c }
+    ∷ reduction_lines g (r + 1) more
 
 -- the lines of groups, from the g-th on
 abbrev pub group_lines : ℕ → List PivotRow → List OwnLine
@@ -356,7 +365,8 @@ modulus_lines Residues = record { name = modulus_named; bytes = modulus_line } �
 
 -- the lines of covered intervals, that of the modulus, and those of the groups
 abbrev pub extreme_lines : Numbers → List CoverLine → List PivotRow → List OwnLine
-extreme_lines numbers lines rows = covered_lines 0 lines ++ (modulus_lines numbers ++ group_lines 0 rows)
+extreme_lines numbers lines rows =
+    covered_lines 0 lines ++ (modulus_lines numbers ++ group_lines 0 rows)
 
 -- the lines of the halves' values, from the i-th on
 abbrev pub pair_lines : ℕ → List (ℤ × ℤ) → List OwnLine
@@ -370,16 +380,19 @@ own_lines (NotMinimal f v) = record { name = violation_shown; bytes = violation_
 own_lines (Cut rule rows) = row_lines 0 rows
 own_lines (Extreme f lines rows) = extreme_lines Whole lines rows
 own_lines (ExtremeByResidues f lines rows) = extreme_lines Residues lines rows
-own_lines (NotExtreme f h) = record { name = halves; bytes = halves_line h } ∷ pair_lines 0 (zip h.first h.second)
+own_lines (NotExtreme f h) = record { name = halves; bytes = halves_line h } ∷ pair_lines 0
+    (zip h.first h.second)
 
 -- all lines of the text of a claim
 abbrev pub proof_lines_of : Claim → List ProofLine
-proof_lines_of c = title ∷ claim ∷ [] ++ subject_lines (subject_of c) ++ map (λ l. l.name) (own_lines c) ++ last ∷ []
+proof_lines_of c = title ∷ claim ∷ [] ++ subject_lines (subject_of c) ++ map (λ l. l.name)
+    (own_lines c) ++ last ∷ []
 
 -- the bytes of the line of a claim's word, and of its own lines
 abbrev pub HasBytes : Claim → ProofLine → List ℕ → Type 0
 HasBytes c l bytes =
-    ((l ≡ claim) × (bytes ≡ bytes_of (claim_fields (claim_word c)))) ⊎ Contains (own_lines c) (record { name = l; bytes = bytes })
+    ((l ≡ claim) × (bytes ≡ bytes_of (claim_fields (claim_word c))))
+    ⊎ Contains (own_lines c) (record { name = l; bytes = bytes })
 
 -- the line is the n-th of the text, counted from 1, and none before it
 pub record HasNumber (c : Claim) (l : ProofLine) (n : ℕ) : Type 0 where

@@ -69,10 +69,12 @@ pub record MeetsPoint (f : FunctionData) (v : Violation) : Type 0 where
 -- rule of the mixed-integer cut one that is not whole; a row that is passed over has a whole one,
 -- or, by a function, one that is not whole and has another fractional part
 abbrev pub MeetsFraction : CutRule → CutLine → Type 0
-MeetsFraction (Table f) (cuts.Cut name right terms) = HasFractionalPart right (pos f.place) (pos f.order)
+MeetsFraction (Table f) (cuts.Cut name right terms) =
+    HasFractionalPart right (pos f.place) (pos f.order)
 MeetsFraction Gmic (cuts.Cut name right terms) = IsWhole right → ⊥
 MeetsFraction rule (cuts.Skip name right Integral) = IsWhole right
-MeetsFraction (Table f) (cuts.Skip name right Other) = (IsWhole right → ⊥) × (HasFractionalPart right (pos f.place) (pos f.order) → ⊥)
+MeetsFraction (Table f) (cuts.Skip name right Other) = (IsWhole right → ⊥)
+    × (HasFractionalPart right (pos f.place) (pos f.order) → ⊥)
 MeetsFraction Gmic (cuts.Skip name right Other) = ⊥
 
 -- the rule `limit`: x is at most 2^31 in absolute value, and has a common denominator of at most
@@ -89,11 +91,13 @@ pub record MeetsName (basic : List ℕ) (before : List CutTerm) (t : CutTerm) : 
 -- x is the coefficient of the mixed-integer cut at the entry: its value there for the fractional
 -- part f of the right side
 abbrev pub IsGmicCoefficient : Frac → Frac → Frac → Type 0
-IsGmicCoefficient right entry x = (f : Frac) → HasFractionalPart right (numerator f) (denominator f) → IsGmicValue f entry x
+IsGmicCoefficient right entry x = (f : Frac) →
+    HasFractionalPart right (numerator f) (denominator f) → IsGmicValue f entry x
 
 -- the rule `value`: the coefficient of the term is the value of the rule at its entry
 abbrev pub MeetsValue : CutRule → Frac → CutTerm → Type 0
-MeetsValue (Table f) right t = IsValueAt f (numerator t.entry *ℤ pos f.order) (unsigned_abs (denominator t.entry)) t.cut
+MeetsValue (Table f) right t =
+    IsValueAt f (numerator t.entry *ℤ pos f.order) (unsigned_abs (denominator t.entry)) t.cut
 MeetsValue Gmic right t = IsGmicCoefficient right t.entry t.cut
 
 -- ---- the rules of an extreme function
@@ -126,7 +130,8 @@ pub record MeetsPivot (n : ℕ) (kept : List KeptRow) (row : List ℤ) (c : ℕ)
 -- modulus is 1
 abbrev pub MeetsPivotBy : Numbers → ℕ → List KeptRow → List ℤ → ℕ → Type 0
 MeetsPivotBy Whole n kept row c = MeetsPivot n kept row c
-MeetsPivotBy Residues n kept row c = MeetsPivot n kept row c × (gcd_of (unsigned_abs (at_column row c)) modulus ≡ 1)
+MeetsPivotBy Residues n kept row c = MeetsPivot n kept row c
+    × (gcd_of (unsigned_abs (at_column row c)) modulus ≡ 1)
 
 -- ---- the rules of halves
 
@@ -205,7 +210,8 @@ rule_demands Gmic = []
 -- the demands on the j-th term of the i-th row, from the j-th on
 abbrev pub term_demands : ℕ → ℕ → List CutTerm → List Demand
 term_demands i j [] = []
-term_demands i j (t ∷ terms) = term_limit i j ∷ term_name i j ∷ term_value i j ∷ term_demands i (j + 1) terms
+term_demands i j (t ∷ terms) = term_limit i j ∷ term_name i j ∷ term_value i j ∷ term_demands i
+    (j + 1) terms
 
 -- the demands on the i-th row
 abbrev pub row_demands : ℕ → CutLine → List Demand
@@ -225,18 +231,21 @@ size_demands Residues g r = []
 -- the demands on the r-th step of the g-th group, from the r-th on
 abbrev pub step_demands_by : Numbers → ℕ → ℕ → List ℕ → List Demand
 step_demands_by numbers g r [] = []
-step_demands_by numbers g r (c ∷ more) = reduce g r ∷ (size_demands numbers g r ++ step_demands_by numbers g (r + 1) more)
+step_demands_by numbers g r (c ∷ more) =
+    reduce g r ∷ (size_demands numbers g r ++ step_demands_by numbers g (r + 1) more)
 
 -- the demands on groups, from the g-th on
 abbrev pub group_demands_by : Numbers → ℕ → List PivotRow → List Demand
 group_demands_by numbers g [] = []
 group_demands_by numbers g (one ∷ more) =
-    row g ∷ step_demands_by numbers g 0 one.reduce ++ pivot g ∷ group_demands_by numbers (g + 1) more
+    row g ∷ step_demands_by numbers g 0 one.reduce ++ pivot g ∷ group_demands_by numbers
+    (g + 1) more
 
 -- the demands of a claim that a function is extreme, by rows of these numbers
 abbrev pub extreme_demands : Numbers → List CoverLine → List PivotRow → List Demand
 extreme_demands numbers lines rows =
-    minimal ∷ continuous ∷ map cover (range_with_len 0 (length lines)) ++ group_demands_by numbers 0 rows ++ rank ∷ []
+    minimal ∷ continuous ∷ map cover (range_with_len 0 (length lines))
+    ++ group_demands_by numbers 0 rows ++ rank ∷ []
 
 -- the demands on pairs of values, from the i-th on
 abbrev pub pair_demands : List ℕ → List Demand
@@ -251,7 +260,8 @@ demands_of (Cut rule rows) = rule_demands rule ++ cut_demands 0 rows
 demands_of (Extreme f lines rows) = extreme_demands Whole lines rows
 demands_of (ExtremeByResidues f lines rows) = extreme_demands Residues lines rows
 demands_of (NotExtreme f h) =
-    minimal ∷ continuous ∷ scale ∷ pair_demands (range_with_len 0 h.order) ++ first ∷ second ∷ same ∷ []
+    minimal ∷ continuous ∷ scale ∷ pair_demands (range_with_len 0 h.order) ++ first ∷ second ∷ same
+    ∷ []
 
 -- the line of the proof text with which a demand is written
 abbrev pub line_of_demand : Demand → ProofLine
@@ -287,7 +297,8 @@ IsShown (NotExtreme f h) = Unit {0}
 
 -- the i-th item of a list, if it has one, has a property behind those before it
 abbrev pub AtIndex : {A : Type 0} → List A → ℕ → (List A → A → Type 0) → Type 0
-AtIndex {A} items i P = (before : List A) (x : A) (after : List A) → items ≡ before ++ x ∷ after → length before ≡ i → P before x
+AtIndex {A} items i P = (before : List A) (x : A) (after : List A) → items ≡ before ++ x ∷ after →
+    length before ≡ i → P before x
 
 -- the i-th row of a claim about cuts, if it has one, has a property by the claim's rule
 abbrev pub IfRow : Claim → ℕ → (CutRule → CutLine → Type 0) → Type 0
@@ -305,8 +316,11 @@ IfCut (cuts.Skip name right reason) P = Unit {0}
 
 -- the j-th term of the i-th row has a property by the rule, for the basic variable, the right side
 -- and the terms before it
-abbrev pub IfTerm : Claim → ℕ → ℕ → (CutRule → List ℕ → Frac → List CutTerm → CutTerm → Type 0) → Type 0
-IfTerm c i j P = IfRow c i (λ rule l. IfCut l (λ name right terms. AtIndex terms j (λ before t. P rule name right before t)))
+abbrev pub IfTerm : Claim → ℕ → ℕ → (CutRule → List ℕ → Frac → List CutTerm → CutTerm → Type 0) →
+    Type 0
+IfTerm c i j P = IfRow c i
+    (λ rule l. IfCut l (λ name right terms. AtIndex terms j
+    (λ before t. P rule name right before t)))
 
 -- a claim that a function is extreme has a property of the function, its lines and its groups
 abbrev pub IfExtreme : Claim → (FunctionData → List CoverLine → List PivotRow → Type 0) → Type 0
@@ -324,7 +338,8 @@ IfExtreme (NotExtreme f h) P = Unit {0}
 abbrev pub IfGroup : Claim → ℕ → (ℕ → List KeptRow → List ℤ → PivotRow → Type 0) → Type 0
 IfGroup c g P = IfExtreme c (λ f lines rows. AtIndex rows g (λ before one.
     (component : ℕ → ℕ) → AreNumbersOf f lines component →
-    P (components_in lines) (rows_before_by (arithmetic_of (numbers_of c)) f component (components_in lines) before)
+    P (components_in lines)
+    (rows_before_by (arithmetic_of (numbers_of c)) f component (components_in lines) before)
     (begun_row (arithmetic_of (numbers_of c)) f component (components_in lines) one.name) one))
 
 -- the r-th step of the g-th group has a property: of the rows kept before, the row before the step,
@@ -348,16 +363,21 @@ DemandHolds c minimal = IfFunction (subject_of c) PassesAll
 DemandHolds c point = IsShown c
 DemandHolds c (fraction i) = IfRow c i MeetsFraction
 DemandHolds c (limit i) = IfRow c i (λ rule l. IfCut l (λ name right terms. MeetsLimit [] right))
-DemandHolds c (term_limit i j) = IfTerm c i j (λ rule name right before t. MeetsLimit (right ∷ map (λ u. u.entry) before) t.entry)
+DemandHolds c (term_limit i j) =
+    IfTerm c i j (λ rule name right before t. MeetsLimit
+    (right ∷ map (λ u. u.entry) before) t.entry)
 DemandHolds c (term_name i j) = IfTerm c i j (λ rule name right before t. MeetsName name before t)
 DemandHolds c (term_value i j) = IfTerm c i j (λ rule name right before t. MeetsValue rule right t)
 DemandHolds c continuous = IfFunction (subject_of c) IsContinuous
-DemandHolds c (cover i) = IfExtreme c (λ f lines rows. AtIndex lines i (MeetsCoverRule f.order (IsTight f)))
-DemandHolds c (row g) = IfExtreme c (λ f lines rows. AtIndex rows g (λ before one. MeetsRow f one.name))
+DemandHolds c (cover i) =
+    IfExtreme c (λ f lines rows. AtIndex lines i (MeetsCoverRule f.order (IsTight f)))
+DemandHolds c (row g) =
+    IfExtreme c (λ f lines rows. AtIndex rows g (λ before one. MeetsRow f one.name))
 DemandHolds c (reduce g r) = IfStep c g r MeetsReduce
 DemandHolds c (size g r) = IfStep c g r MeetsSize
 DemandHolds c (pivot g) = IfGroup c g (λ n kept begun one.
-    MeetsPivotBy (numbers_of c) n kept (present_row_by (arithmetic_of (numbers_of c)) kept begun one.reduce) one.pivot)
+    MeetsPivotBy (numbers_of c) n kept
+    (present_row_by (arithmetic_of (numbers_of c)) kept begun one.reduce) one.pivot)
 DemandHolds c rank = IfExtreme c (λ f lines rows. length rows ≡ components_in lines)
 DemandHolds c scale = IfHalves c MeetsScale
 DemandHolds c (range i) = IfHalves c (λ f h. MeetsRange h i)

@@ -141,7 +141,8 @@ module _ {R : Type 0} (K : OrderedField R) (floors : HasFloor K) where
   named_holds columns row cut (cuts.Skip name right reason) weighed holds n = tt
 
   cut_holds : (r : CutRule) (columns : List (List ℕ)) (row : Row) (cut : MixedCut) →
-      IsBoundedRule r → MakesContinuousCuts r → IsMixedCutBy r columns row cut → RealHoldsFor K row cut
+      IsBoundedRule r → MakesContinuousCuts r → IsMixedCutBy r columns row cut →
+      RealHoldsFor K row cut
   cut_holds Gmic columns row cut bounds makes is =
       cut_by_gmic K floors (continuous_columns columns) row cut is
   cut_holds (Table f) columns row cut bounds makes (up, down, at_zero, is) =
@@ -216,7 +217,8 @@ module _ {R : Type 0} (K : OrderedField R) (floors : HasFloor K) where
       (λ proof. extremality f proof (json_is_bounded input f spelled)) text h
   real_reply Extreme false false f input text spelled replied h =
       extremality f text (function_is_bounded input f spelled) h
-  real_reply Check json jumps thing input text spelled replied h = checked thing input text spelled h
+  real_reply Check json jumps thing input text spelled replied h =
+      checked thing input text spelled h
   real_reply Mixed json jumps thing input text spelled replied h =
       mixed_cuts thing input text spelled replied.0 h
   real_reply Problem json jumps asked input text spelled replied h = problem_cuts asked text h

@@ -119,7 +119,8 @@ pub record AreRealMixedCuts {R : Type 0} (K : OrderedField R) («rule» : CutRul
   pub hold : All (RealMixedLineHolds K) cuts.lines
 
 -- the text has cuts of the problem, and each holds at all feasible points of real numbers
-pub record AreRealProblemCuts {R : Type 0} (K : OrderedField R) (asked : SafeInput) (text : List ℕ) :
+pub record AreRealProblemCuts {R : Type 0} (K : OrderedField R) (asked : SafeInput)
+    (text : List ℕ) :
     Type 0 where
   pub cuts : AreProblemCuts asked text
   pub hold : All (RealSafeCutHolds K asked.task.problem) cuts.cuts
@@ -127,10 +128,13 @@ pub record AreRealProblemCuts {R : Type 0} (K : OrderedField R) (asked : SafeInp
 -- what is promised of a text, over the field; where no real number enters, as for cuts of whole
 -- columns, it is what is promised
 abbrev pub real_headline : {R : Type 0} (K : OrderedField R) → HasFloor K →
-    (command : Command) (json jumps : Bool) → (promise_with command json jumps).Thing → List ℕ → Type 0
-real_headline K floors Minimal true jumps = λ f text. IsReportBy claims (IsRealVerdict K floors f) text
+    (command : Command) (json jumps : Bool) → (promise_with command json jumps).Thing → List ℕ →
+    Type 0
+real_headline K floors Minimal true jumps =
+    λ f text. IsReportBy claims (IsRealVerdict K floors f) text
 real_headline K floors Minimal false jumps = IsRealVerdict K floors
-real_headline K floors Extreme true false = λ f text. IsReportBy claims (IsRealExtremality K floors f) text
+real_headline K floors Extreme true false =
+    λ f text. IsReportBy claims (IsRealExtremality K floors f) text
 real_headline K floors Extreme false false = IsRealExtremality K floors
 real_headline K floors Extreme json true = IsRealJumpsExtremality K floors json
 real_headline K floors Check json jumps = IsRealCheck K floors

@@ -36,7 +36,8 @@ RealClaimHolds K floors (NotExtreme f h) =
     IsRealMinimal K floors f × (IsRealExtreme K floors f → ⊥)
 
 -- the same of a claim about a function that jumps
-abbrev pub RealLimitClaimHolds : {R : Type 0} (K : OrderedField R) → HasFloor K → LimitClaim → Type 0
+abbrev pub RealLimitClaimHolds : {R : Type 0} (K : OrderedField R) → HasFloor K → LimitClaim →
+    Type 0
 RealLimitClaimHolds K floors (limit.Extreme numbers f lines rows) = IsRealExtreme K floors f
 RealLimitClaimHolds K floors (limit.NotExtreme f h) =
     IsRealMinimal K floors f × (IsRealExtreme K floors f → ⊥)

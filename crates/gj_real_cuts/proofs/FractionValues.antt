@@ -90,7 +90,8 @@ module _ {R : Type 0} (K : OrderedField R) (floors : HasFloor K) where
         ratio_number y (table f d i) (pos (f.scale * d)) (nat_some (f.scale * d) s_some)
         (value i congruent)
         ∙ sym (value_at_fraction K floors f (pieces_of bounds) d d_some i)
-        ∙ at_same_point K (real_function K floors f) (rules_at_reals K floors f (pieces_of bounds) h).function
+        ∙ at_same_point K (real_function K floors f)
+        (rules_at_reals K floors f (pieces_of bounds) h).function
         (over K (pos i) (pos n)) (number_of K x) (point_of_whole K (number_of K x) k _ place)
 
     pub rise_number : (up : Frac) (i : ℕ) →

@@ -15,11 +15,13 @@ abbrev pub Each : {X : Type 0} → (X → Type 0) → List X → Type 0
 Each P [] = Unit {0}
 Each P (x ∷ xs) = P x × Each P xs
 
-pub each_map : {X : Type 0} (P Q : X → Type 0) → ((x : X) → P x → Q x) → (xs : List X) → Each P xs → Each Q xs
+pub each_map : {X : Type 0} (P Q : X → Type 0) → ((x : X) → P x → Q x) → (xs : List X) → Each P xs →
+    Each Q xs
 each_map P Q k [] h = tt
 each_map P Q k (x ∷ xs) h = (k x h.0, each_map P Q k xs h.1)
 
-pub each_join : {X : Type 0} (P : X → Type 0) (xs ys : List X) → Each P xs → Each P ys → Each P (xs ++ ys)
+pub each_join : {X : Type 0} (P : X → Type 0) (xs ys : List X) → Each P xs → Each P ys →
+    Each P (xs ++ ys)
 each_join P [] ys h k = k
 each_join P (x ∷ xs) ys h k = (h.0, each_join P xs ys h.1 k)
 
@@ -40,7 +42,8 @@ module _ {R : Type 0} (K : OrderedField R) where
   under : (c d x t : R) → times c d ≡ negative e →
       plus x (negative (times d t)) ≡ times (negative d) (plus (times c x) t)
   under c d x t is =
-      ring K (x ∷ d ∷ t ∷ []) (var 0 ⊕ neg (var 1 ⊗ var 2)) (neg (neg unit) ⊗ var 0 ⊕ neg (var 1 ⊗ var 2)) refl
+      ring K (x ∷ d ∷ t ∷ []) (var 0 ⊕ neg (var 1 ⊗ var 2))
+      (neg (neg unit) ⊗ var 0 ⊕ neg (var 1 ⊗ var 2)) refl
       ∙ ap (λ z. plus (times (negative z) x) (negative (times d t))) (sym is)
       ∙ ring K (c ∷ d ∷ x ∷ t ∷ []) (neg (var 0 ⊗ var 1) ⊗ var 2 ⊕ neg (var 1 ⊗ var 3))
       (neg (var 1) ⊗ (var 0 ⊗ var 2 ⊕ var 3)) refl
@@ -54,7 +57,8 @@ module _ {R : Type 0} (K : OrderedField R) where
       ∙ ring K (c ∷ d ∷ x ∷ t ∷ []) (var 0 ⊗ var 2 ⊕ neg (var 0 ⊗ var 1 ⊗ var 3))
       (var 0 ⊗ (var 2 ⊕ neg (var 1 ⊗ var 3))) refl
 
-  pub low_there : (c d x t : R) → times c d ≡ negative e → AtMost K d o → AtMost K o (plus (times c x) t) →
+  pub low_there : (c d x t : R) → times c d ≡ negative e → AtMost K d o →
+      AtMost K o (plus (times c x) t) →
       AtMost K (times d t) x
   low_there c d x t is low h =
       by_one K (times d t ∷ x ∷ []) (var 0) (var 1) nil (var 1 ⊕ neg (var 0))
@@ -62,7 +66,8 @@ module _ {R : Type 0} (K : OrderedField R) where
       (K.times_keeps (negative d) (plus (times c x) t)
       (by_one K (d ∷ []) nil (neg (var 0)) (var 0) nil low refl) h)) refl
 
-  pub high_there : (c d x t : R) → times c d ≡ negative e → AtMost K o d → AtMost K o (plus (times c x) t) →
+  pub high_there : (c d x t : R) → times c d ≡ negative e → AtMost K o d →
+      AtMost K o (plus (times c x) t) →
       AtMost K x (times d t)
   high_there c d x t is high h =
       let form = plus (times c x) t in
@@ -84,7 +89,8 @@ module _ {R : Type 0} (K : OrderedField R) where
       AtMost K o (plus (times c x) t)
   high_back c d x t is high h =
       subst (AtMost K o)
-      (ring K (c ∷ x ∷ times d t ∷ []) (neg (var 0) ⊗ (var 2 ⊕ neg (var 1))) (var 0 ⊗ (var 1 ⊕ neg (var 2))) refl
+      (ring K (c ∷ x ∷ times d t ∷ []) (neg (var 0) ⊗ (var 2 ⊕ neg (var 1)))
+      (var 0 ⊗ (var 1 ⊕ neg (var 2))) refl
       ∙ sym (form_is c d x t is))
       (K.times_keeps (negative c) (plus (times d t) (negative x))
       (by_one K (c ∷ []) nil (neg (var 0)) (var 0) nil high refl)
@@ -96,20 +102,23 @@ module _ {R : Type 0} (K : OrderedField R) where
 
   pub minus_inverse : (c : R) → c ≢ o → times c (negative (inverse c)) ≡ negative e
   minus_inverse c some =
-      ring K (c ∷ inverse c ∷ []) (var 0 ⊗ neg (var 1)) (neg (var 0 ⊗ var 1)) refl ∙ ap negative (K.times_inverse c some)
+      ring K (c ∷ inverse c ∷ []) (var 0 ⊗ neg (var 1)) (neg (var 0 ⊗ var 1)) refl
+      ∙ ap negative (K.times_inverse c some)
 
   pub inverse_high : (c : R) → AtMost K c o → c ≢ o → AtMost K o (negative (inverse c))
   inverse_high c high some =
       ⊎_elim (λ low. absurd (not_one_le_zero K
       (by_two K (c ∷ inverse c ∷ []) unit nil unit (var 0 ⊗ var 1) nil (neg (var 0) ⊗ var 1)
       (le_of_eq K e (times c (inverse c)) (sym (K.times_inverse c some)))
-      (K.times_keeps (negative c) (inverse c) (by_one K (c ∷ []) nil (neg (var 0)) (var 0) nil high refl) low) refl)))
+      (K.times_keeps (negative c) (inverse c)
+      (by_one K (c ∷ []) nil (neg (var 0)) (var 0) nil high refl) low) refl)))
       (λ low. by_one K (inverse c ∷ []) nil (neg (var 0)) (var 0) nil low refl)
       (K.total o (inverse c))
 
 -- ---- all variables
 
-module _ {A B : Type 0} (F : OrderedField A) (K : OrderedField B) (image : A → B) (h : Embeds F K image) where
+module _ {A B : Type 0} (F : OrderedField A) (K : OrderedField B) (image : A → B)
+    (h : Embeds F K image) where
   abbrev there : (n : ℕ) → Form A n → Point B n → B
   there n f y = value K image n f y
 
@@ -140,7 +149,11 @@ module _ {A B : Type 0} (F : OrderedField A) (K : OrderedField B) (image : A →
         flats = f.tail ∷ s.flats;
         lows_hold = s.lows_hold;
         highs_hold = s.highs_hold;
-        flats_hold = (subst (AtMost K K.zero) (zero_there K (image f.head) x (there n f.tail y) (ap image none ∙ h.zero_is)) holds, s.flats_hold);
+        flats_hold = (
+          subst (AtMost K K.zero)
+              (zero_there K (image f.head) x (there n f.tail y) (ap image none ∙ h.zero_is)) holds,
+          s.flats_hold,
+        );
         back = λ a b ls us ts. (
           subst (AtMost F F.zero) (sym (zero_there F f.head a (here n f.tail b) none)) ts.0,
           s.back a b ls us ts.1,
@@ -148,7 +161,8 @@ module _ {A B : Type 0} (F : OrderedField A) (K : OrderedField B) (image : A →
       }
   split_more n f fs x y holds s (inl low) (inr other) =
       let c = f.head in
-      let some : c ≢ F.zero = λ none. let same : true ≡ false = sym (le_of_eq F c F.zero none) ∙ other in cc in
+      let some : c ≢ F.zero = λ none. let same : true ≡ false = sym (le_of_eq F c F.zero none)
+      ∙ other in cc in
       let d = F.negative (F.inverse c) in
       let is : F.times c d ≡ F.negative F.one = minus_inverse F c some in
       let there_is : K.times (image c) (image d) ≡ K.negative K.one =
@@ -175,7 +189,8 @@ module _ {A B : Type 0} (F : OrderedField A) (K : OrderedField B) (image : A →
       }
   split_more n f fs x y holds s (inr other) (inl high) =
       let c = f.head in
-      let some : c ≢ F.zero = λ none. let same : true ≡ false = sym (le_of_eq F F.zero c (sym none)) ∙ other in cc in
+      let some : c ≢ F.zero = λ none. let same : true ≡ false = sym (le_of_eq F F.zero c (sym none))
+      ∙ other in cc in
       let d = F.negative (F.inverse c) in
       let is : F.times c d ≡ F.negative F.one = minus_inverse F c some in
       let there_is : K.times (image c) (image d) ≡ K.negative K.one =
@@ -188,7 +203,8 @@ module _ {A B : Type 0} (F : OrderedField A) (K : OrderedField B) (image : A →
         highs_hold = (
           subst (AtMost K x) (sym (value_scaled F K image h n d f.tail y))
               (high_there K (image c) (image d) x (there n f.tail y) there_is
-              (subst (λ z. AtMost K z (image d)) h.zero_is (h.keeps F.zero d (inverse_high F c high some))) holds),
+              (subst (λ z. AtMost K z (image d)) h.zero_is
+              (h.keeps F.zero d (inverse_high F c high some))) holds),
           s.highs_hold,
         );
         flats_hold = s.flats_hold;
@@ -203,7 +219,8 @@ module _ {A B : Type 0} (F : OrderedField A) (K : OrderedField B) (image : A →
       absurd (let same : true ≡ false = sym low ∙ against in cc)
 
   split : (n : ℕ) (fs : List (Form A (suc n))) (x : B) (y : Point B n) →
-      Each (λ f. AtMost K K.zero (K.plus (K.times (image f.head) x) (there n f.tail y))) fs → Split n fs x y
+      Each (λ f. AtMost K K.zero (K.plus (K.times (image f.head) x) (there n f.tail y))) fs →
+      Split n fs x y
   split n [] x y holds = record {
     lows = [];
     highs = [];
@@ -214,7 +231,8 @@ module _ {A B : Type 0} (F : OrderedField A) (K : OrderedField B) (image : A →
     back = λ a b ls us ts. tt;
   }
   split n (f ∷ fs) x y holds =
-      split_more n f fs x y holds.0 (split n fs x y holds.1) (either (F.at_most F.zero f.head)) (either (F.at_most f.head F.zero))
+      split_more n f fs x y holds.0 (split n fs x y holds.1) (either (F.at_most F.zero f.head))
+      (either (F.at_most f.head F.zero))
 
   -- each form of us less l
   abbrev above : (n : ℕ) → Form A n → List (Form A n) → List (Form A n) → List (Form A n)
@@ -227,34 +245,46 @@ module _ {A B : Type 0} (F : OrderedField A) (K : OrderedField B) (image : A →
 
   above_hold : (n : ℕ) (x : B) (y : Point B n) (l : Form A n) (us rest : List (Form A n)) →
       AtMost K (there n l y) x → Each (λ f. AtMost K x (there n f y)) us →
-      Each (λ f. AtMost K K.zero (there n f y)) rest → Each (λ f. AtMost K K.zero (there n f y)) (above n l us rest)
+      Each (λ f. AtMost K K.zero (there n f y)) rest →
+      Each (λ f. AtMost K K.zero (there n f y)) (above n l us rest)
   above_hold n x y l [] rest low highs others = others
   above_hold n x y l (u ∷ us) rest low highs others = (
     subst (AtMost K K.zero) (sym (value_difference F K image h n u l y))
-        (by_two K (x ∷ there n l y ∷ there n u y ∷ []) nil (var 2 ⊕ neg (var 1)) (var 1) (var 0) (var 0) (var 2) low highs.0 refl),
+        (by_two K (x ∷ there n l y ∷ there n u y ∷ []) nil (var 2 ⊕ neg (var 1)) (var 1) (var 0)
+        (var 0) (var 2) low highs.0 refl),
     above_hold n x y l us rest low highs.1 others,
   )
 
   crossed_hold : (n : ℕ) (x : B) (y : Point B n) (ls us rest : List (Form A n)) →
       Each (λ f. AtMost K (there n f y) x) ls → Each (λ f. AtMost K x (there n f y)) us →
-      Each (λ f. AtMost K K.zero (there n f y)) rest → Each (λ f. AtMost K K.zero (there n f y)) (crossed n ls us rest)
+      Each (λ f. AtMost K K.zero (there n f y)) rest →
+      Each (λ f. AtMost K K.zero (there n f y)) (crossed n ls us rest)
   crossed_hold n x y [] us rest lows highs others = others
   crossed_hold n x y (l ∷ ls) us rest lows highs others =
-      above_hold n x y l us (crossed n ls us rest) lows.0 highs (crossed_hold n x y ls us rest lows.1 highs others)
+      above_hold n x y l us (crossed n ls us rest) lows.0 highs
+      (crossed_hold n x y ls us rest lows.1 highs others)
 
   above_tell : (n : ℕ) (b : Point A n) (l : Form A n) (us rest : List (Form A n)) →
       Each (λ f. AtMost F F.zero (here n f b)) (above n l us rest) →
-      Each (λ u. AtMost F (here n l b) (here n u b)) us × Each (λ f. AtMost F F.zero (here n f b)) rest
+      Each (λ u. AtMost F (here n l b) (here n u b)) us
+      × Each (λ f. AtMost F F.zero (here n f b)) rest
   above_tell n b l [] rest holds = (tt, holds)
   above_tell n b l (u ∷ us) rest holds =
       let (others, after) = above_tell n b l us rest holds.1 in
       let first : AtMost F F.zero (F.plus (here n u b) (F.negative (here n l b))) =
-      subst (AtMost F F.zero) (value_difference F F (λ a. a) (itself F) n u l b) holds.0 in
-      ((by_one F (here n l b ∷ here n u b ∷ []) (var 0) (var 1) nil (var 1 ⊕ neg (var 0)) first refl, others), after)
+      subst (AtMost F F.zero) (value_difference F F (λ a. a) (itself F) n u l b) holds.0 in (
+        (
+          by_one F (here n l b ∷ here n u b ∷ []) (var 0) (var 1) nil
+              (var 1 ⊕ neg (var 0)) first refl,
+          others,
+        ),
+        after,
+      )
 
   crossed_tell : (n : ℕ) (b : Point A n) (ls us rest : List (Form A n)) →
       Each (λ f. AtMost F F.zero (here n f b)) (crossed n ls us rest) →
-      Each (λ l. Each (λ u. AtMost F (here n l b) (here n u b)) us) ls × Each (λ f. AtMost F F.zero (here n f b)) rest
+      Each (λ l. Each (λ u. AtMost F (here n l b) (here n u b)) us) ls
+      × Each (λ f. AtMost F F.zero (here n f b)) rest
   crossed_tell n b [] us rest holds = (tt, holds)
   crossed_tell n b (l ∷ ls) us rest holds =
       let (first, more) = above_tell n b l us (crossed n ls us rest) holds in
@@ -262,7 +292,8 @@ module _ {A B : Type 0} (F : OrderedField A) (K : OrderedField B) (image : A →
       ((first, others), after)
 
   -- a number between, if each lower one is at most each upper one
-  between : {X : Type 0} (v : X → A) (ls us : List X) → Each (λ l. Each (λ u. AtMost F (v l) (v u)) us) ls →
+  between : {X : Type 0} (v : X → A) (ls us : List X) →
+      Each (λ l. Each (λ u. AtMost F (v l) (v u)) us) ls →
       (a : A) × Each (λ l. AtMost F (v l) a) ls × Each (λ u. AtMost F a (v u)) us
   between v [] [] holds = (F.zero, tt, tt)
   between v [] (u ∷ us) holds =
@@ -293,12 +324,14 @@ module _ {A B : Type 0} (F : OrderedField A) (K : OrderedField B) (image : A →
       (either (F.at_most (v l) a))
 
   -- forms that are at least 0 at y are so at a point of the lesser field
-  pub solved : (n : ℕ) (y : Point B n) (fs : List (Form A n)) → Each (λ f. AtMost K K.zero (there n f y)) fs →
+  pub solved : (n : ℕ) (y : Point B n) (fs : List (Form A n)) →
+      Each (λ f. AtMost K K.zero (there n f y)) fs →
       (x : Point A n) × Each (λ f. AtMost F F.zero (here n f x)) fs
   solved zero y fs holds = (
     tt,
     each_map (λ f. AtMost K K.zero (image f)) (λ f. AtMost F F.zero f)
-        (λ f most. h.reflects F.zero f (subst (λ z. AtMost K z (image f)) (sym h.zero_is) most)) fs holds,
+        (λ f most. h.reflects F.zero f (subst (λ z. AtMost K z (image f)) (sym h.zero_is) most)) fs
+        holds,
   )
   solved (suc n) y fs holds =
       let s = split n fs y.head y.tail holds in

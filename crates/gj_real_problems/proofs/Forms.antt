@@ -6,7 +6,8 @@ use Rattle.gj_fields.proofs.Ring.{ring, cancel}
 use Rattle.gj_fields.proofs.Ring.Term.{var, nil, unit, neg, ◌⊕◌, ◌⊗◌}
 
 -- the numbers of F are numbers of K, with the same sums, products and order
-pub record Embeds {A B : Type 0} (F : OrderedField A) (K : OrderedField B) (image : A → B) : Type 0 where
+pub record Embeds {A B : Type 0} (F : OrderedField A) (K : OrderedField B) (image : A → B) :
+    Type 0 where
   pub zero_is : image F.zero ≡ K.zero
   pub one_is : image F.one ≡ K.one
   pub plus_is : (x y : A) → image (F.plus x y) ≡ K.plus (image x) (image y)
@@ -28,8 +29,10 @@ pub negative_is : {A B : Type 0} (F : OrderedField A) (K : OrderedField B) (imag
     Embeds F K image → (x : A) → image (F.negative x) ≡ K.negative (image x)
 negative_is F K image h x =
     cancel K (image (F.negative x)) (K.negative (image x)) (image x)
-    (sym (h.plus_is (F.negative x) x) ∙ ap image (F.plus_commutes (F.negative x) x ∙ F.plus_negative x)
-    ∙ h.zero_is ∙ sym (K.plus_negative (image x)) ∙ K.plus_commutes (image x) (K.negative (image x)))
+    (sym (h.plus_is (F.negative x) x)
+    ∙ ap image (F.plus_commutes (F.negative x) x ∙ F.plus_negative x)
+    ∙ h.zero_is ∙ sym (K.plus_negative (image x))
+    ∙ K.plus_commutes (image x) (K.negative (image x)))
 
 -- ---- forms and points
 
@@ -74,11 +77,13 @@ module _ {A : Type 0} (F : OrderedField A) where
 
 -- ---- values
 
-abbrev pub value : {A B : Type 0} (K : OrderedField B) (image : A → B) (n : ℕ) → Form A n → Point B n → B
+abbrev pub value : {A B : Type 0} (K : OrderedField B) (image : A → B) (n : ℕ) → Form A n →
+    Point B n → B
 value K image zero f y = image f
 value K image (suc n) f y = K.plus (K.times (image f.head) y.head) (value K image n f.tail y.tail)
 
-module _ {A B : Type 0} (F : OrderedField A) (K : OrderedField B) (image : A → B) (h : Embeds F K image) where
+module _ {A B : Type 0} (F : OrderedField A) (K : OrderedField B) (image : A → B)
+    (h : Embeds F K image) where
   open K use {plus, times, zero as o, one as e, negative}
 
   abbrev val : (n : ℕ) → Form A n → Point B n → B
@@ -92,14 +97,17 @@ module _ {A B : Type 0} (F : OrderedField A) (K : OrderedField B) (image : A →
 
   pub value_constant : (n : ℕ) (k : A) (y : Point B n) → val n (constant F n k) y ≡ image k
   value_constant zero k y = refl
-  value_constant (suc n) k y = value_ahead n (constant F n k) y.head y.tail ∙ value_constant n k y.tail
+  value_constant (suc n) k y = value_ahead n (constant F n k) y.head y.tail
+      ∙ value_constant n k y.tail
 
-  pub value_variable : (n j : ℕ) (y : Point B n) → val n (variable F n j) y ≡ slice_index_or (numbers n y) j o
+  pub value_variable : (n j : ℕ) (y : Point B n) →
+      val n (variable F n j) y ≡ slice_index_or (numbers n y) j o
   value_variable zero j y = h.zero_is
   value_variable (suc n) zero y =
       ap₂ (λ s t. plus (times s y.head) t) h.one_is (value_constant n F.zero y.tail ∙ h.zero_is)
       ∙ ring K (y.head ∷ []) (unit ⊗ var 0 ⊕ nil) (var 0) refl
-  value_variable (suc n) (suc j) y = value_ahead n (variable F n j) y.head y.tail ∙ value_variable n j y.tail
+  value_variable (suc n) (suc j) y = value_ahead n (variable F n j) y.head y.tail
+      ∙ value_variable n j y.tail
 
   pub value_scaled : (n : ℕ) (c : A) (f : Form A n) (y : Point B n) →
       val n (scaled F n c f) y ≡ times (image c) (val n f y)
@@ -113,9 +121,12 @@ module _ {A B : Type 0} (F : OrderedField A) (K : OrderedField B) (image : A →
       val n (sum F n f g) y ≡ plus (val n f y) (val n g y)
   value_sum zero f g y = h.plus_is f g
   value_sum (suc n) f g y =
-      ap₂ (λ s t. plus (times s y.head) t) (h.plus_is f.head g.head) (value_sum n f.tail g.tail y.tail)
-      ∙ ring K (image f.head ∷ image g.head ∷ y.head ∷ val n f.tail y.tail ∷ val n g.tail y.tail ∷ [])
-      ((var 0 ⊕ var 1) ⊗ var 2 ⊕ (var 3 ⊕ var 4)) ((var 0 ⊗ var 2 ⊕ var 3) ⊕ (var 1 ⊗ var 2 ⊕ var 4)) refl
+      ap₂ (λ s t. plus (times s y.head) t) (h.plus_is f.head g.head)
+      (value_sum n f.tail g.tail y.tail)
+      ∙ ring K (image f.head ∷ image g.head ∷ y.head ∷ val n f.tail y.tail ∷ val n g.tail y.tail
+      ∷ [])
+      ((var 0 ⊕ var 1) ⊗ var 2 ⊕ (var 3 ⊕ var 4))
+      ((var 0 ⊗ var 2 ⊕ var 3) ⊕ (var 1 ⊗ var 2 ⊕ var 4)) refl
 
   pub value_difference : (n : ℕ) (f g : Form A n) (y : Point B n) →
       val n (difference F n f g) y ≡ plus (val n f y) (negative (val n g y))

@@ -22,7 +22,8 @@ bottom_low : (x : Rational) → pos 0 ≤ℤ x.bottom
 bottom_low x = let some = x.reduced.positive in omega (arith, ints)
 
 both_some : (x y : Rational) → (x.bottom *ℤ y.bottom) ≢ pos 0
-both_some x y = not_zero (x.bottom *ℤ y.bottom) (mul_positive_z x.bottom y.bottom x.reduced.positive y.reduced.positive)
+both_some x y = not_zero (x.bottom *ℤ y.bottom)
+    (mul_positive_z x.bottom y.bottom x.reduced.positive y.reduced.positive)
 
 module _ {R : Type 0} (K : OrderedField R) where
   open K use {plus, times, zero as o, one as e, negative, inverse}
@@ -43,7 +44,8 @@ module _ {R : Type 0} (K : OrderedField R) where
       (ap (λ w. times w (plus (over K a b) (over K c d))) (whole_times K b d)
       ∙ ring K (whole K b ∷ whole K d ∷ over K a b ∷ over K c d ∷ [])
       (var 0 ⊗ var 1 ⊗ (var 2 ⊕ var 3)) (var 0 ⊗ var 2 ⊗ var 1 ⊕ var 1 ⊗ var 3 ⊗ var 0) refl
-      ∙ ap₂ (λ s t. plus (times s (whole K d)) (times t (whole K b))) (over_times K a b b_some) (over_times K c d d_some)
+      ∙ ap₂ (λ s t. plus (times s (whole K d)) (times t (whole K b))) (over_times K a b b_some)
+      (over_times K c d d_some)
       ∙ ap₂ plus (sym (whole_times K a d)) (sym (whole_times K c b))
       ∙ sym (whole_plus K (a *ℤ d) (c *ℤ b))))
 
@@ -52,18 +54,22 @@ module _ {R : Type 0} (K : OrderedField R) where
     zero_is = whole_image (pos 0);
     one_is = whole_image (pos 1) ∙ ring K [] (nil ⊕ unit) unit refl;
     plus_is = λ x y.
-        over_same K (x +ℚ y).top (x +ℚ y).bottom (x.top *ℤ y.bottom +ℤ y.top *ℤ x.bottom) (x.bottom *ℤ y.bottom)
+        over_same K (x +ℚ y).top (x +ℚ y).bottom (x.top *ℤ y.bottom +ℤ y.top *ℤ x.bottom)
+        (x.bottom *ℤ y.bottom)
         (bottom_some (x +ℚ y)) (both_some x y) (sum_is x y)
         ∙ over_sum x.top x.bottom y.top y.bottom (bottom_some x) (bottom_some y) (both_some x y);
     times_is = λ x y.
         over_same K (x *ℚ y).top (x *ℚ y).bottom (x.top *ℤ y.top) (x.bottom *ℤ y.bottom)
         (bottom_some (x *ℚ y)) (both_some x y) (product_is x y)
-        ∙ sym (over_product K x.top x.bottom y.top y.bottom (bottom_some x) (bottom_some y) (both_some x y));
+        ∙ sym (over_product K x.top x.bottom y.top y.bottom (bottom_some x) (bottom_some y)
+        (both_some x y));
     keeps = λ x y h.
-        most_over K x.top x.bottom y.top y.bottom (bottom_some x) (bottom_some y) (bottom_low x) (bottom_low y)
+        most_over K x.top x.bottom y.top y.bottom (bottom_some x) (bottom_some y) (bottom_low x)
+        (bottom_low y)
         (most_from x y h).crosswise;
     reflects = λ x y h. most_is x y (record {
       crosswise =
-          over_most K x.top x.bottom y.top y.bottom (bottom_some x) (bottom_some y) (bottom_low x) (bottom_low y) h;
+          over_most K x.top x.bottom y.top y.bottom (bottom_some x) (bottom_some y) (bottom_low x)
+          (bottom_low y) h;
     });
   }

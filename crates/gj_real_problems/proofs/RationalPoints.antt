@@ -19,12 +19,14 @@ use Rattle.gj_real_problems.proofs.Rationals.{most_from, most_is}
 use Rattle.gj_real_problems.proofs.Images.{image, whole_image, embeds}
 
 module _ {R : Type 0} (K : OrderedField R) where
-  value_image : (point : List Rational) (j : ℕ) → real_value_at K (map (image K) point) j ≡ image K (value_at point j)
+  value_image : (point : List Rational) (j : ℕ) → real_value_at K (map (image K) point) j
+      ≡ image K (value_at point j)
   value_image [] j = sym (embeds K).zero_is
   value_image (x ∷ xs) zero = refl
   value_image (x ∷ xs) (suc j) = value_image xs j
 
-  sum_image : (point : List Rational) (es : List Entry) → real_sum_at K (map (image K) point) es ≡ image K (sum_at point es)
+  sum_image : (point : List Rational) (es : List Entry) →
+      real_sum_at K (map (image K) point) es ≡ image K (sum_at point es)
   sum_image point [] = sym (embeds K).zero_is
   sum_image point (e ∷ es) =
       ap₂ K.plus
@@ -57,18 +59,22 @@ module _ {R : Type 0} (K : OrderedField R) where
     columns_image cs xs h.1,
   )
 
-  meets_image : (s : Sense) (sum right : Rational) → Meets s sum right → MeetsOver K s (image K sum) (image K right)
+  meets_image : (s : Sense) (sum right : Rational) → Meets s sum right →
+      MeetsOver K s (image K sum) (image K right)
   meets_image sense.AtMost sum right h = (embeds K).keeps sum right (most_is _ _ h)
   meets_image sense.AtLeast sum right h = (embeds K).keeps right sum (most_is _ _ h)
   meets_image sense.Equal sum right h = ap (image K) h
 
-  constraints_image : (point : List Rational) (cs : List Constraint) → All (MeetsConstraint point) cs →
+  constraints_image : (point : List Rational) (cs : List Constraint) →
+      All (MeetsConstraint point) cs →
       All (MeetsRealConstraint K (map (image K) point)) cs
   constraints_image point [] h = All-nil (MeetsRealConstraint K (map (image K) point))
   constraints_image point (c ∷ cs) h =
       All-cons (MeetsRealConstraint K (map (image K) point)) c cs
-      (subst (λ (s : R). MeetsOver K c.sense s (number_of K c.right)) (sym (sum_image point c.entries))
-      (meets_image c.sense (sum_at point c.entries) (rational c.right) (All-head (MeetsConstraint point) c cs h)))
+      (subst (λ (s : R). MeetsOver K c.sense s (number_of K c.right))
+      (sym (sum_image point c.entries))
+      (meets_image c.sense (sum_at point c.entries) (rational c.right)
+      (All-head (MeetsConstraint point) c cs h)))
       (constraints_image point cs (All-tail (MeetsConstraint point) c cs h))
 
   pub returned : (p : Problem) (q : Inequality) → RealHolds K p q → Holds p q

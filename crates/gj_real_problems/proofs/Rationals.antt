@@ -30,14 +30,16 @@ either_way x y =
     (either (le_z x y))
   where
     turned : (x y : ℤ) → le_z x y ≡ false → le_z y x ≡ true
-    turned x y other = yes_le y x (let apart : x ≤ℤ y → ⊥ = λ h. let same : true ≡ false = sym (yes_le x y h) ∙ other in cc in omega (arith, ints))
+    turned x y other = yes_le y x (let apart : x ≤ℤ y → ⊥ = λ h. let same : true ≡ false =
+        sym (yes_le x y h) ∙ other in cc in omega (arith, ints))
 
 pub both : (x y : ℤ) → x ≤ℤ y → y ≤ℤ x → x ≡ y
 both x y h k = omega (arith, ints)
 
 pub plus_keeps_q : (x y z : Rational) → x ≤ℚ y → (x +ℚ z) ≤ℚ (y +ℚ z)
 plus_keeps_q x y z h =
-    at_most_from_difference (x +ℚ z) (y +ℚ z) (subst IsNonnegativeQ (shifted x y z) (difference_nonnegative x y h))
+    at_most_from_difference (x +ℚ z) (y +ℚ z)
+    (subst IsNonnegativeQ (shifted x y z) (difference_nonnegative x y h))
   where
     shifted : (x y z : Rational) → y -ℚ x ≡ (y +ℚ z) -ℚ (x +ℚ z)
     shifted x y z = by_ring_q (x ∷ y ∷ z ∷ []) (search ring_q depth 40) refl
@@ -45,7 +47,8 @@ plus_keeps_q x y z h =
 less_zero : (x : Rational) → x -ℚ whole (pos 0) ≡ x
 less_zero x = by_ring_q (x ∷ []) (search ring_q depth 30) refl
 
-pub times_keeps_q : (x y : Rational) → whole (pos 0) ≤ℚ x → whole (pos 0) ≤ℚ y → whole (pos 0) ≤ℚ (x *ℚ y)
+pub times_keeps_q : (x y : Rational) → whole (pos 0) ≤ℚ x → whole (pos 0) ≤ℚ y →
+    whole (pos 0) ≤ℚ (x *ℚ y)
 times_keeps_q x y h k =
     at_most_from_difference (whole (pos 0)) (x *ℚ y)
     (subst IsNonnegativeQ (sym (less_zero (x *ℚ y)))
@@ -77,7 +80,8 @@ square_positive z apart =
 
     positive_from : (z : ℤ) → pos 0 ≤ℤ z → unsigned_abs z ≢ 0 → pos 0 <ℤ z
     positive_from z low some =
-        ⊎_elim (λ same. absurd (some (ap unsigned_abs same))) (λ apart. omega (arith, ints)) (same_or_apart_z z (pos 0))
+        ⊎_elim (λ same. absurd (some (ap unsigned_abs same))) (λ apart. omega (arith, ints))
+        (same_or_apart_z z (pos 0))
 
 abbrev inverse_by : (x : Rational) → (x.top ≡ pos 0) ⊎ (x.top ≢ pos 0) → Rational
 inverse_by x (inl none) = whole (pos 0)
@@ -102,7 +106,8 @@ one_of : (x : Rational) → x.top ≡ x.bottom → x ≡ whole (pos 1)
 unfolding whole
 one_of x same = equal_q x (whole (pos 1)) (ap (λ z. z *ℤ pos 1) same ∙ omega (arith, ints))
 
-inverse_law : (x : Rational) (d : (x.top ≡ pos 0) ⊎ (x.top ≢ pos 0)) → x ≢ whole (pos 0) → x *ℚ inverse_by x d ≡ whole (pos 1)
+inverse_law : (x : Rational) (d : (x.top ≡ pos 0) ⊎ (x.top ≢ pos 0)) → x ≢ whole (pos 0) →
+    x *ℚ inverse_by x d ≡ whole (pos 1)
 unfolding over
 inverse_law x (inl none) some = absurd (some (zero_of x none))
 inverse_law x (inr apart) some =
@@ -114,7 +119,8 @@ inverse_law x (inr apart) some =
     (reduced (x.bottom *ℤ x.top) (x.top *ℤ x.top) (square_positive x.top apart)).1
     (product_is x i)
     (mul_some_z (x.bottom *ℤ i.bottom) x.top
-    (mul_some_z x.bottom i.bottom (positive_some_z x.bottom x.reduced.positive) (positive_some_z i.bottom i.reduced.positive))
+    (mul_some_z x.bottom i.bottom (positive_some_z x.bottom x.reduced.positive)
+    (positive_some_z i.bottom i.reduced.positive))
     t_some))
 
 pub inverse_q : Rational → Rational

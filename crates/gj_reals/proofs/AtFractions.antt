@@ -242,7 +242,8 @@ module _ {R : Type 0} (K : OrderedField R) (floors : HasFloor K) (f : FunctionDa
           j / n,
           i / n,
           turned i (j / n)
-              ∙ ap (λ k. times (number K k) u) (from_same_remainder i j n same) ∙ sym (turned j (i / n)),
+              ∙ ap (λ k. times (number K k) u) (from_same_remainder i j n same)
+              ∙ sym (turned j (i / n)),
         )
 
     symmetric_there : (i j : ℕ) → (i + j) % (f.order * m) ≡ (f.place * m) % (f.order * m) →

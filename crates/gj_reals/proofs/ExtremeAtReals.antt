@@ -219,7 +219,8 @@ module _ {R : Type 0} (K : OrderedField R) (floors : HasFloor K) (f : FunctionDa
     equal x =
         let z = Rattle.gj_fields.specs.Fields.HasFloor.floor floors (times q x) in
         let l = plus (times q x) (negative (whole K z)) in
-        let parts : HasParts K floors f (pieces_of bounds) x z l = some_parts K floors f (pieces_of bounds) x in
+        let parts : HasParts K floors f (pieces_of bounds) x z l =
+        some_parts K floors f (pieces_of bounds) x in
         let i = index_of z f.order in
         let some = order_some K floors f (pieces_of bounds) in
         let index = index_is z f.order some in

@@ -41,7 +41,8 @@ module _ {R : Type 0} (K : OrderedField R) (floors : HasFloor K) (f : FunctionDa
 
   order_point : (a : ℕ) (l : R) → times q (point a l) ≡ plus (number K a) l
   order_point a l =
-      inverse_at K q (plus (number K a) l) (number_some K f.order (order_some K floors f (pieces_of bounds)))
+      inverse_at K q (plus (number K a) l)
+      (number_some K f.order (order_some K floors f (pieces_of bounds)))
 
   below_one : (a : ℕ) (l : R) → AtMost K o l → (AtMost K e l → ⊥) →
       v (point a l) ≡ times (line a l) (K.inverse D)

@@ -173,7 +173,8 @@ module _ {R : Type 0} (K : OrderedField R) (floors : HasFloor K) (f : FunctionDa
         } in
         ap v there ∙ on_line K floors f bounds continuous a L L_inside
         ∙ ap (times (line K floors f bounds continuous a L))
-        (sym (inverse_times K floors f (pieces_of bounds) m some f.scale (omega (arith, bounds.scale_low))))
+        (sym (inverse_times K floors f (pieces_of bounds) m some f.scale
+        (omega (arith, bounds.scale_low))))
         ∙ ring K (N ∷ l ∷ w ∷ V ∷ V' ∷ Y ∷ M ∷ [])
         (((unit ⊕ neg ((var 0 ⊕ var 1) ⊗ var 2)) ⊗ var 3 ⊕ (var 0 ⊕ var 1) ⊗ var 2 ⊗ var 4)
         ⊗ (var 5 ⊗ var 6))

@@ -72,7 +72,8 @@ module _ {R : Type 0} (K : OrderedField R) (floors : HasFloor K) (f : FunctionDa
         let inside = scaled_inside x low fits in
         let l = plus e (negative r) in
         let last = f.order - 1 in
-        let next : last + 1 ≡ f.order = let some = order_some K floors f (pieces_of bounds) in omega arith in
+        let next : last + 1 ≡ f.order = let some = order_some K floors f (pieces_of bounds) in
+        omega arith in
         let turn : 0 + f.order ≡ f.order = omega arith in
         let end : V (last + 1) ≡ o = ap V (next ∙ sym turn)
         ∙ ap (whole K) (at_plus_order f.value 0 f.order bounds.value_length) ∙ zero_value in

@@ -23,25 +23,37 @@ module _ (n : ℕ) where
   IsWideHere before c = IsWideColumn n c
 
   fails_at_column : (cs : List Column) → AreWideColumns n cs → Fails IsWideHere cs
-  fails_at_column cs w = record { before = w.before; next = w.next; after = w.after; place = w.place; fails = w.wide }
+  fails_at_column cs w =
+      record { before = w.before; next = w.next; after = w.after; place = w.place; fails = w.wide }
 
   column_fails : (cs : List Column) → Fails IsWideHere cs → AreWideColumns n cs
-  column_fails cs f = record { before = f.before; next = f.next; after = f.after; place = f.place; wide = f.fails }
+  column_fails cs f = record {
+    before = f.before;
+    next = f.next;
+    after = f.after;
+    place =
+        f.place;
+    wide = f.fails;
+  }
 
   pub narrow_no_column : AreWideColumns n [] → ⊥
   narrow_no_column w = none_at_first IsWideHere (fails_at_column [] w)
 
-  pub narrow_next_column : (cs : List Column) (i : ℕ) (c : Column) → i < length cs → c ≡ get_or cs i c → (AreWideColumns n (take i cs) → ⊥) →
+  pub narrow_next_column : (cs : List Column) (i : ℕ) (c : Column) → i < length cs →
+      c ≡ get_or cs i c → (AreWideColumns n (take i cs) → ⊥) →
       (IsWideColumn n c → ⊥) → AreWideColumns n (take (i + 1) cs) → ⊥
   narrow_next_column cs i c below here none narrow w =
-      none_next IsWideHere cs i c below here (λ f. none (column_fails (take i cs) f)) narrow (fails_at_column (take (i + 1) cs) w)
+      none_next IsWideHere cs i c below here (λ f. none (column_fails (take i cs) f)) narrow
+      (fails_at_column (take (i + 1) cs) w)
 
 -- ---- constraints
 
 module _ (p : Problem) (n : ℕ) where
-  pub narrow_side : (w : Weighted) (given : Inequality) → IsSide w given → (IsWideRounding p n given → ⊥) → IsWideSide p n w → ⊥
+  pub narrow_side : (w : Weighted) (given : Inequality) → IsSide w given →
+      (IsWideRounding p n given → ⊥) → IsWideSide p n w → ⊥
   narrow_side w given given_is narrow wide =
-      narrow (subst (IsWideRounding p n) (one_side w wide.given given wide.given_is given_is) wide.wide)
+      narrow (subst (IsWideRounding p n) (one_side w wide.given given wide.given_is given_is)
+      wide.wide)
 
   -- the constraints before it have been relaxed, and then it is at this constraint
   abbrev IsWideNow : List Weighted → Weighted → Type 0
@@ -51,7 +63,8 @@ module _ (p : Problem) (n : ℕ) where
   abbrev pub HasWideSide : List Weighted → Type 0
   HasWideSide ws = Fails IsWideNow ws
 
-  pub wide_at_side : (ms : List Frac) → AreWideSides n p ms → HasWideSide (weighted ms p.constraints)
+  pub wide_at_side : (ms : List Frac) → AreWideSides n p ms →
+      HasWideSide (weighted ms p.constraints)
   wide_at_side ms w = record {
     before = w.before;
     next = w.next;
@@ -63,24 +76,33 @@ module _ (p : Problem) (n : ℕ) where
   pub narrow_no_side : HasWideSide [] → ⊥
   narrow_no_side = none_at_first IsWideNow
 
-  pub narrow_side_with : (ws vs : List Weighted) (w : Weighted) → vs ≡ ws ++ w ∷ [] → (HasWideSide ws → ⊥) → (IsWideSide p n w → ⊥) →
+  pub narrow_side_with : (ws vs : List Weighted) (w : Weighted) → vs ≡ ws ++ w ∷ [] →
+      (HasWideSide ws → ⊥) → (IsWideSide p n w → ⊥) →
       HasWideSide vs → ⊥
   narrow_side_with ws vs w vs_are none narrow f =
-      none_with IsWideNow ws w none (λ (k : IsWideNow ws w). narrow k.2) (subst HasWideSide vs_are f)
+      none_with IsWideNow ws w none (λ (k : IsWideNow ws w). narrow k.2)
+      (subst HasWideSide vs_are f)
 
   -- behind a constraint that a column keeps from the grid none is relaxed
-  pub narrow_sides_to_free : (ms : List Frac) (front back : List Weighted) (w : Weighted) (j : ℕ) → weighted ms p.constraints ≡ front ++ w ∷ back →
-      (HasWideSide front → ⊥) → (IsWideSide p n w → ⊥) → IsFreeSide p n w j → AreWideSides n p ms → ⊥
+  pub narrow_sides_to_free : (ms : List Frac) (front back : List Weighted) (w : Weighted) (j : ℕ) →
+      weighted ms p.constraints ≡ front ++ w ∷ back →
+      (HasWideSide front → ⊥) → (IsWideSide p n w → ⊥) → IsFreeSide p n w j → AreWideSides n p ms →
+      ⊥
   narrow_sides_to_free ms front back w j place none narrow free wide =
-      none_around IsWideNow (weighted ms p.constraints) front back w place none (λ (k : IsWideNow front w). narrow k.2)
-      (λ before rest after next is split k. true_at (IsHeldSide p n) before front rest w is (none_free_sides p n before k.0 k.1) j free)
+      none_around IsWideNow (weighted ms p.constraints) front back w place none
+      (λ (k : IsWideNow front w). narrow k.2)
+      (λ before rest after next is split k. true_at (IsHeldSide p n) before front rest w is
+      (none_free_sides p n before k.0 k.1) j free)
       (wide_at_side ms wide)
 
 -- ---- rows
 
-pub narrow_of_relaxed_row : (move : RightMove) (n : ℕ) (IsOfRow : ℕ → List Piece → Frac → SafeCut → Type 0) (columns : ℕ)
-    (pieces relaxed : List Piece) (right right' : Frac) → (IsWideRelaxedRow move n columns pieces right → ⊥) →
-    IsRelaxedRow move n columns pieces right relaxed right' → (IsOfRow columns relaxed right' Wide → ⊥) →
+pub narrow_of_relaxed_row : (move : RightMove) (n : ℕ) (IsOfRow : ℕ → List Piece → Frac → SafeCut →
+    Type 0) (columns : ℕ)
+    (pieces relaxed : List Piece) (right right' : Frac) →
+    (IsWideRelaxedRow move n columns pieces right → ⊥) →
+    IsRelaxedRow move n columns pieces right relaxed right' →
+    (IsOfRow columns relaxed right' Wide → ⊥) →
     IsOfRelaxedRow move n IsOfRow columns pieces right Wide → ⊥
 narrow_of_relaxed_row move n IsOfRow columns pieces relaxed right right' narrow row fits =
     ⊎_elim narrow
@@ -90,12 +112,15 @@ narrow_of_relaxed_row move n IsOfRow columns pieces relaxed right right' narrow 
 
 -- ---- problems
 
-module _ (n : ℕ) (IsCut : Problem → List Frac → List Bool → SafeCut → Type 0) (p : Problem) (ms : List Frac) (ups : List Bool)
+module _ (n : ℕ) (IsCut : Problem → List Frac → List Bool → SafeCut → Type 0) (p : Problem)
+    (ms : List Frac) (ups : List Bool)
     (narrow : IsWideRelaxing n p ms → ⊥) where
   abbrev FromProblem : Type 0
-  FromProblem = (p' : Problem) × (ms' : List Frac) × IsRelaxedProblem n p ms p' ms' × IsCut p' ms' ups Wide
+  FromProblem = (p' : Problem) × (ms' : List Frac) × IsRelaxedProblem n p ms p' ms'
+      × IsCut p' ms' ups Wide
 
-  pub narrow_of_relaxed_problem : (p' : Problem) (ms' : List Frac) → IsRelaxedProblem n p ms p' ms' → (IsCut p' ms' ups Wide → ⊥) →
+  pub narrow_of_relaxed_problem : (p' : Problem) (ms' : List Frac) →
+      IsRelaxedProblem n p ms p' ms' → (IsCut p' ms' ups Wide → ⊥) →
       IsRelaxedCutOf n IsCut p ms ups Wide → ⊥
   narrow_of_relaxed_problem p' ms' relaxed fits =
       ⊎_elim narrow
@@ -103,5 +128,7 @@ module _ (n : ℕ) (IsCut : Problem → List Frac → List Bool → SafeCut → 
       let same = one_relaxed_problem n p k.0 p' ms k.1 ms' k.2 relaxed in
       fits (subst₂ (λ (q : Problem) (ks : List Frac). IsCut q ks ups Wide) same.0 same.1 k.3))
 
-  pub narrow_of_free_side : (j : ℕ) → IsFirstFreeSide n p ms j → IsRelaxedCutOf n IsCut p ms ups Wide → ⊥
-  narrow_of_free_side j free = ⊎_elim narrow (λ (k : FromProblem). no_free_side n p k.0 ms k.1 j k.2 free)
+  pub narrow_of_free_side : (j : ℕ) → IsFirstFreeSide n p ms j →
+      IsRelaxedCutOf n IsCut p ms ups Wide → ⊥
+  narrow_of_free_side j free =
+      ⊎_elim narrow (λ (k : FromProblem). no_free_side n p k.0 ms k.1 j k.2 free)

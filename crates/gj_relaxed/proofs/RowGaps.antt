@@ -26,35 +26,47 @@ use Rattle.gj_relaxed.specs.RaisedPieces.{sum_surplus_at, IsRise, AreRaised, IsW
 -- ---- differences
 
 difference_cross : (xt xd yt yd zt zd st sd : ℤ) → zt *ℤ (xd *ℤ yd) ≡ (xt *ℤ yd -ℤ yt *ℤ xd) *ℤ zd →
-    st *ℤ (zd *ℤ yd) ≡ (zt *ℤ yd +ℤ yt *ℤ zd) *ℤ sd → unsigned_abs (zd *ℤ yd) ≢ 0 → st *ℤ xd ≡ xt *ℤ sd
+    st *ℤ (zd *ℤ yd) ≡ (zt *ℤ yd +ℤ yt *ℤ zd) *ℤ sd → unsigned_abs (zd *ℤ yd) ≢ 0 →
+    st *ℤ xd ≡ xt *ℤ sd
 difference_cross xt xd yt yd zt zd st sd h k some =
     mul_cancel_right_z (st *ℤ xd) (xt *ℤ sd) (zd *ℤ yd)
-    (swap_last_z st xd (zd *ℤ yd) ∙ ap (λ w. w *ℤ xd) k ∙ first xd yt yd zt zd sd ∙ ap (λ w. (w +ℤ (yt *ℤ xd) *ℤ zd) *ℤ sd) h
+    (swap_last_z st xd (zd *ℤ yd) ∙ ap (λ w. w *ℤ xd) k ∙ first xd yt yd zt zd sd
+    ∙ ap (λ w. (w +ℤ (yt *ℤ xd) *ℤ zd) *ℤ sd) h
     ∙ second xt xd yt yd zd sd)
     some
   where
-    first : (xd yt yd zt zd sd : ℤ) → ((zt *ℤ yd +ℤ yt *ℤ zd) *ℤ sd) *ℤ xd ≡ (zt *ℤ (xd *ℤ yd) +ℤ (yt *ℤ xd) *ℤ zd) *ℤ sd
+    first : (xd yt yd zt zd sd : ℤ) →
+        ((zt *ℤ yd +ℤ yt *ℤ zd) *ℤ sd) *ℤ xd ≡ (zt *ℤ (xd *ℤ yd) +ℤ (yt *ℤ xd) *ℤ zd) *ℤ sd
     first xd yt yd zt zd sd = by_ring (xd ∷ yt ∷ yd ∷ zt ∷ zd ∷ sd ∷ []) (search ring depth 40) refl
 
-    second : (xt xd yt yd zd sd : ℤ) → ((xt *ℤ yd -ℤ yt *ℤ xd) *ℤ zd +ℤ (yt *ℤ xd) *ℤ zd) *ℤ sd ≡ (xt *ℤ sd) *ℤ (zd *ℤ yd)
-    second xt xd yt yd zd sd = by_ring (xt ∷ xd ∷ yt ∷ yd ∷ zd ∷ sd ∷ []) (search ring depth 40) refl
+    second : (xt xd yt yd zd sd : ℤ) → ((xt *ℤ yd -ℤ yt *ℤ xd) *ℤ zd +ℤ (yt *ℤ xd) *ℤ zd) *ℤ sd
+        ≡ (xt *ℤ sd) *ℤ (zd *ℤ yd)
+    second xt xd yt yd zd sd =
+        by_ring (xt ∷ xd ∷ yt ∷ yd ∷ zd ∷ sd ∷ []) (search ring depth 40) refl
 
 taken_away : (y z : Rational) → z ≡ (z +ℚ y) -ℚ y
 taken_away y z = by_ring_q (y ∷ z ∷ []) (search ring_q depth 40) refl
 
-pub difference_value : (x y z : Frac) → SameValue (fraction_of z) (difference_of (fraction_of x) (fraction_of y)) →
+pub difference_value : (x y z : Frac) →
+    SameValue (fraction_of z) (difference_of (fraction_of x) (fraction_of y)) →
     rational z ≡ rational x -ℚ rational y
 difference_value x y z h =
     let s = rational z +ℚ rational y in
     taken_away (rational y) (rational z)
     ∙ ap (λ w. w -ℚ rational y)
     (equal_q s (rational x)
-    (difference_cross x.num x.den y.num y.den z.num z.den s.top s.bottom h (sum_is (rational z) (rational y)) (denominators_some z y)))
+    (difference_cross x.num x.den y.num y.den z.num z.den s.top s.bottom h
+    (sum_is (rational z) (rational y)) (denominators_some z y)))
 
 -- ---- pieces that are raised
 
 pub none_raised : (n : ℕ) (sum : Sum) → AreRaised n [] [] sum sum
-none_raised n sum = record { raised_are = tt; count = refl; adds = λ point. nothing (sum_surplus_at point sum) }
+none_raised n sum = record {
+  raised_are = tt;
+  count = refl;
+  adds =
+      λ point. nothing (sum_surplus_at point sum);
+}
   where
     nothing : (x : Rational) → x ≡ x +ℚ (whole (pos 0) -ℚ whole (pos 0))
     nothing x = by_ring_q (x ∷ []) (search ring_q depth 40) refl
@@ -63,34 +75,45 @@ both_gained : (x r p t q : Rational) → (x +ℚ (r -ℚ p)) +ℚ (t -ℚ q) ≡
 both_gained x r p t q = by_ring_q (x ∷ r ∷ p ∷ t ∷ q ∷ []) (search ring_q depth 60 fits 3000) refl
 
 -- what the pieces of both lists gain
-gained_in_both : (point : List Rational) (ps rs qs ts : List Piece) (old now next : Rational) → now ≡ old +ℚ (pieces_at point rs -ℚ pieces_at point ps) →
-    next ≡ now +ℚ (pieces_at point ts -ℚ pieces_at point qs) → next ≡ old +ℚ (pieces_at point (rs ++ ts) -ℚ pieces_at point (ps ++ qs))
+gained_in_both : (point : List Rational) (ps rs qs ts : List Piece) (old now next : Rational) →
+    now ≡ old +ℚ (pieces_at point rs -ℚ pieces_at point ps) →
+    next ≡ now +ℚ (pieces_at point ts -ℚ pieces_at point qs) →
+    next ≡ old +ℚ (pieces_at point (rs ++ ts) -ℚ pieces_at point (ps ++ qs))
 gained_in_both point ps rs qs ts old now next h k =
     k ∙ ap (λ w. w +ℚ (pieces_at point ts -ℚ pieces_at point qs)) h
-    ∙ both_gained old (pieces_at point rs) (pieces_at point ps) (pieces_at point ts) (pieces_at point qs)
-    ∙ ap₂ (λ a b. old +ℚ (a -ℚ b)) (sym (pieces_joined point rs ts)) (sym (pieces_joined point ps qs))
+    ∙ both_gained old (pieces_at point rs) (pieces_at point ps) (pieces_at point ts)
+    (pieces_at point qs)
+    ∙ ap₂ (λ a b. old +ℚ (a -ℚ b)) (sym (pieces_joined point rs ts))
+    (sym (pieces_joined point ps qs))
 
 -- what those of the second list gain, if this is what both gain
-pub gained_after : (point : List Rational) (ps rs qs ts : List Piece) (old now next : Rational) → now ≡ old +ℚ (pieces_at point rs -ℚ pieces_at point ps) →
-    next ≡ old +ℚ (pieces_at point (rs ++ ts) -ℚ pieces_at point (ps ++ qs)) → next ≡ now +ℚ (pieces_at point ts -ℚ pieces_at point qs)
+pub gained_after : (point : List Rational) (ps rs qs ts : List Piece) (old now next : Rational) →
+    now ≡ old +ℚ (pieces_at point rs -ℚ pieces_at point ps) →
+    next ≡ old +ℚ (pieces_at point (rs ++ ts) -ℚ pieces_at point (ps ++ qs)) →
+    next ≡ now +ℚ (pieces_at point ts -ℚ pieces_at point qs)
 gained_after point ps rs qs ts old now next h k =
     k ∙ ap₂ (λ a b. old +ℚ (a -ℚ b)) (pieces_joined point rs ts) (pieces_joined point ps qs)
-    ∙ sym (both_gained old (pieces_at point rs) (pieces_at point ps) (pieces_at point ts) (pieces_at point qs))
+    ∙ sym (both_gained old (pieces_at point rs) (pieces_at point ps) (pieces_at point ts)
+    (pieces_at point qs))
     ∙ ap (λ w. w +ℚ (pieces_at point ts -ℚ pieces_at point qs)) (sym h)
 
-pub raised_joined : (n : ℕ) (ps rs qs ts : List Piece) (old now next : Sum) → AreRaised n ps rs old now → AreRaised n qs ts now next →
+pub raised_joined : (n : ℕ) (ps rs qs ts : List Piece) (old now next : Sum) →
+    AreRaised n ps rs old now → AreRaised n qs ts now next →
     AreRaised n (ps ++ qs) (rs ++ ts) old next
 raised_joined n ps rs qs ts old now next h k = record {
   raised_are = zip_joined (IsRaised n) ps qs rs ts h.raised_are k.raised_are;
   count = k.count ∙ h.count;
-  adds = λ point. gained_in_both point ps rs qs ts (sum_surplus_at point old) (sum_surplus_at point now) (sum_surplus_at point next)
+  adds = λ point. gained_in_both point ps rs qs ts (sum_surplus_at point old)
+      (sum_surplus_at point now) (sum_surplus_at point next)
       (h.adds point) (k.adds point);
 }
 
-one_gain : (e f v : Rational) → (f -ℚ e) *ℚ v ≡ (f *ℚ v +ℚ whole (pos 0)) -ℚ (e *ℚ v +ℚ whole (pos 0))
+one_gain : (e f v : Rational) →
+    (f -ℚ e) *ℚ v ≡ (f *ℚ v +ℚ whole (pos 0)) -ℚ (e *ℚ v +ℚ whole (pos 0))
 one_gain e f v = by_ring_q (e ∷ f ∷ v ∷ []) (search ring_q depth 60 fits 3000) refl
 
-pub one_raised : (n : ℕ) (s s' : Piece) (old new : Sum) → IsRaised n s s' → IsRise s s'.entry old new → AreRaised n (s ∷ []) (s' ∷ []) old new
+pub one_raised : (n : ℕ) (s s' : Piece) (old new : Sum) → IsRaised n s s' →
+    IsRise s s'.entry old new → AreRaised n (s ∷ []) (s' ∷ []) old new
 one_raised n s s' old new is rise = record {
   raised_are = (is, tt);
   count = rise.count;
@@ -99,7 +122,8 @@ one_raised n s s' old new is rise = record {
       rise.adds point
       ∙ ap (λ w. sum_surplus_at point old +ℚ w)
       (one_gain (rational s.entry) (rational s'.entry) v
-      ∙ ap (λ (q : Inequality). (rational s'.entry *ℚ surplus_at point q +ℚ whole (pos 0)) -ℚ (rational s.entry *ℚ v +ℚ whole (pos 0)))
+      ∙ ap (λ (q : Inequality). (rational s'.entry *ℚ surplus_at point q +ℚ whole (pos 0))
+      -ℚ (rational s.entry *ℚ v +ℚ whole (pos 0)))
       (sym is.inequality));
 }
 
@@ -111,30 +135,37 @@ pub record IsBegun (columns : ℕ) (right right' : Frac) (sum : Sum) : Type 0 wh
   pub none : (point : List Rational) → dot sum.coefficients.items point ≡ whole (pos 0)
   pub right_is : rational sum.right ≡ rational right' -ℚ rational right
 
-pub begun_at : (columns : ℕ) (right right' : Frac) (sum : Sum) → IsBegun columns right right' sum → (point : List Rational) →
+pub begun_at : (columns : ℕ) (right right' : Frac) (sum : Sum) → IsBegun columns right right' sum →
+    (point : List Rational) →
     sum_surplus_at point sum ≡ rational right -ℚ rational right'
 begun_at columns right right' sum begun point =
-    ap₂ (λ a b. a -ℚ b) (begun.none point) begun.right_is ∙ turned (rational right) (rational right')
+    ap₂ (λ a b. a -ℚ b) (begun.none point) begun.right_is
+    ∙ turned (rational right) (rational right')
   where
     turned : (r r' : Rational) → whole (pos 0) -ℚ (r' -ℚ r) ≡ r -ℚ r'
     turned r r' = by_ring_q (r ∷ r' ∷ []) (search ring_q depth 40) refl
 
-pub gap_from : (n columns : ℕ) (ps rs : List Piece) (right right' entry : Frac) (none last : Sum) (q : Inequality) → IsBegun columns right right' none →
-    AreRaised n ps rs none last → ((point : List Rational) → surplus_at point q ≡ sum_surplus_at point last) →
-    AreTermsWithin 0 (length last.coefficients.items) q.entries → rational entry ≡ whole (negsuc 0) →
+pub gap_from : (n columns : ℕ) (ps rs : List Piece) (right right' entry : Frac) (none last : Sum)
+    (q : Inequality) → IsBegun columns right right' none →
+    AreRaised n ps rs none last →
+    ((point : List Rational) → surplus_at point q ≡ sum_surplus_at point last) →
+    AreTermsWithin 0 (length last.coefficients.items) q.entries →
+    rational entry ≡ whole (negsuc 0) →
     IsGap columns ps rs right right' (record { entry = entry; inequality = q; is_whole = false })
 gap_from n columns ps rs right right' entry none last q begun h made terms entry_is = record {
   entry = entry_is;
   is_whole = refl;
   surplus = λ point. made point ∙ h.adds point
-      ∙ ap (λ x. x +ℚ (pieces_at point rs -ℚ pieces_at point ps)) (begun_at columns right right' none begun point);
+      ∙ ap (λ x. x +ℚ (pieces_at point rs -ℚ pieces_at point ps))
+      (begun_at columns right right' none begun point);
   terms = subst (λ (k : ℕ). AreTermsWithin 0 k q.entries) (h.count ∙ begun.count) terms;
 }
 
 -- ---- a number that does not fit
 
 -- it is so in more columns that are as many, and with what was there in other words
-pub wide_along : (n c d : ℕ) (there other : List Rational → Rational) (ps : List Piece) → c ≡ d → ((point : List Rational) → there point ≡ other point) →
+pub wide_along : (n c d : ℕ) (there other : List Rational → Rational) (ps : List Piece) → c ≡ d →
+    ((point : List Rational) → there point ≡ other point) →
     AreWideGapTerms n c there ps → AreWideGapTerms n d other ps
 wide_along n c d there other ps count same w = record {
   before = w.before;
@@ -146,11 +177,13 @@ wide_along n c d there other ps count same w = record {
   sum = w.sum;
   right = w.right;
   count = w.count ∙ count;
-  adds = λ point. w.adds point ∙ ap (λ x. x +ℚ (pieces_at point w.raised -ℚ pieces_at point w.before)) (same point);
+  adds = λ point. w.adds point
+      ∙ ap (λ x. x +ℚ (pieces_at point w.raised -ℚ pieces_at point w.before)) (same point);
   wide = w.wide;
 }
 
-pub wide_in_first : (n c : ℕ) (there : List Rational → Rational) (ps qs : List Piece) → AreWideGapTerms n c there ps →
+pub wide_in_first : (n c : ℕ) (there : List Rational → Rational) (ps qs : List Piece) →
+    AreWideGapTerms n c there ps →
     AreWideGapTerms n c there (ps ++ qs)
 wide_in_first n c there ps qs w = record {
   before = w.before;
@@ -173,13 +206,15 @@ wide_in_second n ps rs qs old now h w = record {
   before = ps ++ w.before;
   next = w.next;
   after = w.after;
-  place = ap (λ (xs : List Piece). ps ++ xs) w.place ∙ sym (append_assoc ps w.before (w.next ∷ w.after));
+  place = ap (λ (xs : List Piece). ps ++ xs) w.place
+      ∙ sym (append_assoc ps w.before (w.next ∷ w.after));
   raised = rs ++ w.raised;
   raised_are = zip_joined (IsRaised n) ps w.before rs w.raised h.raised_are w.raised_are;
   sum = w.sum;
   right = w.right;
   count = w.count ∙ h.count;
-  adds = λ point. gained_in_both point ps rs w.before w.raised (sum_surplus_at point old) (sum_surplus_at point now)
+  adds = λ point. gained_in_both point ps rs w.before w.raised (sum_surplus_at point old)
+      (sum_surplus_at point now)
       (dot w.sum point -ℚ rational w.right) (h.adds point) (w.adds point);
   wide = w.wide;
 }
@@ -187,35 +222,45 @@ wide_in_second n ps rs qs old now h w = record {
 -- ---- pieces that are raised one after the other
 
 -- those before the index have been raised, and the others are as they were
-module _ (n : ℕ) (ps now made : List Piece) (i : ℕ) (s : Piece) (old sum : Sum) (below : i < length ps)
+module _ (n : ℕ) (ps now made : List Piece) (i : ℕ) (s : Piece) (old sum : Sum)
+    (below : i < length ps)
     (is : now ≡ made ++ drop i ps) (h : AreRaised n (take i ps) made old sum) where
   abbrev next : Piece
   next = get_or now i s
 
   count : length made ≡ i
-  count = sym (length_all_zip (IsRaised n) (take i ps) made h.raised_are) ∙ length-take-le i ps (omega (arith, below))
+  count = sym (length_all_zip (IsRaised n) (take i ps) made h.raised_are)
+      ∙ length-take-le i ps (omega (arith, below))
 
   place : now ≡ made ++ get_or ps i s ∷ drop (i + 1) ps
   place = is ∙ ap (λ (xs : List Piece). made ++ xs) (drop_more ps i s below)
 
   next_is : next ≡ get_or ps i s
   next_is =
-      ap₂ (λ (xs : List Piece) (k : ℕ). get_or xs k s) place (sym count) ∙ get_or-append_seam made (get_or ps i s) (drop (i + 1) ps) s
+      ap₂ (λ (xs : List Piece) (k : ℕ). get_or xs k s) place (sym count)
+      ∙ get_or-append_seam made (get_or ps i s) (drop (i + 1) ps) s
 
   pub next_taken : take (i + 1) ps ≡ take i ps ++ next ∷ []
   next_taken = take_more ps i s below ∙ ap (λ (z : Piece). take i ps ++ z ∷ []) (sym next_is)
 
-  pub raised_next : (entry : Frac) (last : Sum) → IsBelowOnGrid n (neg_ℚ (rational next.entry)) (neg_ℚ (rational entry)) → IsRise next entry sum last →
-      (more : List Piece) × (set now i (record { entry = entry; inequality = next.inequality; is_whole = next.is_whole }) ≡ more ++ drop (i + 1) ps)
+  pub raised_next : (entry : Frac) (last : Sum) →
+      IsBelowOnGrid n (neg_ℚ (rational next.entry)) (neg_ℚ (rational entry)) →
+      IsRise next entry sum last →
+      (more : List Piece) × (set now i
+      (record { entry = entry; inequality = next.inequality; is_whole = next.is_whole })
+      ≡ more ++ drop (i + 1) ps)
       × AreRaised n (take (i + 1) ps) more old last
   raised_next entry last on_grid rise =
-      let raised : Piece = record { entry = entry; inequality = next.inequality; is_whole = next.is_whole } in (
+      let raised : Piece =
+      record { entry = entry; inequality = next.inequality; is_whole = next.is_whole } in (
         made ++ raised ∷ [],
-        ap₂ (λ (xs : List Piece) (k : ℕ). set xs k raised) place (sym count) ∙ set-append_seam made (get_or ps i s) (drop (i + 1) ps) raised
+        ap₂ (λ (xs : List Piece) (k : ℕ). set xs k raised) place (sym count)
+            ∙ set-append_seam made (get_or ps i s) (drop (i + 1) ps) raised
             ∙ sym (append_assoc made (raised ∷ []) (drop (i + 1) ps)),
         subst (λ (xs : List Piece). AreRaised n xs (made ++ raised ∷ []) old last) (sym next_taken)
             (raised_joined n (take i ps) made (next ∷ []) (raised ∷ []) old sum last h
-            (one_raised n next raised sum last (record { entry = on_grid; inequality = refl; is_whole = refl }) rise)),
+            (one_raised n next raised sum last
+            (record { entry = on_grid; inequality = refl; is_whole = refl }) rise)),
       )
 
   pub wide_at : IsWideGapTerm n sum.coefficients.items sum.right next → IsWideRaising n ps old
@@ -224,7 +269,8 @@ module _ (n : ℕ) (ps now made : List Piece) (i : ℕ) (s : Piece) (old sum : S
     next = next;
     after = drop (i + 1) ps;
     place = sym (take-append-drop i ps)
-        ∙ ap (λ (xs : List Piece). take i ps ++ xs) (drop_more ps i s below ∙ ap (λ (z : Piece). z ∷ drop (i + 1) ps) (sym next_is));
+        ∙ ap (λ (xs : List Piece). take i ps ++ xs)
+        (drop_more ps i s below ∙ ap (λ (z : Piece). z ∷ drop (i + 1) ps) (sym next_is));
     raised = made;
     raised_are = h.raised_are;
     sum = sum.coefficients.items;
@@ -234,14 +280,16 @@ module _ (n : ℕ) (ps now made : List Piece) (i : ℕ) (s : Piece) (old sum : S
     wide = wide;
   }
 
-pub all_raised : (n : ℕ) (ps now made : List Piece) (i : ℕ) (old sum : Sum) → length ps ≤ i → now ≡ made ++ drop i ps →
+pub all_raised : (n : ℕ) (ps now made : List Piece) (i : ℕ) (old sum : Sum) → length ps ≤ i →
+    now ≡ made ++ drop i ps →
     AreRaised n (take i ps) made old sum → AreRaised n ps now old sum
 all_raised n ps now made i old sum end is h =
     subst₂ (λ (xs ys : List Piece). AreRaised n xs ys old sum) (take_all i ps end)
     (sym (is ∙ ap (λ (xs : List Piece). made ++ xs) (drop_of_length-le ps end) ∙ append-nil made)) h
 
 -- what is written to a list as long as the list takes its place
-pub written_back : {A : Type 0} (xs ys : List A) (n : ℕ) → length ys ≡ length xs → n ≡ length xs → take n (ys ++ drop (length ys) xs) ≡ ys
+pub written_back : {A : Type 0} (xs ys : List A) (n : ℕ) → length ys ≡ length xs → n ≡ length xs →
+    take n (ys ++ drop (length ys) xs) ≡ ys
 written_back {A} xs ys n same n_is =
     ap (λ (zs : List A). take n (ys ++ zs)) (drop_of_length-le xs (omega (arith, same)))
     ∙ ap (λ (zs : List A). take n zs) (append-nil ys) ∙ take_all n ys (omega (arith, same, n_is))

@@ -18,7 +18,8 @@ sum_surplus_at point sum = dot sum.coefficients.items point -ℚ rational sum.ri
 pub record IsRise (s : Piece) (entry : Frac) (old new : Sum) : Type 0 where
   pub count : length new.coefficients.items ≡ length old.coefficients.items
   pub adds : (point : List Rational) → sum_surplus_at point new
-      ≡ sum_surplus_at point old +ℚ (rational entry -ℚ rational s.entry) *ℚ surplus_at point s.inequality
+      ≡ sum_surplus_at point old +ℚ (rational entry -ℚ rational s.entry)
+      *ℚ surplus_at point s.inequality
 
 -- the pieces are raised, and the new sum is the old one with what they gain
 pub record AreRaised (n : ℕ) (pieces raised : List Piece) (old new : Sum) : Type 0 where
@@ -29,4 +30,5 @@ pub record AreRaised (n : ℕ) (pieces raised : List Piece) (old new : Sum) : Ty
 
 -- a number does not fit when they are added to this sum
 abbrev pub IsWideRaising : ℕ → List Piece → Sum → Type 0
-IsWideRaising n pieces old = AreWideGapTerms n (length old.coefficients.items) (λ point. sum_surplus_at point old) pieces
+IsWideRaising n pieces old =
+    AreWideGapTerms n (length old.coefficients.items) (λ point. sum_surplus_at point old) pieces

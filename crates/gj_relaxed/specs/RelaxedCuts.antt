@@ -15,22 +15,32 @@ use Rattle.gj_relaxed.specs.declared.rows.RightMove.TheVariants.{Down, Kept}
 use Rattle.gj_relaxed.specs.RelaxedRows.{IsRelaxedRow, IsWideRelaxedRow}
 
 -- the cut of the row on the grid, or a number that does not fit
-abbrev pub IsOfRelaxedRow : RightMove → ℕ → (ℕ → List Piece → Frac → SafeCut → Type 0) → ℕ → List Piece → Frac → SafeCut → Type 0
-IsOfRelaxedRow move n IsOfRow columns pieces right Wide = IsWideRelaxedRow move n columns pieces right
-    ⊎ ((relaxed : List Piece) × (right' : Frac) × IsRelaxedRow move n columns pieces right relaxed right'
+abbrev pub IsOfRelaxedRow : RightMove → ℕ → (ℕ → List Piece → Frac → SafeCut → Type 0) → ℕ →
+    List Piece → Frac → SafeCut → Type 0
+IsOfRelaxedRow move n IsOfRow columns pieces right Wide =
+    IsWideRelaxedRow move n columns pieces right
+    ⊎ ((relaxed : List Piece) × (right' : Frac)
+    × IsRelaxedRow move n columns pieces right relaxed right'
     × IsOfRow columns relaxed right' Wide)
 IsOfRelaxedRow move n IsOfRow columns pieces right cut =
-    (relaxed : List Piece) × (right' : Frac) × IsRelaxedRow move n columns pieces right relaxed right' × IsOfRow columns relaxed right' cut
+    (relaxed : List Piece) × (right' : Frac)
+    × IsRelaxedRow move n columns pieces right relaxed right'
+    × IsOfRow columns relaxed right' cut
 
 -- the cut of the problem on the grid, a column that keeps a constraint from it, or a number that
 -- does not fit
-abbrev pub IsRelaxedCutOf : ℕ → (Problem → List Frac → List Bool → SafeCut → Type 0) → Problem → List Frac → List Bool → SafeCut → Type 0
+abbrev pub IsRelaxedCutOf : ℕ → (Problem → List Frac → List Bool → SafeCut → Type 0) → Problem →
+    List Frac → List Bool → SafeCut → Type 0
 IsRelaxedCutOf n IsCut p multipliers at_upper (Free j) = IsFirstFreeSide n p multipliers j
-    ⊎ ((p' : Problem) × (multipliers' : List Frac) × IsRelaxedProblem n p multipliers p' multipliers' × IsCut p' multipliers' at_upper (Free j))
+    ⊎ ((p' : Problem) × (multipliers' : List Frac)
+    × IsRelaxedProblem n p multipliers p' multipliers'
+    × IsCut p' multipliers' at_upper (Free j))
 IsRelaxedCutOf n IsCut p multipliers at_upper Wide = IsWideRelaxing n p multipliers
-    ⊎ ((p' : Problem) × (multipliers' : List Frac) × IsRelaxedProblem n p multipliers p' multipliers' × IsCut p' multipliers' at_upper Wide)
+    ⊎ ((p' : Problem) × (multipliers' : List Frac)
+    × IsRelaxedProblem n p multipliers p' multipliers' × IsCut p' multipliers' at_upper Wide)
 IsRelaxedCutOf n IsCut p multipliers at_upper cut =
-    (p' : Problem) × (multipliers' : List Frac) × IsRelaxedProblem n p multipliers p' multipliers' × IsCut p' multipliers' at_upper cut
+    (p' : Problem) × (multipliers' : List Frac) × IsRelaxedProblem n p multipliers p' multipliers'
+    × IsCut p' multipliers' at_upper cut
 
 -- the mixed-integer cut of the problem by the multipliers, all on the grid
 abbrev pub IsGmicRelaxedCutOf : ℕ → Problem → List Frac → List Bool → SafeCut → Type 0
@@ -38,6 +48,9 @@ IsGmicRelaxedCutOf n = IsRelaxedCutOf n (IsOfProblem (IsOfRelaxedRow Down n IsGm
 
 -- the cut by the function, with its slopes at 0; the right side stays, since its fractional part
 -- is the function's f
-abbrev pub IsFunctionRelaxedCutOf : FunctionData → ℕ → Problem → List Frac → List Bool → SafeCut → Type 0
-IsFunctionRelaxedCutOf f n p multipliers at_upper cut = (up : Frac) × (down : Frac) × AreSlopesAtZero f up down
-    × IsRelaxedCutOf n (IsOfProblem (IsOfRelaxedRow Kept n (IsCutOfRow (Table f) up down))) p multipliers at_upper cut
+abbrev pub IsFunctionRelaxedCutOf : FunctionData → ℕ → Problem → List Frac → List Bool → SafeCut →
+    Type 0
+IsFunctionRelaxedCutOf f n p multipliers at_upper cut = (up : Frac) × (down : Frac)
+    × AreSlopesAtZero f up down
+    × IsRelaxedCutOf n (IsOfProblem (IsOfRelaxedRow Kept n (IsCutOfRow (Table f) up down))) p
+    multipliers at_upper cut

@@ -67,7 +67,12 @@ pub record IsRelaxedSide (p : Problem) (n : ℕ) (w w' : Weighted) : Type 0 wher
   pub given_is : IsSide w given
   pub rounded : Inequality
   pub rounded_is : IsRoundedCut p n given rounded
-  pub constraint_is : w'.constraint ≡ record { entries = rounded.entries; sense = AtLeast; right = rounded.right }
+  pub constraint_is : w'.constraint ≡ record {
+    entries = rounded.entries;
+    sense = AtLeast;
+    right =
+        rounded.right;
+  }
   pub multiplier_is : rational w'.multiplier ≡ whole (side w) *ℚ rational w.multiplier
 
 -- a constraint on the grid stays as it is
@@ -89,7 +94,8 @@ pub record IsRelaxedProblem (n : ℕ) (p : Problem) (multipliers : List Frac) (p
     (multipliers' : List Frac) : Type 0 where
   pub columns : AllZip (IsRelaxedColumn n) p.columns p'.columns
   pub count : length multipliers' ≡ length p'.constraints
-  pub constraints : AreRelaxed p n (weighted multipliers p.constraints) (weighted multipliers' p'.constraints)
+  pub constraints : AreRelaxed p n (weighted multipliers p.constraints)
+      (weighted multipliers' p'.constraints)
 
 -- the constraint is off the grid, and j is the column of its first entry that is so without a bound
 pub record IsFreeSide (p : Problem) (n : ℕ) (w : Weighted) (j : ℕ) : Type 0 where
@@ -111,7 +117,8 @@ pub record IsFirstFreeSide (n : ℕ) (p : Problem) (multipliers : List Frac) (j 
 
 -- the problem on the grid, or the column that keeps a constraint from it
 abbrev pub IsRelaxedOf : ℕ → Problem → List Frac → RelaxedProblem → Type 0
-IsRelaxedOf n p multipliers (relaxed.Problem p' multipliers') = IsRelaxedProblem n p multipliers p' multipliers'.items
+IsRelaxedOf n p multipliers (relaxed.Problem p' multipliers') =
+    IsRelaxedProblem n p multipliers p' multipliers'.items
 IsRelaxedOf n p multipliers (relaxed.Free j) = IsFirstFreeSide n p multipliers j
 
 -- ---- when a number does not fit

@@ -25,7 +25,8 @@ pub record IsRaised (n : ℕ) (s s' : Piece) : Type 0 where
 
 -- what the raised pieces are above the pieces, and the right side above the new one, in n columns;
 -- it stands in the row with the entry -1
-pub record IsGap (n : ℕ) (pieces raised : List Piece) (right right' : Frac) (s : Piece) : Type 0 where
+pub record IsGap (n : ℕ) (pieces raised : List Piece) (right right' : Frac) (s : Piece) :
+    Type 0 where
   pub entry : rational s.entry ≡ whole (negsuc 0)
   pub is_whole : s.is_whole ≡ false
   pub surplus : (point : List Rational) → surplus_at point s.inequality
@@ -58,11 +59,13 @@ IsWideRise sum right s entry = (FitsDifference entry s.entry → ⊥)
 
 -- so it is with the piece, or its entry cannot be raised
 abbrev pub IsWideGapTerm : ℕ → List Frac → Frac → Piece → Type 0
-IsWideGapTerm n sum right s = IsWideLifted n s.entry ⊎ ((s' : Piece) × IsRaised n s s' × IsWideRise sum right s s'.entry)
+IsWideGapTerm n sum right s = IsWideLifted n s.entry
+    ⊎ ((s' : Piece) × IsRaised n s s' × IsWideRise sum right s s'.entry)
 
 -- so it is at some piece, when those before it have been raised, and what they gain has been added to
 -- what was there
-pub record AreWideGapTerms (n columns : ℕ) (there : List Rational → Rational) (pieces : List Piece) : Type 0 where
+pub record AreWideGapTerms (n columns : ℕ) (there : List Rational → Rational)
+    (pieces : List Piece) : Type 0 where
   pub before : List Piece
   pub next : Piece
   pub after : List Piece
@@ -86,4 +89,5 @@ abbrev pub IsWideRelaxedRow : RightMove → ℕ → ℕ → List Piece → Frac 
 IsWideRelaxedRow move n columns pieces right = IsWideRight move n right
     ⊎ ((right' : Frac) × Moves move n right right'
     × ((FitsDifference right' right → ⊥)
-    ⊎ (AreWideGapTerms n columns (λ point. rational right -ℚ rational right') pieces ⊎ (2 ^ 32 < columns))))
+    ⊎ (AreWideGapTerms n columns (λ point. rational right -ℚ rational right') pieces
+    ⊎ (2 ^ 32 < columns))))

@@ -27,7 +27,8 @@ IsRoundedSide p n q multiplier (side.Free j) = IsFirstFreeEntry p n q.entries j
 
 -- the constraint relaxed, or the column that keeps it from the grid
 abbrev pub IsRelaxedOrFree : Problem → ℕ → Weighted → Side → Type 0
-IsRelaxedOrFree p n w (side.Made c m) = IsRelaxedConstraint p n w (record { multiplier = m; constraint = c })
+IsRelaxedOrFree p n w (side.Made c m) =
+    IsRelaxedConstraint p n w (record { multiplier = m; constraint = c })
 IsRelaxedOrFree p n w (side.Free j) = IsFreeSide p n w j
 
 -- a multiplier for each constraint

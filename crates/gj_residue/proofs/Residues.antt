@@ -8,7 +8,8 @@ use Rattle.gj_theory.proofs.Modulo.{zero_is, zero_sum, residue_same, residue_of_
 pub residue_taken : (m x p : ℕ) (z : ℤ) → 0 < m → p < m → pos p ≡ residue m z →
     pos ((x + (m - p)) % m) ≡ residue m (pos x -ℤ z)
 residue_taken m x p z some low is =
-    let apart : IsZeroModulo m (z -ℤ pos p) = subst (λ (y : ℤ). IsZeroModulo m (z -ℤ y)) (sym is) (residue_same m z some) in
+    let apart : IsZeroModulo m (z -ℤ pos p) = subst (λ (y : ℤ). IsZeroModulo m (z -ℤ y)) (sym is)
+    (residue_same m z some) in
     let whole : pos (x + (m - p)) ≡ pos x +ℤ pos m -ℤ pos p = omega (arith, ints) in
     residue_of_same m (pos (x + (m - p))) (pos x -ℤ z) some
     (zero_is m (pos (x + (m - p)) -ℤ (pos x -ℤ z)) (pos m +ℤ (z -ℤ pos p)) (omega (arith, ints))

@@ -25,10 +25,12 @@ use Rattle.gj_elim.specs.declared.log.LogRow.{LogRow}
 
 -- ---- what solves the rows
 
-some_of : (P : Solution → Type 0) (o : Option Solution) (s : Solution) → o ≡ Some s → IfSome o P → P s
+some_of : (P : Solution → Type 0) (o : Option Solution) (s : Solution) → o ≡ Some s → IfSome o P →
+    P s
 some_of P o s e h = subst (λ (x : Option Solution). IfSome x P) e h
 
-pub settled_answers : (n : ℕ) (rows : List (List ℤ)) (s : Settled) → All (λ row. length row ≡ n) rows → IsSettled n rows s →
+pub settled_answers : (n : ℕ) (rows : List (List ℤ)) (s : Settled) →
+    All (λ row. length row ≡ n) rows → IsSettled n rows s →
     AnswersRows n rows s
 settled_answers n rows (Plain log) lengths h =
     λ w len solved.
@@ -40,28 +42,35 @@ settled_answers n rows (Residues log) lengths h =
 settled_answers n rows (Kernel numbers) lengths h =
     let has = elimination_has whole_sound n rows lengths in
     let kept = (elimination n rows).kept in
-    let columns = some_of (λ s. length s.numbers ≡ n) (kernel n kept) h.solution h.solves (kernel_columns n kept) in
-    let solves = some_of (λ s. SolvesKept s.numbers kept) (kernel n kept) h.solution h.solves (kernel_solves n kept has.triangular) in
+    let columns = some_of (λ s. length s.numbers ≡ n) (kernel n kept) h.solution h.solves
+    (kernel_columns n kept) in
+    let solves = some_of (λ s. SolvesKept s.numbers kept) (kernel n kept) h.solution h.solves
+    (kernel_solves n kept has.triangular) in
     let some = some_of (λ s. Any (λ x. pos 0 <ℤ x) s.numbers) (kernel n kept) h.solution h.solves
     (kernel_positive n kept has.triangular) in (
       ap length h.numbers_are ∙ columns,
-      subst (λ (w : List ℤ). All (Solves w) rows) (sym h.numbers_are) ((has.same h.solution.numbers).before (tt, columns) solves).1,
+      subst (λ (w : List ℤ). All (Solves w) rows) (sym h.numbers_are)
+          ((has.same h.solution.numbers).before (tt, columns) solves).1,
       subst (Any (λ x. pos 0 <ℤ x)) (sym h.numbers_are) some,
     )
 
 -- ---- from the kept rows to all rows
 
-fewer : (n : ℕ) (kept : List KeptRow) (s : Solution) → AreTriangular n kept → kernel n kept ≡ Some s → length kept < n
+fewer : (n : ℕ) (kept : List KeptRow) (s : Solution) → AreTriangular n kept →
+    kernel n kept ≡ Some s → length kept < n
 fewer n kept s h is =
     let most = rank_at_most n kept h in
-    let apart : length kept ≢ n = λ full. absurd (none_some (kernel n kept) s ((kernel_none n kept h).1 full) is) in
+    let apart : length kept ≢ n =
+    λ full. absurd (none_some (kernel n kept) s ((kernel_none n kept h).1 full) is) in
     omega arith
   where
     none_some : (o : Option Solution) (s : Solution) → o ≡ None → o ≡ Some s → ⊥
     none_some o s none some = absurd cc
 
-settled_by_all : (n : ℕ) (rows : List (List ℤ)) (kept : List KeptRow) (s : Settled) → All (λ row. length row ≡ n) rows →
-    kept ≡ (elimination n rows).kept → (Passes (elimination n rows).marked → ⊥) → IsSettledBy n kept s → IsSettled n rows s
+settled_by_all : (n : ℕ) (rows : List (List ℤ)) (kept : List KeptRow) (s : Settled) →
+    All (λ row. length row ≡ n) rows →
+    kept ≡ (elimination n rows).kept → (Passes (elimination n rows).marked → ⊥) →
+    IsSettledBy n kept s → IsSettled n rows s
 settled_by_all n rows kept (Plain log) lengths same narrow h = record {
   narrow = narrow;
   full = ap length (sym same) ∙ h.0;
@@ -71,14 +80,17 @@ settled_by_all n rows kept (Residues log) lengths same narrow h = absurd h
 settled_by_all n rows kept (Kernel numbers) lengths same narrow h = record {
   narrow = narrow;
   fewer = subst (λ (k : List KeptRow). length k < n) same
-      (fewer n kept h.solution (subst (AreTriangular n) (sym same) (elimination_has whole_sound n rows lengths).triangular) h.solves);
+      (fewer n kept h.solution
+      (subst (AreTriangular n) (sym same)
+      (elimination_has whole_sound n rows lengths).triangular) h.solves);
   solution = h.solution;
   solves = ap (kernel n) (sym same) ∙ h.solves;
   solution_narrow = h.narrow;
   numbers_are = h.numbers_are;
 }
 
-pub by_residues : (n : ℕ) (rows left : List (List ℤ)) (log given : List LogRow) → left ≡ rows → log ≡ given →
+pub by_residues : (n : ℕ) (rows left : List (List ℤ)) (log given : List LogRow) → left ≡ rows →
+    log ≡ given →
     Passes (elimination n rows).marked → IsFullLog n left given → IsByResidues n rows log
 by_residues n rows left log given same is p h =
     let e = ap (λ rs. (elimination_by (modulo modulus) n rs).kept) same in record {
@@ -88,44 +100,57 @@ by_residues n rows left log given same is p h =
     }
 
 -- a marked number of the kernel is one of a solution
-wide_kernel : (n : ℕ) (rows : List (List ℤ)) (kept : List KeptRow) → kept ≡ (elimination n rows).kept →
-    (Passes (elimination n rows).marked → ⊥) → Passes (marked_in (kernel n kept)) → AreRowsTooWide n rows
+wide_kernel : (n : ℕ) (rows : List (List ℤ)) (kept : List KeptRow) →
+    kept ≡ (elimination n rows).kept →
+    (Passes (elimination n rows).marked → ⊥) → Passes (marked_in (kernel n kept)) →
+    AreRowsTooWide n rows
 wide_kernel n rows kept same narrow p = by_case (kernel n kept) refl p
   where
-    by_case : (o : Option Solution) → kernel n kept ≡ o → Passes (marked_in o) → AreRowsTooWide n rows
+    by_case : (o : Option Solution) → kernel n kept ≡ o → Passes (marked_in o) →
+        AreRowsTooWide n rows
     by_case None e q = absurd (none_passes q)
     by_case (Some s) e q = kernel_passes narrow s (ap (kernel n) (sym same) ∙ e) q
 
-pub wide_residues : (n : ℕ) (rows left : List (List ℤ)) → left ≡ rows → Passes (elimination n rows).marked →
+pub wide_residues : (n : ℕ) (rows left : List (List ℤ)) → left ≡ rows →
+    Passes (elimination n rows).marked →
     length (elimination_by (modulo modulus) n left).kept < n → AreRowsTooWide n rows
 wide_residues n rows left same p few =
-    insertion_passes p (subst (λ (rs : List (List ℤ)). length (elimination_by (modulo modulus) n rs).kept < n) same few)
+    insertion_passes p (subst
+    (λ (rs : List (List ℤ)). length (elimination_by (modulo modulus) n rs).kept < n) same few)
 
 -- the kernel of a basis
 kernel_of : (n : ℕ) (kept : List KeptRow) (numbers : List ℤ) → (kernel n kept ≡ None → ⊥) →
-    IfSome (kernel n kept) (λ s. numbers ≡ s.numbers) → (Passes (marked_in (kernel n kept)) → ⊥) → IsKernelOf n kept numbers
+    IfSome (kernel n kept) (λ s. numbers ≡ s.numbers) → (Passes (marked_in (kernel n kept)) → ⊥) →
+    IsKernelOf n kept numbers
 kernel_of n kept numbers some value narrow = by_case (kernel n kept) refl some value narrow
   where
-    by_case : (o : Option Solution) → kernel n kept ≡ o → (o ≡ None → ⊥) → IfSome o (λ s. numbers ≡ s.numbers) →
+    by_case : (o : Option Solution) → kernel n kept ≡ o → (o ≡ None → ⊥) →
+        IfSome o (λ s. numbers ≡ s.numbers) →
         (Passes (marked_in o) → ⊥) → IsKernelOf n kept numbers
     by_case None e some value narrow = absurd (some refl)
-    by_case (Some s) e some value narrow = record { solution = s; solves = e; narrow = narrow; numbers_are = value }
+    by_case (Some s) e some value narrow =
+        record { solution = s; solves = e; narrow = narrow; numbers_are = value }
 
 not_none : (o : Option (Vec ℤ Global)) (v : Vec ℤ Global) → o ≡ Some v → IsNone o → ⊥
 not_none o v e none = absurd cc
 
-pub kernel_of_basis : (n : ℕ) (kept : List KeptRow) (o : Option (Vec ℤ Global)) (numbers : Vec ℤ Global) → AreTriangular n kept →
+pub kernel_of_basis : (n : ℕ) (kept : List KeptRow) (o : Option (Vec ℤ Global))
+    (numbers : Vec ℤ Global) → AreTriangular n kept →
     (length kept ≡ n → IsNone o) → o ≡ Some numbers →
-    IfSome o (λ v. IfSome (kernel n kept) (λ s. v.items ≡ s.numbers)) → (Passes (marked_in (kernel n kept)) → ⊥) →
+    IfSome o (λ v. IfSome (kernel n kept) (λ s. v.items ≡ s.numbers)) →
+    (Passes (marked_in (kernel n kept)) → ⊥) →
     IsKernelOf n kept numbers.items
 kernel_of_basis n kept o numbers h none is value narrow =
     kernel_of n kept numbers.items (λ e. not_none o numbers is (none ((kernel_none n kept h).0 e)))
-    (subst (λ (x : Option (Vec ℤ Global)). IfSome x (λ v. IfSome (kernel n kept) (λ s. v.items ≡ s.numbers))) is value) narrow
+    (subst (λ (x : Option (Vec ℤ Global)). IfSome x
+    (λ v. IfSome (kernel n kept) (λ s. v.items ≡ s.numbers))) is value) narrow
 
 -- ---- as the code has them
 
-pub settled_plain : (n m : ℕ) (rows left : List (List ℤ)) (kept : List KeptRow) (s : Settled) → m ≡ n → left ≡ rows →
-    All (λ row. length row ≡ n) rows → kept ≡ (elimination n left).kept → (Passes (elimination n left).marked → ⊥) →
+pub settled_plain : (n m : ℕ) (rows left : List (List ℤ)) (kept : List KeptRow) (s : Settled) →
+    m ≡ n → left ≡ rows →
+    All (λ row. length row ≡ n) rows → kept ≡ (elimination n left).kept →
+    (Passes (elimination n left).marked → ⊥) →
     IsSettledBy m kept s → IsSettled n rows s
 settled_plain n m rows left kept s columns same lengths kept_is narrow h =
     settled_by_all n rows kept s lengths (kept_is ∙ ap (λ rs. (elimination n rs).kept) same)
@@ -133,14 +158,16 @@ settled_plain n m rows left kept s columns same lengths kept_is narrow h =
     (subst (λ (k : ℕ). IsSettledBy k kept s) columns h)
 
 pub wide_plain : (n m : ℕ) (rows left : List (List ℤ)) (kept : List KeptRow) → m ≡ n → left ≡ rows →
-    kept ≡ (elimination n left).kept → (Passes (elimination n left).marked → ⊥) → Passes (marked_in (kernel m kept)) → AreRowsTooWide n rows
+    kept ≡ (elimination n left).kept → (Passes (elimination n left).marked → ⊥) →
+    Passes (marked_in (kernel m kept)) → AreRowsTooWide n rows
 wide_plain n m rows left kept columns same kept_is narrow p =
     wide_kernel n rows kept (kept_is ∙ ap (λ rs. (elimination n rs).kept) same)
     (subst (λ (rs : List (List ℤ)). Passes (elimination n rs).marked → ⊥) same narrow)
     (subst (λ (k : ℕ). Passes (marked_in (kernel k kept))) columns p)
 
 -- a fault that goes on as too wide was that
-pub wide_fault : {T U : Type 0} (r : Result T SettleFault) (x : ElimFault) → IsErr r → IsErrAnd r (λ e. e ≡ fault_of x) →
+pub wide_fault : {T U : Type 0} (r : Result T SettleFault) (x : ElimFault) → IsErr r →
+    IsErrAnd r (λ e. e ≡ fault_of x) →
     IsErrOf r Wide → IsErrOf {T = U} (Err x) ElimWide
 wide_fault (Ok v) x is_err h e = absurd cc
 wide_fault (Err z) ElimWide is_err h e = cc

@@ -7,7 +7,12 @@ use Rattle.gj_residue.specs.declared.basis.ResidueBasis.TheInside.{Inside}
 
 -- the basis with these fields
 abbrev pub data_of : Inside → BasisData
-data_of b = record { columns = b.columns; inserted = b.inserted; kept = kept_residues b.log.items b.rows.items }
+data_of b = record {
+  columns = b.columns;
+  inserted = b.inserted;
+  kept =
+      kept_residues b.log.items b.rows.items;
+}
 
 -- the log has a line for each row, the rows are triangular, and the row that is reduced has its
 -- length

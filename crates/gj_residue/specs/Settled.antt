@@ -58,8 +58,10 @@ IsSettled n rows (Kernel numbers) = IsKernel n rows numbers
 -- an insertion passes and over residues fewer rows are kept than there are columns, or no insertion
 -- passes and a number of the kernel does
 pub data AreRowsTooWide (n : ℕ) (rows : List (List ℤ)) : Type 0 where
-  insertion_passes : Passes (elimination n rows).marked → length (elimination_by (modulo modulus) n rows).kept < n → AreRowsTooWide n rows
-  kernel_passes : (Passes (elimination n rows).marked → ⊥) → (s : Solution) → kernel n (elimination n rows).kept ≡ Some s →
+  insertion_passes : Passes (elimination n rows).marked →
+      length (elimination_by (modulo modulus) n rows).kept < n → AreRowsTooWide n rows
+  kernel_passes : (Passes (elimination n rows).marked → ⊥) → (s : Solution) →
+      kernel n (elimination n rows).kept ≡ Some s →
       Passes s.marked → AreRowsTooWide n rows
 
 -- ---- of rows that are kept

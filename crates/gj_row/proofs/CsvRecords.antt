@@ -29,7 +29,8 @@ goes_on s a e = record { start = λ h. cc }
 done_in_field : (c : ℕ) → IsDone (in_field default_config c)
 done_in_field c =
     done_between _ _ _ (goes_on st.StartField act.EndField refl)
-    (done_between _ _ _ (record { start = λ e. done_state (c == 13) }) (goes_on st.InField act.Copy refl))
+    (done_between _ _ _ (record { start = λ e. done_state (c == 13) })
+    (goes_on st.InField act.Copy refl))
 
 done_at_start : (c : ℕ) → IsDone (start_field default_config c)
 done_at_start c = done_between _ _ _ (goes_on st.InQuoted act.Skip refl) (done_in_field c)
@@ -64,21 +65,24 @@ record Leaves (n : ℕ) (q : Read) : Type 0 where
   rest : length q.2 ≤ n
   state : ends_at_end q.1 ≡ false
 
-leaves : (s : State) (f : List (List ℕ)) (p xs : List ℕ) (q : Read) → next_record default_config s f p xs ≡ Some q → Leaves (length xs) q
+leaves : (s : State) (f : List (List ℕ)) (p xs : List ℕ) (q : Read) →
+    next_record default_config s f p xs ≡ Some q → Leaves (length xs) q
 unfolding next_record
 leaves s f p [] q e =
     let end = at_end (ends_at_end s) _ q e in
     subst (Leaves 0) end.1 (record { rest = omega arith; state = refl })
 leaves s f p (c ∷ xs) q e =
     elim (at_byte (is_end (step default_config s c).1) _ q _ e) [
-      | inl end ↦ subst (Leaves (suc (length xs))) end.1 (record { rest = omega arith; state = (done s c).start end.0 })
+      | inl end ↦ subst (Leaves (suc (length xs))) end.1
+          (record { rest = omega arith; state = (done s c).start end.0 })
       | inr more ↦
           let h = leaves (step default_config s c).0 _ _ xs q more in
           record { rest = omega (arith, h.rest); state = h.state }
     ]
 
 -- from before the first byte of a record, one is taken
-takes_byte : (s : State) (xs : List ℕ) (q : Read) → ends_at_end s ≡ false → next_record default_config s [] [] xs ≡ Some q →
+takes_byte : (s : State) (xs : List ℕ) (q : Read) → ends_at_end s ≡ false →
+    next_record default_config s [] [] xs ≡ Some q →
     length q.2 < length xs
 unfolding next_record
 takes_byte s [] q start e = let end = at_end (ends_at_end s) _ q e in cc (start, end.0)
@@ -90,7 +94,8 @@ takes_byte s (c ∷ xs) q start e =
 
 -- ---- records one after the other
 
-few_records : (s : State) (xs : List ℕ) (rows : List (List (List ℕ))) (t : State) (ys : List ℕ) → ends_at_end s ≡ false →
+few_records : (s : State) (xs : List ℕ) (rows : List (List (List ℕ))) (t : State) (ys : List ℕ) →
+    ends_at_end s ≡ false →
     Reached default_config s xs rows t ys → length rows + length ys ≤ length xs
 unfolding Reached
 few_records s xs [] t ys start h = let e : length xs ≡ length ys = ap length h.1 in omega arith
@@ -101,7 +106,8 @@ few_records s xs (r ∷ rows) t ys start h =
     let more = few_records q.1 q.2 rows t ys state h.3 in
     omega arith
 
-records_behind : (s : State) (xs : List ℕ) (rows : List (List (List ℕ))) (t : State) (ys : List ℕ) (n : ℕ) →
+records_behind : (s : State) (xs : List ℕ) (rows : List (List (List ℕ))) (t : State) (ys : List ℕ)
+    (n : ℕ) →
     Reached default_config s xs rows t ys →
     records_from default_config (length rows + n) s xs ≡ rows ++ records_from default_config n t ys
 unfolding Reached records_from
@@ -118,27 +124,32 @@ records_behind s xs (r ∷ rows) t ys n h =
 
 -- the records of the text begin with those that were read
 pub records_begin : (xs : List ℕ) (rows : List (List (List ℕ))) (t : State) (ys : List ℕ) →
-    Reached default_config st.StartRecord xs rows t ys → (more : List (List (List ℕ))) × (records default_config xs ≡ rows ++ more)
+    Reached default_config st.StartRecord xs rows t ys →
+    (more : List (List (List ℕ))) × (records default_config xs ≡ rows ++ more)
 records_begin xs rows t ys h =
     let few = few_records st.StartRecord xs rows t ys refl h in
     let n = length xs + 1 - length rows in
     let fuel : length xs + 1 ≡ length rows + n = omega arith in (
       records_from default_config n t ys,
-      ap (λ k. records_from default_config k st.StartRecord xs) fuel ∙ records_behind st.StartRecord xs rows t ys n h,
+      ap (λ k. records_from default_config k st.StartRecord xs) fuel
+          ∙ records_behind st.StartRecord xs rows t ys n h,
     )
 
-no_more : (n : ℕ) (t : State) (ys : List ℕ) → next_record default_config t [] [] ys ≡ None → records_from default_config n t ys ≡ []
+no_more : (n : ℕ) (t : State) (ys : List ℕ) → next_record default_config t [] [] ys ≡ None →
+    records_from default_config n t ys ≡ []
 unfolding records_from
 no_more zero t ys none = refl
 no_more (suc n) t ys none = ap (records_next (records_from default_config n)) none
 
 -- and are those, if no record follows
 pub records_end : (xs : List ℕ) (rows : List (List (List ℕ))) (t : State) (ys : List ℕ) →
-    Reached default_config st.StartRecord xs rows t ys → next_record default_config t [] [] ys ≡ None →
+    Reached default_config st.StartRecord xs rows t ys →
+    next_record default_config t [] [] ys ≡ None →
     records default_config xs ≡ rows
 records_end xs rows t ys h none =
     let few = few_records st.StartRecord xs rows t ys refl h in
     let n = length xs + 1 - length rows in
     let fuel : length xs + 1 ≡ length rows + n = omega arith in
-    ap (λ k. records_from default_config k st.StartRecord xs) fuel ∙ records_behind st.StartRecord xs rows t ys n h
+    ap (λ k. records_from default_config k st.StartRecord xs) fuel
+    ∙ records_behind st.StartRecord xs rows t ys n h
     ∙ ap (λ l. rows ++ l) (no_more n t ys none) ∙ append-nil rows

@@ -19,7 +19,8 @@ no_blank : (b : ℕ) → IsLenientByte b → is_blank b ≡ false
 no_blank b h = let high = h.high in grind (arith, nat_tests)
 
 -- no blanks stand before it
-starts_with_word : (word : List ℕ) → All (λ b. is_blank b ≡ false) word → without_blanks_before word ≡ word
+starts_with_word : (word : List ℕ) → All (λ b. is_blank b ≡ false) word →
+    without_blanks_before word ≡ word
 starts_with_word [] h = refl
 starts_with_word (b ∷ bs) h = rw (All-head (λ b. is_blank b ≡ false) b bs h) refl
 
@@ -27,22 +28,28 @@ reversed : (P : ℕ → Type 0) (xs : List ℕ) → All P xs → All P (reverse 
 reversed P xs h = All-from_get_or P (reverse xs) 0
     (λ i l.
     let short : i < length xs = omega (arith, l, length-reverse xs) in
-    subst P (sym (get_or-reverse xs i 0 short)) (All-get_or P xs (length xs - 1 - i) 0 (omega arith) h))
+    subst P (sym (get_or-reverse xs i 0 short))
+    (All-get_or P xs (length xs - 1 - i) 0 (omega arith) h))
 
 -- nor behind it
 is_word : (word : List ℕ) → All (λ b. is_blank b ≡ false) word → word_of word ≡ word
 is_word word h =
     let front = starts_with_word word h in
-    rw (front, starts_with_word (reverse word) (reversed (λ b. is_blank b ≡ false) word h)) (reverse-reverse word)
+    rw (front, starts_with_word (reverse word) (reversed (λ b. is_blank b ≡ false) word h))
+    (reverse-reverse word)
 
 spells : (word : List ℕ) (x : Frac) → IsFractionWord Lenient word x → SpellsEntry (word_of word) x
 spells word x h =
-    subst (λ w. SpellsEntry w x) (sym (is_word word (All-weaker IsLenientByte (λ b. is_blank b ≡ false) no_blank word (lenient_bytes word x h)))) (inr h)
+    subst (λ w. SpellsEntry w x)
+    (sym (is_word word (All-weaker IsLenientByte (λ b. is_blank b ≡ false) no_blank word
+    (lenient_bytes word x h)))) (inr h)
 
 -- a number is the whole line
-pub decimal_alone : (line rest : List ℕ) (x : Frac) → BeginsWithFraction line x rest → length rest ≡ 0 → BeginsWithEntry line x []
+pub decimal_alone : (line rest : List ℕ) (x : Frac) → BeginsWithFraction line x rest →
+    length rest ≡ 0 → BeginsWithEntry line x []
 decimal_alone line [] x (word, is, spelled) none =
-    let bytes = All-weaker IsLenientByte (λ b. is_comma b ≡ false) no_comma word (lenient_bytes word x spelled) in
+    let bytes = All-weaker IsLenientByte (λ b. is_comma b ≡ false) no_comma word
+    (lenient_bytes word x spelled) in
     record {
       field = word;
       fields_are = ap fields_of_line (is ∙ append-nil word) ∙ slice_split_none is_comma word bytes;
@@ -51,12 +58,15 @@ decimal_alone line [] x (word, is, spelled) none =
 decimal_alone line (b ∷ rest) x begins none = absurd (omega arith)
 
 -- a comma follows it
-pub decimal_first : (line rest behind : List ℕ) (comma : ℕ) (x : Frac) → BeginsWithFraction line x rest → rest ≡ comma ∷ behind → comma ≡ 44 →
+pub decimal_first : (line rest behind : List ℕ) (comma : ℕ) (x : Frac) →
+    BeginsWithFraction line x rest → rest ≡ comma ∷ behind → comma ≡ 44 →
     BeginsWithEntry line x (fields_of_line behind)
 decimal_first line rest behind comma x (word, is, spelled) next at =
-    let bytes = All-weaker IsLenientByte (λ b. is_comma b ≡ false) no_comma word (lenient_bytes word x spelled) in
+    let bytes = All-weaker IsLenientByte (λ b. is_comma b ≡ false) no_comma word
+    (lenient_bytes word x spelled) in
     record {
       field = word;
-      fields_are = ap fields_of_line (is ∙ ap (λ r. word ++ r) next) ∙ slice_split_at is_comma word comma behind bytes (rw at refl);
+      fields_are = ap fields_of_line (is ∙ ap (λ r. word ++ r) next)
+          ∙ slice_split_at is_comma word comma behind bytes (rw at refl);
       spelled = spells word x spelled;
     }

@@ -18,10 +18,12 @@ NoQuote xs = All (λ b. is_quote b ≡ false) xs
 
 -- at the end of the text and at a byte that is no quote, a field starts as it goes on
 as_in_field : (fields : List (List ℕ)) (xs : List ℕ) → NoQuote xs →
-    next_record default_config st.StartField fields [] xs ≡ next_record default_config st.InField fields [] xs
+    next_record default_config st.StartField fields [] xs
+    ≡ next_record default_config st.InField fields [] xs
 unfolding next_record
 as_in_field fields [] plain = refl
-as_in_field fields (b ∷ xs) plain = start-same fields [] b xs (All-head (λ b. is_quote b ≡ false) b xs plain)
+as_in_field fields (b ∷ xs) plain =
+    start-same fields [] b xs (All-head (λ b. is_quote b ≡ false) b xs plain)
 
 no_end : (b : ℕ) → is_line_end b ≡ false → ((b == 13) ≡ false) × ((b == 10) ≡ false)
 no_end b e = elim (cases_Bool (b == 13)) [
@@ -34,10 +36,12 @@ pub record Reads (o : Option Read) (fields : List (List ℕ)) (after : List ℕ)
   pub read : Read
   pub is : o ≡ Some read
   pub fields_are : read.0 ≡ fields
-  pub then : next_record default_config read.1 [] [] read.2 ≡ next_record default_config st.StartRecord [] [] after
+  pub then : next_record default_config read.1 [] [] read.2
+      ≡ next_record default_config st.StartRecord [] [] after
 
 -- after CR the next record is the same as at the start of one
-after_return : (xs : List ℕ) → next_record default_config st.AfterCr [] [] xs ≡ next_record default_config st.StartRecord [] [] xs
+after_return : (xs : List ℕ) → next_record default_config st.AfterCr [] [] xs
+    ≡ next_record default_config st.StartRecord [] [] xs
 unfolding next_record
 after_return [] = refl
 after_return (b ∷ xs) = elim (cases_Bool (b == 10)) [
@@ -56,7 +60,8 @@ ends_no_field b end = elim (cases_Bool (b == 13)) [
 
 -- the end of a blank line is skipped
 skips : (b : ℕ) (xs : List ℕ) → is_line_end b ≡ true →
-    next_record default_config st.StartRecord [] [] (b ∷ xs) ≡ next_record default_config st.StartRecord [] [] xs
+    next_record default_config st.StartRecord [] [] (b ∷ xs)
+    ≡ next_record default_config st.StartRecord [] [] xs
 unfolding next_record
 skips b xs end = rw end refl
 
@@ -68,41 +73,59 @@ ended fields field [] end = record { read = _; is = refl; fields_are = refl; the
 ended fields field (b ∷ after) end = elim (cases_Bool (b == 13)) [
   | inl cr ↦
       let comma : is_comma b ≡ false = ends_no_field b end in
-      rw (comma, cr) (record { read = _; is = refl; fields_are = refl; then = after_return after ∙ sym (skips b after end) })
+      rw (comma, cr) (record {
+        read = _;
+        is = refl;
+        fields_are = refl;
+        then = after_return after
+            ∙ sym (skips b after end);
+      })
   | inr other ↦
       let comma : is_comma b ≡ false = ends_no_field b end in
       let lf : (b == 10) ≡ true = cc (end, other) in
-      rw (comma, other, lf) (record { read = _; is = refl; fields_are = refl; then = sym (skips b after end) })
+      rw (comma, other, lf)
+      (record { read = _; is = refl; fields_are = refl; then = sym (skips b after end) })
 ]
 
 -- the rest of a line, behind the bytes of a field
-reads_line : (fields : List (List ℕ)) (field line after : List ℕ) → All (λ b. is_comma b ≡ false) field → NoQuote (line ++ after) →
+reads_line : (fields : List (List ℕ)) (field line after : List ℕ) →
+    All (λ b. is_comma b ≡ false) field → NoQuote (line ++ after) →
     All (λ b. is_line_end b ≡ false) line → EndsLine after →
-    Reads (next_record default_config st.InField fields field (line ++ after)) (fields ++ fields_of_line (field ++ line)) after
+    Reads (next_record default_config st.InField fields field (line ++ after))
+    (fields ++ fields_of_line (field ++ line)) after
 unfolding next_record
 reads_line fields field [] after no_comma plain inside end =
-    subst (λ fs. Reads (next_record default_config st.InField fields field after) (fields ++ fs) after)
-    (sym (ap fields_of_line (append-nil field) ∙ slice_split_none is_comma field no_comma)) (ended fields field after end)
+    subst (λ fs. Reads (next_record default_config st.InField fields field after)
+    (fields ++ fs) after)
+    (sym (ap fields_of_line (append-nil field) ∙ slice_split_none is_comma field no_comma))
+    (ended fields field after end)
 reads_line fields field (b ∷ line) after no_comma plain inside end =
     let tail = All-tail (λ b. is_quote b ≡ false) b (line ++ after) plain in
     let inner = All-tail (λ b. is_line_end b ≡ false) b line inside in
     elim (cases_Bool (is_comma b)) [
       | inl comma ↦
-          let more = reads_line (fields ++ field ∷ []) [] line after (All-nil (λ b. is_comma b ≡ false)) tail inner end in
-          let parts : fields ++ fields_of_line (field ++ b ∷ line) ≡ (fields ++ field ∷ []) ++ fields_of_line line =
-          ap (λ fs. fields ++ fs) (slice_split_at is_comma field b line no_comma comma) ∙ sym (append_assoc fields (field ∷ []) (fields_of_line line)) in
+          let more = reads_line (fields ++ field ∷ []) [] line after
+          (All-nil (λ b. is_comma b ≡ false)) tail inner end in
+          let parts : fields ++ fields_of_line (field ++ b ∷ line)
+          ≡ (fields ++ field ∷ []) ++ fields_of_line line =
+          ap (λ fs. fields ++ fs) (slice_split_at is_comma field b line no_comma comma)
+          ∙ sym (append_assoc fields (field ∷ []) (fields_of_line line)) in
           rw (comma, parts, as_in_field (fields ++ field ∷ []) (line ++ after) tail) more
       | inr other ↦
           let n = no_end b (All-head (λ b. is_line_end b ≡ false) b line inside) in
-          let more = reads_line fields (field ++ b ∷ []) line after (All-push (λ b. is_comma b ≡ false) field b no_comma other) tail inner end in
+          let more = reads_line fields (field ++ b ∷ []) line after
+          (All-push (λ b. is_comma b ≡ false) field b no_comma other) tail inner end in
           rw (other, n.0, n.1)
-          (subst (λ l. Reads (next_record default_config st.InField fields (field ++ b ∷ []) (line ++ after)) (fields ++ fields_of_line l) after)
+          (subst (λ l. Reads (next_record default_config st.InField fields (field ++ b ∷ [])
+          (line ++ after)) (fields ++ fields_of_line l) after)
           (append_assoc field (b ∷ []) line) more)
     ]
 
 -- a line that is not empty is a record
-pub line_is_record : (line after : List ℕ) → line ≢ [] → NoQuote (line ++ after) → All (λ b. is_line_end b ≡ false) line → EndsLine after →
-    Reads (next_record default_config st.StartRecord [] [] (line ++ after)) (fields_of_line line) after
+pub line_is_record : (line after : List ℕ) → line ≢ [] → NoQuote (line ++ after) →
+    All (λ b. is_line_end b ≡ false) line → EndsLine after →
+    Reads (next_record default_config st.StartRecord [] [] (line ++ after))
+    (fields_of_line line) after
 line_is_record [] after full plain inside end = absurd (full refl)
 line_is_record (b ∷ line) after full plain inside end =
     let n = no_end b (All-head (λ b. is_line_end b ≡ false) b line inside) in
@@ -111,37 +134,46 @@ line_is_record (b ∷ line) after full plain inside end =
 
 -- the bytes of blank lines are skipped
 pub blanks_skipped : (blank xs : List ℕ) → All (λ b. is_line_end b ≡ true) blank →
-    next_record default_config st.StartRecord [] [] (blank ++ xs) ≡ next_record default_config st.StartRecord [] [] xs
+    next_record default_config st.StartRecord [] [] (blank ++ xs)
+    ≡ next_record default_config st.StartRecord [] [] xs
 blanks_skipped [] xs blanks = refl
 blanks_skipped (b ∷ blank) xs blanks =
-    skips b (blank ++ xs) (All-head (λ b. is_line_end b ≡ true) b blank blanks) ∙ blanks_skipped blank xs (All-tail (λ b. is_line_end b ≡ true) b blank blanks)
+    skips b (blank ++ xs) (All-head (λ b. is_line_end b ≡ true) b blank blanks)
+    ∙ blanks_skipped blank xs (All-tail (λ b. is_line_end b ≡ true) b blank blanks)
 
 -- and are no record
-pub blanks_end : (blank : List ℕ) → All (λ b. is_line_end b ≡ true) blank → next_record default_config st.StartRecord [] [] blank ≡ None
+pub blanks_end : (blank : List ℕ) → All (λ b. is_line_end b ≡ true) blank →
+    next_record default_config st.StartRecord [] [] blank ≡ None
 unfolding next_record
 blanks_end [] blanks = refl
-blanks_end (b ∷ blank) blanks = skips b blank (All-head (λ b. is_line_end b ≡ true) b blank blanks) ∙ blanks_end blank (All-tail (λ b. is_line_end b ≡ true) b blank blanks)
+blanks_end (b ∷ blank) blanks = skips b blank (All-head (λ b. is_line_end b ≡ true) b blank blanks)
+    ∙ blanks_end blank (All-tail (λ b. is_line_end b ≡ true) b blank blanks)
 
 -- a line of what is left is the next record of the text
-pub line_read : (text : List ℕ) (before : List (List (List ℕ))) (left line after : List ℕ) → LinesStandBehind text before left →
+pub line_read : (text : List ℕ) (before : List (List (List ℕ))) (left line after : List ℕ) →
+    LinesStandBehind text before left →
     IsFirstLine left line after → LinesStandBehind text (before ++ fields_of_line line ∷ []) after
 line_read text before left line after at first =
     let plain = subst NoQuote first.text_is at.no_quote in
     let behind = All-back (λ b. is_quote b ≡ false) first.blank (line ++ after) plain in
     let r = line_is_record line after first.full behind first.inside first.ends in
     let next : next_record default_config at.from [] [] at.rest ≡ Some r.read =
-    at.same ∙ ap (next_record default_config st.StartRecord [] []) first.text_is ∙ blanks_skipped first.blank (line ++ after) first.blanks ∙ r.is in
+    at.same ∙ ap (next_record default_config st.StartRecord [] []) first.text_is
+    ∙ blanks_skipped first.blank (line ++ after) first.blanks ∙ r.is in
     record {
       from = r.read.1;
       rest = r.read.2;
-      reached = subst (λ fs. Reached default_config st.StartRecord (strip_bom text) (before ++ fs ∷ []) r.read.1 r.read.2) r.fields_are
-          (reached-more default_config st.StartRecord at.from (strip_bom text) at.rest before r.read at.reached next);
+      reached = subst (λ fs. Reached default_config st.StartRecord (strip_bom text)
+          (before ++ fs ∷ []) r.read.1 r.read.2) r.fields_are
+          (reached-more default_config st.StartRecord at.from
+          (strip_bom text) at.rest before r.read at.reached next);
       same = r.then;
       no_quote = All-back (λ b. is_quote b ≡ false) line after behind;
     }
 
 -- no quote is found in a text, nor then behind a byte order mark
-pub no_quote_found : (text : List ℕ) → Nowhere (Passes (is_byte 34) text) 0 (length text) → NoQuote text
+pub no_quote_found : (text : List ℕ) → Nowhere (Passes (is_byte 34) text) 0 (length text) →
+    NoQuote text
 no_quote_found text none k d within =
     false_from_ne_true (is_quote (get_or text k d))
     (λ e. none k (omega arith) within (ap is_quote (get-same text k 0 d within) ∙ e))
@@ -162,22 +194,28 @@ is_mark x y z e = elim (cases_Bool (x == 239)) [
   | inl a ↦ elim (cases_Bool (y == 187)) [
     | inl b ↦ elim (cases_Bool (z == 191)) [
       | inl c ↦ (eqb-true x 239 a, eqb-true y 187 b, eqb-true z 191 c)
-      | inr c ↦ let other : is_bom x y z ≡ false = rw (a, b, c) refl in absurd (false≢true (sym other ∙ e))
+      | inr c ↦ let other : is_bom x y z ≡ false = rw (a, b, c) refl in
+          absurd (false≢true (sym other ∙ e))
     ]
-    | inr b ↦ let other : is_bom x y z ≡ false = rw (a, b) refl in absurd (false≢true (sym other ∙ e))
+    | inr b ↦ let other : is_bom x y z ≡ false = rw (a, b) refl in
+        absurd (false≢true (sym other ∙ e))
   ]
   | inr a ↦ let other : is_bom x y z ≡ false = rw a refl in absurd (false≢true (sym other ∙ e))
 ]
 
-pub behind_mark : (bs : List ℕ) → 3 ≤ length bs → get_or bs 0 0 ≡ 239 → get_or bs 1 0 ≡ 187 → get_or bs 2 0 ≡ 191 →
+pub behind_mark : (bs : List ℕ) → 3 ≤ length bs → get_or bs 0 0 ≡ 239 → get_or bs 1 0 ≡ 187 →
+    get_or bs 2 0 ≡ 191 →
     drop 3 bs ≡ strip_bom bs
 unfolding strip_bom
 behind_mark [] long a b c = absurd (omega (arith, long))
 behind_mark (x ∷ []) long a b c = absurd (omega (arith, long))
 behind_mark (x ∷ y ∷ []) long a b c = absurd (omega (arith, long))
-behind_mark (x ∷ y ∷ z ∷ bs) long a b c = let mark : is_bom x y z ≡ true = rw (a, b, c) refl in rw mark refl
+behind_mark (x ∷ y ∷ z ∷ bs) long a b c = let mark : is_bom x y z ≡ true = rw (a, b, c) refl in
+    rw mark refl
 
-pub no_mark : (bs : List ℕ) → (3 ≤ length bs → get_or bs 0 0 ≡ 239 → get_or bs 1 0 ≡ 187 → get_or bs 2 0 ≡ 191 → ⊥) → bs ≡ strip_bom bs
+pub no_mark : (bs : List ℕ) →
+    (3 ≤ length bs → get_or bs 0 0 ≡ 239 → get_or bs 1 0 ≡ 187 → get_or bs 2 0 ≡ 191 → ⊥) →
+    bs ≡ strip_bom bs
 unfolding strip_bom
 no_mark [] other = refl
 no_mark (x ∷ []) other = refl
@@ -188,7 +226,8 @@ no_mark (x ∷ y ∷ z ∷ bs) other = elim (cases_Bool (is_bom x y z)) [
 ]
 
 -- nothing of the text has been read
-pub starts : (text left : List ℕ) → left ≡ strip_bom text → NoQuote text → LinesStandBehind text [] left
+pub starts : (text left : List ℕ) → left ≡ strip_bom text → NoQuote text →
+    LinesStandBehind text [] left
 unfolding Reached
 starts text left is plain = record {
   from = st.StartRecord;

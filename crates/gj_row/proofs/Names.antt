@@ -19,13 +19,17 @@ found_among : (keys : List (SmallVec ℕ)) (k : SmallVec ℕ) →
 found_among [] k = refl
 found_among (x ∷ keys) k = ap (λ b. pointwise nat_eq k.items x.items || b) (found_among keys k)
 
-pub stands_already : (keys : List (SmallVec ℕ)) (k : SmallVec ℕ) → list_any (same_bytes k) keys ≡ true → Contains (bytes_of keys) k.items
+pub stands_already : (keys : List (SmallVec ℕ)) (k : SmallVec ℕ) →
+    list_any (same_bytes k) keys ≡ true → Contains (bytes_of keys) k.items
 stands_already keys k h =
-    Contains-list_any (pointwise nat_eq) (λ x y e. (bytes_decides x y).0 e) (bytes_of keys) k.items (sym (found_among keys k) ∙ h)
+    Contains-list_any (pointwise nat_eq) (λ x y e. (bytes_decides x y).0 e) (bytes_of keys) k.items
+    (sym (found_among keys k) ∙ h)
 
-pub stands_not : (keys : List (SmallVec ℕ)) (k : SmallVec ℕ) → list_any (same_bytes k) keys ≡ false → Contains (bytes_of keys) k.items → ⊥
+pub stands_not : (keys : List (SmallVec ℕ)) (k : SmallVec ℕ) →
+    list_any (same_bytes k) keys ≡ false → Contains (bytes_of keys) k.items → ⊥
 stands_not keys k h at =
-    true≢false (sym (list_any-from_Contains nat_list_eq_equiv k.items (bytes_of keys) at) ∙ sym (found_among keys k) ∙ h)
+    true≢false (sym (list_any-from_Contains nat_list_eq_equiv k.items (bytes_of keys) at)
+    ∙ sym (found_among keys k) ∙ h)
 
 pub name_kept : (keys : List (SmallVec ℕ)) (k : SmallVec ℕ) → list_any (same_bytes k) keys ≡ false →
     bytes_of (insert_key same_bytes keys k) ≡ bytes_of keys ++ k.items ∷ []

@@ -13,8 +13,10 @@ use Rattle.gj_row.proofs.Entries.{row_within}
 use Rattle.gj_row.proofs.RowNumbers.{numbers_long}
 
 -- a row has been read
-pub row_read : (columns used : ℕ) (words : List (List ℕ)) (w : List ℕ) (row : Row) (scale : ℕ) (items : List Entry) →
-    length words ≡ columns + 2 → slice_get words 0 ≡ Some w → row.basic ≡ w → HasRead used (drop 1 words) row.rhs scale items →
+pub row_read : (columns used : ℕ) (words : List (List ℕ)) (w : List ℕ) (row : Row) (scale : ℕ)
+    (items : List Entry) →
+    length words ≡ columns + 2 → slice_get words 0 ≡ Some w → row.basic ≡ w →
+    HasRead used (drop 1 words) row.rhs scale items →
     row.entries ≡ items → ReadsRow columns used words row
 row_read columns used words w row scale items wide first is read entries =
     let long = numbers_long (drop 1 words) row.rhs read.values read.begins.spelled in
@@ -30,25 +32,37 @@ row_read columns used words w row scale items wide first is read entries =
         spelled = read.begins.spelled;
         entries_are = entries_are;
       };
-      within = subst (λ n. IsRowWithinLimits n row) count (row_within row read.values entries_are read.begins.within);
+      within = subst (λ n. IsRowWithinLimits n row) count
+          (row_within row read.values entries_are read.begins.within);
       few = let e = ap length entries_are in omega (arith, read.begins.few);
     }
 
 -- a record of a row's length, if there is room, follows a tableau of so many columns and rows
-follows : (columns rows : ℕ) (words : List (List ℕ)) (t : Tableau) → length words ≡ columns + 2 → rows < 10000 →
+follows : (columns rows : ℕ) (words : List (List ℕ)) (t : Tableau) → length words ≡ columns + 2 →
+    rows < 10000 →
     length t.columns ≡ columns → length t.rows ≡ rows → MayFollow t words
-follows columns rows words t wide room cols many = record { count = omega arith; room = omega arith }
+follows columns rows words t wide room cols many =
+    record { count = omega arith; room = omega arith }
 
-pub name_refused : (columns rows used : ℕ) (names words : List (List ℕ)) (w : List ℕ) (e : RowReason) → length words ≡ columns + 2 →
-    rows < 10000 → slice_get words 0 ≡ Some w → BreaksName names w e → (t : Tableau) → length t.columns ≡ columns →
+pub name_refused : (columns rows used : ℕ) (names words : List (List ℕ)) (w : List ℕ)
+    (e : RowReason) → length words ≡ columns + 2 →
+    rows < 10000 → slice_get words 0 ≡ Some w → BreaksName names w e → (t : Tableau) →
+    length t.columns ≡ columns →
     length t.rows ≡ rows → names_of t ≡ names → entry_count t ≡ used → HasRowFault t words e
 name_refused columns rows used names words w e wide room first breaks t cols many named counted =
-    name (follows columns rows words t wide room cols many) w (drop 1 words) (parted_at words 0 w first)
+    name (follows columns rows words t wide room cols many) w (drop 1 words)
+    (parted_at words 0 w first)
     (subst (λ ns. BreaksName ns w e) (sym named) breaks)
 
-pub number_refused : (columns rows used : ℕ) (names words : List (List ℕ)) (w : List ℕ) (e : RowReason) → length words ≡ columns + 2 →
-    rows < 10000 → slice_get words 0 ≡ Some w → IsNewName names w → HasNumberFault used (drop 1 words) e → (t : Tableau) →
-    length t.columns ≡ columns → length t.rows ≡ rows → names_of t ≡ names → entry_count t ≡ used → HasRowFault t words e
-number_refused columns rows used names words w e wide room first new fault t cols many named counted =
-    number (follows columns rows words t wide room cols many) w (drop 1 words) (parted_at words 0 w first)
-    (subst (λ ns. IsNewName ns w) (sym named) new) (subst (λ n. HasNumberFault n (drop 1 words) e) (sym counted) fault)
+pub number_refused : (columns rows used : ℕ) (names words : List (List ℕ)) (w : List ℕ)
+    (e : RowReason) → length words ≡ columns + 2 →
+    rows < 10000 → slice_get words 0 ≡ Some w → IsNewName names w →
+    HasNumberFault used (drop 1 words) e → (t : Tableau) →
+    length t.columns ≡ columns → length t.rows ≡ rows → names_of t ≡ names → entry_count t ≡ used →
+    HasRowFault t words e
+number_refused columns rows used names words w e wide room first new fault t cols many named
+    counted =
+    number (follows columns rows words t wide room cols many) w (drop 1 words)
+    (parted_at words 0 w first)
+    (subst (λ ns. IsNewName ns w) (sym named) new)
+    (subst (λ n. HasNumberFault n (drop 1 words) e) (sym counted) fault)

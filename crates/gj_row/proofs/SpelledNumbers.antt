@@ -17,7 +17,8 @@ use Rattle.gj_row.specs.declared.faults.RowReason.TheVariants.{Header, Fields, C
 
 -- a word that is not empty and spells no fraction spells no entry
 pub no_entry : (word : List ℕ) (o : Option Frac) → false ≡ (length word == 0) →
-    IfNone o ((x : Frac) → IsFractionWord Lenient word x → ⊥) → IfNone o ((x : Frac) → SpellsEntry word x → ⊥)
+    IfNone o ((x : Frac) → IsFractionWord Lenient word x → ⊥) →
+    IfNone o ((x : Frac) → SpellsEntry word x → ⊥)
 no_entry word (Some x) some none = tt
 no_entry word None some none = none_spelled
   where
@@ -30,7 +31,8 @@ found_here P None x e found = cc e
 found_here P (Some y) x e found = subst P (same_some y x e) found
 
 -- what stops the row at what was read stops it at the word
-stops_by : (P : Frac → Type 0) (scale : ℕ) (o : Option Frac) (e : RowReason) → IfSome o P → IfNone o ((x : Frac) → P x → ⊥) →
+stops_by : (P : Frac → Type 0) (scale : ℕ) (o : Option Frac) (e : RowReason) → IfSome o P →
+    IfNone o ((x : Frac) → P x → ⊥) →
     StopsAt scale o e → StopsNumber P scale e
 stops_by P scale o Number found none h = missing o none h
   where
@@ -47,13 +49,15 @@ stops_by P scale o Name found none h = h
 stops_by P scale o Twice found none h = h
 stops_by P scale o Entries found none h = h
 
-pub stops_number : (P : Frac → Type 0) (scale : ℕ) (o : Option Frac) (r : Result (Frac × ℕ) RowReason) → IfSome o P →
+pub stops_number : (P : Frac → Type 0) (scale : ℕ) (o : Option Frac)
+    (r : Result (Frac × ℕ) RowReason) → IfSome o P →
     IfNone o ((x : Frac) → P x → ⊥) → IfErr r (StopsAt scale o) → IfErr r (StopsNumber P scale)
 stops_number P scale o (Ok x) found none h = tt
 stops_number P scale o (Err e) found none h = stops_by P scale o e found none h
 
 -- what stops a row at what was read, as an entry
-pub stops_at : (scale count : ℕ) (o : Option Frac) (e : RowReason) → StopsAt scale o e → StopsEntry (λ x. o ≡ Some x) scale count e
+pub stops_at : (scale count : ℕ) (o : Option Frac) (e : RowReason) → StopsAt scale o e →
+    StopsEntry (λ x. o ≡ Some x) scale count e
 stops_at scale count o Number h = λ x is. cc (sym h ∙ is)
 stops_at scale count o Large h = h
 stops_at scale count o Fine h = h
@@ -66,16 +70,19 @@ stops_at scale count o Twice h = h
 stops_at scale count o Entries h = absurd h
 
 -- and at the word that spells it
-pub stops_at_word : (P : Frac → Type 0) (scale count : ℕ) (o : Option Frac) (e : RowReason) → IfSome o P → IfNone o ((x : Frac) → P x → ⊥) →
+pub stops_at_word : (P : Frac → Type 0) (scale count : ℕ) (o : Option Frac) (e : RowReason) →
+    IfSome o P → IfNone o ((x : Frac) → P x → ⊥) →
     StopsEntry (λ x. o ≡ Some x) scale count e → StopsEntry P scale count e
 stops_at_word P scale count o Number found none h = missing o none h
   where
-    missing : (o : Option Frac) → IfNone o ((x : Frac) → P x → ⊥) → ((x : Frac) → o ≡ Some x → ⊥) → (x : Frac) → P x → ⊥
+    missing : (o : Option Frac) → IfNone o ((x : Frac) → P x → ⊥) → ((x : Frac) → o ≡ Some x → ⊥) →
+        (x : Frac) → P x → ⊥
     missing None none h = none
     missing (Some x) none h = absurd (h x refl)
 stops_at_word P scale count o Large found none h = (h.0, found_here P o h.0 h.1 found, h.2)
 stops_at_word P scale count o Fine found none h = (h.0, found_here P o h.0 h.1 found, h.2, h.3)
-stops_at_word P scale count o Entries found none h = (h.0, h.1, found_here P o h.0 h.2 found, h.3, h.4, h.5)
+stops_at_word P scale count o Entries found none h =
+    (h.0, h.1, found_here P o h.0 h.2 found, h.3, h.4, h.5)
 stops_at_word P scale count o Header found none h = h
 stops_at_word P scale count o Fields found none h = h
 stops_at_word P scale count o Columns found none h = h
@@ -88,7 +95,8 @@ stops_at_word P scale count o Twice found none h = h
 pub entry_none : (column : ℕ) (x : Frac) → is_zero x ≡ true → entry_at column x ≡ []
 entry_none column x e = rw e refl
 
-pub entry_one : (column : ℕ) (x : Frac) → is_zero x ≡ false → entry_at column x ≡ record { column = column; value = x } ∷ []
+pub entry_one : (column : ℕ) (x : Frac) → is_zero x ≡ false →
+    entry_at column x ≡ record { column = column; value = x } ∷ []
 entry_one column x e = rw e refl
 
 zero : Frac
@@ -104,7 +112,8 @@ zero = record {
 }
 
 -- nothing spells 0, which leaves the common denominator as it is
-pub nothing_spells_zero : (word : List ℕ) (scale : ℕ) → true ≡ (length word == 0) → scale < denominator_bound →
+pub nothing_spells_zero : (word : List ℕ) (scale : ℕ) → true ≡ (length word == 0) →
+    scale < denominator_bound →
     (x : Frac) × SpellsEntry word x × Extends greatest_number scale x scale × (is_zero x ≡ true)
 unfolding zero
 nothing_spells_zero word scale empty high = (

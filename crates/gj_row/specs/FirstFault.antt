@@ -56,8 +56,10 @@ row_entries (right ∷ values) = entries_from 0 values
 abbrev pub BreaksNumber : ℕ → List Frac → List ℕ → RowReason → Type 0
 BreaksNumber used xs word Number = (x : Frac) → SpellsNext xs word x → ⊥
 BreaksNumber used xs word Large = (x : Frac) × SpellsNext xs word x × (IsSmallNumber x → ⊥)
-BreaksNumber used xs word Fine = (x : Frac) × SpellsNext xs word x × IsSmallNumber x × (HasCommonDenominator (xs ++ x ∷ []) → ⊥)
-BreaksNumber used xs word Entries = (x : Frac) × SpellsNext xs word x × AreWithinLimits (xs ++ x ∷ [])
+BreaksNumber used xs word Fine = (x : Frac) × SpellsNext xs word x × IsSmallNumber x
+    × (HasCommonDenominator (xs ++ x ∷ []) → ⊥)
+BreaksNumber used xs word Entries = (x : Frac) × SpellsNext xs word x
+    × AreWithinLimits (xs ++ x ∷ [])
     × (most_entries < used + length (row_entries (xs ++ x ∷ [])))
 BreaksNumber used xs word Header = ⊥
 BreaksNumber used xs word Fields = ⊥
@@ -97,11 +99,14 @@ pub record HasNumberFault (used : ℕ) (words : List (List ℕ)) (reason : RowRe
 
 -- why record 1 is none of a tableau
 pub data HasHeaderFault (words : List (List (List ℕ))) (reason : RowReason) : Type 0 where
-  header : ((columns : List (List ℕ)) (rows : List (List (List ℕ))) → words ≡ header_of columns ∷ rows → ⊥) → reason ≡ Header →
+  header : ((columns : List (List ℕ)) (rows : List (List (List ℕ))) →
+      words ≡ header_of columns ∷ rows → ⊥) → reason ≡ Header →
       HasHeaderFault words reason
-  columns : (columns : List (List ℕ)) (rows : List (List (List ℕ))) → words ≡ header_of columns ∷ rows → most_columns < length columns →
+  columns : (columns : List (List ℕ)) (rows : List (List (List ℕ))) →
+      words ≡ header_of columns ∷ rows → most_columns < length columns →
       reason ≡ Columns → HasHeaderFault words reason
-  name : (columns : List (List ℕ)) (rows : List (List (List ℕ))) → words ≡ header_of columns ∷ rows → length columns ≤ most_columns →
+  name : (columns : List (List ℕ)) (rows : List (List (List ℕ))) →
+      words ≡ header_of columns ∷ rows → length columns ≤ most_columns →
       HasNameFault columns reason → HasHeaderFault words reason
 
 -- the words of a record may be a row behind this tableau: as many as in record 1, and there are
@@ -113,16 +118,20 @@ pub record MayFollow (t : Tableau) (words : List (List ℕ)) : Type 0 where
 -- why a record cannot follow this tableau as a row
 pub data HasRowFault (t : Tableau) (words : List (List ℕ)) (reason : RowReason) : Type 0 where
   fields : length words ≢ length t.columns + 2 → reason ≡ Fields → HasRowFault t words reason
-  rows : length words ≡ length t.columns + 2 → most_rows ≤ length t.rows → reason ≡ Rows → HasRowFault t words reason
+  rows : length words ≡ length t.columns + 2 → most_rows ≤ length t.rows → reason ≡ Rows →
+      HasRowFault t words reason
   name : MayFollow t words → (word : List ℕ) (more : List (List ℕ)) → words ≡ word ∷ more →
       BreaksName (names_of t) word reason → HasRowFault t words reason
   number : MayFollow t words → (word : List ℕ) (more : List (List ℕ)) → words ≡ word ∷ more →
-      IsNewName (names_of t) word → HasNumberFault (entry_count t) more reason → HasRowFault t words reason
+      IsNewName (names_of t) word → HasNumberFault (entry_count t) more reason →
+      HasRowFault t words reason
 
 -- the first fault, in this record: in record 1, or in one behind records that spell a tableau
-pub data HasFirstFault (words : List (List (List ℕ))) (number : ℕ) (reason : RowReason) : Type 0 where
+pub data HasFirstFault (words : List (List (List ℕ))) (number : ℕ) (reason : RowReason) :
+    Type 0 where
   in_header : number ≡ 1 → HasHeaderFault words reason → HasFirstFault words number reason
-  in_row : (before : List (List (List ℕ))) (record_words : List (List ℕ)) (after : List (List (List ℕ))) (t : Tableau) →
+  in_row : (before : List (List (List ℕ))) (record_words : List (List ℕ))
+      (after : List (List (List ℕ))) (t : Tableau) →
       words ≡ before ++ record_words ∷ after → SpellsTableau before t → number ≡ length before + 1 →
       HasRowFault t record_words reason → HasFirstFault words number reason
 

@@ -94,7 +94,8 @@ pub record BeginsWithEntry (line : List ℕ) (x : Frac) (behind : List (List ℕ
 abbrev pub StopsAt : ℕ → Option Frac → RowReason → Type 0
 StopsAt scale number Number = number ≡ None
 StopsAt scale number Large = (x : Frac) × (number ≡ Some x) × (IsSmallNumber x → ⊥)
-StopsAt scale number Fine = (x : Frac) × (number ≡ Some x) × IsSmallNumber x × HasNoCommonWith scale x
+StopsAt scale number Fine = (x : Frac) × (number ≡ Some x) × IsSmallNumber x
+    × HasNoCommonWith scale x
 StopsAt scale number Header = ⊥
 StopsAt scale number Fields = ⊥
 StopsAt scale number Columns = ⊥
@@ -118,7 +119,8 @@ StopsNumber P scale Entries = ⊥
 
 -- x is the first entry too many
 abbrev pub IsOneTooMany : (Frac → Type 0) → ℕ → ℕ → Type 0
-IsOneTooMany P scale count = (x : Frac) × (m : ℕ) × P x × Extends greatest_number scale x m × (is_zero x ≡ false) × (most_entries ≤ count)
+IsOneTooMany P scale count = (x : Frac) × (m : ℕ) × P x × Extends greatest_number scale x m
+    × (is_zero x ≡ false) × (most_entries ≤ count)
 
 -- why a word cannot follow as an entry, behind so many entries that are not 0
 abbrev pub StopsEntry : (Frac → Type 0) → ℕ → ℕ → RowReason → Type 0
@@ -142,7 +144,8 @@ pub record StopsAtFirst (line : List ℕ) (scale count : ℕ) (e : RowReason) : 
 
 -- numbers within the limits, whose least common denominator is `scale`, have been read from the
 -- words, with these entries that are not 0
-pub record HasRead (used : ℕ) (words : List (List ℕ)) (right : Frac) (scale : ℕ) (entries : List Entry) : Type 0 where
+pub record HasRead (used : ℕ) (words : List (List ℕ)) (right : Frac) (scale : ℕ)
+    (entries : List Entry) : Type 0 where
   pub values : List Frac
   pub begins : BeginRow used words (right ∷ values)
   pub low : 1 ≤ scale
@@ -195,20 +198,24 @@ pub record IsFirstLine (text line after : List ℕ) : Type 0 where
   pub ends : EndsLine after
 
 -- the next record that the reader gives is the one behind these records of the text
-pub record ReaderStandsBehind (text : List ℕ) (before : List (List (List ℕ))) (reader : Reader (Bor (List ℕ))) : Type 0 where
+pub record ReaderStandsBehind (text : List ℕ) (before : List (List (List ℕ)))
+    (reader : Reader (Bor (List ℕ))) : Type 0 where
   pub no_trim : reader_trim reader ≡ trim.None
   pub ready : Ready reader
   pub config : reader_config reader ≡ default_config
   pub rest : List ℕ
   pub source : source_of bytes_left reader ≡ Some rest
-  pub reached : Reached default_config state.StartRecord (strip_bom text) before (reader_state reader) rest
+  pub reached : Reached default_config state.StartRecord (strip_bom text) before
+      (reader_state reader) rest
 
 -- the first record of what is left, which has no quote, is the one behind these records of the text
-pub record LinesStandBehind (text : List ℕ) (before : List (List (List ℕ))) (left : List ℕ) : Type 0 where
+pub record LinesStandBehind (text : List ℕ) (before : List (List (List ℕ))) (left : List ℕ) :
+    Type 0 where
   pub from : State
   pub rest : List ℕ
   pub reached : Reached default_config state.StartRecord (strip_bom text) before from rest
-  pub same : next_record default_config from [] [] rest ≡ next_record default_config state.StartRecord [] [] left
+  pub same : next_record default_config from [] [] rest
+      ≡ next_record default_config state.StartRecord [] [] left
   pub no_quote : All (λ b. is_quote b ≡ false) left
 
 -- the next record is the one behind these records of the text
@@ -218,7 +225,8 @@ StandsBehind text before (text_records.Plain left) = LinesStandBehind text befor
 
 -- the next record is the one behind record 1 of the text, which names these columns; the names so
 -- far are theirs
-pub record StandsBehindHeader (text : List ℕ) (columns names : List (List ℕ)) (left : Records) : Type 0 where
+pub record StandsBehindHeader (text : List ℕ) (columns names : List (List ℕ)) (left : Records) :
+    Type 0 where
   pub header : List (List ℕ)
   pub stands : StandsBehind text (header ∷ []) left
   pub begins : map word_of header ≡ header_of columns
@@ -236,12 +244,14 @@ HoldsBehindFirst fields left P = (text : List ℕ) → StandsBehind text (fields
 
 -- this holds of each text of which record 1 has been read
 abbrev pub HoldsBehindHeader : List (List ℕ) → List (List ℕ) → Records → (List ℕ → Type 0) → Type 0
-HoldsBehindHeader columns names left P = (text : List ℕ) → StandsBehindHeader text columns names left → P text
+HoldsBehindHeader columns names left P = (text : List ℕ) →
+    StandsBehindHeader text columns names left → P text
 
 -- the step gave the record that is the next one
 abbrev pub StepsOver : Records → List (List ℕ) → Records → Type 0
 StepsOver old fields new =
-    (text : List ℕ) (before : List (List (List ℕ))) → StandsBehind text before old → StandsBehind text (before ++ fields ∷ []) new
+    (text : List ℕ) (before : List (List (List ℕ))) → StandsBehind text before old →
+    StandsBehind text (before ++ fields ∷ []) new
 
 -- there is no next record
 abbrev pub IsAtEnd : Records → Type 0

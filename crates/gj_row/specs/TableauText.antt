@@ -45,7 +45,8 @@ abbrev pub SpellNumbers : List (List ℕ) → List Frac → Type 0
 SpellNumbers [] [] = Unit {0}
 SpellNumbers [] (right ∷ values) = ⊥
 SpellNumbers (word ∷ words) [] = ⊥
-SpellNumbers (word ∷ words) (right ∷ values) = IsFractionWord Lenient word right × AllZip SpellsEntry words values
+SpellNumbers (word ∷ words) (right ∷ values) = IsFractionWord Lenient word right
+    × AllZip SpellsEntry words values
 
 abbrev pub is_zero : Frac → Bool
 is_zero x = unsigned_abs (numerator x) == 0

@@ -28,19 +28,26 @@ reads_as v z e fits = ap read e ∙ read_part z fits
 abbrev pub IsRestOf : Frac → ℤ → ℤ → Type 0
 IsRestOf x n d = (w : ℤ) → IsFloor x w → (n ≡ x.num -ℤ w *ℤ x.den) × (d ≡ x.den)
 
-pub rest_parts : (x r : Frac) → ((w : ℤ) → IsFloor x w → IsRatio r (numerator x -ℤ w *ℤ denominator x) (denominator x)) → IsRestOf x r.num r.den
+pub rest_parts : (x r : Frac) →
+    ((w : ℤ) → IsFloor x w → IsRatio r (numerator x -ℤ w *ℤ denominator x) (denominator x)) →
+    IsRestOf x r.num r.den
 rest_parts x r is w floor =
     let n = x.num -ℤ w *ℤ x.den in
-    let next : (w +ℤ pos 1) *ℤ x.den ≡ w *ℤ x.den +ℤ x.den = add_mul_z w (pos 1) x.den ∙ ap (λ z. w *ℤ x.den +ℤ z) (one_mul_z x.den) in
+    let next : (w +ℤ pos 1) *ℤ x.den ≡ w *ℤ x.den +ℤ x.den = add_mul_z w (pos 1) x.den
+    ∙ ap (λ z. w *ℤ x.den +ℤ z) (one_mul_z x.den) in
     let low : (w *ℤ x.den) ≤ℤ x.num = floor.at_most in
     let high : x.num <ℤ (w *ℤ x.den +ℤ x.den) = subst (λ z. x.num <ℤ z) next floor.next_above in
     let small : unsigned_abs n < unsigned_abs x.den = omega (arith, ints) in
-    let lowest : IsLowest n x.den = rest_lowest x.num x.den n x.lowest (sym (rest_from_floor x w floor)) (omega (arith, ints)) small in
+    let lowest : IsLowest n x.den =
+    rest_lowest x.num x.den n x.lowest (sym (rest_from_floor x w floor))
+    (omega (arith, ints)) small in
     parts_from_is r n x.den x.lowest.positive lowest.coprime (is w floor)
 
 -- the denominator of the rest is that of x, so it is no greater
-pub rest_fine : (x r : Frac) → IsRestOf x r.num r.den → unsigned_abs x.den ≤ 2 ^ 62 → unsigned_abs r.den ≤ 2 ^ 62
-rest_fine x r rest fine = subst (λ d. unsigned_abs d ≤ 2 ^ 62) (sym (rest _ (quotient_is_floor x)).1) fine
+pub rest_fine : (x r : Frac) → IsRestOf x r.num r.den → unsigned_abs x.den ≤ 2 ^ 62 →
+    unsigned_abs r.den ≤ 2 ^ 62
+rest_fine x r rest fine =
+    subst (λ d. unsigned_abs d ≤ 2 ^ 62) (sym (rest _ (quotient_is_floor x)).1) fine
 
 -- ---- whole numbers over the product of both denominators
 
@@ -77,7 +84,8 @@ place_below f r below =
 
 -- ---- the two branches
 
-pub rising_value : (f x y : Frac) (n d : ℤ) → IsRestOf x n d → (LessValue (fraction_of f) (record { top = n; bottom = d }) → ⊥) →
+pub rising_value : (f x y : Frac) (n d : ℤ) → IsRestOf x n d →
+    (LessValue (fraction_of f) (record { top = n; bottom = d }) → ⊥) →
     IsRatio y (n *ℤ denominator f) (numerator f *ℤ d) → IsGmicValue f x y
 rising_value f x y n d rest low is = record {
   rises = λ w floor h. let parts = rest w floor in
@@ -85,7 +93,8 @@ rising_value f x y n d rest low is = record {
       (fraction_of f))) parts.0 parts.1
       (subst (IsRatio y (n *ℤ f.den)) (mul_comm_z f.num d) is);
   falls = λ w floor h. let parts = rest w floor in
-      absurd (low (subst₂ (λ n d. LessValue (fraction_of f) (record { top = n; bottom = d })) (sym parts.0) (sym parts.1) h));
+      absurd (low (subst₂ (λ n d. LessValue (fraction_of f) (record { top = n; bottom = d }))
+      (sym parts.0) (sym parts.1) h));
 }
 
 -- 1 minus a fraction, as the definitions write it
@@ -95,15 +104,18 @@ one_minus_top a b = omega (arith, ints)
 pub one_times : (a : ℤ) → a ≡ pos 1 *ℤ a
 one_times a = sym (one_mul_z a)
 
-pub falling_value : (f x y : Frac) (n d : ℤ) → IsRestOf x n d → LessValue (fraction_of f) (record { top = n; bottom = d }) →
+pub falling_value : (f x y : Frac) (n d : ℤ) → IsRestOf x n d →
+    LessValue (fraction_of f) (record { top = n; bottom = d }) →
     IsRatio y (d *ℤ denominator f -ℤ n *ℤ denominator f) (d *ℤ denominator f -ℤ numerator f *ℤ d) →
     IsGmicValue f x y
 falling_value f x y n d rest high is = record {
   rises = λ w floor low. let parts = rest w floor in
-      absurd (low (subst₂ (λ n m. LessValue (fraction_of f) (record { top = n; bottom = m })) parts.0 parts.1 high));
+      absurd (low (subst₂ (λ n m. LessValue (fraction_of f) (record { top = n; bottom = m }))
+      parts.0 parts.1 high));
   falls = λ w floor h. let parts = rest w floor in
       let top = sym (sub_mul_z d n f.den) ∙ ap₂ (λ a b. a *ℤ b)
-      (ap₂ (λ a b. a -ℤ b) parts.1 parts.0 ∙ one_minus_top x.den (x.num -ℤ w *ℤ x.den)) (one_times f.den) in
+      (ap₂ (λ a b. a -ℤ b) parts.1 parts.0 ∙ one_minus_top x.den (x.num -ℤ w *ℤ x.den))
+      (one_times f.den) in
       let bottom = ap (λ z. d *ℤ f.den -ℤ z) (mul_comm_z f.num d) ∙
       sym (mul_sub_z d f.den f.num)
       ∙ ap₂ (λ a b. a *ℤ b) (parts.1 ∙ one_times x.den) (one_minus_top f.den f.num) in

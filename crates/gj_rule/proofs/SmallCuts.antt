@@ -16,13 +16,16 @@ use mir.Val.{SFits}
 -- ---- numbers that were converted
 
 -- what a conversion gave, if it gave anything
-given_by : {T E : Type 0} (r : Result T E) (P : Type 0) (v n : T) → OkIff r P v → Some n ≡ result_ok r → P × (n ≡ v)
+given_by : {T E : Type 0} (r : Result T E) (P : Type 0) (v n : T) → OkIff r P v →
+    Some n ≡ result_ok r → P × (n ≡ v)
 given_by (Ok m) P v n h e = let same : n ≡ m = cc in (h.0, same ∙ h.1)
 given_by (Err d) P v n h e = absurd (cc)
 
 -- a part as 32 bits without sign
-pub as_natural : {E : Type 0} (r : Result ℕ E) (part z : ℤ) (n : ℕ) → part ≡ z → unsigned_abs z < 2 ^ 127 →
-    OkIff r (FitsUnsigned w32 (read part)) (unsigned_abs (read part)) → Some n ≡ result_ok r → pos n ≡ z
+pub as_natural : {E : Type 0} (r : Result ℕ E) (part z : ℤ) (n : ℕ) → part ≡ z →
+    unsigned_abs z < 2 ^ 127 →
+    OkIff r (FitsUnsigned w32 (read part)) (unsigned_abs (read part)) → Some n ≡ result_ok r →
+    pos n ≡ z
 as_natural r part z n part_is fits h e =
     let same = reads_as part z part_is fits in
     let given = given_by r _ _ n h e in
@@ -36,7 +39,8 @@ pub as_signed : {E : Type 0} (r : Result ℤ E) (part z n : ℤ) → part ≡ z 
     OkIff r (SFits w64 (read part)) (read part) → Some n ≡ result_ok r → to_z w64 (of_z w64 n) ≡ z
 as_signed r part z n part_is fits h e =
     let given = given_by r _ _ n h e in
-    ap (λ m. to_z w64 (of_z w64 m)) given.1 ∙ to_z-of_z w64 (read part) given.0 ∙ reads_as part z part_is fits
+    ap (λ m. to_z w64 (of_z w64 m)) given.1 ∙ to_z-of_z w64 (read part) given.0
+    ∙ reads_as part z part_is fits
 
 -- ---- the natural numbers
 
@@ -48,7 +52,8 @@ pub record AreNaturalParts (f x : Frac) (a b r d : ℕ) : Type 0 where
   pub rest_is : pos r ≡ int_rem_euclid x.num x.den
   pub rest_below : r < d
 
-module _ (f x : Frac) (inside : IsInside f) (a b r d : ℕ) (parts : AreNaturalParts f x a b r d) where
+module _ (f x : Frac) (inside : IsInside f) (a b r d : ℕ)
+    (parts : AreNaturalParts f x a b r d) where
   num_positive : 0 < a
   num_positive = let e = parts.num_is in let h = inside.0 in omega (arith, ints)
 
@@ -81,15 +86,19 @@ module _ (f x : Frac) (inside : IsInside f) (a b r d : ℕ) (parts : AreNaturalP
   one_is : pos d *ℤ f.den ≡ pos (d * b)
   one_is = ap (λ z. pos d *ℤ z) (sym parts.den_is) ∙ pos-*ℤ-pos d b
 
-  pub rising_is : r * b ≤ a * d → (v : Frac) → IsRatio v (pos (r * b)) (pos (a * d)) → IsGmicValue f x v
+  pub rising_is : r * b ≤ a * d → (v : Frac) → IsRatio v (pos (r * b)) (pos (a * d)) →
+      IsGmicValue f x v
   rising_is low v is =
-      let below : (pos r *ℤ f.den) ≤ℤ (f.num *ℤ pos d) = subst₂ (λ m n. m ≤ℤ n) (sym part_is) (sym place_is) (omega (arith, ints)) in
+      let below : (pos r *ℤ f.den) ≤ℤ (f.num *ℤ pos d) =
+      subst₂ (λ m n. m ≤ℤ n) (sym part_is) (sym place_is) (omega (arith, ints)) in
       rising_value f x v (pos r) (pos d) is_rest (λ above. omega (arith, ints))
       (subst₂ (IsRatio v) (sym part_is) (sym place_is) is)
 
-  pub falling_is : a * d < r * b → (v : Frac) → IsRatio v (pos (d * b - r * b)) (pos (d * b - a * d)) → IsGmicValue f x v
+  pub falling_is : a * d < r * b → (v : Frac) →
+      IsRatio v (pos (d * b - r * b)) (pos (d * b - a * d)) → IsGmicValue f x v
   falling_is high v is =
-      let above : (f.num *ℤ pos d) <ℤ (pos r *ℤ f.den) = subst₂ (λ m n. m <ℤ n) (sym place_is) (sym part_is) (omega (arith, ints)) in
+      let above : (f.num *ℤ pos d) <ℤ (pos r *ℤ f.den) =
+      subst₂ (λ m n. m <ℤ n) (sym place_is) (sym part_is) (omega (arith, ints)) in
       let rest_low = part_low in
       let low = place_low in
       let top : pos (d * b - r * b) ≡ pos (d * b) -ℤ pos (r * b) = omega (arith, ints) in

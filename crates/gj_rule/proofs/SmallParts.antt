@@ -20,10 +20,13 @@ ratio_exists n d some n_fits d_fits =
     let q = unsigned_abs d / g in
     let p_is : p *ℤ pos g ≡ n = quotient_of_divisor n (pos g) h.0 in
     let q_is : pos q *ℤ pos g ≡ d = quotient_times d g some h.1 in
-    let p_size : unsigned_abs p * g ≡ unsigned_abs n = sym (unsigned_abs-mul p (pos g)) ∙ ap unsigned_abs p_is in
-    let p_small : unsigned_abs p ≤ unsigned_abs p * g = le-mul_of_pos_right (unsigned_abs p) g_some in
+    let p_size : unsigned_abs p * g ≡ unsigned_abs n = sym (unsigned_abs-mul p (pos g))
+    ∙ ap unsigned_abs p_is in
+    let p_small : unsigned_abs p ≤ unsigned_abs p * g =
+    le-mul_of_pos_right (unsigned_abs p) g_some in
     let q_size : q * g ≡ unsigned_abs d = div-mul_cancel g h.1 in
-    let q_small = divisor_of_positive q (unsigned_abs d) (positive_some_z d some) (subst (λ m. q ∣ m) q_size (dvd-mul_right q g)) in
+    let q_small = divisor_of_positive q (unsigned_abs d) (positive_some_z d some)
+    (subst (λ m. q ∣ m) q_size (dvd-mul_right q g)) in
     let q_some = q_small.0 in
     let q_low = q_small.1 in
     let lowest : IsLowest p (pos q) = record {
@@ -31,8 +34,11 @@ ratio_exists n d some n_fits d_fits =
       num_fits = omega arith;
       den_fits = omega arith;
       coprime = coprime_signed_quotients n d (pos g) p (pos q) h g_some p_is q_is;
-    } in
-    (record { num = p; den = pos q; lowest = lowest }, same_from_multiples p (pos q) p (pos q) (pos g) n d p_is q_is refl)
+    } in (
+      record { num = p; den = pos q; lowest = lowest },
+      same_from_multiples p (pos q) p (pos q)
+          (pos g) n d p_is q_is refl,
+    )
 
 -- a product of parts of at most 2^62 fits
 product_fits : (n m : ℤ) → unsigned_abs n ≤ 2 ^ 62 → unsigned_abs m ≤ 2 ^ 62 → Fits (n *ℤ m)
@@ -42,8 +48,10 @@ product_fits n m n_small m_small =
     omega arith
 
 -- fractions with parts of at most 2^62 can be multiplied
-pub small_product : (x y : Frac) → unsigned_abs x.num ≤ 2 ^ 62 → unsigned_abs x.den ≤ 2 ^ 62 → unsigned_abs y.num ≤ 2 ^ 62 →
+pub small_product : (x y : Frac) → unsigned_abs x.num ≤ 2 ^ 62 → unsigned_abs x.den ≤ 2 ^ 62 →
+    unsigned_abs y.num ≤ 2 ^ 62 →
     unsigned_abs y.den ≤ 2 ^ 62 → FitsProduct x y
 small_product x y x_num x_den y_num y_den =
-    ratio_exists (x.num *ℤ y.num) (x.den *ℤ y.den) (mul_positive_z x.den y.den x.lowest.positive y.lowest.positive)
+    ratio_exists (x.num *ℤ y.num) (x.den *ℤ y.den)
+    (mul_positive_z x.den y.den x.lowest.positive y.lowest.positive)
     (product_fits x.num y.num x_num y_num) (product_fits x.den y.den x_den y_den)

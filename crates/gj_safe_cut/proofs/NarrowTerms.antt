@@ -22,26 +22,33 @@ minus_one a = by_ring_q (a ∷ []) (search ring_q depth 40) refl
 regrouped : (x a b : Rational) → x +ℚ (a +ℚ b) ≡ (x +ℚ a) +ℚ b
 regrouped x a b = by_ring_q (x ∷ a ∷ b ∷ []) (search ring_q depth 40) refl
 
-module _ (IsValue : Frac → Frac → Type 0) (IsOut : Frac → Type 0) (up down : Frac) (one : HasOneValue IsValue) where
+module _ (IsValue : Frac → Frac → Type 0) (IsOut : Frac → Type 0) (up down : Frac)
+    (one : HasOneValue IsValue) where
   abbrev Gives : Piece → Frac → Type 0
   Gives = IsCoefficient IsValue up down
 
-  narrow_term : (sum : List Frac) (right : Frac) (s : Piece) (k : Frac) → (HasNoCoefficient IsOut up down s → ⊥) → Gives s k →
-      (IsWideWithin sum k s.inequality.entries ⊎ IsWideAt right k s.inequality.right → ⊥) → IsWideTerm IsValue IsOut up down sum right s → ⊥
+  narrow_term : (sum : List Frac) (right : Frac) (s : Piece) (k : Frac) →
+      (HasNoCoefficient IsOut up down s → ⊥) → Gives s k →
+      (IsWideWithin sum k s.inequality.entries ⊎ IsWideAt right k s.inequality.right → ⊥) →
+      IsWideTerm IsValue IsOut up down sum right s → ⊥
   narrow_term sum right s k some given narrow =
       ⊎_elim some
       (λ (w : (l : Frac) × Gives s l × (IsWideWithin sum l s.inequality.entries ⊎ IsWideAt right l s.inequality.right)).
-      narrow (subst (λ (x : Frac). IsWideWithin sum x s.inequality.entries ⊎ IsWideAt right x s.inequality.right)
+      narrow (subst (λ (x : Frac). IsWideWithin sum x s.inequality.entries
+      ⊎ IsWideAt right x s.inequality.right)
       (one_coefficient IsValue up down one s w.0 k w.1 given) w.2))
 
   -- the terms of the pieces before it have been added, and then a number does not fit
   abbrev IsWideNow : ℕ → (List Rational → Rational) → List Piece → Piece → Type 0
-  IsWideNow n old before next = (coefficients : List Frac) × AllZip Gives before coefficients × (sum : List Frac) × (right : Frac)
+  IsWideNow n old before next = (coefficients : List Frac) × AllZip Gives before coefficients
+      × (sum : List Frac) × (right : Frac)
       × (length sum ≡ n)
-      × ((point : List Rational) → dot sum point -ℚ rational right ≡ old point +ℚ combined_at point coefficients before)
+      × ((point : List Rational) →
+      dot sum point -ℚ rational right ≡ old point +ℚ combined_at point coefficients before)
       × IsWideTerm IsValue IsOut up down sum right next
 
-  fails_adding : (ps : List Piece) (n : ℕ) (old : List Rational → Rational) → IsWideAdding IsValue IsOut up down ps n old → Fails (IsWideNow n old) ps
+  fails_adding : (ps : List Piece) (n : ℕ) (old : List Rational → Rational) →
+      IsWideAdding IsValue IsOut up down ps n old → Fails (IsWideNow n old) ps
   fails_adding ps n old w = record {
     before = w.before;
     next = w.next;
@@ -50,7 +57,8 @@ module _ (IsValue : Frac → Frac → Type 0) (IsOut : Frac → Type 0) (up down
     fails = (w.coefficients, w.given, w.sum, w.right, w.count, w.adds, w.wide);
   }
 
-  adding_fails : (ps : List Piece) (n : ℕ) (old : List Rational → Rational) → Fails (IsWideNow n old) ps → IsWideAdding IsValue IsOut up down ps n old
+  adding_fails : (ps : List Piece) (n : ℕ) (old : List Rational → Rational) →
+      Fails (IsWideNow n old) ps → IsWideAdding IsValue IsOut up down ps n old
   adding_fails ps n old f = record {
     before = f.before;
     next = f.next;
@@ -65,12 +73,16 @@ module _ (IsValue : Frac → Frac → Type 0) (IsOut : Frac → Type 0) (up down
     wide = f.fails.6;
   }
 
-  pub narrow_adding_none : (n : ℕ) (old : List Rational → Rational) → IsWideAdding IsValue IsOut up down [] n old → ⊥
+  pub narrow_adding_none : (n : ℕ) (old : List Rational → Rational) →
+      IsWideAdding IsValue IsOut up down [] n old → ⊥
   narrow_adding_none n old w = none_at_first (IsWideNow n old) (fails_adding [] n old w)
 
-  pub narrow_adding_next : (ps : List Piece) (i : ℕ) (s : Piece) (k : Frac) (n : ℕ) (old : List Rational → Rational) (cs : List Frac) (r : Frac) →
-      i < length ps → s ≡ get_or ps i s → AreAdded Gives (take i ps) old (surplus_of cs r) → length cs ≡ n →
-      (IsWideAdding IsValue IsOut up down (take i ps) n old → ⊥) → (HasNoCoefficient IsOut up down s → ⊥) → Gives s k →
+  pub narrow_adding_next : (ps : List Piece) (i : ℕ) (s : Piece) (k : Frac) (n : ℕ)
+      (old : List Rational → Rational) (cs : List Frac) (r : Frac) →
+      i < length ps → s ≡ get_or ps i s → AreAdded Gives (take i ps) old (surplus_of cs r) →
+      length cs ≡ n →
+      (IsWideAdding IsValue IsOut up down (take i ps) n old → ⊥) →
+      (HasNoCoefficient IsOut up down s → ⊥) → Gives s k →
       (IsWideWithin cs k s.inequality.entries ⊎ IsWideAt r k s.inequality.right → ⊥) →
       IsWideAdding IsValue IsOut up down (take (i + 1) ps) n old → ⊥
   narrow_adding_next ps i s k n old cs r below here added count none some given narrow w =
@@ -82,15 +94,20 @@ module _ (IsValue : Frac → Frac → Type 0) (IsOut : Frac → Type 0) (up down
       (one_list IsValue up down one (take i ps) h.0 added.coefficients h.1 added.given)
       ∙ sym (added.adds point)) in
       narrow_term cs r s k some given narrow
-      (subst₂ (λ (xs : List Frac) (x : Frac). IsWideTerm IsValue IsOut up down xs x s) same.0 same.1 h.6))
+      (subst₂ (λ (xs : List Frac) (x : Frac). IsWideTerm IsValue IsOut up down xs x s) same.0 same.1
+      h.6))
       (fails_adding (take (i + 1) ps) n old w)
 
   -- nor is it so in two lists of pieces, one after the other
-  pub narrow_joined : (n m : ℕ) (ps qs : List Piece) (start middle : List Rational → Rational) → IsBegun n m start → AreAdded Gives ps start middle →
-      (IsWideAdding IsValue IsOut up down ps m start → ⊥) → (IsWideAdding IsValue IsOut up down qs m middle → ⊥) →
+  pub narrow_joined : (n m : ℕ) (ps qs : List Piece) (start middle : List Rational → Rational) →
+      IsBegun n m start → AreAdded Gives ps start middle →
+      (IsWideAdding IsValue IsOut up down ps m start → ⊥) →
+      (IsWideAdding IsValue IsOut up down qs m middle → ⊥) →
       IsWideSumOfTerms IsValue IsOut up down n (ps ++ qs) → ⊥
   narrow_joined n m ps qs start middle begun first before_narrow after_narrow w =
-      let reached : (point : List Rational) → dot w.sum point -ℚ rational w.right ≡ start point +ℚ combined_at point w.coefficients w.before =
+      let reached : (point : List Rational) →
+      dot w.sum point -ℚ rational w.right
+      ≡ start point +ℚ combined_at point w.coefficients w.before =
       λ point. w.adds point ∙ minus_one (combined_at point w.coefficients w.before)
       ∙ ap (λ v. v +ℚ combined_at point w.coefficients w.before) (sym (begun.starts point)) in
       ⊎_elim
@@ -109,7 +126,9 @@ module _ (IsValue : Frac → Frac → Type 0) (IsOut : Frac → Type 0) (up down
         wide = w.wide;
       }))
       (λ (k : (front : List Piece) × (w.before ≡ ps ++ front) × (qs ≡ front ++ w.next ∷ w.after)).
-      let (ks, ls, are, head, tail) = zip_split Gives ps k.0 w.coefficients (subst (λ (us : List Piece). AllZip Gives us w.coefficients) k.1 w.given) in
+      let (ks, ls, are, head, tail) =
+      zip_split Gives ps k.0 w.coefficients
+      (subst (λ (us : List Piece). AllZip Gives us w.coefficients) k.1 w.given) in
       after_narrow (record {
         before = k.0;
         next = w.next;

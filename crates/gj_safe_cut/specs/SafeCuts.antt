@@ -26,13 +26,16 @@ use Rattle.gj_safe_cut.specs.declared.cut.SafeCut.TheVariants.{Cut, Integral, Ot
 
 -- the coefficient of a piece: the value at its entry or, if its surplus need not be whole, the
 -- weight by the slopes
-pub record IsCoefficient (IsValue : Frac → Frac → Type 0) (up down : Frac) (s : Piece) (k : Frac) : Type 0 where
+pub record IsCoefficient (IsValue : Frac → Frac → Type 0) (up down : Frac) (s : Piece) (k : Frac) :
+    Type 0 where
   pub whole : s.is_whole ≡ true → IsValue s.entry k
   pub continuous : s.is_whole ≡ false → IsWeight up down s.entry k
 
 -- the inequality is the cut over the pieces in the n columns of the problem
-abbrev pub IsCutOfPieces : (Frac → Frac → Type 0) → Frac → Frac → ℕ → List Piece → Inequality → Type 0
-IsCutOfPieces IsValue up down n pieces q = (coefficients : List Frac) × AllZip (IsCoefficient IsValue up down) pieces coefficients
+abbrev pub IsCutOfPieces : (Frac → Frac → Type 0) → Frac → Frac → ℕ → List Piece → Inequality →
+    Type 0
+IsCutOfPieces IsValue up down n pieces q = (coefficients : List Frac)
+    × AllZip (IsCoefficient IsValue up down) pieces coefficients
     × IsTurnedBack pieces coefficients q × AreTermsWithin 0 n q.entries
 
 -- ---- when a number does not fit
@@ -51,13 +54,15 @@ pub record HasNoCoefficient (IsOut : Frac → Type 0) (up down : Frac) (s : Piec
   pub continuous : s.is_whole ≡ false → HasNoValue (IsWeight up down) s.entry
 
 -- the piece has no coefficient, or its inequality times that cannot be added to this one
-abbrev pub IsWideTerm : (Frac → Frac → Type 0) → (Frac → Type 0) → Frac → Frac → List Frac → Frac → Piece → Type 0
+abbrev pub IsWideTerm : (Frac → Frac → Type 0) → (Frac → Type 0) → Frac → Frac → List Frac → Frac →
+    Piece → Type 0
 IsWideTerm IsValue IsOut up down sum right s = HasNoCoefficient IsOut up down s
     ⊎ ((k : Frac) × IsCoefficient IsValue up down s k
     × (IsWideWithin sum k s.inequality.entries ⊎ IsWideAt right k s.inequality.right))
 
 -- so it is at some piece, when those before it have been added
-pub record IsWideSumOfTerms (IsValue : Frac → Frac → Type 0) (IsOut : Frac → Type 0) (up down : Frac) (n : ℕ) (pieces : List Piece) : Type 0 where
+pub record IsWideSumOfTerms (IsValue : Frac → Frac → Type 0) (IsOut : Frac → Type 0)
+    (up down : Frac) (n : ℕ) (pieces : List Piece) : Type 0 where
   pub before : List Piece
   pub next : Piece
   pub after : List Piece
@@ -67,12 +72,15 @@ pub record IsWideSumOfTerms (IsValue : Frac → Frac → Type 0) (IsOut : Frac �
   pub sum : List Frac
   pub right : Frac
   pub count : length sum ≡ n
-  pub adds : (point : List Rational) → dot sum point -ℚ rational right ≡ combined_at point coefficients before -ℚ whole (pos 1)
+  pub adds : (point : List Rational) →
+      dot sum point -ℚ rational right ≡ combined_at point coefficients before -ℚ whole (pos 1)
   pub wide : IsWideTerm IsValue IsOut up down sum right next
 
 -- that, or the problem has more than 2^32 columns
-abbrev pub IsWideCut : (Frac → Frac → Type 0) → (Frac → Type 0) → Frac → Frac → ℕ → List Piece → Type 0
-IsWideCut IsValue IsOut up down n pieces = IsWideSumOfTerms IsValue IsOut up down n pieces ⊎ (2 ^ 32 < n)
+abbrev pub IsWideCut : (Frac → Frac → Type 0) → (Frac → Type 0) → Frac → Frac → ℕ → List Piece →
+    Type 0
+IsWideCut IsValue IsOut up down n pieces = IsWideSumOfTerms IsValue IsOut up down n pieces
+    ⊎ (2 ^ 32 < n)
 
 -- ---- cuts of rows
 
@@ -81,18 +89,23 @@ abbrev pub IsCutOfRow : RuleKind → Frac → Frac → ℕ → List Piece → Fr
 IsCutOfRow kind up down n pieces right (Cut q) =
     (IsWhole right → ⊥) × HasPart kind right × IsCutOfPieces (IsKindValue kind) up down n pieces q
 IsCutOfRow kind up down n pieces right Integral = IsWhole right
-IsCutOfRow kind up down n pieces right OtherFraction = (IsWhole right → ⊥) × (HasPart kind right → ⊥)
+IsCutOfRow kind up down n pieces right OtherFraction = (IsWhole right → ⊥)
+    × (HasPart kind right → ⊥)
 IsCutOfRow kind up down n pieces right (Free j) = ⊥
 IsCutOfRow kind up down n pieces right Wide =
-    (IsWhole right → ⊥) × HasPart kind right × IsWideCut (IsKindValue kind) IsTooFine up down n pieces
+    (IsWhole right → ⊥) × HasPart kind right
+    × IsWideCut (IsKindValue kind) IsTooFine up down n pieces
 
 -- what the row of the multipliers gives, its first free column, or a number that does not fit
-abbrev pub IsOfProblem : (ℕ → List Piece → Frac → SafeCut → Type 0) → Problem → List Frac → List Bool → SafeCut → Type 0
+abbrev pub IsOfProblem : (ℕ → List Piece → Frac → SafeCut → Type 0) → Problem → List Frac →
+    List Bool → SafeCut → Type 0
 IsOfProblem IsOfRow p multipliers at_upper (Free j) = IsFirstFree p multipliers at_upper j
 IsOfProblem IsOfRow p multipliers at_upper Wide = IsWideRow p multipliers at_upper
-    ⊎ ((pieces : List Piece) × (right : Frac) × IsRow p multipliers at_upper pieces right × IsOfRow (length p.columns) pieces right Wide)
+    ⊎ ((pieces : List Piece) × (right : Frac) × IsRow p multipliers at_upper pieces right
+    × IsOfRow (length p.columns) pieces right Wide)
 IsOfProblem IsOfRow p multipliers at_upper cut =
-    (pieces : List Piece) × (right : Frac) × IsRow p multipliers at_upper pieces right × IsOfRow (length p.columns) pieces right cut
+    (pieces : List Piece) × (right : Frac) × IsRow p multipliers at_upper pieces right
+    × IsOfRow (length p.columns) pieces right cut
 
 -- the cut of the problem by the multipliers and the rule with these slopes
 abbrev pub IsSafeCutOf : RuleKind → Frac → Frac → Problem → List Frac → List Bool → SafeCut → Type 0
@@ -107,12 +120,15 @@ IsFunctionSafeCutOf f p multipliers at_upper cut = (up : Frac) × (down : Frac)
 -- whole
 abbrev pub IsGmicCutOfRow : ℕ → List Piece → Frac → SafeCut → Type 0
 IsGmicCutOfRow n pieces right (Cut q) =
-    (f : Frac) × (up : Frac) × (down : Frac) × AreGmicSlopes f up down × IsCutOfRow (Gmic f) up down n pieces right (Cut q)
+    (f : Frac) × (up : Frac) × (down : Frac) × AreGmicSlopes f up down
+    × IsCutOfRow (Gmic f) up down n pieces right (Cut q)
 IsGmicCutOfRow n pieces right Integral = IsWhole right
 IsGmicCutOfRow n pieces right OtherFraction = ⊥
 IsGmicCutOfRow n pieces right (Free j) = ⊥
-IsGmicCutOfRow n pieces right Wide = (f : Frac) × (up : Frac) × (down : Frac) × AreGmicSlopes f up down
-    × (IsWhole right → ⊥) × HasPart (Gmic f) right × IsWideCut (IsGmicValue f) (HasNoValue (IsGmicValue f)) up down n pieces
+IsGmicCutOfRow n pieces right Wide = (f : Frac) × (up : Frac) × (down : Frac)
+    × AreGmicSlopes f up down
+    × (IsWhole right → ⊥) × HasPart (Gmic f) right
+    × IsWideCut (IsGmicValue f) (HasNoValue (IsGmicValue f)) up down n pieces
 
 -- the mixed-integer cut of the problem by the multipliers
 abbrev pub IsGmicSafeCutOf : Problem → List Frac → List Bool → SafeCut → Type 0

@@ -18,15 +18,18 @@ abbrev pub HaveSameRatios : ℕ → List ℤ → List ℤ → ℕ → ℕ → Ty
 HaveSameRatios n xs ys s t = (i : ℕ) → i < n → at xs i *ℤ pos t ≡ at ys i *ℤ pos s
 
 -- if s = a c and t = b c, and a and b have only 1 in common, a divides each entry
-part_divides : (x y : ℤ) (a b c : ℕ) → IsGcd a b 1 → 0 < c → x *ℤ pos (b * c) ≡ y *ℤ pos (a * c) → a ∣ unsigned_abs x
+part_divides : (x y : ℤ) (a b c : ℕ) → IsGcd a b 1 → 0 < c → x *ℤ pos (b * c) ≡ y *ℤ pos (a * c) →
+    a ∣ unsigned_abs x
 part_divides x y a b c alone some e =
     let sizes : unsigned_abs x * (b * c) ≡ unsigned_abs y * (a * c) =
     sym (unsigned_abs-mul x (pos (b * c))) ∙ ap unsigned_abs e ∙ unsigned_abs-mul y (pos (a * c)) in
     let regrouped : (unsigned_abs x * b) * c ≡ (unsigned_abs y * a) * c =
     mul_assoc (unsigned_abs x) b c ∙ sizes ∙ sym (mul_assoc (unsigned_abs y) a c) in
-    let same : unsigned_abs x * b ≡ unsigned_abs y * a = eq_of_mul-eq-mul_right c some (unsigned_abs x * b) (unsigned_abs y * a) regrouped in
+    let same : unsigned_abs x * b ≡ unsigned_abs y * a =
+    eq_of_mul-eq-mul_right c some (unsigned_abs x * b) (unsigned_abs y * a) regrouped in
     gauss a b (unsigned_abs x) alone
-    (subst (λ n. a ∣ n) (sym (mul_comm b (unsigned_abs x) ∙ same)) (dvd-mul_left a (unsigned_abs y)))
+    (subst (λ n. a ∣ n) (sym (mul_comm b (unsigned_abs x) ∙ same))
+    (dvd-mul_left a (unsigned_abs y)))
 
 parts_divide : (n : ℕ) (xs ys : List ℤ) (a b c : ℕ) → length xs ≡ n → IsGcd a b 1 → 0 < c →
     HaveSameRatios n xs ys (a * c) (b * c) → All (λ x. a ∣ unsigned_abs x) xs
@@ -35,13 +38,15 @@ parts_divide n xs ys a b c len alone some same k d h =
     (part_divides (at xs k) (at ys k) a b c alone some (same k (omega arith)))
 
 -- lists over one scale
-same_over : (n : ℕ) (xs ys : List ℤ) (s : ℕ) → length xs ≡ n → length ys ≡ n → 0 < s → HaveSameRatios n xs ys s s → xs ≡ ys
+same_over : (n : ℕ) (xs ys : List ℤ) (s : ℕ) → length xs ≡ n → length ys ≡ n → 0 < s →
+    HaveSameRatios n xs ys s s → xs ≡ ys
 same_over n xs ys s e d some same =
     same_lists xs ys (e ∙ sym d)
     (λ k z h.
     let in_ys : k < length ys = omega arith in
     let s_some : unsigned_abs (pos s) ≢ 0 = omega arith in
-    get_or_default xs k z (pos 0) h ∙ sym (at_below xs k h) ∙ mul_cancel_right_z (at xs k) (at ys k) (pos s) (same k (omega arith)) s_some
+    get_or_default xs k z (pos 0) h ∙ sym (at_below xs k h)
+    ∙ mul_cancel_right_z (at xs k) (at ys k) (pos s) (same k (omega arith)) s_some
     ∙ at_below ys k in_ys ∙ get_or_default ys k (pos 0) z in_ys)
 
 -- ---- functions
@@ -63,13 +68,17 @@ scale_divides f g within h =
     let (b, second) = cofactor c g.scale gcd.1 in
     let s_is : f.scale ≡ a * c = first ∙ mul_comm c a in
     let t_is : g.scale ≡ b * c = second ∙ mul_comm c b in
-    let alone : IsGcd a b 1 = gcd_quotients a b c (subst₂ (λ m n. IsGcd m n c) s_is t_is gcd) some in
+    let alone : IsGcd a b 1 =
+    gcd_quotients a b c (subst₂ (λ m n. IsGcd m n c) s_is t_is gcd) some in
     let P : ℤ → Type 0 = λ x. a ∣ unsigned_abs x in
-    let all : (xs ys : List ℤ) → length xs ≡ f.order → HaveSameRatios f.order xs ys f.scale g.scale → All P xs =
-    λ xs ys len same. parts_divide f.order xs ys a b c len alone some (subst₂ (HaveSameRatios f.order xs ys) s_is t_is same) in
+    let all : (xs ys : List ℤ) → length xs ≡ f.order →
+    HaveSameRatios f.order xs ys f.scale g.scale → All P xs =
+    λ xs ys len same. parts_divide f.order xs ys a b c len alone some
+    (subst₂ (HaveSameRatios f.order xs ys) s_is t_is same) in
     let one : a ≡ 1 = within.lowest a (divides_product a f.scale c s_is)
     (All-append P (f.left ++ f.value) f.right
-    (All-append P f.left f.value (all f.left g.left within.left_length h.left) (all f.value g.value within.value_length h.value))
+    (All-append P f.left f.value (all f.left g.left within.left_length h.left)
+    (all f.value g.value within.value_length h.value))
     (all f.right g.right within.right_length h.right)) in
     subst (λ n. n ∣ g.scale) (sym (first ∙ ap (λ n. c * n) one ∙ mul-one c)) gcd.1
 
@@ -82,24 +91,41 @@ turned f g h = record {
   right = λ i low. sym (h.right i (subst (λ n. i < n) (sym h.order) low));
 }
 
-pub alike_are_same : (f g : FunctionData) → IsWithinBounds f → IsWithinBounds g → AreAlike f g → f ≡ g
+pub alike_are_same : (f g : FunctionData) → IsWithinBounds f → IsWithinBounds g → AreAlike f g →
+    f ≡ g
 alike_are_same f g in_f in_g h =
-    let scale : f.scale ≡ g.scale = dvd_antisymm (scale_divides f g in_f h) (scale_divides g f in_g (turned f g h)) in
-    let lists : (xs ys : List ℤ) → length xs ≡ f.order → length ys ≡ g.order → HaveSameRatios f.order xs ys f.scale g.scale → xs ≡ ys =
+    let scale : f.scale ≡ g.scale =
+    dvd_antisymm (scale_divides f g in_f h) (scale_divides g f in_g (turned f g h)) in
+    let lists : (xs ys : List ℤ) → length xs ≡ f.order → length ys ≡ g.order →
+    HaveSameRatios f.order xs ys f.scale g.scale → xs ≡ ys =
     λ xs ys e d same. same_over f.order xs ys f.scale e (d ∙ sym h.order) in_f.scale_low
     (subst (HaveSameRatios f.order xs ys f.scale) (sym scale) same) in
     let left : f.left ≡ g.left = lists f.left g.left in_f.left_length in_g.left_length h.left in
-    let value : f.value ≡ g.value = lists f.value g.value in_f.value_length in_g.value_length h.value in
-    let right : f.right ≡ g.right = lists f.right g.right in_f.right_length in_g.right_length h.right in
-    λ i. record { order = h.order i; place = h.place i; scale = scale i; left = left i; value = value i; right = right i }
+    let value : f.value ≡ g.value =
+    lists f.value g.value in_f.value_length in_g.value_length h.value in
+    let right : f.right ≡ g.right =
+    lists f.right g.right in_f.right_length in_g.right_length h.right in
+    λ i. record {
+      order = h.order i;
+      place = h.place i;
+      scale = scale i;
+      left = left i;
+      value =
+          value i;
+      right = right i;
+    }
 
 -- continuous functions by their values
-pub continuous_alike : (f g : FunctionData) → f.order ≡ g.order → f.place ≡ g.place → (f.left ≡ f.value) × (f.right ≡ f.value) →
-    (g.left ≡ g.value) × (g.right ≡ g.value) → HaveSameRatios f.order f.value g.value f.scale g.scale → AreAlike f g
+pub continuous_alike : (f g : FunctionData) → f.order ≡ g.order → f.place ≡ g.place →
+    (f.left ≡ f.value) × (f.right ≡ f.value) →
+    (g.left ≡ g.value) × (g.right ≡ g.value) →
+    HaveSameRatios f.order f.value g.value f.scale g.scale → AreAlike f g
 continuous_alike f g order place in_f in_g same = record {
   order = order;
   place = place;
-  left = subst₂ (λ xs ys. HaveSameRatios f.order xs ys f.scale g.scale) (sym in_f.0) (sym in_g.0) same;
+  left = subst₂ (λ xs ys. HaveSameRatios f.order xs ys f.scale g.scale) (sym in_f.0)
+      (sym in_g.0) same;
   value = same;
-  right = subst₂ (λ xs ys. HaveSameRatios f.order xs ys f.scale g.scale) (sym in_f.1) (sym in_g.1) same;
+  right = subst₂ (λ xs ys. HaveSameRatios f.order xs ys f.scale g.scale) (sym in_f.1)
+      (sym in_g.1) same;
 }

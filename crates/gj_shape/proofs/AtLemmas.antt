@@ -34,17 +34,20 @@ unfolding at
 all_at P xs i some h = All-get_or P xs (i % length xs) (pos 0) (mod_below i (length xs) some) h
 
 -- limits and values are at most 2^20 in absolute value, at any index
-pub at_left_small : (f : FunctionData) (i : ℕ) → IsWithinBounds f → unsigned_abs (at f.left i) ≤ 2 ^ 20 * f.scale
+pub at_left_small : (f : FunctionData) (i : ℕ) → IsWithinBounds f →
+    unsigned_abs (at f.left i) ≤ 2 ^ 20 * f.scale
 at_left_small f i h =
     let some : 0 < length f.left = omega (arith, h.left_length, h.order_low) in
     all_at (IsSmallOver f.scale) f.left i some h.left_small
 
-pub at_value_small : (f : FunctionData) (i : ℕ) → IsWithinBounds f → unsigned_abs (at f.value i) ≤ 2 ^ 20 * f.scale
+pub at_value_small : (f : FunctionData) (i : ℕ) → IsWithinBounds f →
+    unsigned_abs (at f.value i) ≤ 2 ^ 20 * f.scale
 at_value_small f i h =
     let some : 0 < length f.value = omega (arith, h.value_length, h.order_low) in
     all_at (IsSmallOver f.scale) f.value i some h.value_small
 
-pub at_right_small : (f : FunctionData) (i : ℕ) → IsWithinBounds f → unsigned_abs (at f.right i) ≤ 2 ^ 20 * f.scale
+pub at_right_small : (f : FunctionData) (i : ℕ) → IsWithinBounds f →
+    unsigned_abs (at f.right i) ≤ 2 ^ 20 * f.scale
 at_right_small f i h =
     let some : 0 < length f.right = omega (arith, h.right_length, h.order_low) in
     all_at (IsSmallOver f.scale) f.right i some h.right_small
@@ -56,9 +59,11 @@ pub at_read : (xs : List ℤ) (i : ℕ) (n : ℤ) → i < length xs → n ≡ ge
 at_read xs i n h e = at_below xs i h ∙ sym (get_or_read xs i n h e (pos 0))
 
 -- entries that were read and differ
-pub apart_at : (xs ys : List ℤ) (i : ℕ) (m n : ℤ) → i < length xs → i < length ys → m ≡ get_or xs i m →
+pub apart_at : (xs ys : List ℤ) (i : ℕ) (m n : ℤ) → i < length xs → i < length ys →
+    m ≡ get_or xs i m →
     n ≡ get_or ys i n → m ≢ n → at xs i ≢ at ys i
-apart_at xs ys i m n h k d e differ same = differ (sym (at_read xs i m h d) ∙ same ∙ at_read ys i n k e)
+apart_at xs ys i m n h k d e differ same =
+    differ (sym (at_read xs i m h d) ∙ same ∙ at_read ys i n k e)
 
 -- entries that are equal as they stand are equal modulo the length
 pub same_at : (xs ys : List ℤ) (i : ℕ) → i < length xs → i < length ys →

@@ -24,7 +24,8 @@ use Rattle.gj_shape.proofs.BreakLists.{places_of, breaks_more, order_some, place
 pub breaks_kept : (s t : BreakList) (b : Break) → AreBreaks s → Follows s b t → AreBreaks t
 breaks_kept s t b are h =
     let same : t ≡ record { place = s.place; order = t.order; breaks = s.breaks ++ b ∷ [] } =
-    ap₂ (λ (p : Frac) (bs : List Break). record { place = p; order = t.order; breaks = bs }) h.place_is h.breaks_are in
+    ap₂ (λ (p : Frac) (bs : List Break). record { place = p; order = t.order; breaks = bs })
+    h.place_is h.breaks_are in
     subst AreBreaks (sym same) (breaks_more s b t.order are (subst (Follows s b) same h))
 
 -- ---- backward
@@ -38,36 +39,46 @@ lcm_exists a b some =
 
 -- the denominator of each further breakpoint divides the order of all, and so do those of f and of
 -- the breakpoints before it
-order_divides : (whole s : BreakList) (b : Break) (back : List Break) → AreBreaks whole → AreBreaks s → s.place ≡ whole.place →
+order_divides : (whole s : BreakList) (b : Break) (back : List Break) → AreBreaks whole →
+    AreBreaks s → s.place ≡ whole.place →
     whole.breaks ≡ s.breaks ++ b ∷ back → (s.order ∣ whole.order) × Divides whole.order b.x
 order_divides whole s b back all are place split =
     let later = b.x ∷ map (λ c. c.x) back in
     let places : places_of whole ≡ places_of s ++ later =
-    ap₂ (λ p bs. p ∷ map (λ c. c.x) bs) (sym place) split ∙ ap (λ xs. s.place ∷ xs) (map-append (λ c. c.x) s.breaks (b ∷ back)) in
+    ap₂ (λ p bs. p ∷ map (λ c. c.x) bs) (sym place) split
+    ∙ ap (λ xs. s.place ∷ xs) (map-append (λ c. c.x) s.breaks (b ∷ back)) in
     let common : IsCommonDenominator (places_of s ++ later) whole.order =
     subst (λ xs. IsCommonDenominator xs whole.order) places all.order_is.common in (
       are.order_is.least whole.order (All-front (Divides whole.order) (places_of s) later common),
-      All-head (Divides whole.order) b.x (map (λ c. c.x) back) (All-back (Divides whole.order) (places_of s) later common),
+      All-head (Divides whole.order) b.x (map (λ c. c.x) back)
+          (All-back (Divides whole.order) (places_of s) later common),
     )
 
 -- the fractions of the first breakpoints of some that are within bounds
-first_within : (front back : List Break) → AreWithinBounds (all_fractions (points_at (front ++ back))) →
+first_within : (front back : List Break) →
+    AreWithinBounds (all_fractions (points_at (front ++ back))) →
     AreWithinBounds (all_fractions (points_at front))
 first_within front back h =
-    let split : all_fractions (points_at (front ++ back)) ≡ all_fractions (points_at front) ++ all_fractions (points_at back) =
-    ap all_fractions (map-append point_at front back) ∙ flat_map-append fractions_of (points_at front) (points_at back) in
-    within_bounds_closed (all_fractions (points_at front)) (all_fractions (points_at back)) (subst AreWithinBounds split h)
+    let split : all_fractions (points_at (front ++ back)) ≡ all_fractions (points_at front)
+    ++ all_fractions (points_at back) =
+    ap all_fractions (map-append point_at front back)
+    ∙ flat_map-append fractions_of (points_at front) (points_at back) in
+    within_bounds_closed (all_fractions (points_at front)) (all_fractions (points_at back))
+    (subst AreWithinBounds split h)
 
 -- behind the first breakpoints of some that pass all tests the next one follows
-pub next_follows : (whole s : BreakList) (b : Break) (back : List Break) → AreBreaks whole → AreBreaks s → s.place ≡ whole.place →
+pub next_follows : (whole s : BreakList) (b : Break) (back : List Break) → AreBreaks whole →
+    AreBreaks s → s.place ≡ whole.place →
     whole.breaks ≡ s.breaks ++ b ∷ back →
-    (order : ℕ) × Follows s b (record { place = s.place; order = order; breaks = s.breaks ++ b ∷ [] })
+    (order : ℕ) × Follows s b
+    (record { place = s.place; order = order; breaks = s.breaks ++ b ∷ [] })
 next_follows whole s b back all are place split =
     let divides = order_divides whole s b back all are place split in
     let (order, lcm) = lcm_exists s.order (unsigned_abs (denominator b.x)) (order_some s are) in
     let at_most = le_of_dvd (order_some whole all) (lcm.2 whole.order divides.0 divides.1) in
     let few = all.few in
-    let regrouped : whole.breaks ≡ s.breaks ++ b ∷ [] ++ back = split ∙ sym (append_assoc s.breaks (b ∷ []) back) in (
+    let regrouped : whole.breaks ≡ s.breaks ++ b ∷ [] ++ back = split
+    ∙ sym (append_assoc s.breaks (b ∷ []) back) in (
       order,
       record {
         next = all.ascending s.breaks b back split;
@@ -81,12 +92,15 @@ next_follows whole s b back all are place split =
     )
 
 -- f and the breakpoints have one order
-pub one_break_list : (s t : BreakList) → AreBreaks s → AreBreaks t → s.place ≡ t.place → s.breaks ≡ t.breaks → s ≡ t
+pub one_break_list : (s t : BreakList) → AreBreaks s → AreBreaks t → s.place ≡ t.place →
+    s.breaks ≡ t.breaks → s ≡ t
 one_break_list s t are all place breaks =
     let places : places_of s ≡ places_of t = ap₂ (λ p bs. p ∷ map (λ c. c.x) bs) place breaks in
-    let least : IsLeastCommonDenominator (places_of t) s.order = subst (λ xs. IsLeastCommonDenominator xs s.order) places are.order_is in
+    let least : IsLeastCommonDenominator (places_of t) s.order =
+    subst (λ xs. IsLeastCommonDenominator xs s.order) places are.order_is in
     let order : s.order ≡ t.order =
-    dvd_antisymm (least.least t.order all.order_is.common) (all.order_is.least s.order least.common) in
+    dvd_antisymm (least.least t.order all.order_is.common)
+    (all.order_is.least s.order least.common) in
     ap (λ p. record { place = p; order = s.order; breaks = s.breaks }) place
     ∙ ap₂ (λ n bs. record { place = t.place; order = n; breaks = bs }) order breaks
 

@@ -9,7 +9,8 @@ use Rattle.gj_shape.proofs.InOrder.{all_in_order, all_from_in_order}
 use Rattle.gj_shape.proofs.LeastDenominator.{Divides}
 use Rattle.gj_shape.proofs.OverScale.{all_small}
 
-lengths_given : (q k : ℕ) (l v r : List Frac) (f : FunctionData) → IsGivenBy q k l v r f → HaveLength l v r q
+lengths_given : (q k : ℕ) (l v r : List Frac) (f : FunctionData) → IsGivenBy q k l v r f →
+    HaveLength l v r q
 lengths_given q k l v r f g =
     let num = numerator_over f.scale in (
       sym (length-map l num) ∙ sym (ap length g.left_is) ∙ g.within.left_length ∙ g.order,
@@ -17,7 +18,8 @@ lengths_given q k l v r f g =
       sym (length-map r num) ∙ sym (ap length g.right_is) ∙ g.within.right_length ∙ g.order,
     )
 
-pub all_small_given : (q k : ℕ) (l v r : List Frac) (f : FunctionData) → IsGivenBy q k l v r f → All IsSmall (in_order l v r)
+pub all_small_given : (q k : ℕ) (l v r : List Frac) (f : FunctionData) → IsGivenBy q k l v r f →
+    All IsSmall (in_order l v r)
 all_small_given q k l v r f g =
     let n = lengths_given q k l v r f g in
     let value_length : length v ≡ length l = n.1 ∙ sym n.0 in
@@ -29,7 +31,8 @@ all_small_given q k l v r f g =
     (all_small f.scale r f.right g.within.scale_low g.right_is d.2 g.within.right_small)
 
 -- so they are within bounds
-pub within_given : (q k : ℕ) (l v r : List Frac) (f : FunctionData) → IsGivenBy q k l v r f → AreWithinBounds (in_order l v r)
+pub within_given : (q k : ℕ) (l v r : List Frac) (f : FunctionData) → IsGivenBy q k l v r f →
+    AreWithinBounds (in_order l v r)
 within_given q k l v r f g = record {
   small = all_small_given q k l v r f g;
   common = (f.scale, g.within.scale_low, g.within.scale_high, g.common);

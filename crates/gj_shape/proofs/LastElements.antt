@@ -6,19 +6,23 @@ use Rattle.std.proofs.lemmas.List.{length_push, length-append, take_more, take_a
 -- ---- the last element
 
 -- the element at the last index stands behind all others
-pub behind_others : {A : Type 0} (xs : List A) (y : A) → 0 < length xs → y ≡ get_or xs (length xs - 1) y →
+pub behind_others : {A : Type 0} (xs : List A) (y : A) → 0 < length xs →
+    y ≡ get_or xs (length xs - 1) y →
     xs ≡ take (length xs - 1) xs ++ y ∷ []
 behind_others xs y some e =
     let n = length xs - 1 in
     let all : n + 1 ≡ length xs = omega arith in
-    sym (take_all (n + 1) xs (omega arith)) ∙ take_more xs n y (omega arith) ∙ ap (λ z. take n xs ++ z ∷ []) (sym e)
+    sym (take_all (n + 1) xs (omega arith)) ∙ take_more xs n y (omega arith)
+    ∙ ap (λ z. take n xs ++ z ∷ []) (sym e)
 
 -- what stands behind all others is the element at the last index
-pub at_last_index : {A : Type 0} (xs front : List A) (y z : A) → y ≡ get_or xs (length xs - 1) y → xs ≡ front ++ z ∷ [] → y ≡ z
+pub at_last_index : {A : Type 0} (xs front : List A) (y z : A) → y ≡ get_or xs (length xs - 1) y →
+    xs ≡ front ++ z ∷ [] → y ≡ z
 at_last_index xs front y z e split =
     let long = ap length split ∙ length_push front z in
     let index : length xs - 1 ≡ length front = omega arith in
-    e ∙ ap (λ n. get_or xs n y) index ∙ ap (λ l. get_or l (length front) y) split ∙ get_or-append_seam front z [] y
+    e ∙ ap (λ n. get_or xs n y) index ∙ ap (λ l. get_or l (length front) y) split
+    ∙ get_or-append_seam front z [] y
 
 -- ---- each element and those before it
 
@@ -32,7 +36,8 @@ each_behind_none P front x back e =
     absurd (omega arith)
 
 -- one more element
-pub each_behind_more : {A : Type 0} (P : List A → A → Type 0) (xs : List A) (y : A) → EachBehind P xs → P xs y →
+pub each_behind_more : {A : Type 0} (P : List A → A → Type 0) (xs : List A) (y : A) →
+    EachBehind P xs → P xs y →
     EachBehind P (xs ++ y ∷ [])
 each_behind_more P [] y each last [] x back e = let same : y ≡ x = cc in subst (P []) same last
 each_behind_more P [] y each last (z ∷ front) x back e =
@@ -52,9 +57,11 @@ each_behind_more P (w ∷ xs) y each last (z ∷ front) x back e =
 -- each
 pub along_behind : {A : Type 0} (P : A → Type 0) (xs : List A) →
     ((x : A) (back : List A) → xs ≡ x ∷ back → P x) →
-    ((front : List A) (y x : A) (back : List A) → xs ≡ front ++ y ∷ x ∷ back → P y → P x) → EachBehind (λ front x. P x) xs
+    ((front : List A) (y x : A) (back : List A) → xs ≡ front ++ y ∷ x ∷ back → P y → P x) →
+    EachBehind (λ front x. P x) xs
 along_behind {A = A} P xs first next [] x back e = first x back e
-along_behind {A = A} P xs first next (z ∷ front) x back e = along [] z front x back (first z (front ++ x ∷ back) e) e
+along_behind {A = A} P xs first next (z ∷ front) x back e =
+    along [] z front x back (first z (front ++ x ∷ back) e) e
   where
     along : (before : List A) (y : A) (front : List A) (x : A) (back : List A) → P y →
         xs ≡ before ++ y ∷ (front ++ x ∷ back) → P x

@@ -29,7 +29,11 @@ least_of_none {limit = limit} = record {
   small = All-nil (IsAtMost limit);
   low = omega arith;
   high = omega arith;
-  least = record { common = All-nil (λ x. unsigned_abs (denominator x) ∣ 1); least = λ c h. one-dvd c };
+  least = record {
+    common = All-nil (λ x. unsigned_abs (denominator x) ∣ 1);
+    least =
+        λ c h. one-dvd c;
+  };
 }
 
 -- the denominator divides
@@ -46,7 +50,8 @@ common_some (x ∷ xs) =
     let e = unsigned_abs (denominator x) in (
       e * d,
       mul-pos (denominator_some x) some,
-      All-cons (Divides (e * d)) x xs (dvd-mul_right e d) (λ k y l. dvd_trans _ (common k y l) (dvd-mul_left d e)),
+      All-cons (Divides (e * d)) x xs (dvd-mul_right e d)
+          (λ k y l. dvd_trans _ (common k y l) (dvd-mul_left d e)),
     )
 
 -- so the least is above 0
@@ -69,7 +74,8 @@ least_common_more xs x c m h lcm = record {
 
 -- ---- one more fraction within bounds
 
-pub least_with_next : {limit : ℕ} (xs : List Frac) (x : Frac) (scale m : ℕ) → AreWithinOver limit xs scale →
+pub least_with_next : {limit : ℕ} (xs : List Frac) (x : Frac) (scale m : ℕ) →
+    AreWithinOver limit xs scale →
     Extends limit scale x m → AreWithinOver limit (xs ++ x ∷ []) m
 least_with_next {limit = limit} xs x scale m h next = record {
   small = All-push (IsAtMost limit) xs x h.small next.small;
@@ -79,7 +85,8 @@ least_with_next {limit = limit} xs x scale m h next = record {
 }
 
 -- three more fractions
-pub least_with_three : (scale a b c : ℕ) (l v r : Frac) → Extends greatest_value scale l a → Extends greatest_value a v b → Extends greatest_value b r c →
+pub least_with_three : (scale a b c : ℕ) (l v r : Frac) → Extends greatest_value scale l a →
+    Extends greatest_value a v b → Extends greatest_value b r c →
     ExtendsBy scale (l ∷ v ∷ r ∷ []) c
 least_with_three scale a b c l v r h k m xs least =
     let first = least_with_next xs l scale a least h in
@@ -88,13 +95,17 @@ least_with_three scale a b c l v r h k m xs least =
     (append_assoc (xs ++ l ∷ []) (v ∷ []) (r ∷ []) ∙ append_assoc xs (l ∷ []) (v ∷ r ∷ []))
     (least_with_next (xs ++ l ∷ [] ++ v ∷ []) r b c second m)
 
-pub extended_some : (scale : ℕ) (x : Frac) (m : ℕ) → Extends greatest_value scale x m → 0 < scale → 0 < m
-extended_some scale x m h some = lcm_positive scale (unsigned_abs (denominator x)) m h.least some (denominator_some x)
+pub extended_some : (scale : ℕ) (x : Frac) (m : ℕ) → Extends greatest_value scale x m → 0 < scale →
+    0 < m
+extended_some scale x m h some = lcm_positive scale (unsigned_abs (denominator x)) m h.least some
+    (denominator_some x)
 
 -- ---- fractions within bounds
 
-pub within_of_least : {limit : ℕ} (xs : List Frac) (scale : ℕ) → AreWithinOver limit xs scale → AreWithin limit xs
-within_of_least xs scale least = record { small = least.small; common = (scale, least.low, least.high, least.least.common) }
+pub within_of_least : {limit : ℕ} (xs : List Frac) (scale : ℕ) → AreWithinOver limit xs scale →
+    AreWithin limit xs
+within_of_least xs scale least =
+    record { small = least.small; common = (scale, least.low, least.high, least.least.common) }
 
 pub within_bounds_closed : IsPrefixClosed AreWithinBounds
 within_bounds_closed xs ys h =
@@ -107,31 +118,40 @@ within_bounds_closed xs ys h =
 -- ---- a fraction that is refused
 
 -- with it the fractions have no common denominator
-pub no_common_with : {limit : ℕ} (xs : List Frac) (x : Frac) (scale : ℕ) → AreWithinOver limit xs scale → HasNoCommonWith scale x →
+pub no_common_with : {limit : ℕ} (xs : List Frac) (x : Frac) (scale : ℕ) →
+    AreWithinOver limit xs scale → HasNoCommonWith scale x →
     HasCommonDenominator (xs ++ x ∷ []) → ⊥
 no_common_with xs x scale h none d =
     none d.0 d.1 d.2 (h.least.least d.0 (All-front (Divides d.0) xs (x ∷ []) d.3))
     (All-head (Divides d.0) x [] (All-back (Divides d.0) xs (x ∷ []) d.3))
 
 -- with it the fractions are not within bounds
-leaves_bounds : (xs : List Frac) (x : Frac) (scale : ℕ) (e : FractionFault) → AreWithinBoundsOver xs scale →
+leaves_bounds : (xs : List Frac) (x : Frac) (scale : ℕ) (e : FractionFault) →
+    AreWithinBoundsOver xs scale →
     IsFractionRefused scale x e → AreWithinBounds (xs ++ x ∷ []) → ⊥
-leaves_bounds xs x scale Large least refused within = refused (All-head IsSmall x [] (All-back IsSmall xs (x ∷ []) within.small))
-leaves_bounds xs x scale Fine least refused within = no_common_with xs x scale least refused.1 within.common
+leaves_bounds xs x scale Large least refused within =
+    refused (All-head IsSmall x [] (All-back IsSmall xs (x ∷ []) within.small))
+leaves_bounds xs x scale Fine least refused within =
+    no_common_with xs x scale least refused.1 within.common
 
 -- it is the first of some fractions, behind those that have passed
-refused_first : (xs ys passed after : List Frac) (x : Frac) (scale : ℕ) (e : FractionFault) → ys ≡ passed ++ x ∷ after →
-    AreWithinBoundsOver (xs ++ passed) scale → IsFractionRefused scale x e → IsFirstRefused xs ys passed x
+refused_first : (xs ys passed after : List Frac) (x : Frac) (scale : ℕ) (e : FractionFault) →
+    ys ≡ passed ++ x ∷ after →
+    AreWithinBoundsOver (xs ++ passed) scale → IsFractionRefused scale x e →
+    IsFirstRefused xs ys passed x
 refused_first xs ys passed after x scale e place least refused = record {
   after = after;
   place = place;
   good = within_of_least (xs ++ passed) scale least;
   bad = λ within.
-      leaves_bounds (xs ++ passed) x scale e least refused (subst AreWithinBounds (sym (append_assoc xs passed (x ∷ []))) within);
+      leaves_bounds (xs ++ passed) x scale e least refused
+      (subst AreWithinBounds (sym (append_assoc xs passed (x ∷ []))) within);
 }
 
-refused_at : (xs ys passed after : List Frac) (x : Frac) (scale : ℕ) (e : FractionFault) → ys ≡ passed ++ x ∷ after →
-    AreWithinBoundsOver (xs ++ passed) scale → IsFractionRefused scale x e → IsFractionRefusal xs ys e
+refused_at : (xs ys passed after : List Frac) (x : Frac) (scale : ℕ) (e : FractionFault) →
+    ys ≡ passed ++ x ∷ after →
+    AreWithinBoundsOver (xs ++ passed) scale → IsFractionRefused scale x e →
+    IsFractionRefusal xs ys e
 refused_at xs ys passed after x scale Large place least refused =
     (passed, x, refused_first xs ys passed after x scale Large place least refused, refused)
 refused_at xs ys passed after x scale Fine place least refused =
@@ -144,12 +164,14 @@ refused_left scale l v r e refused xs least =
     refused_at xs _ [] (v ∷ r ∷ []) l scale e refl
     (subst (λ ys. AreWithinBoundsOver ys scale) (sym (append-nil xs)) least) refused
 
-pub refused_value : (scale a : ℕ) (l v r : Frac) (e : FractionFault) → Extends greatest_value scale l a → IsFractionRefused a v e →
+pub refused_value : (scale a : ℕ) (l v r : Frac) (e : FractionFault) →
+    Extends greatest_value scale l a → IsFractionRefused a v e →
     IsRefusedBehind scale (l ∷ v ∷ r ∷ []) e
 refused_value scale a l v r e h refused xs least =
     refused_at xs _ (l ∷ []) (r ∷ []) v a e refl (least_with_next xs l scale a least h) refused
 
-pub refused_right : (scale a b : ℕ) (l v r : Frac) (e : FractionFault) → Extends greatest_value scale l a → Extends greatest_value a v b →
+pub refused_right : (scale a b : ℕ) (l v r : Frac) (e : FractionFault) →
+    Extends greatest_value scale l a → Extends greatest_value a v b →
     IsFractionRefused b r e → IsRefusedBehind scale (l ∷ v ∷ r ∷ []) e
 refused_right scale a b l v r e h k refused xs least =
     refused_at xs _ (l ∷ v ∷ []) [] r b e refl
@@ -158,12 +180,15 @@ refused_right scale a b l v r e h k refused xs least =
 
 -- ---- the first fault of three lists
 
-first_fault : (ls vs rs : List Frac) (i : ℕ) (l v r : Frac) (passed : List Frac) (x : Frac) → StandAt ls vs rs i l v r →
-    IsFirstRefused (before ls vs rs i) (l ∷ v ∷ r ∷ []) passed x → IsFirstFractionAtFault ls vs rs i (before ls vs rs i ++ passed) x
+first_fault : (ls vs rs : List Frac) (i : ℕ) (l v r : Frac) (passed : List Frac) (x : Frac) →
+    StandAt ls vs rs i l v r →
+    IsFirstRefused (before ls vs rs i) (l ∷ v ∷ r ∷ []) passed x →
+    IsFirstFractionAtFault ls vs rs i (before ls vs rs i ++ passed) x
 first_fault ls vs rs i l v r passed x at h =
     let xs = before ls vs rs i in
     let later = in_order (drop (i + 1) ls) (drop (i + 1) vs) (drop (i + 1) rs) in
-    let count : length xs ≡ 3 * i = length-before ls vs rs i at.value_length at.right_length (omega (arith, at.within)) in
+    let count : length xs ≡ 3 * i = length-before ls vs rs i at.value_length at.right_length
+    (omega (arith, at.within)) in
     let three : length (l ∷ v ∷ r ∷ []) ≡ length passed + length (x ∷ h.after) =
     ap length h.place ∙ length-append passed (x ∷ h.after) in
     let index : i ≡ length (xs ++ passed) / 3 = let n = length-append xs passed in omega arith in
@@ -180,7 +205,8 @@ first_fault ls vs rs i l v r passed x at h =
     }
 
 -- the first fraction of a point that is refused behind all fractions before is the first fault
-pub fault_in : (ls vs rs : List Frac) (i : ℕ) (l v r : Frac) (e : FractionFault) → StandAt ls vs rs i l v r →
+pub fault_in : (ls vs rs : List Frac) (i : ℕ) (l v r : Frac) (e : FractionFault) →
+    StandAt ls vs rs i l v r →
     IsFractionRefusal (before ls vs rs i) (l ∷ v ∷ r ∷ []) e → IsFaultIn ls vs rs (fault_at e i)
 fault_in ls vs rs i l v r Large at (passed, x, first, large) =
     (before ls vs rs i ++ passed, x, first_fault ls vs rs i l v r passed x at first, large)

@@ -15,7 +15,8 @@ numerator_small n d scale small h =
     omega arith
 
 -- so it fits 64 bits
-pub numerator_fits : (n : ℤ) (d scale : ℕ) → unsigned_abs n ≤ 2 ^ 20 * d → d ∣ scale → scale < 2 ^ 31 →
+pub numerator_fits : (n : ℤ) (d scale : ℕ) → unsigned_abs n ≤ 2 ^ 20 * d → d ∣ scale →
+    scale < 2 ^ 31 →
     FitsSigned w64 (n *ℤ pos (scale / d))
 numerator_fits n d scale small h high =
     let size = numerator_small n d scale small h in

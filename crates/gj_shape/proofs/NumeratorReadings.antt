@@ -13,10 +13,12 @@ small_below n scale small high = omega arith
 pub left_below : (f : FunctionData) (i : ℕ) → IsWithinBounds f → unsigned_abs (at f.left i) < 2 ^ 51
 left_below f i h = small_below (at f.left i) f.scale (at_left_small f i h) h.scale_high
 
-pub value_below : (f : FunctionData) (i : ℕ) → IsWithinBounds f → unsigned_abs (at f.value i) < 2 ^ 51
+pub value_below : (f : FunctionData) (i : ℕ) → IsWithinBounds f →
+    unsigned_abs (at f.value i) < 2 ^ 51
 value_below f i h = small_below (at f.value i) f.scale (at_value_small f i h) h.scale_high
 
-pub right_below : (f : FunctionData) (i : ℕ) → IsWithinBounds f → unsigned_abs (at f.right i) < 2 ^ 51
+pub right_below : (f : FunctionData) (i : ℕ) → IsWithinBounds f →
+    unsigned_abs (at f.right i) < 2 ^ 51
 right_below f i h = small_below (at f.right i) f.scale (at_right_small f i h) h.scale_high
 
 -- ---- as the code has it
@@ -26,10 +28,12 @@ pub small_read : (x : ℤ) → unsigned_abs x < 2 ^ 51 → to_z w64 (of_z w64 x)
 small_read x small = to_z-of_z w64 x (omega (arith, ints))
 
 -- an entry at an index below the length
-pub entry_read : (xs ys : List ℤ) (i : ℕ) → xs ≡ ys → i < length ys → FitsSigned w64 (get_or xs i (pos 0)) →
+pub entry_read : (xs ys : List ℤ) (i : ℕ) → xs ≡ ys → i < length ys →
+    FitsSigned w64 (get_or xs i (pos 0)) →
     to_z w64 (of_z w64 (get_or xs i (pos 0))) ≡ at ys i
 entry_read xs ys i e below fits =
-    to_z-of_z w64 (get_or xs i (pos 0)) fits ∙ ap (λ zs. get_or zs i (pos 0)) e ∙ sym (at_below ys i below)
+    to_z-of_z w64 (get_or xs i (pos 0)) fits ∙ ap (λ zs. get_or zs i (pos 0)) e
+    ∙ sym (at_below ys i below)
 
 -- an entry at the remainder of an index
 pub rest_read : (xs ys : List ℤ) (i k n : ℕ) → xs ≡ ys → length ys ≡ n → k ≡ i % n →
@@ -40,6 +44,7 @@ rest_read xs ys i k n e len k_is fits =
     ∙ ap₂ (λ zs j. get_or zs j (pos 0)) e (k_is ∙ ap (λ m. i % m) (sym len))
 
 -- an entry that was read at the remainder of an index
-pub remainder_read : (xs : List ℤ) (i k n : ℕ) (x : ℤ) → length xs ≡ n → k ≡ i % n → k < n → x ≡ get_or xs k x → x ≡ at xs i
+pub remainder_read : (xs : List ℤ) (i k n : ℕ) (x : ℤ) → length xs ≡ n → k ≡ i % n → k < n →
+    x ≡ get_or xs k x → x ≡ at xs i
 remainder_read xs i k n x len k_is below read =
     sym (at_read xs k x (subst (λ m. k < m) (sym len) below) read) ∙ at_wrapped xs i k n len k_is

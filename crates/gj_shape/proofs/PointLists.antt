@@ -16,7 +16,8 @@ use Rattle.gj_shape.proofs.LeastDenominator.{least_of_none}
 pub fractions_in_order : (points : List Point) →
     in_order (lefts points) (values points) (rights points) ≡ all_fractions points
 fractions_in_order [] = refl
-fractions_in_order (p ∷ points) = ap (λ xs. p.left ∷ p.value ∷ p.right ∷ xs) (fractions_in_order points)
+fractions_in_order (p ∷ points) =
+    ap (λ xs. p.left ∷ p.value ∷ p.right ∷ xs) (fractions_in_order points)
 
 -- the lists of the points of three lists
 pub record HaveLists (points : List Point) (ls vs rs : List Frac) : Type 0 where
@@ -24,7 +25,8 @@ pub record HaveLists (points : List Point) (ls vs rs : List Frac) : Type 0 where
   pub value_are : values points ≡ vs
   pub right_are : rights points ≡ rs
 
-pub have_lists : (ls vs rs : List Frac) → length vs ≡ length ls → length rs ≡ length ls → HaveLists (points_of ls vs rs) ls vs rs
+pub have_lists : (ls vs rs : List Frac) → length vs ≡ length ls → length rs ≡ length ls →
+    HaveLists (points_of ls vs rs) ls vs rs
 have_lists =
     by_threes (λ ls vs rs. HaveLists (points_of ls vs rs) ls vs rs)
     (record { left_are = refl; value_are = refl; right_are = refl }) (λ l v r ls vs rs h.
@@ -34,7 +36,8 @@ have_lists =
       right_are = ap (λ xs. r ∷ xs) h.right_are;
     })
 
-pub kept_lists : (ls vs rs : List Frac) (scale : ℕ) → AreKept ls vs rs scale → HaveLists (points_of ls vs rs) ls vs rs
+pub kept_lists : (ls vs rs : List Frac) (scale : ℕ) → AreKept ls vs rs scale →
+    HaveLists (points_of ls vs rs) ls vs rs
 kept_lists ls vs rs scale kept = have_lists ls vs rs kept.value_length kept.right_length
 
 -- all their fractions
@@ -44,30 +47,38 @@ kept_fractions ls vs rs scale kept =
     let points = points_of ls vs rs in
     let have = kept_lists ls vs rs scale kept in
     let same : in_order ls vs rs ≡ all_fractions points =
-    ap (λ xs. in_order xs vs rs) (sym have.left_are) ∙ ap (λ xs. in_order (lefts points) xs rs) (sym have.value_are)
-    ∙ ap (λ xs. in_order (lefts points) (values points) xs) (sym have.right_are) ∙ fractions_in_order points in
+    ap (λ xs. in_order xs vs rs) (sym have.left_are)
+    ∙ ap (λ xs. in_order (lefts points) xs rs) (sym have.value_are)
+    ∙ ap (λ xs. in_order (lefts points) (values points) xs) (sym have.right_are)
+    ∙ fractions_in_order points in
     subst (λ xs. AreWithinBoundsOver xs scale) same kept.least
 
 -- so many points are lists of that length
-pub kept_length : (ls vs rs : List Frac) (scale q : ℕ) → AreKept ls vs rs scale → length (points_of ls vs rs) ≡ q →
+pub kept_length : (ls vs rs : List Frac) (scale q : ℕ) → AreKept ls vs rs scale →
+    length (points_of ls vs rs) ≡ q →
     HaveLength ls vs rs q
 kept_length ls vs rs scale q kept count =
     let long : length (points_of ls vs rs) ≡ length ls =
-    by_threes (λ ls vs rs. length (points_of ls vs rs) ≡ length ls) refl (λ l v r ls vs rs h. omega (arith, h)) ls vs rs
+    by_threes (λ ls vs rs. length (points_of ls vs rs) ≡ length ls) refl
+    (λ l v r ls vs rs h. omega (arith, h)) ls vs rs
     kept.value_length kept.right_length in
     (sym long ∙ count, kept.value_length ∙ sym long ∙ count, kept.right_length ∙ sym long ∙ count)
 
 -- ---- one more point
 
-pub points_more : (ls vs rs : List Frac) (p : Point) → length vs ≡ length ls → length rs ≡ length ls →
-    points_of (ls ++ p.left ∷ []) (vs ++ p.value ∷ []) (rs ++ p.right ∷ []) ≡ points_of ls vs rs ++ p ∷ []
+pub points_more : (ls vs rs : List Frac) (p : Point) → length vs ≡ length ls →
+    length rs ≡ length ls →
+    points_of (ls ++ p.left ∷ []) (vs ++ p.value ∷ []) (rs ++ p.right ∷ [])
+    ≡ points_of ls vs rs ++ p ∷ []
 points_more ls vs rs p =
     by_threes (λ ls vs rs.
-    points_of (ls ++ p.left ∷ []) (vs ++ p.value ∷ []) (rs ++ p.right ∷ []) ≡ points_of ls vs rs ++ p ∷ []) refl
+    points_of (ls ++ p.left ∷ []) (vs ++ p.value ∷ []) (rs ++ p.right ∷ [])
+    ≡ points_of ls vs rs ++ p ∷ []) refl
     (λ l v r ls vs rs h. ap (λ ps. record { left = l; value = v; right = r } ∷ ps) h) ls vs rs
 
 pub kept_more : (ls vs rs : List Frac) (p : Point) (scale m : ℕ) → AreKept ls vs rs scale →
-    ExtendsBy scale (fractions_of p) m → AreKept (ls ++ p.left ∷ []) (vs ++ p.value ∷ []) (rs ++ p.right ∷ []) m
+    ExtendsBy scale (fractions_of p) m →
+    AreKept (ls ++ p.left ∷ []) (vs ++ p.value ∷ []) (rs ++ p.right ∷ []) m
 kept_more ls vs rs p scale m kept more =
     let l = length_push ls p.left in
     let v = length_push vs p.value in
@@ -86,7 +97,10 @@ pub kept_none : AreKept [] [] [] 1
 kept_none = record { value_length = refl; right_length = refl; least = least_of_none }
 
 -- a point with a fraction that is refused cannot follow
-pub point_refused : (ls vs rs : List Frac) (p : Point) (scale : ℕ) (e : FractionFault) → AreKept ls vs rs scale →
+pub point_refused : (ls vs rs : List Frac) (p : Point) (scale : ℕ) (e : FractionFault) →
+    AreKept ls vs rs scale →
     IsRefusedBehind scale (fractions_of p) e → IsPointFault (points_of ls vs rs) p (point_fault e)
-point_refused ls vs rs p scale Large kept refused = refused (all_fractions (points_of ls vs rs)) (kept_fractions ls vs rs scale kept)
-point_refused ls vs rs p scale Fine kept refused = refused (all_fractions (points_of ls vs rs)) (kept_fractions ls vs rs scale kept)
+point_refused ls vs rs p scale Large kept refused =
+    refused (all_fractions (points_of ls vs rs)) (kept_fractions ls vs rs scale kept)
+point_refused ls vs rs p scale Fine kept refused =
+    refused (all_fractions (points_of ls vs rs)) (kept_fractions ls vs rs scale kept)

@@ -11,8 +11,10 @@ pub number_Decides : (a b : ℕ) → Decides (eqb a b) (a ≡ b)
 number_Decides a b = (λ e. eqb→eq a b (subst T (sym e) tt), λ e. eq-eqb a b e)
 
 -- a second test, made if the first holds
-pub and_then : (v w t : Bool) (P Q : Type 0) → Decides v P → Decides t Q → v ≡ true → w ≡ t → Decides w (P × Q)
-and_then v w t P Q first second holds is = (λ e. (first.0 holds, second.0 (sym is ∙ e)), λ h. is ∙ second.1 h.1)
+pub and_then : (v w t : Bool) (P Q : Type 0) → Decides v P → Decides t Q → v ≡ true → w ≡ t →
+    Decides w (P × Q)
+and_then v w t P Q first second holds is =
+    (λ e. (first.0 holds, second.0 (sym is ∙ e)), λ h. is ∙ second.1 h.1)
 
 -- a second test, not made if the first fails
 pub and_else : (v w : Bool) (P Q : Type 0) → Decides v P → v ≡ false → w ≡ v → Decides w (P × Q)
@@ -22,10 +24,12 @@ and_else v w P Q first fails is =
 -- the parts of two functions are equal
 abbrev pub HaveSameParts : FunctionData → FunctionData → Type 0
 HaveSameParts f g =
-    (((((f.order ≡ g.order) × (f.place ≡ g.place)) × (f.scale ≡ g.scale)) × (f.left ≡ g.left)) × (f.value ≡ g.value)) × (f.right ≡ g.right)
+    (((((f.order ≡ g.order) × (f.place ≡ g.place)) × (f.scale ≡ g.scale)) × (f.left ≡ g.left))
+    × (f.value ≡ g.value)) × (f.right ≡ g.right)
 
 -- a test of the parts is a test of the functions
-pub same_Decides : (b : Bool) (f g : FunctionData) → Decides b (HaveSameParts f g) → Decides b (f ≡ g)
+pub same_Decides : (b : Bool) (f g : FunctionData) → Decides b (HaveSameParts f g) →
+    Decides b (f ≡ g)
 same_Decides b f g test = (
   λ e.
       let parts = test.0 e in

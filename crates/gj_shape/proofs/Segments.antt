@@ -29,7 +29,8 @@ at_point_z v x y d s m t i e = left ∙ ap (λ z. z *ℤ (m *ℤ m)) e ∙ right
     right : (x *ℤ t +ℤ y *ℤ i) *ℤ s *ℤ (m *ℤ m) ≡ (x *ℤ (t *ℤ m) +ℤ y *ℤ (i *ℤ m)) *ℤ (s *ℤ m)
     right = by_ring (x ∷ y ∷ s ∷ m ∷ t ∷ i ∷ []) (search ring depth 40) refl
 
-between_z : (a b x y d s u r t i : ℤ) → a *ℤ (d *ℤ (i +ℤ pos 1 +ℤ t)) ≡ (x *ℤ (t +ℤ pos 1) +ℤ y *ℤ i) *ℤ s →
+between_z : (a b x y d s u r t i : ℤ) →
+    a *ℤ (d *ℤ (i +ℤ pos 1 +ℤ t)) ≡ (x *ℤ (t +ℤ pos 1) +ℤ y *ℤ i) *ℤ s →
     b *ℤ (d *ℤ (i +ℤ pos 1 +ℤ t)) ≡ (x *ℤ t +ℤ y *ℤ (i +ℤ pos 1)) *ℤ s →
     (u *ℤ a +ℤ r *ℤ b) *ℤ (d *ℤ ((i +ℤ pos 1 +ℤ t) *ℤ (u +ℤ r)))
     ≡ (x *ℤ (t *ℤ (u +ℤ r) +ℤ u) +ℤ y *ℤ (i *ℤ (u +ℤ r) +ℤ r)) *ℤ (s *ℤ (u +ℤ r))
@@ -39,7 +40,8 @@ between_z a b x y d s u r t i e g = left ∙ ap₂ (λ p q. (u *ℤ p +ℤ r *�
         ≡ (u *ℤ (a *ℤ (d *ℤ (i +ℤ pos 1 +ℤ t))) +ℤ r *ℤ (b *ℤ (d *ℤ (i +ℤ pos 1 +ℤ t)))) *ℤ (u +ℤ r)
     left = by_ring (a ∷ b ∷ d ∷ u ∷ r ∷ t ∷ i ∷ []) (search ring depth 60 fits 4000) refl
 
-    right : (u *ℤ ((x *ℤ (t +ℤ pos 1) +ℤ y *ℤ i) *ℤ s) +ℤ r *ℤ ((x *ℤ t +ℤ y *ℤ (i +ℤ pos 1)) *ℤ s)) *ℤ (u +ℤ r)
+    right : (u *ℤ ((x *ℤ (t +ℤ pos 1) +ℤ y *ℤ i) *ℤ s) +ℤ r *ℤ ((x *ℤ t +ℤ y *ℤ (i +ℤ pos 1)) *ℤ s))
+        *ℤ (u +ℤ r)
         ≡ (x *ℤ (t *ℤ (u +ℤ r) +ℤ u) +ℤ y *ℤ (i *ℤ (u +ℤ r) +ℤ r)) *ℤ (s *ℤ (u +ℤ r))
     right = by_ring (x ∷ y ∷ s ∷ u ∷ r ∷ t ∷ i ∷ []) (search ring depth 60 fits 4000) refl
 
@@ -62,20 +64,27 @@ fine_point scale m n i u w v within is = subst P (sym n_is) at_sum
     rest = let e : (i + t) * m ≡ i * m + t * m = omega arith in omega arith
 
     start : v *ℤ (denominator u *ℤ denominator w *ℤ pos (i + t))
-        ≡ (numerator u *ℤ denominator w *ℤ pos t +ℤ numerator w *ℤ denominator u *ℤ pos i) *ℤ pos scale
+        ≡ (numerator u *ℤ denominator w *ℤ pos t +ℤ numerator w *ℤ denominator u *ℤ pos i)
+        *ℤ pos scale
     start = ap (λ k. v *ℤ (denominator u *ℤ denominator w *ℤ pos k)) (sym n_is) ∙ is
 
     at_sum : P (i + t)
     at_sum =
-        at_point_z v (numerator u *ℤ denominator w) (numerator w *ℤ denominator u) (denominator u *ℤ denominator w) (pos scale)
+        at_point_z v (numerator u *ℤ denominator w) (numerator w *ℤ denominator u)
+        (denominator u *ℤ denominator w) (pos scale)
         (pos m) (pos t) (pos i) start
-        ∙ ap (λ k. (numerator u *ℤ denominator w *ℤ pos k +ℤ numerator w *ℤ denominator u *ℤ pos (i * m)) *ℤ pos (scale * m)) rest
+        ∙ ap (λ k. (numerator u *ℤ denominator w *ℤ pos k +ℤ numerator w *ℤ denominator u *ℤ pos
+        (i * m)) *ℤ pos (scale * m)) rest
 
-fine_between : (scale m n i r : ℕ) (u w : Frac) (a b : ℤ) → i < n → r < m → IsOnLine scale u w n i a →
-    IsOnLine scale u w n (i + 1) b → IsOnLine (scale * m) u w (n * m) (i * m + r) (pos (m - r) *ℤ a +ℤ pos r *ℤ b)
+fine_between : (scale m n i r : ℕ) (u w : Frac) (a b : ℤ) → i < n → r < m →
+    IsOnLine scale u w n i a →
+    IsOnLine scale u w n (i + 1) b →
+    IsOnLine (scale * m) u w (n * m) (i * m + r) (pos (m - r) *ℤ a +ℤ pos r *ℤ b)
 fine_between scale m n i r u w a b within below first second =
-    ap (λ k. (pos s *ℤ a +ℤ pos r *ℤ b) *ℤ (denominator u *ℤ denominator w *ℤ pos k)) (ap₂ (λ j k. j * k) n_is m_is)
-    ∙ between_z a b x y (denominator u *ℤ denominator w) (pos scale) (pos s) (pos r) (pos t) (pos i) first_is second_is
+    ap (λ k. (pos s *ℤ a +ℤ pos r *ℤ b) *ℤ (denominator u *ℤ denominator w *ℤ pos k))
+    (ap₂ (λ j k. j * k) n_is m_is)
+    ∙ between_z a b x y (denominator u *ℤ denominator w) (pos scale) (pos s) (pos r) (pos t)
+    (pos i) first_is second_is
     ∙ ap₂ (λ j k. (x *ℤ pos j +ℤ y *ℤ pos (i * k + r)) *ℤ pos (scale * k)) rest (sym m_is)
   where
     t : ℕ
@@ -96,12 +105,15 @@ fine_between scale m n i r u w a b within below first second =
     m_is : m ≡ s + r
     m_is = omega arith
 
-    first_is : a *ℤ (denominator u *ℤ denominator w *ℤ pos (i + 1 + t)) ≡ (x *ℤ pos (t + 1) +ℤ y *ℤ pos i) *ℤ pos scale
+    first_is : a *ℤ (denominator u *ℤ denominator w *ℤ pos (i + 1 + t))
+        ≡ (x *ℤ pos (t + 1) +ℤ y *ℤ pos i) *ℤ pos scale
     first_is =
         ap (λ k. a *ℤ (denominator u *ℤ denominator w *ℤ pos k)) (sym n_is) ∙ first
-        ∙ ap (λ k. (x *ℤ pos k +ℤ y *ℤ pos i) *ℤ pos scale) (let e : n - i ≡ t + 1 = omega arith in e)
+        ∙ ap (λ k. (x *ℤ pos k +ℤ y *ℤ pos i) *ℤ pos scale) (let e : n - i ≡ t + 1 = omega arith in
+        e)
 
-    second_is : b *ℤ (denominator u *ℤ denominator w *ℤ pos (i + 1 + t)) ≡ (x *ℤ pos t +ℤ y *ℤ pos (i + 1)) *ℤ pos scale
+    second_is : b *ℤ (denominator u *ℤ denominator w *ℤ pos (i + 1 + t))
+        ≡ (x *ℤ pos t +ℤ y *ℤ pos (i + 1)) *ℤ pos scale
     second_is = ap (λ k. b *ℤ (denominator u *ℤ denominator w *ℤ pos k)) (sym n_is) ∙ second
 
     rest : t * (s + r) + s ≡ n * m - (i * m + r)
@@ -111,28 +123,34 @@ fine_between scale m n i r u w a b within below first second =
         omega arith
 
 -- what is x over the scale is on the line if x is
-pub on_line_over : (scale : ℕ) (u w : Frac) (n j : ℕ) (x : Frac) (z : ℤ) → SameValue (fraction_of x) (on_line u w n j) →
+pub on_line_over : (scale : ℕ) (u w : Frac) (n j : ℕ) (x : Frac) (z : ℤ) →
+    SameValue (fraction_of x) (on_line u w n j) →
     IsRatio x z (pos scale) → IsOnLine scale u w n j z
 on_line_over scale u w n j x z same is =
     let line = on_line u w n j in
-    ratio_along z (pos scale) x.num x.den line.top line.bottom (positive_some_z x.den x.lowest.positive) (sym is) same
+    ratio_along z (pos scale) x.num x.den line.top line.bottom
+    (positive_some_z x.den x.lowest.positive) (sym is) same
 
-line_first_z : (nu du nw dw n : ℤ) → nu *ℤ (du *ℤ dw *ℤ n) ≡ (nu *ℤ dw *ℤ n +ℤ nw *ℤ du *ℤ pos 0) *ℤ du
+line_first_z : (nu du nw dw n : ℤ) →
+    nu *ℤ (du *ℤ dw *ℤ n) ≡ (nu *ℤ dw *ℤ n +ℤ nw *ℤ du *ℤ pos 0) *ℤ du
 line_first_z nu du nw dw n = by_ring (nu ∷ du ∷ nw ∷ dw ∷ n ∷ []) (search ring depth 40) refl
 
-line_last_z : (nu du nw dw n : ℤ) → nw *ℤ (du *ℤ dw *ℤ n) ≡ (nu *ℤ dw *ℤ pos 0 +ℤ nw *ℤ du *ℤ n) *ℤ dw
+line_last_z : (nu du nw dw n : ℤ) →
+    nw *ℤ (du *ℤ dw *ℤ n) ≡ (nu *ℤ dw *ℤ pos 0 +ℤ nw *ℤ du *ℤ n) *ℤ dw
 line_last_z nu du nw dw n = by_ring (nu ∷ du ∷ nw ∷ dw ∷ n ∷ []) (search ring depth 40) refl
 
 -- the ends of a line
 pub line_first : (u w : Frac) (n : ℕ) → SameValue (fraction_of u) (on_line u w n 0)
 line_first u w n =
     line_first_z u.num u.den w.num w.den (pos n)
-    ∙ ap (λ k. (u.num *ℤ w.den *ℤ pos k +ℤ w.num *ℤ u.den *ℤ pos 0) *ℤ u.den) (let e : n ≡ n - 0 = omega arith in e)
+    ∙ ap (λ k. (u.num *ℤ w.den *ℤ pos k +ℤ w.num *ℤ u.den *ℤ pos 0) *ℤ u.den)
+    (let e : n ≡ n - 0 = omega arith in e)
 
 pub line_last : (u w : Frac) (n : ℕ) → SameValue (fraction_of w) (on_line u w n n)
 line_last u w n =
     line_last_z u.num u.den w.num w.den (pos n)
-    ∙ ap (λ k. (u.num *ℤ w.den *ℤ pos k +ℤ w.num *ℤ u.den *ℤ pos n) *ℤ w.den) (let e : 0 ≡ n - n = omega arith in e)
+    ∙ ap (λ k. (u.num *ℤ w.den *ℤ pos k +ℤ w.num *ℤ u.den *ℤ pos n) *ℤ w.den)
+    (let e : 0 ≡ n - n = omega arith in e)
 
 -- ---- a segment
 
@@ -143,17 +161,21 @@ pub record IsSegment (f : FunctionData) (p n : ℕ) (u w : Frac) : Type 0 where
   pub value_on : (j : ℕ) → 0 < j → j < n → IsOnLine f.scale u w n j (at f.value (p + j))
 
 -- the table between two multiples of 1/order, and at one, is on the finer line
-segment_between : (f : FunctionData) (p n m i r : ℕ) (u w : Frac) → IsSegment f p n u w → i < n → 0 < r → r < m →
+segment_between : (f : FunctionData) (p n m i r : ℕ) (u w : Frac) → IsSegment f p n u w → i < n →
+    0 < r → r < m →
     IsOnLine (f.scale * m) u w (n * m) (i * m + r) (table f m (p * m + (i * m + r)))
 segment_between f p n m i r u w h within some below =
     let place : p * m + (i * m + r) ≡ (p + i) * m + r = omega arith in
-    let entry_is : table f m (p * m + (i * m + r)) ≡ pos (m - r) *ℤ at f.right (p + i) +ℤ pos r *ℤ at f.left (p + i + 1) =
+    let entry_is : table f m (p * m + (i * m + r)) ≡ pos (m - r) *ℤ at f.right (p + i) +ℤ pos r
+    *ℤ at f.left (p + i + 1) =
     ap (table f m) place ∙ table_between f m (p + i) r some below in
     subst (IsOnLine (f.scale * m) u w (n * m) (i * m + r)) (sym entry_is)
-    (fine_between f.scale m n i r u w (at f.right (p + i)) (at f.left (p + i + 1)) within below (h.right_on i within)
+    (fine_between f.scale m n i r u w (at f.right (p + i)) (at f.left (p + i + 1)) within below
+    (h.right_on i within)
     (h.left_on i within))
 
-segment_point : (f : FunctionData) (p n m i r : ℕ) (u w : Frac) → IsSegment f p n u w → i < n → 0 < i → 0 < m → r ≡ 0 →
+segment_point : (f : FunctionData) (p n m i r : ℕ) (u w : Frac) → IsSegment f p n u w → i < n →
+    0 < i → 0 < m → r ≡ 0 →
     IsOnLine (f.scale * m) u w (n * m) (i * m + r) (table f m (p * m + (i * m + r)))
 segment_point f p n m i r u w h within some m_some none =
     let place : p * m + (i * m + r) ≡ (p + i) * m = omega arith in
@@ -166,7 +188,8 @@ segment_point f p n m i r u w h within some m_some none =
     (fine_point f.scale m n i u w (at f.value (p + i)) low (h.value_on i some within)))
 
 -- so the function goes along the line
-pub affine_on_segment : (f : FunctionData) (p n : ℕ) (u w : Frac) → IsSegment f p n u w → IsAffineBetween f p n u w
+pub affine_on_segment : (f : FunctionData) (p n : ℕ) (u w : Frac) → IsSegment f p n u w →
+    IsAffineBetween f p n u w
 affine_on_segment f p n u w h m r m_some some below =
     subst (λ k. IsOnLine (f.scale * m) u w (n * m) k (table f m (p * m + k))) split
     (⊎_elim (λ none. segment_point f p n m i (r % m) u w h within (i_some none) m_some none)

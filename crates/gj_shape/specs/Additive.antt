@@ -31,7 +31,8 @@ edges_of kind a b = []
 -- the faces of lower dimension in the closure of a face: its corners as vertices, and its edges
 abbrev pub border_of : FaceKind → ℕ → ℕ → List (FaceKind × ℕ × ℕ)
 border_of Vertex a b = []
-border_of kind a b = map (λ corner. (Vertex, corner.0, corner.1)) (corners_of kind a b) ++ edges_of kind a b
+border_of kind a b = map (λ corner. (Vertex, corner.0, corner.1)) (corners_of kind a b)
+    ++ edges_of kind a b
 
 -- the pair of multiples of 1/(order m) lies in the closure of the face, in the plane
 abbrev pub IsInFace : ℕ → FaceKind → ℕ → ℕ → ℕ → ℕ → Type 0
@@ -45,7 +46,8 @@ IsInFace m Upper a b i j = (i ≤ (a + 1) * m) × (j ≤ (b + 1) * m) × ((a + b
 -- the same with indices modulo the order of the grid
 abbrev pub IsInClosure : FunctionData → ℕ → FaceKind → ℕ → ℕ → ℕ → ℕ → Type 0
 IsInClosure f m kind a b i j =
-    (x : ℕ) × (y : ℕ) × (x % (f.order * m) ≡ i % (f.order * m)) × (y % (f.order * m) ≡ j % (f.order * m))
+    (x : ℕ) × (y : ℕ) × (x % (f.order * m) ≡ i % (f.order * m))
+    × (y % (f.order * m) ≡ j % (f.order * m))
     × IsInFace m kind a b x y
 
 -- ---- maximal additive faces

@@ -7,4 +7,5 @@ use Rattle.gj_shape.specs.declared.breaks.Break.{Break}
 -- the first x is `start`, and each further one greater than the one before
 pub record IsBehindOthers (breaks : List Break) (start x : Frac) : Type 0 where
   pub first : breaks ≡ [] → x ≡ start
-  pub further : (front : List Break) (b : Break) → breaks ≡ front ++ b ∷ [] → LessValue (fraction_of b.x) (fraction_of x)
+  pub further : (front : List Break) (b : Break) → breaks ≡ front ++ b ∷ [] →
+      LessValue (fraction_of b.x) (fraction_of x)

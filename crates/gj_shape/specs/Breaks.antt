@@ -31,15 +31,18 @@ points_at breaks = map point_at breaks
 pub record IsNextBreak (breaks : List Break) (x : Frac) : Type 0 where
   pub first : breaks ≡ [] → numerator x ≡ pos 0
   pub further : (front : List Break) (b : Break) → breaks ≡ front ++ b ∷ [] →
-      LessValue (fraction_of b.x) (fraction_of x) × LessValue (fraction_of x) (record { top = pos 1; bottom = pos 1 })
+      LessValue (fraction_of b.x) (fraction_of x)
+      × LessValue (fraction_of x) (record { top = pos 1; bottom = pos 1 })
 
 -- each breakpoint can stand behind those before it
 abbrev pub AreAscending : List Break → Type 0
-AreAscending breaks = (front : List Break) (b : Break) (back : List Break) → breaks ≡ front ++ b ∷ back → IsNextBreak front b.x
+AreAscending breaks = (front : List Break) (b : Break) (back : List Break) →
+    breaks ≡ front ++ b ∷ back → IsNextBreak front b.x
 
 -- each breakpoint is a multiple of 1/q
 abbrev pub AreOnGrid : ℕ → List Break → Type 0
-AreOnGrid q breaks = (front : List Break) (b : Break) (back : List Break) → breaks ≡ front ++ b ∷ back →
+AreOnGrid q breaks = (front : List Break) (b : Break) (back : List Break) →
+    breaks ≡ front ++ b ∷ back →
     (p : ℕ) × IsRatio b.x (pos p) (pos q)
 
 -- ---- which function
@@ -55,17 +58,22 @@ on_line u w n r = record {
 -- strictly between the two its value is that of the line
 abbrev pub IsAffineBetween : FunctionData → ℕ → ℕ → Frac → Frac → Type 0
 IsAffineBetween f p n u w = (m r : ℕ) → 0 < m → 0 < r → r < n * m →
-    SameValue (record { top = table f m (p * m + r); bottom = pos (f.scale * m) }) (on_line u w (n * m) r)
+    SameValue (record { top = table f m (p * m + r); bottom = pos (f.scale * m) })
+    (on_line u w (n * m) r)
 
 -- the function has the breakpoints: at each of them its limits and its value; between neighbouring
 -- ones it goes along the line from the limit from the right of the one to the limit from the left
 -- of the next, and behind the last one to the limit from the left of the first one, a period on
 pub record HasBreaks (f : FunctionData) (breaks : List Break) : Type 0 where
-  pub at_breaks : (front : List Break) (b : Break) (back : List Break) → breaks ≡ front ++ b ∷ back →
+  pub at_breaks : (front : List Break) (b : Break) (back : List Break) →
+      breaks ≡ front ++ b ∷ back →
       (p : ℕ) × (p < f.order) × IsRatio b.x (pos p) (pos f.order) × IsPointAt f p (point_at b)
-  pub between : (front : List Break) (b c : Break) (back : List Break) (p n : ℕ) → breaks ≡ front ++ b ∷ c ∷ back →
-      IsRatio b.x (pos p) (pos f.order) → IsRatio c.x (pos (p + n)) (pos f.order) → IsAffineBetween f p n b.right c.left
-  pub last : (front : List Break) (b c : Break) (back : List Break) (p n : ℕ) → breaks ≡ front ++ b ∷ [] → breaks ≡ c ∷ back →
+  pub between : (front : List Break) (b c : Break) (back : List Break) (p n : ℕ) →
+      breaks ≡ front ++ b ∷ c ∷ back →
+      IsRatio b.x (pos p) (pos f.order) → IsRatio c.x (pos (p + n)) (pos f.order) →
+      IsAffineBetween f p n b.right c.left
+  pub last : (front : List Break) (b c : Break) (back : List Break) (p n : ℕ) →
+      breaks ≡ front ++ b ∷ [] → breaks ≡ c ∷ back →
       IsRatio b.x (pos p) (pos f.order) → p + n ≡ f.order → IsAffineBetween f p n b.right c.left
 
 -- ---- its points on the grid
@@ -77,7 +85,8 @@ even x = record { left = x; value = x; right = x }
 -- the points on the line from u to w, n steps long, one a step, without its two ends
 pub record IsStraightLine (u w : Frac) (n : ℕ) (between : List Frac) : Type 0 where
   pub count : length between + 1 ≡ n
-  pub on : (i : ℕ) (x : Frac) → i < length between → SameValue (fraction_of (slice_index_or between i x)) (on_line u w n (i + 1))
+  pub on : (i : ℕ) (x : Frac) → i < length between →
+      SameValue (fraction_of (slice_index_or between i x)) (on_line u w n (i + 1))
 
 -- the points of the grid from a breakpoint on, up to where the line from its limit from the right
 -- arrives, n steps on, at w: its own, and those on the line
@@ -89,9 +98,11 @@ pub record IsPiece (b : Break) (w : Frac) (n : ℕ) (points : List Point) : Type
 -- the points of the grid of order q from the first breakpoint on; behind the last one the function
 -- goes to w at 1
 pub data AreLaid (q : ℕ) (w : Frac) : List Break → List Point → Type 0 where
-  last : (b : Break) (p n : ℕ) (points : List Point) → IsRatio b.x (pos p) (pos q) → p + n ≡ q → IsPiece b w n points →
+  last : (b : Break) (p n : ℕ) (points : List Point) → IsRatio b.x (pos p) (pos q) → p + n ≡ q →
+      IsPiece b w n points →
       AreLaid q w (b ∷ []) points
-  onward : (b c : Break) (more : List Break) (p n : ℕ) (points rest : List Point) → IsRatio b.x (pos p) (pos q) →
+  onward : (b c : Break) (more : List Break) (p n : ℕ) (points rest : List Point) →
+      IsRatio b.x (pos p) (pos q) →
       IsRatio c.x (pos (p + n)) (pos q) → IsPiece b c.left n points → AreLaid q w (c ∷ more) rest →
       AreLaid q w (b ∷ c ∷ more) (points ++ rest)
 
@@ -105,12 +116,14 @@ pub record AreGridPoints (q : ℕ) (breaks : List Break) (points : List Point) :
 -- the function of this order and place with these breakpoints
 abbrev pub IsGivenByBreaks : ℕ → ℕ → List Break → FunctionData → Type 0
 IsGivenByBreaks q k breaks f =
-    (points : List Point) × AreGridPoints q breaks points × IsGivenBy q k (lefts points) (values points) (rights points) f
+    (points : List Point) × AreGridPoints q breaks points
+    × IsGivenBy q k (lefts points) (values points) (rights points) f
 
 -- three lists are those of the points of the grid
 abbrev pub AreListsOfBreaks : ℕ → List Break → List Frac → List Frac → List Frac → Type 0
 AreListsOfBreaks q breaks left value right =
-    (points : List Point) × AreGridPoints q breaks points × (left ≡ lefts points) × (value ≡ values points) × (right ≡ rights points)
+    (points : List Point) × AreGridPoints q breaks points × (left ≡ lefts points)
+    × (value ≡ values points) × (right ≡ rights points)
 
 -- the fractions at the points of the grid have no common denominator up to 2^31 - 1
 abbrev pub AreTooFine : ℕ → List Break → Type 0
@@ -146,8 +159,10 @@ pub record Follows (s : BreakList) (b : Break) (t : BreakList) : Type 0 where
 abbrev pub IsBreakFault : BreakList → Break → BreakFault → Type 0
 IsBreakFault s b fault.Break = IsNextBreak s.breaks b.x → ⊥
 IsBreakFault s b fault.Pieces = IsNextBreak s.breaks b.x × (HasOrderWith s b.x → ⊥)
-IsBreakFault s b fault.Large = IsNextBreak s.breaks b.x × HasOrderWith s b.x × IsPointFault (points_at s.breaks) (point_at b) Large
-IsBreakFault s b fault.Fine = IsNextBreak s.breaks b.x × HasOrderWith s b.x × IsPointFault (points_at s.breaks) (point_at b) Fine
+IsBreakFault s b fault.Large = IsNextBreak s.breaks b.x × HasOrderWith s b.x
+    × IsPointFault (points_at s.breaks) (point_at b) Large
+IsBreakFault s b fault.Fine = IsNextBreak s.breaks b.x × HasOrderWith s b.x
+    × IsPointFault (points_at s.breaks) (point_at b) Fine
 IsBreakFault s b (fault.Memory e) = Unit {0}
 
 -- the fault of a breakpoint with a fraction at fault
@@ -165,4 +180,5 @@ pub record AreBreaks (s : BreakList) : Type 0 where
 
 -- the function that the list tells, with f as its place
 abbrev pub IsOfBreaks : BreakList → FunctionData → Type 0
-IsOfBreaks s f = (k : ℕ) × IsRatio s.place (pos k) (pos s.order) × IsGivenByBreaks s.order k s.breaks f
+IsOfBreaks s f = (k : ℕ) × IsRatio s.place (pos k) (pos s.order)
+    × IsGivenByBreaks s.order k s.breaks f

@@ -75,7 +75,8 @@ abbrev pub HasCoverLine : List CoverLine → ℕ → Type 0
 HasCoverLine lines i = Any (λ l. l.interval ≡ i) lines
 
 -- an interval without a line that is joined to one with a line
-pub record JoinsLines (q : ℕ) (Tight : ℕ → ℕ → Type 0) (lines : List CoverLine) (i j : ℕ) : Type 0 where
+pub record JoinsLines (q : ℕ) (Tight : ℕ → ℕ → Type 0) (lines : List CoverLine) (i j : ℕ) :
+    Type 0 where
   pub first_within : i < q
   pub second_within : j < q
   pub no_line : HasCoverLine lines i → ⊥
@@ -84,7 +85,8 @@ pub record JoinsLines (q : ℕ) (Tight : ℕ → ℕ → Type 0) (lines : List C
 
 -- the line joins the least such interval to the least such, by the first face in walk order that
 -- joins the two
-pub record IsJoiningLine (q : ℕ) (Tight : ℕ → ℕ → Type 0) (lines : List CoverLine) (l : CoverLine) : Type 0 where
+pub record IsJoiningLine (q : ℕ) (Tight : ℕ → ℕ → Type 0) (lines : List CoverLine) (l : CoverLine) :
+    Type 0 where
   pub interval : IsLeastFrom 0 (λ i. (j : ℕ) × JoinsLines q Tight lines i j) l.interval
   pub from : IsLeastFrom 0 (λ j. JoinsLines q Tight lines l.interval j) l.from
   pub face : IsFirstFace q (λ kind a b. Joins q Tight kind a b l.interval l.from) l.face
@@ -97,7 +99,8 @@ pub record IsOpen (q : ℕ) (Tight : ℕ → ℕ → Type 0) (lines : List Cover
 
 -- no line joins; the line opens a component with the least such interval, by the first triangle
 -- that covers it
-pub record IsOpeningLine (q : ℕ) (Tight : ℕ → ℕ → Type 0) (lines : List CoverLine) (l : CoverLine) : Type 0 where
+pub record IsOpeningLine (q : ℕ) (Tight : ℕ → ℕ → Type 0) (lines : List CoverLine) (l : CoverLine) :
+    Type 0 where
   pub none_joins : (i j : ℕ) → JoinsLines q Tight lines i j → ⊥
   pub interval : IsLeastFrom 0 (IsOpen q Tight lines) l.interval
   pub from : l.from ≡ l.interval
@@ -109,7 +112,8 @@ IsNextLine q Tight lines l = IsJoiningLine q Tight lines l ⊎ IsOpeningLine q T
 
 -- each line is the next behind those before it, and none is next behind all
 pub record AreCoverLines (q : ℕ) (Tight : ℕ → ℕ → Type 0) (lines : List CoverLine) : Type 0 where
-  pub in_turn : (before : List CoverLine) (l : CoverLine) (after : List CoverLine) → lines ≡ before ++ l ∷ after → IsNextLine q Tight before l
+  pub in_turn : (before : List CoverLine) (l : CoverLine) (after : List CoverLine) →
+      lines ≡ before ++ l ∷ after → IsNextLine q Tight before l
   pub complete : (l : CoverLine) → IsNextLine q Tight lines l → ⊥
 
 -- how many of the lines open a component
@@ -119,7 +123,9 @@ components_in lines = count_by (λ l. l.from == l.interval) lines
 -- the number of the interval's component: of the lines that open one, from 0, the one from which
 -- lines lead to it
 pub data HasComponent (lines : List CoverLine) (number : ℕ) : ℕ → Type 0 where
-  opened : (before : List CoverLine) (l : CoverLine) (after : List CoverLine) → lines ≡ before ++ l ∷ after →
+  opened : (before : List CoverLine) (l : CoverLine) (after : List CoverLine) →
+      lines ≡ before ++ l ∷ after →
       l.from ≡ l.interval → number ≡ components_in before → HasComponent lines number l.interval
-  joined : (before : List CoverLine) (l : CoverLine) (after : List CoverLine) → lines ≡ before ++ l ∷ after →
+  joined : (before : List CoverLine) (l : CoverLine) (after : List CoverLine) →
+      lines ≡ before ++ l ∷ after →
       l.from ≢ l.interval → HasComponent lines number l.from → HasComponent lines number l.interval

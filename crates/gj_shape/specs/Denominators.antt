@@ -27,7 +27,8 @@ AreWithinBoundsOver xs m = AreWithinOver greatest_value xs m
 -- fractions with the least common denominator `scale` have no common denominator from 1 to 2^31 - 1
 -- with x
 abbrev pub HasNoCommonWith : ℕ → Frac → Type 0
-HasNoCommonWith scale x = (m : ℕ) → 1 ≤ m → m < denominator_bound → scale ∣ m → unsigned_abs (denominator x) ∣ m → ⊥
+HasNoCommonWith scale x = (m : ℕ) → 1 ≤ m → m < denominator_bound → scale ∣ m →
+    unsigned_abs (denominator x) ∣ m → ⊥
 
 -- x is at most this number in absolute value, and m is the least common denominator of fractions
 -- with the least common denominator `scale` and of x
@@ -38,7 +39,8 @@ pub record Extends (limit scale : ℕ) (x : Frac) (m : ℕ) : Type 0 where
 
 -- the same for more fractions
 abbrev pub ExtendsBy : ℕ → List Frac → ℕ → Type 0
-ExtendsBy scale ys m = (xs : List Frac) → AreWithinBoundsOver xs scale → AreWithinBoundsOver (xs ++ ys) m
+ExtendsBy scale ys m = (xs : List Frac) → AreWithinBoundsOver xs scale →
+    AreWithinBoundsOver (xs ++ ys) m
 
 -- why the fraction x does not go with the least common denominator of those before it
 abbrev pub IsFractionRefused : ℕ → Frac → FractionFault → Type 0
@@ -53,12 +55,15 @@ IsFirstRefused xs ys passed x = IsFirstFailing (λ zs. AreWithinBounds (xs ++ zs
 -- why the fractions ys cannot follow xs: the first that fails a test is too large, or it is not,
 -- and leaves no common denominator from 1 to 2^31 - 1
 abbrev pub IsFractionRefusal : List Frac → List Frac → FractionFault → Type 0
-IsFractionRefusal xs ys refusal.Large = (passed : List Frac) × (x : Frac) × IsFirstRefused xs ys passed x × (IsSmall x → ⊥)
-IsFractionRefusal xs ys refusal.Fine = (passed : List Frac) × (x : Frac) × IsFirstRefused xs ys passed x × IsSmall x
+IsFractionRefusal xs ys refusal.Large = (passed : List Frac) × (x : Frac)
+    × IsFirstRefused xs ys passed x × (IsSmall x → ⊥)
+IsFractionRefusal xs ys refusal.Fine = (passed : List Frac) × (x : Frac)
+    × IsFirstRefused xs ys passed x × IsSmall x
 
 -- the same behind any fractions with the least common denominator `scale`
 abbrev pub IsRefusedBehind : ℕ → List Frac → FractionFault → Type 0
-IsRefusedBehind scale ys e = (xs : List Frac) → AreWithinBoundsOver xs scale → IsFractionRefusal xs ys e
+IsRefusedBehind scale ys e = (xs : List Frac) → AreWithinBoundsOver xs scale →
+    IsFractionRefusal xs ys e
 
 -- the fault of lists with a fraction at fault at the index
 abbrev pub fault_at : FractionFault → ℕ → ShapeFault

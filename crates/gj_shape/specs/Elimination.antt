@@ -32,15 +32,18 @@ differences xs ys = map (λ p. p.0 -ℤ p.1) (zip xs ys)
 -- factors e/g of the row and v/g of the kept row
 abbrev pub row_factor : List ℤ → List ℤ → ℕ → ℤ
 row_factor kept row c =
-    int_div (at_column kept c) (pos (gcd_of (unsigned_abs (at_column row c)) (unsigned_abs (at_column kept c))))
+    int_div (at_column kept c)
+    (pos (gcd_of (unsigned_abs (at_column row c)) (unsigned_abs (at_column kept c))))
 
 abbrev pub kept_factor : List ℤ → List ℤ → ℕ → ℤ
 kept_factor kept row c =
-    int_div (at_column row c) (pos (gcd_of (unsigned_abs (at_column row c)) (unsigned_abs (at_column kept c))))
+    int_div (at_column row c)
+    (pos (gcd_of (unsigned_abs (at_column row c)) (unsigned_abs (at_column kept c))))
 
 -- the row times its factor, less the kept row times its own: 0 at the column
 unfoldable pub eliminated : List ℤ → List ℤ → ℕ → List ℤ
-eliminated kept row c = differences (scaled (row_factor kept row c) row) (scaled (kept_factor kept row c) kept)
+eliminated kept row c =
+    differences (scaled (row_factor kept row c) row) (scaled (kept_factor kept row c) kept)
 
 -- the row after the step
 unfoldable pub reduced : List ℤ → List ℤ → ℕ → List ℤ
@@ -49,7 +52,8 @@ reduced kept row c = divided (eliminated kept row c)
 -- the numbers that the step marks: the products and their differences
 unfoldable pub marked_in_step : List ℤ → List ℤ → ℕ → List ℤ
 marked_in_step kept row c =
-    scaled (row_factor kept row c) row ++ scaled (kept_factor kept row c) kept ++ eliminated kept row c
+    scaled (row_factor kept row c) row ++ scaled (kept_factor kept row c) kept
+    ++ eliminated kept row c
 
 -- ---- one row
 
@@ -67,7 +71,8 @@ row_with_pivot kept c = find (λ k. k.pivot == c) kept
 
 -- the entries as they are kept: divided, with a positive one at the pivot
 unfoldable pub kept_entries : List ℤ → ℕ → List ℤ
-kept_entries row c = if int_lt (at_column row c) (pos 0) then map neg_ℤ (divided row) else divided row
+kept_entries row c =
+    if int_lt (at_column row c) (pos 0) then map neg_ℤ (divided row) else divided row
 
 -- what becomes of a row: the columns at which it is reduced, the pivot and the entries with which
 -- it is kept, if anything is left of it, and the marked numbers
@@ -105,9 +110,12 @@ with_pivot c (Some entries) = Some (c, entries)
 
 -- at a column where the row is not 0: if a kept row has this pivot, the row is reduced by it and
 -- goes on; if not, it is kept if it can be
-unfoldable pub inserted_at_by : Arithmetic → Option KeptRow → ℕ → List ℤ → (List ℤ → Insertion) → Insertion
-inserted_at_by by (Some k) c row onward = behind_step c (by.marked k.entries row c) (onward (by.step k.entries row c))
-inserted_at_by by None c row onward = record { reduce = []; kept = with_pivot c (by.keep row c); marked = [] }
+unfoldable pub inserted_at_by : Arithmetic → Option KeptRow → ℕ → List ℤ → (List ℤ → Insertion) →
+    Insertion
+inserted_at_by by (Some k) c row onward =
+    behind_step c (by.marked k.entries row c) (onward (by.step k.entries row c))
+inserted_at_by by None c row onward =
+    record { reduce = []; kept = with_pivot c (by.keep row c); marked = [] }
 
 abbrev pub inserted_at : Option KeptRow → ℕ → List ℤ → (List ℤ → Insertion) → Insertion
 inserted_at k c row onward = inserted_at_by whole_numbers k c row onward
@@ -153,7 +161,9 @@ elimination_from_by by n kept number (row ∷ rows) =
     if nat_le n (length kept)
     then record { kept = kept; marked = [] }
     else behind_insertion (inserted_by by n kept row).marked
-    (elimination_from_by by n (kept_behind kept number (inserted_by by n kept row).reduce (inserted_by by n kept row).kept)
+    (elimination_from_by by n
+    (kept_behind kept number (inserted_by by n kept row).reduce
+    (inserted_by by n kept row).kept)
     (number + 1) rows)
 
 abbrev pub elimination_from : ℕ → List KeptRow → ℕ → List (List ℤ) → Elimination
@@ -187,7 +197,8 @@ behind_numbers first s = record { numbers = s.numbers; marked = first ++ s.marke
 
 -- the greatest common divisor by which a kept row with its pivot at the column j is solved
 abbrev pub solving_gcd : List ℤ → ℕ → List ℤ → ℕ
-solving_gcd row j w = gcd_of (unsigned_abs (total (products_behind j row w))) (unsigned_abs (at_column row j))
+solving_gcd row j w = gcd_of (unsigned_abs (total (products_behind j row w)))
+    (unsigned_abs (at_column row j))
 
 -- the numbers times a factor
 abbrev pub solving_products : List ℤ → ℕ → List ℤ → List ℤ
@@ -202,7 +213,8 @@ solved_at row j w =
 -- the numbers that this marks
 unfoldable pub marked_in_solving : List ℤ → ℕ → List ℤ → List ℤ
 marked_in_solving row j w =
-    products_behind j row w ++ partial_sums (pos 0) (products_behind j row w) ++ solving_products row j w
+    products_behind j row w ++ partial_sums (pos 0) (products_behind j row w)
+    ++ solving_products row j w
 
 -- the entries of the kept row with its pivot at the column
 unfoldable pub entries_of : Option KeptRow → List ℤ

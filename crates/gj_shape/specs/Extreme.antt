@@ -11,7 +11,8 @@ AverageTo c a b t = (i : ℕ) → a i +ℤ b i ≡ pos (2 * c) *ℤ t i
 -- different minimal tables
 pub record IsExtremeTable (t : ℕ → ℤ) (n k s : ℕ) : Type 0 where
   pub minimal : IsMinimalTable t n k s
-  pub no_average : (c : ℕ) (a b : ℕ → ℤ) → 0 < c → IsMinimalTable a n k (c * s) → IsMinimalTable b n k (c * s) →
+  pub no_average : (c : ℕ) (a b : ℕ → ℤ) → 0 < c → IsMinimalTable a n k (c * s) →
+      IsMinimalTable b n k (c * s) →
       AverageTo c a b t → (i : ℕ) → a i ≡ b i
 
 -- an extreme function: its table on every grid of order a multiple of its own is extreme

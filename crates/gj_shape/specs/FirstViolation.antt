@@ -42,11 +42,13 @@ Passes f (subadditive_at kind a b corner) = pos 0 ≤ℤ get_or (limits_of f kin
 
 -- the tests of the limits at the corners of a face
 abbrev pub tests_of_face : FaceKind → ℕ → ℕ → List Test
-tests_of_face kind a b = map (subadditive_at kind a b) (range_with_len 0 (length (corners_of kind a b)))
+tests_of_face kind a b =
+    map (subadditive_at kind a b) (range_with_len 0 (length (corners_of kind a b)))
 
 -- over the squares (a, b) in walk order: a from 0, and inside it b from 0
 abbrev pub over_squares : ℕ → (ℕ → ℕ → List Test) → List Test
-over_squares q tests = flat_map (λ a. flat_map (λ b. tests a b) (range_with_len 0 q)) (range_with_len 0 q)
+over_squares q tests = flat_map (λ a. flat_map (λ b. tests a b) (range_with_len 0 q))
+    (range_with_len 0 q)
 
 -- all tests in their order: grid points come before open intervals, and vertices before all other
 -- faces
@@ -59,7 +61,8 @@ tests_of f =
     ++ map symmetric_between (range_with_len 0 f.order)
     ++ over_squares f.order (tests_of_face Vertex)
     ++ over_squares f.order (λ a b.
-    flat_map (λ kind. tests_of_face kind a b) (Horizontal ∷ Vertical ∷ Diagonal ∷ Lower ∷ Upper ∷ []))
+    flat_map (λ kind. tests_of_face kind a b)
+    (Horizontal ∷ Vertical ∷ Diagonal ∷ Lower ∷ Upper ∷ []))
 
 -- all tests pass
 abbrev pub PassesAll : FunctionData → Type 0
@@ -96,15 +99,18 @@ second_coordinates kind a b = map (λ corner. corner.1) (corners_of kind a b)
 
 -- the values at (i + 1/2)/order and at f less that add up to 1
 abbrev pub MidpointsAgree : FunctionData → ℕ → Type 0
-MidpointsAgree f i = table f 2 (2 * i + 1) +ℤ table f 2 (2 * (f.place + (f.order - i)) - 1) ≡ pos (f.scale * 2)
+MidpointsAgree f i = table f 2 (2 * i + 1) +ℤ table f 2 (2 * (f.place + (f.order - i)) - 1)
+    ≡ pos (f.scale * 2)
 
 -- the point that a failed limit shows: h is the least number at which the slack there is negative
-pub record ShowsNearCorner (f : FunctionData) (kind : FaceKind) (a b c : ℕ) (v : Violation) : Type 0 where
+pub record ShowsNearCorner (f : FunctionData) (kind : FaceKind) (a b c : ℕ) (v : Violation) :
+    Type 0 where
   pub h : ℕ
   pub x : Frac
   pub y : Frac
   pub least : IsLeastFrom (length (corners_of kind a b))
-      (λ n. IsSuperadditiveOnGrid f n (near n c (first_coordinates kind a b)) (near n c (second_coordinates kind a b))) h
+      (λ n. IsSuperadditiveOnGrid f n (near n c (first_coordinates kind a b))
+      (near n c (second_coordinates kind a b))) h
   pub first : IsOnGrid f h (near h c (first_coordinates kind a b)) x
   pub second : IsOnGrid f h (near h c (second_coordinates kind a b)) y
   pub shown : v ≡ violation.Superadditive x y
@@ -122,7 +128,8 @@ Shows f (nonnegative_before i) v =
 Shows f (symmetric_at i) v = (x : Frac) × IsOnGrid f 1 i x × (v ≡ violation.Asymmetric x)
 Shows f (symmetric_between i) v =
     (x : Frac) × (v ≡ violation.Asymmetric x)
-    × (((MidpointsAgree f i → ⊥) × IsOnGrid f 2 (2 * i + 1) x) ⊎ (MidpointsAgree f i × IsOnGrid f 4 (4 * i + 1) x))
+    × (((MidpointsAgree f i → ⊥) × IsOnGrid f 2 (2 * i + 1) x)
+    ⊎ (MidpointsAgree f i × IsOnGrid f 4 (4 * i + 1) x))
 Shows f (subadditive_at kind a b c) v = ShowsNearCorner f kind a b c v
 
 -- the violation is what the first test that fails shows

@@ -49,7 +49,8 @@ pub record IsWithinBounds (f : FunctionData) : Type 0 where
   pub left_small : All (IsSmallOver f.scale) f.left
   pub value_small : All (IsSmallOver f.scale) f.value
   pub right_small : All (IsSmallOver f.scale) f.right
-  pub lowest : (d : ℕ) → d ∣ f.scale → All (λ n. d ∣ unsigned_abs n) (f.left ++ f.value ++ f.right) → d ≡ 1
+  pub lowest : (d : ℕ) → d ∣ f.scale →
+      All (λ n. d ∣ unsigned_abs n) (f.left ++ f.value ++ f.right) → d ≡ 1
 
 -- data of a function, of any order and with numbers of any size: 2 pieces or more, f strictly
 -- between 0 and 1, and for each piece a value and two limits

@@ -42,20 +42,23 @@ abbrev pub AreWithinBounds : List Frac → Type 0
 AreWithinBounds xs = AreWithin greatest_value xs
 
 -- x stands at the index and is the first fraction with which those up to it are not within bounds
-pub record IsFirstFractionAtFault (left value right : List Frac) (index : ℕ) (before : List Frac) (x : Frac) : Type 0 where
+pub record IsFirstFractionAtFault (left value right : List Frac) (index : ℕ) (before : List Frac)
+    (x : Frac) : Type 0 where
   pub first : IsFirstFailing AreWithinBounds (in_order left value right) before x
   pub index_is : index ≡ length before / 3
 
 -- the first fraction that fails a test is greater than 2^20 in absolute value
 abbrev pub IsTooLarge : List Frac → List Frac → List Frac → ℕ → Type 0
 IsTooLarge left value right i =
-    (before : List Frac) × (x : Frac) × IsFirstFractionAtFault left value right i before x × (IsSmall x → ⊥)
+    (before : List Frac) × (x : Frac) × IsFirstFractionAtFault left value right i before x
+    × (IsSmall x → ⊥)
 
 -- the first fraction that fails a test is not, and so leaves no common denominator from 1 to 2^31 -
 -- 1
 abbrev pub IsTooFine : List Frac → List Frac → List Frac → ℕ → Type 0
 IsTooFine left value right i =
-    (before : List Frac) × (x : Frac) × IsFirstFractionAtFault left value right i before x × IsSmall x
+    (before : List Frac) × (x : Frac) × IsFirstFractionAtFault left value right i before x
+    × IsSmall x
 
 abbrev pub IsOrder : ℕ → Type 0
 IsOrder q = (2 ≤ q) × (q ≤ greatest_order)
@@ -70,9 +73,12 @@ HaveLength left value right q = (length left ≡ q) × (length value ≡ q) × (
 abbrev pub HasFault : ℕ → ℕ → List Frac → List Frac → List Frac → ShapeFault → Type 0
 HasFault q k left value right fault.Order = IsOrder q → ⊥
 HasFault q k left value right fault.Place = IsOrder q × (IsPlace q k → ⊥)
-HasFault q k left value right fault.Count = IsOrder q × IsPlace q k × (HaveLength left value right q → ⊥)
-HasFault q k left value right (fault.TooLarge i) = IsOrder q × IsPlace q k × HaveLength left value right q × IsTooLarge left value right i
-HasFault q k left value right (fault.TooFine i) = IsOrder q × IsPlace q k × HaveLength left value right q × IsTooFine left value right i
+HasFault q k left value right fault.Count = IsOrder q × IsPlace q k
+    × (HaveLength left value right q → ⊥)
+HasFault q k left value right (fault.TooLarge i) = IsOrder q × IsPlace q k
+    × HaveLength left value right q × IsTooLarge left value right i
+HasFault q k left value right (fault.TooFine i) = IsOrder q × IsPlace q k
+    × HaveLength left value right q × IsTooFine left value right i
 HasFault q k left value right (fault.Memory e) = Unit {0}
 
 -- the numerator of a fraction over a multiple of its denominator

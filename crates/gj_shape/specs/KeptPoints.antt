@@ -7,7 +7,8 @@ use Rattle.gj_shape.specs.declared.points.Point.{Point}
 
 -- the points with these limits from the left, values and limits from the right
 abbrev pub points_of : List Frac → List Frac → List Frac → List Point
-points_of (l ∷ ls) (v ∷ vs) (r ∷ rs) = record { left = l; value = v; right = r } ∷ points_of ls vs rs
+points_of (l ∷ ls) (v ∷ vs) (r ∷ rs) =
+    record { left = l; value = v; right = r } ∷ points_of ls vs rs
 points_of ls vs rs = []
 
 -- the lists have one length, and the scale is the least common denominator of all fractions

@@ -47,9 +47,11 @@ pub record AreHalvesOf (f : FunctionData) (m : ℕ) (perturbation : ℕ → ℤ)
   pub order : h.order ≡ f.order * m
   pub scale : h.scale ≡ pos (3 * p * (f.scale * m))
   pub first : h.first ≡
-      map (λ i. pos (3 * p) *ℤ table f m i +ℤ pos u *ℤ perturbation i) (range_with_len 0 (f.order * m))
+      map (λ i. pos (3 * p) *ℤ table f m i +ℤ pos u *ℤ perturbation i)
+      (range_with_len 0 (f.order * m))
   pub second : h.second ≡
-      map (λ i. pos (3 * p) *ℤ table f m i -ℤ pos u *ℤ perturbation i) (range_with_len 0 (f.order * m))
+      map (λ i. pos (3 * p) *ℤ table f m i -ℤ pos u *ℤ perturbation i)
+      (range_with_len 0 (f.order * m))
 
 -- the order, the scale and the values of halves are within the limits of a proof text, and there
 -- are as many values as the order says

@@ -47,7 +47,8 @@ pub record IsPointAt (f : FunctionData) (i : ℕ) (p : Point) : Type 0 where
 -- why a point cannot follow the points: its first fraction that fails a test behind theirs is too
 -- large, or it is not, and leaves no common denominator from 1 to 2^31 - 1; or there was no memory
 abbrev pub IsPointFault : List Point → Point → PointFault → Type 0
-IsPointFault points p Large = IsFractionRefusal (all_fractions points) (fractions_of p) refusal.Large
+IsPointFault points p Large =
+    IsFractionRefusal (all_fractions points) (fractions_of p) refusal.Large
 IsPointFault points p Fine = IsFractionRefusal (all_fractions points) (fractions_of p) refusal.Fine
 IsPointFault points p (Memory e) = Unit {0}
 

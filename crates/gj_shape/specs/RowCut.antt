@@ -6,11 +6,13 @@ use Rattle.gj_shape.specs.SlopeRows.{sum_of_products}
 
 -- the basic variable, a whole number, and the others, whole numbers not below 0, solve `basic + sum
 -- entries others = right`
-pub record IsRowSolution (entries : List Frac) (right : Frac) (basic : ℤ) (others : List ℕ) : Type 0 where
+pub record IsRowSolution (entries : List Frac) (right : Frac) (basic : ℤ) (others : List ℕ) :
+    Type 0 where
   pub count : length others ≡ length entries
   pub c : ℕ
   pub least : IsLeastCommonDenominator (right ∷ entries) c
-  pub solves : pos c *ℤ basic +ℤ sum_of_products (map (numerator_over c) entries) (map pos others) ≡ numerator_over c right
+  pub solves : pos c *ℤ basic +ℤ sum_of_products (map (numerator_over c) entries) (map pos others)
+      ≡ numerator_over c right
 
 -- at each solution of the row the sum of the cut's coefficients times the others is at least 1
 abbrev pub CutHolds : List Frac → Frac → List Frac → Type 0

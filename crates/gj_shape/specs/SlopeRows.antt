@@ -35,7 +35,8 @@ is_tight f a b = int_eq (at f.value a +ℤ at f.value b) (at f.value (a + b))
 abbrev pub row_names : FunctionData → List RowName
 row_names f =
     Period ∷ F
-    ∷ flat_map (λ a. map (Pair a) (filter (is_tight f a) (range_with_len a (f.order - a)))) (range_with_len 1 (f.order - 1))
+    ∷ flat_map (λ a. map (Pair a) (filter (is_tight f a) (range_with_len a (f.order - a))))
+    (range_with_len 1 (f.order - 1))
 
 -- the sum of whole numbers
 abbrev pub total : List ℤ → ℤ
@@ -49,4 +50,5 @@ sum_of_products xs ys = total (map (λ p. p.0 *ℤ p.1) (zip xs ys))
 -- the slopes solve all rows
 abbrev pub SolveRows : (ℕ → ℕ) → ℕ → FunctionData → List ℤ → Type 0
 SolveRows component n f slopes =
-    All (λ name. sum_of_products (row_of component n f.order f.place name) slopes ≡ pos 0) (row_names f)
+    All (λ name. sum_of_products (row_of component n f.order f.place name) slopes ≡ pos 0)
+    (row_names f)

@@ -33,9 +33,11 @@ pub record IsMinimalAmongValid (t : ℕ → ℤ) (n k s : ℕ) : Type 0 where
 -- a valid table that is no average of two different valid tables
 pub record IsExtremeAmongValid (t : ℕ → ℤ) (n k s : ℕ) : Type 0 where
   pub valid : IsValidTable t n k s
-  pub no_average : (c : ℕ) (a b : ℕ → ℤ) → 0 < c → IsValidTable a n k (c * s) → IsValidTable b n k (c * s) →
+  pub no_average : (c : ℕ) (a b : ℕ → ℤ) → 0 < c → IsValidTable a n k (c * s) →
+      IsValidTable b n k (c * s) →
       AverageTo c a b t → (i : ℕ) → a i ≡ b i
 
 -- some valid table lies under the table, and below it at a place
 abbrev pub IsDominated : (ℕ → ℤ) → ℕ → ℕ → ℕ → Type 0
-IsDominated t n k s = (c : ℕ) × (u : ℕ → ℤ) × (place : ℕ) × LiesUnder c u t n k s × (u place <ℤ (pos c *ℤ t place))
+IsDominated t n k s = (c : ℕ) × (u : ℕ → ℤ) × (place : ℕ) × LiesUnder c u t n k s
+    × (u place <ℤ (pos c *ℤ t place))

@@ -12,4 +12,5 @@ IsCongruent i j n = (k : ℤ) × (i ≡ j +ℤ k *ℤ pos n)
 
 -- x is the value at n/(order d): what the table on that grid has at each index congruent to n
 abbrev pub IsValueAt : FunctionData → ℤ → ℕ → Frac → Type 0
-IsValueAt f n d x = (j : ℕ) → IsCongruent (pos j) n (f.order * d) → IsRatio x (table f d j) (pos (f.scale * d))
+IsValueAt f n d x = (j : ℕ) → IsCongruent (pos j) n (f.order * d) →
+    IsRatio x (table f d j) (pos (f.scale * d))

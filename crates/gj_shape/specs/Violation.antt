@@ -34,7 +34,8 @@ pub record IsAsymmetricAt (f : FunctionData) (x : Frac) (n d j : ℕ) : Type 0 w
 pub record IsSuperadditiveAt (f : FunctionData) (x y : Frac) (n d m e : ℕ) : Type 0 where
   pub first : IsPoint x n d
   pub second : IsPoint y m e
-  pub below : (value_of f (n * e) (d * e) +ℤ value_of f (m * d) (d * e)) <ℤ value_of f (n * e + m * d) (d * e)
+  pub below : (value_of f (n * e) (d * e) +ℤ value_of f (m * d) (d * e))
+      <ℤ value_of f (n * e + m * d) (d * e)
 
 -- the violation shows that a minimal function's property fails: at 0, at a point, or at a pair of
 -- points

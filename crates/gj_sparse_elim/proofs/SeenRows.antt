@@ -33,7 +33,8 @@ seen_stays n kept more row h =
           ∙ repeated_keeps_nothing n 0 kept more (dense n row);
       narrow = λ p. h.narrow (repeated_passes n 0 kept more (dense n row)
           (dense_fits n row h.sparse)
-          (subst (λ (ks : List KeptRow). Passes (inserted n ks (dense n row)).marked) (sym same) p));
+          (subst (λ (ks : List KeptRow). Passes (inserted n ks (dense n row)).marked)
+          (sym same) p));
     }
 
 -- all rows do, behind an insertion
@@ -59,7 +60,8 @@ just_seen n number kept row sparse narrow =
       nothing = ap (λ ks. (inserted n ks (dense n row)).kept) (sym whole)
           ∙ repeated_keeps_nothing n number kept [] (dense n row);
       narrow = λ p. narrow (repeated_passes n number kept [] (dense n row) (dense_fits n row sparse)
-          (subst (λ (ks : List KeptRow). Passes (inserted n ks (dense n row)).marked) (sym whole) p));
+          (subst (λ (ks : List KeptRow). Passes (inserted n ks (dense n row)).marked)
+          (sym whole) p));
     }
 
 -- ---- a row without an entry

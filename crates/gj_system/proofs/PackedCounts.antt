@@ -28,24 +28,29 @@ packed_four (x ∷ xs) few digits =
     omega arith
 
 -- the code of sums is the sum of the codes
-pub packed_sum : (f g : ℕ → ℕ) (cs : List ℕ) → packed (map f cs) + packed (map g cs) ≡ packed (map (λ c. f c + g c) cs)
+pub packed_sum : (f g : ℕ → ℕ) (cs : List ℕ) →
+    packed (map f cs) + packed (map g cs) ≡ packed (map (λ c. f c + g c) cs)
 packed_sum f g [] = refl
 packed_sum f g (c ∷ cs) = let rest = packed_sum f g cs in omega arith
 
 -- the first digit is the rest, and the others are the quotient
-digit_same : (x y m n : ℕ) → x < 2 ^ 16 → y < 2 ^ 16 → x + 2 ^ 16 * m ≡ y + 2 ^ 16 * n → (x ≡ y) × (m ≡ n)
+digit_same : (x y m n : ℕ) → x < 2 ^ 16 → y < 2 ^ 16 → x + 2 ^ 16 * m ≡ y + 2 ^ 16 * n →
+    (x ≡ y) × (m ≡ n)
 digit_same x y m n small bounded same = (omega arith, omega arith)
 
 -- codes are the same only if all digits are
-pub same_digits : (f g : ℕ → ℕ) (cs : List ℕ) → ((c : ℕ) → f c < 2 ^ 16) → ((c : ℕ) → g c < 2 ^ 16) →
+pub same_digits : (f g : ℕ → ℕ) (cs : List ℕ) → ((c : ℕ) → f c < 2 ^ 16) →
+    ((c : ℕ) → g c < 2 ^ 16) →
     packed (map f cs) ≡ packed (map g cs) → map f cs ≡ map g cs
 same_digits f g [] small bounded same = refl
 same_digits f g (c ∷ cs) small bounded same =
-    let parts = digit_same (f c) (g c) (packed (map f cs)) (packed (map g cs)) (small c) (bounded c) same in
+    let parts = digit_same (f c) (g c) (packed (map f cs)) (packed (map g cs)) (small c)
+    (bounded c) same in
     ap₂ (λ x xs. x ∷ xs) parts.0 (same_digits f g cs small bounded parts.1)
 
 -- a one in one column of a few
-pub packed_one : (n x : ℕ) → n ≤ 4 → x < n → packed (map (λ c. cond (eqb x c) 1 0) (range_with_len 0 n)) ≡ 2 ^ (16 * x)
+pub packed_one : (n x : ℕ) → n ≤ 4 → x < n →
+    packed (map (λ c. cond (eqb x c) 1 0) (range_with_len 0 n)) ≡ 2 ^ (16 * x)
 packed_one zero x few below = absurd (omega arith)
 packed_one (suc zero) zero few below = refl
 packed_one (suc (suc zero)) zero few below = refl

@@ -40,21 +40,27 @@ one_count_more f n i x counts are inside is =
     len : length counts ≡ n
     len = ap length are ∙ length-rises_at f n i
 
-    by_column : (c : ℕ) → c < n → (f i ≡ c) ⊎ (f i ≡ c → ⊥) → get_or (set counts (f i) x) c 0 ≡ rises f (i + 1) c
+    by_column : (c : ℕ) → c < n → (f i ≡ c) ⊎ (f i ≡ c → ⊥) →
+        get_or (set counts (f i) x) c 0 ≡ rises f (i + 1) c
     by_column c below (inl e) =
-        let here : get_or (set counts (f i) x) (f i) 0 ≡ x = get_or-set_same counts (f i) x 0 (omega (arith, len)) in
-        let before : get_or counts (f i) 0 ≡ rises f i (f i) = ap (λ l. get_or l (f i) 0) are ∙ count_at f n i (f i) inside in
+        let here : get_or (set counts (f i) x) (f i) 0 ≡ x =
+        get_or-set_same counts (f i) x 0 (omega (arith, len)) in
+        let before : get_or counts (f i) 0 ≡ rises f i (f i) = ap (λ l. get_or l (f i) 0) are
+        ∙ count_at f n i (f i) inside in
         let more = rises_here f i (f i) refl in
         let all : get_or (set counts (f i) x) (f i) 0 ≡ rises f (i + 1) (f i) = omega arith in
         subst (λ (k : ℕ). get_or (set counts (f i) x) k 0 ≡ rises f (i + 1) k) e all
     by_column c below (inr e) =
-        get_or-set_other counts (f i) c x 0 (λ same. e (sym same)) ∙ ap (λ l. get_or l c 0) are ∙ count_at f n i c below
+        get_or-set_other counts (f i) c x 0 (λ same. e (sym same)) ∙ ap (λ l. get_or l c 0) are
+        ∙ count_at f n i c below
         ∙ sym (rises_elsewhere f i c e)
 
 -- a count is at most that of all intervals before
-pub count_at_most : (f : ℕ → ℕ) (n i c : ℕ) (counts : List ℕ) → counts ≡ rises_at f n i → c < n → get_or counts c 0 ≤ i
+pub count_at_most : (f : ℕ → ℕ) (n i c : ℕ) (counts : List ℕ) → counts ≡ rises_at f n i → c < n →
+    get_or counts c 0 ≤ i
 count_at_most f n i c counts are below =
-    let is : get_or counts c 0 ≡ rises f i c = ap (λ l. get_or l c 0) are ∙ count_at f n i c below in
+    let is : get_or counts c 0 ≡ rises f i c = ap (λ l. get_or l c 0) are
+    ∙ count_at f n i c below in
     let most = rises_at_most f i c in
     omega arith
 
@@ -64,15 +70,18 @@ pub first_point : (f : ℕ → ℕ) (n : ℕ) (counts : List ℕ) → counts ≡
 first_point f n counts are = are ∙ sym (append-nil (rises_at f n 0))
 
 pub one_point_more : (f : ℕ → ℕ) (n i : ℕ) (counts more last : List ℕ) →
-    counts ≡ flat_map (rises_at f n) (range_with_len 0 (i + 1)) → last ≡ rises_at f n (i + 1) → more ≡ counts ++ last →
+    counts ≡ flat_map (rises_at f n) (range_with_len 0 (i + 1)) → last ≡ rises_at f n (i + 1) →
+    more ≡ counts ++ last →
     more ≡ flat_map (rises_at f n) (range_with_len 0 (i + 1 + 1))
 one_point_more f n i counts more last are is e =
     let before = range_with_len 0 (i + 1) in
     e ∙ ap₂ (λ xs ys. xs ++ ys) are (is ∙ sym (append-nil (rises_at f n (i + 1))))
     ∙ sym (flat_map-append (rises_at f n) before ((i + 1) ∷ []))
-    ∙ ap (flat_map (rises_at f n)) (sym (range_split 0 (i + 1) 1 ∙ ap (λ k. before ++ k ∷ []) (zero-add (i + 1))))
+    ∙ ap (flat_map (rises_at f n))
+    (sym (range_split 0 (i + 1) 1 ∙ ap (λ k. before ++ k ∷ []) (zero-add (i + 1))))
 
-length-points : (f : ℕ → ℕ) (n : ℕ) (points : List ℕ) → length (flat_map (rises_at f n) points) ≡ length points * n
+length-points : (f : ℕ → ℕ) (n : ℕ) (points : List ℕ) → length (flat_map (rises_at f n) points)
+    ≡ length points * n
 length-points f n [] = omega arith
 length-points f n (i ∷ points) =
     let len = length-append (rises_at f n i) (flat_map (rises_at f n) points) in
@@ -80,11 +89,14 @@ length-points f n (i ∷ points) =
     let rest = length-points f n points in
     omega (arith, len)
 
-length-before : (f : ℕ → ℕ) (n i : ℕ) → length (flat_map (rises_at f n) (range_with_len 0 i)) ≡ i * n
-length-before f n i = length-points f n (range_with_len 0 i) ∙ ap (λ k. k * n) (length-range_with_len 0 i)
+length-before : (f : ℕ → ℕ) (n i : ℕ) → length (flat_map (rises_at f n) (range_with_len 0 i))
+    ≡ i * n
+length-before f n i = length-points f n (range_with_len 0 i)
+    ∙ ap (λ k. k * n) (length-range_with_len 0 i)
 
 -- those of a grid point in the whole list
-pub point_within : (f : ℕ → ℕ) (n q i : ℕ) (counts : List ℕ) → counts ≡ flat_map (rises_at f n) (range_with_len 0 (q + 1)) → i ≤ q →
+pub point_within : (f : ℕ → ℕ) (n q i : ℕ) (counts : List ℕ) →
+    counts ≡ flat_map (rises_at f n) (range_with_len 0 (q + 1)) → i ≤ q →
     i * n + n ≤ length counts
 point_within f n q i counts are within =
     let before = flat_map (rises_at f n) (range_with_len 0 i) in
@@ -96,12 +108,14 @@ point_within f n q i counts are within =
     let here = length-rises_at f n i in
     omega (arith, split, whole, behind)
 
-pub point_in_list : (f : ℕ → ℕ) (n q i m : ℕ) (counts : List ℕ) → counts ≡ flat_map (rises_at f n) (range_with_len 0 (q + 1)) →
+pub point_in_list : (f : ℕ → ℕ) (n q i m : ℕ) (counts : List ℕ) →
+    counts ≡ flat_map (rises_at f n) (range_with_len 0 (q + 1)) →
     i ≤ q → m ≡ n → take m (drop (i * n) counts) ≡ rises_at f n i
 point_in_list f n q i m counts are within whole =
     let before = flat_map (rises_at f n) (range_with_len 0 i) in
     let rest = flat_map (rises_at f n) (range_with_len (i + 1) (q + 1 - suc i)) in
-    ap₂ (λ k xs. take m (drop k xs)) (sym (length-before f n i)) (are ∙ joined_at (rises_at f n) i (q + 1) (omega arith))
+    ap₂ (λ k xs. take m (drop k xs)) (sym (length-before f n i))
+    (are ∙ joined_at (rises_at f n) i (q + 1) (omega arith))
     ∙ ap (take m) (drop-append_seam before (rises_at f n i ++ rest))
     ∙ ap (λ k. take k (rises_at f n i ++ rest)) (whole ∙ sym (length-rises_at f n i))
     ∙ take-append_seam (rises_at f n i) rest
@@ -109,33 +123,43 @@ point_in_list f n q i m counts are within whole =
 -- ---- rows
 
 -- each entry is that of the row
-pub row_of_rises : (f : ℕ → ℕ) (n i : ℕ) (counts : List ℕ) (row : List ℤ) → counts ≡ rises_at f n i →
+pub row_of_rises : (f : ℕ → ℕ) (n i : ℕ) (counts : List ℕ) (row : List ℤ) →
+    counts ≡ rises_at f n i →
     length row ≡ n → ((c : ℕ) → c < n → get_or row c (pos 0) ≡ pos (get_or counts c 0)) →
     row ≡ map (λ c. pos (rises f i c)) (range_with_len 0 n)
 row_of_rises f n i counts row are len h =
     fill_by_all (λ c. pos (rises f i c)) row n (pos 0) len
     (λ c below. h c below ∙ ap (λ l. pos (get_or l c 0)) are ∙ ap pos (count_at f n i c below))
 
-pub row_of_slacks : (f : ℕ → ℕ) (n a b s : ℕ) (first second third : List ℕ) (row : List ℤ) → first ≡ rises_at f n a →
+pub row_of_slacks : (f : ℕ → ℕ) (n a b s : ℕ) (first second third : List ℕ) (row : List ℤ) →
+    first ≡ rises_at f n a →
     second ≡ rises_at f n b → third ≡ rises_at f n s → length row ≡ n →
-    ((c : ℕ) → c < n → get_or row c (pos 0) ≡ pos (get_or first c 0) +ℤ pos (get_or second c 0) -ℤ pos (get_or third c 0)) →
-    row ≡ map (λ c. pos (rises f a c) +ℤ pos (rises f b c) -ℤ pos (rises f s c)) (range_with_len 0 n)
+    ((c : ℕ) → c < n → get_or row c (pos 0) ≡ pos (get_or first c 0) +ℤ pos (get_or second c 0)
+    -ℤ pos (get_or third c 0)) →
+    row ≡ map (λ c. pos (rises f a c) +ℤ pos (rises f b c) -ℤ pos (rises f s c))
+    (range_with_len 0 n)
 row_of_slacks f n a b s first second third row first_is second_is third_is len h =
     fill_by_all (λ c. pos (rises f a c) +ℤ pos (rises f b c) -ℤ pos (rises f s c)) row n (pos 0) len
     (λ c below.
-    let x : get_or first c 0 ≡ rises f a c = ap (λ l. get_or l c 0) first_is ∙ count_at f n a c below in
-    let y : get_or second c 0 ≡ rises f b c = ap (λ l. get_or l c 0) second_is ∙ count_at f n b c below in
-    let z : get_or third c 0 ≡ rises f s c = ap (λ l. get_or l c 0) third_is ∙ count_at f n s c below in
-    h c below ∙ ap₂ (λ u v. pos u +ℤ pos v -ℤ pos (get_or third c 0)) x y ∙ ap (λ w. pos (rises f a c) +ℤ pos (rises f b c) -ℤ pos w) z)
+    let x : get_or first c 0 ≡ rises f a c = ap (λ l. get_or l c 0) first_is
+    ∙ count_at f n a c below in
+    let y : get_or second c 0 ≡ rises f b c = ap (λ l. get_or l c 0) second_is
+    ∙ count_at f n b c below in
+    let z : get_or third c 0 ≡ rises f s c = ap (λ l. get_or l c 0) third_is
+    ∙ count_at f n s c below in
+    h c below ∙ ap₂ (λ u v. pos u +ℤ pos v -ℤ pos (get_or third c 0)) x y
+    ∙ ap (λ w. pos (rises f a c) +ℤ pos (rises f b c) -ℤ pos w) z)
 
-slack_small : (x y z q : ℕ) → x ≤ q → y ≤ q → z ≤ q → q < 2 ^ 64 → (unsigned_abs (pos x +ℤ pos y -ℤ pos z) < 2 ^ 127)
+slack_small : (x y z q : ℕ) → x ≤ q → y ≤ q → z ≤ q → q < 2 ^ 64 →
+    (unsigned_abs (pos x +ℤ pos y -ℤ pos z) < 2 ^ 127)
 slack_small x y z q first second third small = omega (arith, ints)
 
 count_small : (x q : ℕ) → x ≤ q → q < 2 ^ 64 → (unsigned_abs (pos x) < 2 ^ 127)
 count_small x q most small = omega (arith, ints)
 
 -- so all entries are small
-pub entries_small : (f : ℕ → ℕ) (n q k : ℕ) (name : RowName) → q < 2 ^ 64 → k < q → IsNameBelow name q →
+pub entries_small : (f : ℕ → ℕ) (n q k : ℕ) (name : RowName) → q < 2 ^ 64 → k < q →
+    IsNameBelow name q →
     All (λ x. unsigned_abs x < 2 ^ 127) (row_of f n q k name)
 entries_small f n q k Period small place within =
     All-made (λ x. unsigned_abs x < 2 ^ 127) (λ c. pos (rises f q c)) 0 n
@@ -152,7 +176,8 @@ entries_small f n q k (Pair a b) small place within =
     let z = rises_at_most f ((a + b) % q) c in
     let first = within.0 in
     let second = within.1 in
-    slack_small (rises f a c) (rises f b c) (rises f ((a + b) % q) c) q (omega arith) (omega arith) (omega arith) small)
+    slack_small (rises f a c) (rises f b c) (rises f ((a + b) % q) c) q (omega arith) (omega arith)
+    (omega arith) small)
 
 -- two pairs have the same row if the counts of their points differ by the same
 pub record AreCounts (f : ℕ → ℕ) (n a b s : ℕ) (first second third : List ℕ) : Type 0 where
@@ -161,20 +186,28 @@ pub record AreCounts (f : ℕ → ℕ) (n a b s : ℕ) (first second third : Lis
   pub third_is : third ≡ rises_at f n s
 
 abbrev pub slack_at : List ℕ → List ℕ → List ℕ → ℕ → ℤ
-slack_at first second third c = pos (get_or first c 0) +ℤ pos (get_or second c 0) -ℤ pos (get_or third c 0)
+slack_at first second third c = pos (get_or first c 0) +ℤ pos (get_or second c 0) -ℤ pos
+    (get_or third c 0)
 
-slack_is : (f : ℕ → ℕ) (n q k a b c : ℕ) (first second third : List ℕ) → AreCounts f n a b ((a + b) % q) first second third → c < n →
+slack_is : (f : ℕ → ℕ) (n q k a b c : ℕ) (first second third : List ℕ) →
+    AreCounts f n a b ((a + b) % q) first second third → c < n →
     slack_at first second third c ≡ get_or (row_of f n q k (Pair a b)) c (pos 0)
 slack_is f n q k a b c first second third h below =
     let s = (a + b) % q in
-    let x : get_or first c 0 ≡ rises f a c = ap (λ l. get_or l c 0) h.first_is ∙ count_at f n a c below in
-    let y : get_or second c 0 ≡ rises f b c = ap (λ l. get_or l c 0) h.second_is ∙ count_at f n b c below in
-    let z : get_or third c 0 ≡ rises f s c = ap (λ l. get_or l c 0) h.third_is ∙ count_at f n s c below in
-    ap₂ (λ u v. pos u +ℤ pos v -ℤ pos (get_or third c 0)) x y ∙ ap (λ w. pos (rises f a c) +ℤ pos (rises f b c) -ℤ pos w) z
-    ∙ sym (get_or-map-range_with_len (row_entry f q k (Pair a b)) 0 n c c (pos 0) below (zero-add c))
+    let x : get_or first c 0 ≡ rises f a c = ap (λ l. get_or l c 0) h.first_is
+    ∙ count_at f n a c below in
+    let y : get_or second c 0 ≡ rises f b c = ap (λ l. get_or l c 0) h.second_is
+    ∙ count_at f n b c below in
+    let z : get_or third c 0 ≡ rises f s c = ap (λ l. get_or l c 0) h.third_is
+    ∙ count_at f n s c below in
+    ap₂ (λ u v. pos u +ℤ pos v -ℤ pos (get_or third c 0)) x y
+    ∙ ap (λ w. pos (rises f a c) +ℤ pos (rises f b c) -ℤ pos w) z
+    ∙ sym (get_or-map-range_with_len (row_entry f q k (Pair a b)) 0 n c c (pos 0) below
+    (zero-add c))
 
 pub same_rows : (f : ℕ → ℕ) (n q k a b d e : ℕ) (first second third fourth fifth sixth : List ℕ) →
-    AreCounts f n a b ((a + b) % q) first second third → AreCounts f n d e ((d + e) % q) fourth fifth sixth →
+    AreCounts f n a b ((a + b) % q) first second third →
+    AreCounts f n d e ((d + e) % q) fourth fifth sixth →
     ((c : ℕ) → c < n → slack_at first second third c ≡ slack_at fourth fifth sixth c)
     ↔ (row_of f n q k (Pair a b) ≡ row_of f n q k (Pair d e))
 same_rows f n q k a b d e first second third fourth fifth sixth h g = (

@@ -12,6 +12,9 @@ data_of s = record { component = s.component.items; columns = s.columns }
 
 -- there are counts for each grid point, and if there are codes, they are those of the counts
 pub record IsCounted (s : Inside) : Type 0 where
-  pub counts : s.counts.items ≡ flat_map (rises_at (component_in s.component.items) s.columns) (range_with_len 0 (length s.component.items + 1))
+  pub counts : s.counts.items ≡ flat_map (rises_at (component_in s.component.items) s.columns)
+      (range_with_len 0 (length s.component.items + 1))
   pub packable : 0 < length s.codes.items → ArePackable s.columns (length s.component.items)
-  pub codes : 0 < length s.codes.items → s.codes.items ≡ codes_twice (component_in s.component.items) s.columns (length s.component.items)
+  pub codes : 0 < length s.codes.items →
+      s.codes.items ≡ codes_twice (component_in s.component.items) s.columns
+      (length s.component.items)

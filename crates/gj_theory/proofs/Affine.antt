@@ -41,7 +41,8 @@ some_corners Upper a b = (omega arith, omega arith)
 -- ---- the table at a place that is given by its parts
 
 -- at a multiple of 1/order
-pub table_at_place : (f : FunctionData) (m i a : ℕ) → i ≡ a * m → 0 < m → table f m i ≡ pos m *ℤ at f.value a
+pub table_at_place : (f : FunctionData) (m i a : ℕ) → i ≡ a * m → 0 < m →
+    table f m i ≡ pos m *ℤ at f.value a
 table_at_place f m i a e some = ap (table f m) e ∙ table_at f m a some
 
 -- between two neighbouring multiples, from the weights of both
@@ -53,42 +54,49 @@ table_inside f m i a u r e whole u_some r_some =
     ∙ ap (λ n. pos n *ℤ at f.right a +ℤ pos r *ℤ at f.left (a + 1)) weight
 
 -- three entries of the table in place of what they are
-slack_by : (s : ℤ) {x x' y y' z z' : ℤ} → x ≡ x' → y ≡ y' → z ≡ z' → x' +ℤ y' ≡ z' +ℤ s → x +ℤ y ≡ z +ℤ s
+slack_by : (s : ℤ) {x x' y y' z z' : ℤ} → x ≡ x' → y ≡ y' → z ≡ z' → x' +ℤ y' ≡ z' +ℤ s →
+    x +ℤ y ≡ z +ℤ s
 slack_by s e g h sum = ap₂ (λ v w. v +ℤ w) e g ∙ sum ∙ ap (λ w. w +ℤ s) (sym h)
 
 -- ---- the weights of the corners, over plain numbers
 
-vertex_z : (m : ℕ) (x y t : ℤ) → pos m *ℤ x +ℤ pos m *ℤ y ≡ pos m *ℤ t +ℤ weighted (m ∷ []) ((x +ℤ y -ℤ t) ∷ [])
+vertex_z : (m : ℕ) (x y t : ℤ) →
+    pos m *ℤ x +ℤ pos m *ℤ y ≡ pos m *ℤ t +ℤ weighted (m ∷ []) ((x +ℤ y -ℤ t) ∷ [])
 vertex_z m x y t = by_ring (pos m ∷ x ∷ y ∷ t ∷ []) (search ring depth 20) refl
 
 horizontal_z : (u r : ℕ) (x x' y t t' : ℤ) →
     (pos u *ℤ x +ℤ pos r *ℤ x') +ℤ pos (u + r) *ℤ y
     ≡ (pos u *ℤ t +ℤ pos r *ℤ t') +ℤ weighted (u ∷ r ∷ []) ((x +ℤ y -ℤ t) ∷ (x' +ℤ y -ℤ t') ∷ [])
-horizontal_z u r x x' y t t' = by_ring (pos u ∷ pos r ∷ x ∷ x' ∷ y ∷ t ∷ t' ∷ []) (search ring depth 20) refl
+horizontal_z u r x x' y t t' =
+    by_ring (pos u ∷ pos r ∷ x ∷ x' ∷ y ∷ t ∷ t' ∷ []) (search ring depth 20) refl
 
 vertical_z : (u r : ℕ) (x y y' t t' : ℤ) →
     pos (u + r) *ℤ x +ℤ (pos u *ℤ y +ℤ pos r *ℤ y')
     ≡ (pos u *ℤ t +ℤ pos r *ℤ t') +ℤ weighted (u ∷ r ∷ []) ((x +ℤ y -ℤ t) ∷ (x +ℤ y' -ℤ t') ∷ [])
-vertical_z u r x y y' t t' = by_ring (pos u ∷ pos r ∷ x ∷ y ∷ y' ∷ t ∷ t' ∷ []) (search ring depth 20) refl
+vertical_z u r x y y' t t' =
+    by_ring (pos u ∷ pos r ∷ x ∷ y ∷ y' ∷ t ∷ t' ∷ []) (search ring depth 20) refl
 
 diagonal_z : (r s : ℕ) (x x' y y' t : ℤ) →
     (pos s *ℤ x +ℤ pos r *ℤ x') +ℤ (pos r *ℤ y +ℤ pos s *ℤ y')
     ≡ pos (r + s) *ℤ t +ℤ weighted (r ∷ s ∷ []) ((x' +ℤ y -ℤ t) ∷ (x +ℤ y' -ℤ t) ∷ [])
-diagonal_z r s x x' y y' t = by_ring (pos r ∷ pos s ∷ x ∷ x' ∷ y ∷ y' ∷ t ∷ []) (search ring depth 20) refl
+diagonal_z r s x x' y y' t =
+    by_ring (pos r ∷ pos s ∷ x ∷ x' ∷ y ∷ y' ∷ t ∷ []) (search ring depth 20) refl
 
 lower_z : (w r s : ℕ) (x x' y y' t t' : ℤ) →
     (pos (w + s) *ℤ x +ℤ pos r *ℤ x') +ℤ (pos (w + r) *ℤ y +ℤ pos s *ℤ y')
     ≡ (pos w *ℤ t +ℤ pos (r + s) *ℤ t')
     +ℤ weighted (w ∷ r ∷ s ∷ []) ((x +ℤ y -ℤ t) ∷ (x' +ℤ y -ℤ t') ∷ (x +ℤ y' -ℤ t') ∷ [])
 lower_z w r s x x' y y' t t' =
-    by_ring (pos w ∷ pos r ∷ pos s ∷ x ∷ x' ∷ y ∷ y' ∷ t ∷ t' ∷ []) (search ring depth 30 fits 4000) refl
+    by_ring (pos w ∷ pos r ∷ pos s ∷ x ∷ x' ∷ y ∷ y' ∷ t ∷ t' ∷ [])
+    (search ring depth 30 fits 4000) refl
 
 upper_z : (u v w : ℕ) (x x' y y' t t' : ℤ) →
     (pos v *ℤ x +ℤ pos (u + w) *ℤ x') +ℤ (pos u *ℤ y +ℤ pos (v + w) *ℤ y')
     ≡ (pos (u + v) *ℤ t +ℤ pos w *ℤ t')
     +ℤ weighted (u ∷ v ∷ w ∷ []) ((x' +ℤ y -ℤ t) ∷ (x +ℤ y' -ℤ t) ∷ (x' +ℤ y' -ℤ t') ∷ [])
 upper_z u v w x x' y y' t t' =
-    by_ring (pos u ∷ pos v ∷ pos w ∷ x ∷ x' ∷ y ∷ y' ∷ t ∷ t' ∷ []) (search ring depth 30 fits 4000) refl
+    by_ring (pos u ∷ pos v ∷ pos w ∷ x ∷ x' ∷ y ∷ y' ∷ t ∷ t' ∷ [])
+    (search ring depth 30 fits 4000) refl
 
 -- ---- the slack on each face
 
@@ -99,36 +107,49 @@ slack_on_vertex f m i j a b e g some =
     (table_at_place f m (i + j) (a + b) (omega arith) some)
     (vertex_z m (at f.value a) (at f.value b) (at f.value (a + b)))
 
-pub slack_on_horizontal : (f : FunctionData) (m i j a b u r : ℕ) → i ≡ a * m + r → j ≡ b * m → u + r ≡ m →
+pub slack_on_horizontal : (f : FunctionData) (m i j a b u r : ℕ) → i ≡ a * m + r → j ≡ b * m →
+    u + r ≡ m →
     0 < u → 0 < r →
-    table f m i +ℤ table f m j ≡ table f m (i + j) +ℤ weighted (u ∷ r ∷ []) (limits_of f Horizontal a b)
+    table f m i +ℤ table f m j ≡ table f m (i + j) +ℤ weighted (u ∷ r ∷ [])
+    (limits_of f Horizontal a b)
 slack_on_horizontal f m i j a b u r e g whole u_some r_some =
     slack_by _ (table_inside f m i a u r e whole u_some r_some)
     (table_at_place f m j b g (omega arith) ∙ ap (λ n. pos n *ℤ at f.value b) (sym whole))
     (table_inside f m (i + j) (a + b) u r (omega arith) whole u_some r_some)
-    (horizontal_z u r (at f.right a) (at f.left (a + 1)) (at f.value b) (at f.right (a + b)) (at f.left (a + b + 1)))
+    (horizontal_z u r (at f.right a) (at f.left (a + 1)) (at f.value b) (at f.right (a + b))
+    (at f.left (a + b + 1)))
 
-pub slack_on_vertical : (f : FunctionData) (m i j a b u r : ℕ) → i ≡ a * m → j ≡ b * m + r → u + r ≡ m →
+pub slack_on_vertical : (f : FunctionData) (m i j a b u r : ℕ) → i ≡ a * m → j ≡ b * m + r →
+    u + r ≡ m →
     0 < u → 0 < r →
-    table f m i +ℤ table f m j ≡ table f m (i + j) +ℤ weighted (u ∷ r ∷ []) (limits_of f Vertical a b)
+    table f m i +ℤ table f m j ≡ table f m (i + j) +ℤ weighted (u ∷ r ∷ [])
+    (limits_of f Vertical a b)
 slack_on_vertical f m i j a b u r e g whole u_some r_some =
-    slack_by _ (table_at_place f m i a e (omega arith) ∙ ap (λ n. pos n *ℤ at f.value a) (sym whole))
+    slack_by _ (table_at_place f m i a e (omega arith)
+    ∙ ap (λ n. pos n *ℤ at f.value a) (sym whole))
     (table_inside f m j b u r g whole u_some r_some)
     (table_inside f m (i + j) (a + b) u r (omega arith) whole u_some r_some)
-    (vertical_z u r (at f.value a) (at f.right b) (at f.left (b + 1)) (at f.right (a + b)) (at f.left (a + b + 1)))
+    (vertical_z u r (at f.value a) (at f.right b) (at f.left (b + 1)) (at f.right (a + b))
+    (at f.left (a + b + 1)))
 
-pub slack_on_diagonal : (f : FunctionData) (m i j a b r s : ℕ) → i ≡ a * m + r → j ≡ b * m + s → r + s ≡ m →
+pub slack_on_diagonal : (f : FunctionData) (m i j a b r s : ℕ) → i ≡ a * m + r → j ≡ b * m + s →
+    r + s ≡ m →
     0 < r → 0 < s →
-    table f m i +ℤ table f m j ≡ table f m (i + j) +ℤ weighted (r ∷ s ∷ []) (limits_of f Diagonal a b)
+    table f m i +ℤ table f m j ≡ table f m (i + j) +ℤ weighted (r ∷ s ∷ [])
+    (limits_of f Diagonal a b)
 slack_on_diagonal f m i j a b r s e g whole r_some s_some =
-    slack_by _ (table_inside f m i a s r e (omega arith) s_some r_some) (table_inside f m j b r s g whole r_some s_some)
+    slack_by _ (table_inside f m i a s r e (omega arith) s_some r_some)
+    (table_inside f m j b r s g whole r_some s_some)
     (table_at_place f m (i + j) (a + b + 1) (omega arith) (omega arith)
     ∙ ap (λ n. pos n *ℤ at f.value (a + b + 1)) (sym whole))
-    (diagonal_z r s (at f.right a) (at f.left (a + 1)) (at f.right b) (at f.left (b + 1)) (at f.value (a + b + 1)))
+    (diagonal_z r s (at f.right a) (at f.left (a + 1)) (at f.right b) (at f.left (b + 1))
+    (at f.value (a + b + 1)))
 
-pub slack_on_lower : (f : FunctionData) (m i j a b w r s : ℕ) → i ≡ a * m + r → j ≡ b * m + s → w + r + s ≡ m →
+pub slack_on_lower : (f : FunctionData) (m i j a b w r s : ℕ) → i ≡ a * m + r → j ≡ b * m + s →
+    w + r + s ≡ m →
     0 < w → 0 < r → 0 < s →
-    table f m i +ℤ table f m j ≡ table f m (i + j) +ℤ weighted (w ∷ r ∷ s ∷ []) (limits_of f Lower a b)
+    table f m i +ℤ table f m j ≡ table f m (i + j) +ℤ weighted (w ∷ r ∷ s ∷ [])
+    (limits_of f Lower a b)
 slack_on_lower f m i j a b w r s e g whole w_some r_some s_some =
     slack_by _ (table_inside f m i a (w + s) r e (omega arith) (omega arith) r_some)
     (table_inside f m j b (w + r) s g whole (omega arith) s_some)
@@ -137,9 +158,11 @@ slack_on_lower f m i j a b w r s e g whole w_some r_some s_some =
     (at f.right (a + b)) (at f.left (a + b + 1)))
 
 -- here the rests of i and j are u + w and v + w
-pub slack_on_upper : (f : FunctionData) (m i j a b u v w : ℕ) → i ≡ a * m + (u + w) → j ≡ b * m + (v + w) →
+pub slack_on_upper : (f : FunctionData) (m i j a b u v w : ℕ) → i ≡ a * m + (u + w) →
+    j ≡ b * m + (v + w) →
     u + v + w ≡ m → 0 < u → 0 < v → 0 < w →
-    table f m i +ℤ table f m j ≡ table f m (i + j) +ℤ weighted (u ∷ v ∷ w ∷ []) (limits_of f Upper a b)
+    table f m i +ℤ table f m j ≡ table f m (i + j) +ℤ weighted (u ∷ v ∷ w ∷ [])
+    (limits_of f Upper a b)
 slack_on_upper f m i j a b u v w e g whole u_some v_some w_some =
     slack_by _ (table_inside f m i a v (u + w) e (omega arith) v_some (omega arith))
     (table_inside f m j b u (v + w) g (omega arith) u_some (omega arith))
@@ -152,36 +175,45 @@ slack_on_upper f m i j a b u v w e g whole u_some v_some w_some =
 vertex_weights : (h : ℕ) (x : ℤ) → 1 ≤ h → weighted (h ∷ []) (x ∷ []) ≡ near_value h 0 (x ∷ [])
 vertex_weights h x low =
     let rest : h ≡ h - 1 + 1 = omega arith in
-    ap (λ n. weighted (n ∷ []) (x ∷ [])) rest ∙ by_ring (pos (h - 1) ∷ x ∷ []) (search ring depth 20) refl
+    ap (λ n. weighted (n ∷ []) (x ∷ [])) rest
+    ∙ by_ring (pos (h - 1) ∷ x ∷ []) (search ring depth 20) refl
 
-first_of_two : (h : ℕ) (xs : List ℤ) → length xs ≡ 2 → weighted ((h - 2 + 1) ∷ 1 ∷ []) xs ≡ near_value h 0 xs
+first_of_two : (h : ℕ) (xs : List ℤ) → length xs ≡ 2 →
+    weighted ((h - 2 + 1) ∷ 1 ∷ []) xs ≡ near_value h 0 xs
 first_of_two h (x ∷ y ∷ []) e = by_ring (pos (h - 2) ∷ x ∷ y ∷ []) (search ring depth 20) refl
 first_of_two h [] e = absurd (omega arith)
 first_of_two h (x ∷ []) e = absurd (omega arith)
 first_of_two h (x ∷ y ∷ z ∷ xs) e = absurd (omega arith)
 
-second_of_two : (h : ℕ) (xs : List ℤ) → length xs ≡ 2 → weighted (1 ∷ (h - 2 + 1) ∷ []) xs ≡ near_value h 1 xs
+second_of_two : (h : ℕ) (xs : List ℤ) → length xs ≡ 2 →
+    weighted (1 ∷ (h - 2 + 1) ∷ []) xs ≡ near_value h 1 xs
 second_of_two h (x ∷ y ∷ []) e = by_ring (pos (h - 2) ∷ x ∷ y ∷ []) (search ring depth 20) refl
 second_of_two h [] e = absurd (omega arith)
 second_of_two h (x ∷ []) e = absurd (omega arith)
 second_of_two h (x ∷ y ∷ z ∷ xs) e = absurd (omega arith)
 
-first_of_three : (h : ℕ) (xs : List ℤ) → length xs ≡ 3 → weighted ((h - 3 + 1) ∷ 1 ∷ 1 ∷ []) xs ≡ near_value h 0 xs
-first_of_three h (x ∷ y ∷ z ∷ []) e = by_ring (pos (h - 3) ∷ x ∷ y ∷ z ∷ []) (search ring depth 20) refl
+first_of_three : (h : ℕ) (xs : List ℤ) → length xs ≡ 3 →
+    weighted ((h - 3 + 1) ∷ 1 ∷ 1 ∷ []) xs ≡ near_value h 0 xs
+first_of_three h (x ∷ y ∷ z ∷ []) e =
+    by_ring (pos (h - 3) ∷ x ∷ y ∷ z ∷ []) (search ring depth 20) refl
 first_of_three h [] e = absurd (omega arith)
 first_of_three h (x ∷ []) e = absurd (omega arith)
 first_of_three h (x ∷ y ∷ []) e = absurd (omega arith)
 first_of_three h (w ∷ x ∷ y ∷ z ∷ xs) e = absurd (omega arith)
 
-second_of_three : (h : ℕ) (xs : List ℤ) → length xs ≡ 3 → weighted (1 ∷ (h - 3 + 1) ∷ 1 ∷ []) xs ≡ near_value h 1 xs
-second_of_three h (x ∷ y ∷ z ∷ []) e = by_ring (pos (h - 3) ∷ x ∷ y ∷ z ∷ []) (search ring depth 20) refl
+second_of_three : (h : ℕ) (xs : List ℤ) → length xs ≡ 3 →
+    weighted (1 ∷ (h - 3 + 1) ∷ 1 ∷ []) xs ≡ near_value h 1 xs
+second_of_three h (x ∷ y ∷ z ∷ []) e =
+    by_ring (pos (h - 3) ∷ x ∷ y ∷ z ∷ []) (search ring depth 20) refl
 second_of_three h [] e = absurd (omega arith)
 second_of_three h (x ∷ []) e = absurd (omega arith)
 second_of_three h (x ∷ y ∷ []) e = absurd (omega arith)
 second_of_three h (w ∷ x ∷ y ∷ z ∷ xs) e = absurd (omega arith)
 
-third_of_three : (h : ℕ) (xs : List ℤ) → length xs ≡ 3 → weighted (1 ∷ 1 ∷ (h - 3 + 1) ∷ []) xs ≡ near_value h 2 xs
-third_of_three h (x ∷ y ∷ z ∷ []) e = by_ring (pos (h - 3) ∷ x ∷ y ∷ z ∷ []) (search ring depth 20) refl
+third_of_three : (h : ℕ) (xs : List ℤ) → length xs ≡ 3 →
+    weighted (1 ∷ 1 ∷ (h - 3 + 1) ∷ []) xs ≡ near_value h 2 xs
+third_of_three h (x ∷ y ∷ z ∷ []) e =
+    by_ring (pos (h - 3) ∷ x ∷ y ∷ z ∷ []) (search ring depth 20) refl
 third_of_three h [] e = absurd (omega arith)
 third_of_three h (x ∷ []) e = absurd (omega arith)
 third_of_three h (x ∷ y ∷ []) e = absurd (omega arith)
@@ -194,14 +226,16 @@ weighted_two u r x y = by_ring (pos u ∷ pos r ∷ x ∷ y ∷ []) (search ring
 pub near_after : (f : FunctionData) (i h : ℕ) → 2 ≤ h →
     table f h (i * h + 1) ≡ near_value h 0 (at f.right i ∷ at f.left (i + 1) ∷ [])
 near_after f i h low =
-    table_inside f h (i * h + 1) i (h - 2 + 1) 1 (omega arith) (omega arith) (omega arith) (omega arith)
+    table_inside f h (i * h + 1) i (h - 2 + 1) 1 (omega arith) (omega arith) (omega arith)
+    (omega arith)
     ∙ weighted_two (h - 2 + 1) 1 (at f.right i) (at f.left (i + 1))
     ∙ first_of_two h (at f.right i ∷ at f.left (i + 1) ∷ []) refl
 
 pub near_before : (f : FunctionData) (i h : ℕ) → 2 ≤ h →
     table f h (i * h + h - 1) ≡ near_value h 1 (at f.right i ∷ at f.left (i + 1) ∷ [])
 near_before f i h low =
-    table_inside f h (i * h + h - 1) i 1 (h - 2 + 1) (omega arith) (omega arith) (omega arith) (omega arith)
+    table_inside f h (i * h + h - 1) i 1 (h - 2 + 1) (omega arith) (omega arith) (omega arith)
+    (omega arith)
     ∙ weighted_two 1 (h - 2 + 1) (at f.right i) (at f.left (i + 1))
     ∙ second_of_two h (at f.right i ∷ at f.left (i + 1) ∷ []) refl
 
@@ -215,19 +249,23 @@ whole_place n h a low =
 -- the slack near a corner of a face
 abbrev pub IsAffineNear : FunctionData → FaceKind → ℕ → ℕ → ℕ → ℕ → Type 0
 IsAffineNear f kind a b c h =
-    table f h (near h c (first_coordinates kind a b)) +ℤ table f h (near h c (second_coordinates kind a b))
+    table f h (near h c (first_coordinates kind a b)) +ℤ table f h
+    (near h c (second_coordinates kind a b))
     ≡ table f h (near h c (first_coordinates kind a b) + near h c (second_coordinates kind a b))
     +ℤ near_value h c (limits_of f kind a b)
 
 -- from the slack by its weights
 by_weights : (f : FunctionData) (kind : FaceKind) (a b c h : ℕ) (weights : List ℕ) →
-    table f h (near h c (first_coordinates kind a b)) +ℤ table f h (near h c (second_coordinates kind a b))
+    table f h (near h c (first_coordinates kind a b)) +ℤ table f h
+    (near h c (second_coordinates kind a b))
     ≡ table f h (near h c (first_coordinates kind a b) + near h c (second_coordinates kind a b))
     +ℤ weighted weights (limits_of f kind a b) →
-    weighted weights (limits_of f kind a b) ≡ near_value h c (limits_of f kind a b) → IsAffineNear f kind a b c h
+    weighted weights (limits_of f kind a b) ≡ near_value h c (limits_of f kind a b) →
+    IsAffineNear f kind a b c h
 by_weights f kind a b c h weights slack same =
     slack
-    ∙ ap (λ z. table f h (near h c (first_coordinates kind a b) + near h c (second_coordinates kind a b)) +ℤ z) same
+    ∙ ap (λ z. table f h
+    (near h c (first_coordinates kind a b) + near h c (second_coordinates kind a b)) +ℤ z) same
 
 near_vertex : (f : FunctionData) (a b h : ℕ) → 1 ≤ h → IsAffineNear f Vertex a b 0 h
 near_vertex f a b h low =
@@ -237,7 +275,8 @@ near_vertex f a b h low =
     (slack_on_vertex f h _ _ a b (omega arith) (omega arith) (omega arith))
     (vertex_weights h _ low)
 
-near_horizontal : (f : FunctionData) (a b c h : ℕ) → c < 2 → 2 ≤ h → IsAffineNear f Horizontal a b c h
+near_horizontal : (f : FunctionData) (a b c h : ℕ) → c < 2 → 2 ≤ h →
+    IsAffineNear f Horizontal a b c h
 near_horizontal f a b zero h below low =
     let x = whole_place 2 h a low in
     let y = whole_place 2 h b low in
@@ -339,7 +378,8 @@ near_upper f a b (suc (suc (suc c))) h below low = absurd (omega arith)
 -- on every face
 pub near_corner : (f : FunctionData) (kind : FaceKind) (a b c h : ℕ) →
     c < length (corners_of kind a b) → length (corners_of kind a b) ≤ h →
-    table f h (near h c (first_coordinates kind a b)) +ℤ table f h (near h c (second_coordinates kind a b))
+    table f h (near h c (first_coordinates kind a b)) +ℤ table f h
+    (near h c (second_coordinates kind a b))
     ≡ table f h (near h c (first_coordinates kind a b) + near h c (second_coordinates kind a b))
     +ℤ near_value h c (limits_of f kind a b)
 near_corner f Vertex a b zero h below low = near_vertex f a b h low

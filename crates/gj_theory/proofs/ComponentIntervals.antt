@@ -21,7 +21,8 @@ count_first test x xs =
     let one : 0 + cond (test x) 1 0 ≡ cond (test x) 1 0 = omega arith in
     sum_by-append (λ y. cond (test y) 1 0) (x ∷ []) xs ∙ ap (λ n. n + count_by test xs) one
 
-passing_behind : {X : Type 0} (test : X → Bool) (x : X) (xs : List X) (c d : ℕ) → cond (test x) 1 0 + d ≡ c →
+passing_behind : {X : Type 0} (test : X → Bool) (x : X) (xs : List X) (c d : ℕ) →
+    cond (test x) 1 0 + d ≡ c →
     HasPassing test xs d → HasPassing test (x ∷ xs) c
 passing_behind test x xs c d sum h = record {
   before = x ∷ h.before;
@@ -51,7 +52,8 @@ passing_step test x xs later false e c low =
     let none = none_where (test x) e in
     passing_behind test x xs c c (omega arith) (later c (omega arith))
 
-passing_at : {X : Type 0} (test : X → Bool) (xs : List X) (c : ℕ) → c < count_by test xs → HasPassing test xs c
+passing_at : {X : Type 0} (test : X → Bool) (xs : List X) (c : ℕ) → c < count_by test xs →
+    HasPassing test xs c
 passing_at test [] c below = absurd (omega arith)
 passing_at test (x ∷ xs) c below =
     let first = count_first test x xs in
@@ -69,6 +71,8 @@ pub interval_of_component : (q : ℕ) (Tight : ℕ → ℕ → Type 0) (lines : 
 interval_of_component q Tight lines number h below =
     let found = passing_at (λ l. l.from == l.interval) lines number below in (
       found.x.interval,
-      next_within q Tight found.before found.x (h.in_turn found.before found.x found.after found.place),
-      opened found.before found.x found.after found.place (eqb-true found.x.from found.x.interval found.passes) found.number,
+      next_within q Tight found.before found.x
+          (h.in_turn found.before found.x found.after found.place),
+      opened found.before found.x found.after found.place
+          (eqb-true found.x.from found.x.interval found.passes) found.number,
     )

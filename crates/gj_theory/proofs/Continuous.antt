@@ -15,7 +15,8 @@ use Rattle.gj_theory.proofs.EachTest.{each_test}
 use Rattle.gj_theory.proofs.MinimalFromTests.{minimal_from_tests}
 
 -- a minimal table may be replaced by one with the same entries
-pub same_minimal_table : (t u : ℕ → ℤ) (n k s : ℕ) → ((i : ℕ) → u i ≡ t i) → IsMinimalTable t n k s → IsMinimalTable u n k s
+pub same_minimal_table : (t u : ℕ → ℤ) (n k s : ℕ) → ((i : ℕ) → u i ≡ t i) →
+    IsMinimalTable t n k s → IsMinimalTable u n k s
 same_minimal_table t u n k s e h = record {
   has_period = λ i. e (i + n) ∙ h.has_period i ∙ sym (e i);
   zero_at_zero = e 0 ∙ h.zero_at_zero;
@@ -31,7 +32,8 @@ HasMinimalValues f = IsMinimalTable (at f.value) f.order f.place f.scale
 pub own_values : (f : FunctionData) → IsMinimalOnGrid f 1 → HasMinimalValues f
 own_values f h =
     let t = rw (mul-one f.order, mul-one f.place, mul-one f.scale) at h in
-    same_minimal_table (table f 1) (at f.value) f.order f.place f.scale (λ i. sym (table_of_order f i)) t
+    same_minimal_table (table f 1) (at f.value) f.order f.place f.scale
+    (λ i. sym (table_of_order f i)) t
 
 -- indices opposite to each other
 opposite : (i k q : ℕ) → i < q + 1 → (i + (k + (q - i))) % q ≡ k % q
@@ -40,7 +42,8 @@ opposite i k q below =
     ap (λ x. x % q) whole ∙ add-mod_right k q
 
 -- the limits of a continuous function are slacks of values
-limit_passes : (f : FunctionData) → IsContinuous f → HasMinimalValues f → (kind : FaceKind) (a b c : ℕ) →
+limit_passes : (f : FunctionData) → IsContinuous f → HasMinimalValues f →
+    (kind : FaceKind) (a b c : ℕ) →
     c < length (corners_of kind a b) → Passes f (subadditive_at kind a b c)
 limit_passes f continuous h kind a b c below =
     let corners = corners_of kind a b in
@@ -53,7 +56,8 @@ limit_passes f continuous h kind a b c below =
     subst (λ z. pos 0 ≤ℤ z) (sym limit) (omega (arith, ints, whole))
 
 -- each test passes
-test_passes : (f : FunctionData) → IsContinuous f → HasMinimalValues f → (t : Test) → IsTestOf f t → Passes f t
+test_passes : (f : FunctionData) → IsContinuous f → HasMinimalValues f → (t : Test) → IsTestOf f t →
+    Passes f t
 test_passes f c h zero_at_zero i = h.zero_at_zero
 test_passes f c h (nonnegative_at i) below = h.nonnegative i
 test_passes f c h (nonnegative_after i) below = simp (c.1) (h.nonnegative i)
@@ -61,11 +65,16 @@ test_passes f c h (nonnegative_before i) below = simp (c.0) (h.nonnegative (i + 
 test_passes f c h (symmetric_at i) below =
     h.symmetric i (f.place + (f.order - i)) (opposite i f.place f.order (omega arith))
 test_passes f c h (symmetric_between i) below = (
-  simp (c.0, c.1) (h.symmetric i (f.place + (f.order - i)) (opposite i f.place f.order (omega arith))),
-  simp (c.0, c.1) (h.symmetric (i + 1) (f.place + (f.order - (i + 1))) (opposite (i + 1) f.place f.order (omega arith))),
+  simp (c.0, c.1) (h.symmetric i (f.place + (f.order - i))
+      (opposite i f.place f.order (omega arith))),
+  simp (c.0, c.1) (h.symmetric (i + 1) (f.place + (f.order - (i + 1)))
+      (opposite (i + 1) f.place f.order (omega arith))),
 )
-test_passes f c h (subadditive_at kind a b corner) below = limit_passes f c h kind a b corner below.2
+test_passes f c h (subadditive_at kind a b corner) below =
+    limit_passes f c h kind a b corner below.2
 
 -- its table on every grid is minimal
-pub minimal_from_own_grid : (f : FunctionData) → IsWithinBounds f → IsContinuous f → IsMinimalOnGrid f 1 → IsMinimal f
-minimal_from_own_grid f l c h = minimal_from_tests f l (each_test f (Passes f) (test_passes f c (own_values f h)))
+pub minimal_from_own_grid : (f : FunctionData) → IsWithinBounds f → IsContinuous f →
+    IsMinimalOnGrid f 1 → IsMinimal f
+minimal_from_own_grid f l c h =
+    minimal_from_tests f l (each_test f (Passes f) (test_passes f c (own_values f h)))

@@ -27,12 +27,15 @@ counted_weight t n y = total (map (λ i. t i *ℤ pos (y i)) (range_with_len 0 n
 abbrev total_over : (ℕ → ℤ) → ℕ → ℕ → ℤ
 total_over f a n = total (map f (range_with_len a n))
 
-total_same : (f g : ℕ → ℤ) (a n : ℕ) → ((i : ℕ) → a ≤ i → g i ≡ f i) → total_over g a n ≡ total_over f a n
+total_same : (f g : ℕ → ℤ) (a n : ℕ) → ((i : ℕ) → a ≤ i → g i ≡ f i) →
+    total_over g a n ≡ total_over f a n
 total_same f g a zero h = refl
-total_same f g a (suc n) h = ap₂ (λ x y. x +ℤ y) (h a (omega arith)) (total_same f g (a + 1) n (λ i l. h i (omega arith)))
+total_same f g a (suc n) h =
+    ap₂ (λ x y. x +ℤ y) (h a (omega arith)) (total_same f g (a + 1) n (λ i l. h i (omega arith)))
 
 -- one entry that rises by e
-total_risen : (f g : ℕ → ℤ) (e : ℤ) (r a n : ℕ) → ((i : ℕ) → i ≢ r → g i ≡ f i) → g r ≡ f r +ℤ e → a ≤ r → r < a + n →
+total_risen : (f g : ℕ → ℤ) (e : ℤ) (r a n : ℕ) → ((i : ℕ) → i ≢ r → g i ≡ f i) → g r ≡ f r +ℤ e →
+    a ≤ r → r < a + n →
     total_over g a n ≡ total_over f a n +ℤ e
 total_risen f g e r a zero off at low high = absurd (omega arith)
 total_risen f g e r a (suc n) off at low high =
@@ -54,7 +57,8 @@ total_zero f a (suc n) h =
     let rest = total_zero f (a + 1) n h in
     omega (arith, ints)
 
-sum_over : (f : ℕ → ℕ) (a n : ℕ) → pos (sum (map f (range_with_len a n))) ≡ total_over (λ i. pos (f i)) a n
+sum_over : (f : ℕ → ℕ) (a n : ℕ) →
+    pos (sum (map f (range_with_len a n))) ≡ total_over (λ i. pos (f i)) a n
 sum_over f a zero = refl
 sum_over f a (suc n) =
     let first = sum_cons (f a) (map f (range_with_len (a + 1) n)) in
@@ -69,17 +73,20 @@ with_one y r i = y i + cond (eqb i r) 1 0
 
 with_one_at : (y : ℕ → ℕ) (r : ℕ) → with_one y r r ≡ y r + 1
 with_one_at y r =
-    ⊎_elim (λ at. ap (λ c. y r + c) (cond-true (eqb r r) 1 0 at.0)) (λ off. absurd (off.1 refl)) (eqb_tells r r)
+    ⊎_elim (λ at. ap (λ c. y r + c) (cond-true (eqb r r) 1 0 at.0)) (λ off. absurd (off.1 refl))
+    (eqb_tells r r)
 
 with_one_off : (y : ℕ → ℕ) (r i : ℕ) → i ≢ r → with_one y r i ≡ y i
 with_one_off y r i differs =
-    ⊎_elim (λ at. absurd (differs at.1)) (λ off. ap (λ c. y i + c) (cond-false (eqb i r) 1 0 off.0) ∙ omega arith)
+    ⊎_elim (λ at. absurd (differs at.1)) (λ off. ap (λ c. y i + c) (cond-false (eqb i r) 1 0 off.0)
+    ∙ omega arith)
     (eqb_tells i r)
 
 -- counts with the sum and the weight of a list
 abbrev HasCounts : (ℕ → ℤ) → ℕ → List ℕ → Type 0
 HasCounts t n places =
-    (y : ℕ → ℕ) × (sum (map (λ i. i * y i) (range_with_len 0 n)) % n ≡ sum places % n) × (counted_weight t n y ≡ weight t places)
+    (y : ℕ → ℕ) × (sum (map (λ i. i * y i) (range_with_len 0 n)) % n ≡ sum places % n)
+    × (counted_weight t n y ≡ weight t places)
 
 no_counts : (t : ℕ → ℤ) (n : ℕ) → HasCounts t n []
 no_counts t n =
@@ -89,13 +96,15 @@ no_counts t n =
     omega (arith, ints) in
     (λ i. 0, ap (λ i. i % n) none, total_zero (λ i. t i *ℤ pos 0) 0 n (λ i. omega (arith, ints)))
 
-more_counts : (t : ℕ → ℤ) (n x : ℕ) (xs : List ℕ) → 0 < n → ((i : ℕ) → t (i + n) ≡ t i) → HasCounts t n xs → HasCounts t n (x ∷ xs)
+more_counts : (t : ℕ → ℤ) (n x : ℕ) (xs : List ℕ) → 0 < n → ((i : ℕ) → t (i + n) ≡ t i) →
+    HasCounts t n xs → HasCounts t n (x ∷ xs)
 more_counts t n x xs some period (y, place, is) =
     let r = x % n in
     let z = with_one y r in
     let small = mod-lt x some in
     let at = with_one_at y r in
-    let sums : sum (map (λ i. i * z i) (range_with_len 0 n)) ≡ r + sum (map (λ i. i * y i) (range_with_len 0 n)) =
+    let sums : sum (map (λ i. i * z i) (range_with_len 0 n))
+    ≡ r + sum (map (λ i. i * y i) (range_with_len 0 n)) =
     let before = sum_over (λ i. i * y i) 0 n in
     let after = sum_over (λ i. i * z i) 0 n in
     let risen = total_risen (λ i. pos (i * y i)) (λ i. pos (i * z i)) (pos r) r 0 n
@@ -105,19 +114,24 @@ more_counts t n x xs some period (y, place, is) =
     let weights : counted_weight t n z ≡ counted_weight t n y +ℤ t r =
     total_risen (λ i. t i *ℤ pos (y i)) (λ i. t i *ℤ pos (z i)) (t r) r 0 n
     (λ i differs. ap (λ c. t i *ℤ pos c) (with_one_off y r i differs))
-    (ap (λ c. t r *ℤ pos c) at ∙ mul_add_z (t r) (pos (y r)) (pos 1) ∙ omega (arith, ints)) (omega arith) (omega arith) in
+    (ap (λ c. t r *ℤ pos c) at ∙ mul_add_z (t r) (pos (y r)) (pos 1) ∙ omega (arith, ints))
+    (omega arith) (omega arith) in
     let same = same_at_remainder t n period r x (mod-mod x n) in (
       z,
-      ap (λ i. i % n) sums ∙ same_sums r x (sum (map (λ i. i * y i) (range_with_len 0 n))) (sum xs) n (mod-mod x n) place
+      ap (λ i. i % n) sums ∙ same_sums r x (sum (map (λ i. i * y i) (range_with_len 0 n)))
+          (sum xs) n (mod-mod x n) place
           ∙ ap (λ i. i % n) (sym (sum_cons x xs)),
       omega (arith, ints),
     )
 
-has_counts : (t : ℕ → ℤ) (n : ℕ) (places : List ℕ) → 0 < n → ((i : ℕ) → t (i + n) ≡ t i) → HasCounts t n places
+has_counts : (t : ℕ → ℤ) (n : ℕ) (places : List ℕ) → 0 < n → ((i : ℕ) → t (i + n) ≡ t i) →
+    HasCounts t n places
 has_counts t n [] some period = no_counts t n
-has_counts t n (x ∷ xs) some period = more_counts t n x xs some period (has_counts t n xs some period)
+has_counts t n (x ∷ xs) some period =
+    more_counts t n x xs some period (has_counts t n xs some period)
 
-pub counts_of_list : (t : ℕ → ℤ) (n k : ℕ) (places : List ℕ) → 0 < n → ((i : ℕ) → t (i + n) ≡ t i) → IsSolution n k places →
+pub counts_of_list : (t : ℕ → ℤ) (n k : ℕ) (places : List ℕ) → 0 < n → ((i : ℕ) → t (i + n) ≡ t i) →
+    IsSolution n k places →
     (y : ℕ → ℕ) × IsCountedSolution n k y × (counted_weight t n y ≡ weight t places)
 counts_of_list t n k places some period solution =
     let (y, place, is) = has_counts t n places some period in
@@ -126,11 +140,14 @@ counts_of_list t n k places some period solution =
 -- ---- the list of counts
 
 has_list : (t : ℕ → ℤ) (y : ℕ → ℕ) (a n : ℕ) →
-    HasList t (sum (map (λ i. i * y i) (range_with_len a n))) (total_over (λ i. t i *ℤ pos (y i)) a n)
+    HasList t (sum (map (λ i. i * y i) (range_with_len a n)))
+    (total_over (λ i. t i *ℤ pos (y i)) a n)
 has_list t y a zero = ([], refl, refl)
 has_list t y a (suc n) =
     let rest = map (λ i. i * y i) (range_with_len (a + 1) n) in
-    let (places, place, is) = with_copies t a (y a) (sum rest) (total_over (λ i. t i *ℤ pos (y i)) (a + 1) n) (has_list t y (a + 1) n) in
+    let (places, place, is) =
+    with_copies t a (y a) (sum rest) (total_over (λ i. t i *ℤ pos (y i)) (a + 1) n)
+    (has_list t y (a + 1) n) in
     (places, place ∙ sym (sum_cons (a * y a) rest), is)
 
 pub list_of_counts : (t : ℕ → ℤ) (n k : ℕ) (y : ℕ → ℕ) → IsCountedSolution n k y →
@@ -141,7 +158,8 @@ list_of_counts t n k y solution =
 
 -- ---- valid tables
 
-pub valid_by_counts : (t : ℕ → ℤ) (n k s : ℕ) → 0 < n → ((i : ℕ) → t (i + n) ≡ t i) → ((i : ℕ) → pos 0 ≤ℤ t i) →
+pub valid_by_counts : (t : ℕ → ℤ) (n k s : ℕ) → 0 < n → ((i : ℕ) → t (i + n) ≡ t i) →
+    ((i : ℕ) → pos 0 ≤ℤ t i) →
     ((y : ℕ → ℕ) → IsCountedSolution n k y → pos s ≤ℤ counted_weight t n y) → IsValidTable t n k s
 valid_by_counts t n k s some period low h = record {
   has_period = period;
@@ -151,7 +169,8 @@ valid_by_counts t n k s some period low h = record {
       subst (λ (w : ℤ). pos s ≤ℤ w) is (h y counted);
 }
 
-pub counted_by_valid : (t : ℕ → ℤ) (n k s : ℕ) (y : ℕ → ℕ) → IsValidTable t n k s → IsCountedSolution n k y →
+pub counted_by_valid : (t : ℕ → ℤ) (n k s : ℕ) (y : ℕ → ℕ) → IsValidTable t n k s →
+    IsCountedSolution n k y →
     pos s ≤ℤ counted_weight t n y
 counted_by_valid t n k s y valid counted =
     let (places, solution, is) = list_of_counts t n k y counted in

@@ -10,7 +10,8 @@ next_meets_rule : (q : ℕ) (Tight : ℕ → ℕ → Type 0) (before : List Cove
 next_meets_rule q Tight before l (inl joining) =
     let first = joining.interval.holds.1 in
     let lines = joining.from.holds in
-    let other = λ (e : l.from ≡ l.interval). first.no_line (subst (HasCoverLine before) e lines.line) in
+    let other = λ (e : l.from ≡ l.interval). first.no_line
+    (subst (HasCoverLine before) e lines.line) in
     record {
       additive = joining.face.holds.additive;
       new = first.no_line;
@@ -26,6 +27,8 @@ next_meets_rule q Tight before l (inr opening) = record {
   joining = λ ne. absurd (ne opening.from);
 }
 
-pub lines_meet_rules : (q : ℕ) (Tight : ℕ → ℕ → Type 0) (lines : List CoverLine) → AreCoverLines q Tight lines →
+pub lines_meet_rules : (q : ℕ) (Tight : ℕ → ℕ → Type 0) (lines : List CoverLine) →
+    AreCoverLines q Tight lines →
     MeetsCoverRules q Tight lines
-lines_meet_rules q Tight lines h before l after place = next_meets_rule q Tight before l (h.in_turn before l after place)
+lines_meet_rules q Tight lines h before l after place =
+    next_meets_rule q Tight before l (h.in_turn before l after place)

@@ -48,7 +48,8 @@ product_common (x ∷ xs) =
 -- ---- one entry over two denominators
 
 -- a fraction that is a/n has over each of its denominators c the numerator a c/n
-pub numerator_at : (x : Frac) (c : ℕ) (a n : ℤ) → Divides c x → IsRatio x a n → numerator_over c x *ℤ n ≡ a *ℤ pos c
+pub numerator_at : (x : Frac) (c : ℕ) (a n : ℤ) → Divides c x → IsRatio x a n →
+    numerator_over c x *ℤ n ≡ a *ℤ pos c
 numerator_at x c a n h is =
     let whole = all_over c (x ∷ []) (All-cons (Divides c) x [] h (All-nil (Divides c))) in
     ratio_along (numerator_over c x) (pos c) (numerator x) (denominator x) a n
@@ -61,8 +62,10 @@ entry_used a u n p c e = swap_last_z a u n ∙ ap (λ z. z *ℤ u) e ∙ swap_la
 
 -- the places of the entries of a row, each used as often as its variable says
 pub sums : (t : ℕ → ℤ) (n s c g : ℕ) (xs ys : List Frac) (us : List ℕ) →
-    length us ≡ length xs → AllZip (IsEntryAt t n s) xs ys → IsCommonDenominator xs c → IsCommonDenominator ys g →
-    UsedPlaces t n s c g (sum_of_products (map (numerator_over c) xs) (map pos us)) (sum_of_products (map (numerator_over g) ys) (map pos us))
+    length us ≡ length xs → AllZip (IsEntryAt t n s) xs ys → IsCommonDenominator xs c →
+    IsCommonDenominator ys g →
+    UsedPlaces t n s c g (sum_of_products (map (numerator_over c) xs) (map pos us))
+    (sum_of_products (map (numerator_over g) ys) (map pos us))
 sums t n s c g [] [] [] count h xs_over ys_over = none_used t n s c g
 sums t n s c g [] [] (u ∷ us) count h xs_over ys_over = (cc)
 sums t n s c g [] (y ∷ ys) us count h xs_over ys_over = absurd h
@@ -70,12 +73,14 @@ sums t n s c g (x ∷ xs) [] us count h xs_over ys_over = absurd h
 sums t n s c g (x ∷ xs) (y ∷ ys) [] count h xs_over ys_over = (cc)
 sums t n s c g (x ∷ xs) (y ∷ ys) (u ∷ us) count h xs_over ys_over =
     let at = h.0 in
-    with_uses t n s c g at.index u at.place (numerator_over c x *ℤ pos u) (numerator_over g y *ℤ pos u) _ _ at.index_is
+    with_uses t n s c g at.index u at.place (numerator_over c x *ℤ pos u)
+    (numerator_over g y *ℤ pos u) _ _ at.index_is
     (entry_used (numerator_over c x) (pos u) (pos n) at.place (pos c)
     (numerator_at x c at.place (pos n) (All-head (Divides c) x xs xs_over) at.place_is))
     (entry_used (numerator_over g y) (pos u) (pos s) (t at.index) (pos g)
     (numerator_at y g (t at.index) (pos s) (All-head (Divides g) y ys ys_over) at.entry_is))
-    (sums t n s c g xs ys us (omega arith) h.1 (All-tail (Divides c) x xs xs_over) (All-tail (Divides g) y ys ys_over))
+    (sums t n s c g xs ys us (omega arith) h.1 (All-tail (Divides c) x xs xs_over)
+    (All-tail (Divides g) y ys ys_over))
 
 -- ---- the place of the right side
 
@@ -86,26 +91,34 @@ right_joined : (m w n d : ℤ) → m *ℤ n ≡ w *ℤ d *ℤ n +ℤ (m -ℤ w *
 right_joined m w n d = by_ring (m ∷ w ∷ n ∷ d ∷ []) (search ring depth 30) refl
 
 -- a fraction with the fractional part k/n is k/n and a whole number w
-pub whole_and_part : (x : Frac) (k n w : ℤ) → IsFloor x w → HasFractionalPart x k n → IsRatio x (w *ℤ n +ℤ k) n
+pub whole_and_part : (x : Frac) (k n w : ℤ) → IsFloor x w → HasFractionalPart x k n →
+    IsRatio x (w *ℤ n +ℤ k) n
 whole_and_part x k n w floor h =
-    right_joined x.num w n x.den ∙ ap (λ z. w *ℤ x.den *ℤ n +ℤ z) (h w floor) ∙ sym (right_split w k n x.den)
+    right_joined x.num w n x.den ∙ ap (λ z. w *ℤ x.den *ℤ n +ℤ z) (h w floor)
+    ∙ sym (right_split w k n x.den)
 
 -- ---- the cut
 
-pub cut_by_valid : (t : ℕ → ℤ) (n k s : ℕ) (entries : List Frac) (right : Frac) (coefficients : List Frac) →
+pub cut_by_valid : (t : ℕ → ℤ) (n k s : ℕ) (entries : List Frac) (right : Frac)
+    (coefficients : List Frac) →
     IsValidTable t n k s → 0 < n → 0 < s → HasFractionalPart right (pos k) (pos n) →
     AllZip (IsEntryAt t n s) entries coefficients → CutHolds entries right coefficients
-cut_by_valid t n k s entries right coefficients valid n_some s_some part h basic others g solution least =
+cut_by_valid t n k s entries right coefficients valid n_some s_some part h basic others g solution
+    least =
     let c = solution.c in
     let right_over = All-head (Divides c) right entries solution.least.common in
     let entries_over = All-tail (Divides c) right entries solution.least.common in
     let w = int_div_euclid right.num right.den in
     let right_is = whole_and_part right (pos k) (pos n) w (quotient_is_floor right) part in
-    let whole = ap (λ z. z *ℤ pos n) solution.solves ∙ numerator_at right c (w *ℤ pos n +ℤ pos k) (pos n) right_over right_is in
-    weigh_one t n k s c g _ _ basic w valid s_some (least_common_some (right ∷ entries) c solution.least) whole
+    let whole = ap (λ z. z *ℤ pos n) solution.solves
+    ∙ numerator_at right c (w *ℤ pos n +ℤ pos k) (pos n) right_over right_is in
+    weigh_one t n k s c g _ _ basic w valid s_some
+    (least_common_some (right ∷ entries) c solution.least) whole
     (sums t n s c g entries coefficients others solution.count h entries_over least.common)
 
-pub cut_by_table : (t : ℕ → ℤ) (n k s : ℕ) (entries : List Frac) (right : Frac) (coefficients : List Frac) →
+pub cut_by_table : (t : ℕ → ℤ) (n k s : ℕ) (entries : List Frac) (right : Frac)
+    (coefficients : List Frac) →
     IsMinimalTable t n k s → 0 < n → 0 < s → HasFractionalPart right (pos k) (pos n) →
     AllZip (IsEntryAt t n s) entries coefficients → CutHolds entries right coefficients
-cut_by_table t n k s entries right coefficients minimal = cut_by_valid t n k s entries right coefficients (minimal_is_valid t n k s minimal)
+cut_by_table t n k s entries right coefficients minimal =
+    cut_by_valid t n k s entries right coefficients (minimal_is_valid t n k s minimal)

@@ -19,7 +19,8 @@ use Rattle.gj_theory.proofs.WideNumbers.{read_natural, read_fitting}
 -- ---- a loop over all entries
 
 -- the entry at the index is still as it was
-pub over_more : (f : ℤ → ℤ) (old row : List ℤ) (i : ℕ) (z : ℤ) → i < length row → length row ≡ length old →
+pub over_more : (f : ℤ → ℤ) (old row : List ℤ) (i : ℕ) (z : ℤ) → i < length row →
+    length row ≡ length old →
     row ≡ map f (take i old) ++ drop i old → z ≡ f (get_or row i (pos 0)) →
     set row i z ≡ map f (take (i + 1) old) ++ drop (i + 1) old
 over_more f old row i z inside len is z_is =
@@ -30,18 +31,21 @@ over_more f old row i z inside len is z_is =
 pub over_all : (f : ℤ → ℤ) (old row : List ℤ) (i : ℕ) → length row ≤ i → length row ≡ length old →
     row ≡ map f (take i old) ++ drop i old → row ≡ map f old
 over_all f old row i past len is =
-    is ∙ ap₂ (λ xs ys. map f xs ++ ys) (take_all i old (omega arith)) (drop_of_length-le old (omega arith)) ∙ append-nil (map f old)
+    is ∙ ap₂ (λ xs ys. map f xs ++ ys) (take_all i old (omega arith))
+    (drop_of_length-le old (omega arith)) ∙ append-nil (map f old)
 
 -- an entry that is still as it was
 pub over_same : (f : ℤ → ℤ) (old row : List ℤ) (i : ℕ) → i < length old → length row ≡ length old →
     row ≡ map f (take i old) ++ drop i old → get_or row i (pos 0) ≡ get_or old i (pos 0)
 over_same f old row i inside len is =
-    let front : length (map f (take i old)) ≡ i = length-map (take i old) f ∙ length-take-le i old (omega arith) in
+    let front : length (map f (take i old)) ≡ i = length-map (take i old) f
+    ∙ length-take-le i old (omega arith) in
     ap (λ xs. get_or xs i (pos 0)) is
     ∙ get_or-append_right (map f (take i old)) (drop i old) i i (pos 0) front (omega arith)
     ∙ get_or-drop i old (i - i) (pos 0) ∙ ap (λ k. get_or old k (pos 0)) (omega arith)
 
-pub over_open : (f : ℤ → ℤ) (P : ℤ → Type 0) (old row : List ℤ) (i : ℕ) → i < length old → length row ≡ length old →
+pub over_open : (f : ℤ → ℤ) (P : ℤ → Type 0) (old row : List ℤ) (i : ℕ) → i < length old →
+    length row ≡ length old →
     row ≡ map f (take i old) ++ drop i old → All P old → P (get_or row i (pos 0))
 over_open f P old row i inside len is all =
     subst P (sym (over_same f old row i inside len is)) (All-get_or P old i (pos 0) inside all)
@@ -58,15 +62,18 @@ read_quotient x d fits some small =
     ∙ to_z-of_z w128 (int_div x (pos d)) (quot_fits w128 x (pos d) fits (omega (arith, ints)))
 
 pub read_signed_quotient : (x d : ℤ) → FitsSigned w128 x → FitsSigned w128 d → pos 0 <ℤ d →
-    to_z w128 (of_z w128 (int_div (to_z w128 (of_z w128 x)) (to_z w128 (of_z w128 d)))) ≡ int_div x d
+    to_z w128 (of_z w128 (int_div (to_z w128 (of_z w128 x)) (to_z w128 (of_z w128 d))))
+    ≡ int_div x d
 read_signed_quotient x d fits d_fits some =
-    ap (λ z. to_z w128 (of_z w128 z)) (ap₂ int_div (to_z-of_z w128 x fits) (to_z-of_z w128 d d_fits))
+    ap (λ z. to_z w128 (of_z w128 z))
+    (ap₂ int_div (to_z-of_z w128 x fits) (to_z-of_z w128 d d_fits))
     ∙ to_z-of_z w128 (int_div x d) (quot_fits w128 x d fits some)
 
 -- the entries of a divided row are as small
 pub smaller : (g : ℕ) (q x : ℤ) → 0 < g → pos g *ℤ q ≡ x → unsigned_abs q ≤ unsigned_abs x
 smaller g q x some is =
-    let size : g * unsigned_abs q ≡ unsigned_abs x = sym (unsigned_abs-mul (pos g) q) ∙ ap unsigned_abs is in
+    let size : g * unsigned_abs q ≡ unsigned_abs x = sym (unsigned_abs-mul (pos g) q)
+    ∙ ap unsigned_abs is in
     let more : 1 * unsigned_abs q ≤ g * unsigned_abs q = mul-le-mul_right (unsigned_abs q) some in
     omega arith
 
@@ -76,7 +83,8 @@ divided_fits row h =
     (λ k below.
     let (g, some, is) = at_divided row k in
     let small = smaller g (at_column (divided row) k) (at_column row k) some is in
-    let whole : Fits (at_column row k) = All-get_or Fits row k (pos 0) (omega (arith, length-divided row)) h in
+    let whole : Fits (at_column row k) =
+    All-get_or Fits row k (pos 0) (omega (arith, length-divided row)) h in
     omega arith)
 
 pub scaled_one : (xs : List ℤ) → scaled (pos 1) xs ≡ xs
@@ -97,7 +105,8 @@ divided_small row d is small = ⊎_elim none one (zero_or_not (gcd_of_row row))
         ∙ ap (λ g. scaled (pos g) (map (λ x. int_div x (pos (gcd_of_row row))) row)) (sym is_one)
         ∙ scaled_quotients (gcd_of_row row) row (dvd_refl (gcd_of_row row)))
 
-pub divided_large : (row done : List ℤ) (d : ℕ) → d ≡ gcd_of_row row → 1 < d → done ≡ map (λ x. int_div x (pos d)) row →
+pub divided_large : (row done : List ℤ) (d : ℕ) → d ≡ gcd_of_row row → 1 < d →
+    done ≡ map (λ x. int_div x (pos d)) row →
     done ≡ divided row
 divided_large row done d is large h =
     h ∙ ap (λ g. map (λ x. int_div x (pos g)) row) is ∙ sym (divided_some row (λ e. omega arith))
@@ -107,7 +116,8 @@ divided_large row done d is large h =
 pub negated_fits : (x : ℤ) → Fits x → Fits (neg_ℤ x)
 negated_fits x h = omega (arith, ints)
 
-pub read_negated : (x : ℤ) → Fits x → to_z w128 (of_z w128 (pos 0 -ℤ to_z w128 (of_z w128 x))) ≡ neg_ℤ x
+pub read_negated : (x : ℤ) → Fits x → to_z w128 (of_z w128 (pos 0 -ℤ to_z w128 (of_z w128 x)))
+    ≡ neg_ℤ x
 read_negated x fits =
     let same : pos 0 -ℤ to_z w128 (of_z w128 x) ≡ neg_ℤ x =
     ap (λ z. pos 0 -ℤ z) (read_fitting x fits) ∙ turned x in
@@ -121,14 +131,19 @@ all_negated row h =
     All-from_get_or Fits (map neg_ℤ row) (pos 0)
     (λ k below.
     subst Fits (sym (at_negated row k))
-    (negated_fits (at_column row k) (All-get_or Fits row k (pos 0) (omega (arith, length-map row neg_ℤ)) h)))
+    (negated_fits (at_column row k)
+    (All-get_or Fits row k (pos 0) (omega (arith, length-map row neg_ℤ)) h)))
 
-pub kept_negative : (row done : List ℤ) (c : ℕ) → int_lt (at_column row c) (pos 0) ≡ true → done ≡ map neg_ℤ (divided row) →
+pub kept_negative : (row done : List ℤ) (c : ℕ) → int_lt (at_column row c) (pos 0) ≡ true →
+    done ≡ map neg_ℤ (divided row) →
     done ≡ kept_entries row c
 unfolding kept_entries
-kept_negative row done c e h = h ∙ ap (λ b. if b then map neg_ℤ (divided row) else divided row) (sym e)
+kept_negative row done c e h = h ∙ ap (λ b. if b then map neg_ℤ (divided row) else divided row)
+    (sym e)
 
-pub kept_positive : (row done : List ℤ) (c : ℕ) → int_lt (at_column row c) (pos 0) ≡ false → done ≡ divided row →
+pub kept_positive : (row done : List ℤ) (c : ℕ) → int_lt (at_column row c) (pos 0) ≡ false →
+    done ≡ divided row →
     done ≡ kept_entries row c
 unfolding kept_entries
-kept_positive row done c e h = h ∙ ap (λ b. if b then map neg_ℤ (divided row) else divided row) (sym e)
+kept_positive row done c e h = h ∙ ap (λ b. if b then map neg_ℤ (divided row) else divided row)
+    (sym e)

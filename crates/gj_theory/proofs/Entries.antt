@@ -38,25 +38,31 @@ at_divided row i =
     let (g, some, is) = divided_times row in
     (g, some, sym (at_scaled (pos g) (divided row) i) ∙ ap (λ xs. at_column xs i) is)
 
-pub divided_at_zero : (row : List ℤ) (i : ℕ) → at_column row i ≡ pos 0 → at_column (divided row) i ≡ pos 0
+pub divided_at_zero : (row : List ℤ) (i : ℕ) → at_column row i ≡ pos 0 →
+    at_column (divided row) i ≡ pos 0
 divided_at_zero row i e =
     let (g, some, is) = at_divided row i in
-    mul_cancel_left_z (at_column (divided row) i) (pos 0) (pos g) (is ∙ e ∙ times_zero g) (λ none. omega arith)
+    mul_cancel_left_z (at_column (divided row) i) (pos 0) (pos g) (is ∙ e ∙ times_zero g)
+    (λ none. omega arith)
   where
     times_zero : (g : ℕ) → pos 0 ≡ pos g *ℤ pos 0
     times_zero g = omega (arith, ints)
 
-pub divided_at_positive : (row : List ℤ) (i : ℕ) → pos 0 <ℤ at_column row i → pos 0 <ℤ at_column (divided row) i
+pub divided_at_positive : (row : List ℤ) (i : ℕ) → pos 0 <ℤ at_column row i →
+    pos 0 <ℤ at_column (divided row) i
 divided_at_positive row i h =
     let (g, some, is) = at_divided row i in
     let zero_times : pos g *ℤ pos 0 ≡ pos 0 = omega (arith, ints) in
-    mul_lt_cancel_left_z (pos 0) (at_column (divided row) i) (pos g) (omega (arith, ints)) (omega (arith, ints))
+    mul_lt_cancel_left_z (pos 0) (at_column (divided row) i) (pos g) (omega (arith, ints))
+    (omega (arith, ints))
 
-pub divided_at_negative : (row : List ℤ) (i : ℕ) → at_column row i <ℤ pos 0 → at_column (divided row) i <ℤ pos 0
+pub divided_at_negative : (row : List ℤ) (i : ℕ) → at_column row i <ℤ pos 0 →
+    at_column (divided row) i <ℤ pos 0
 divided_at_negative row i h =
     let (g, some, is) = at_divided row i in
     let zero_times : pos g *ℤ pos 0 ≡ pos 0 = omega (arith, ints) in
-    mul_lt_cancel_left_z (at_column (divided row) i) (pos 0) (pos g) (omega (arith, ints)) (omega (arith, ints))
+    mul_lt_cancel_left_z (at_column (divided row) i) (pos 0) (pos g) (omega (arith, ints))
+    (omega (arith, ints))
 
 -- ---- a row after a step
 
@@ -66,29 +72,35 @@ pub at_eliminated : (kept row : List ℤ) (c i : ℕ) → length kept ≡ length
 unfolding eliminated
 at_eliminated kept row c i e =
     at_differences (scaled (row_factor kept row c) row) (scaled (kept_factor kept row c) kept) i
-    (length-map row (λ x. row_factor kept row c *ℤ x) ∙ sym e ∙ sym (length-map kept (λ y. kept_factor kept row c *ℤ y)))
-    ∙ ap₂ (λ a b. a -ℤ b) (at_scaled (row_factor kept row c) row i) (at_scaled (kept_factor kept row c) kept i)
+    (length-map row (λ x. row_factor kept row c *ℤ x) ∙ sym e
+    ∙ sym (length-map kept (λ y. kept_factor kept row c *ℤ y)))
+    ∙ ap₂ (λ a b. a -ℤ b) (at_scaled (row_factor kept row c) row i)
+    (at_scaled (kept_factor kept row c) kept i)
 
 -- 0 if both rows are
-pub reduced_at_zero : (kept row : List ℤ) (c i : ℕ) → length kept ≡ length row → at_column kept i ≡ pos 0 →
+pub reduced_at_zero : (kept row : List ℤ) (c i : ℕ) → length kept ≡ length row →
+    at_column kept i ≡ pos 0 →
     at_column row i ≡ pos 0 → at_column (reduced kept row c) i ≡ pos 0
 unfolding reduced
 reduced_at_zero kept row c i e k r =
     divided_at_zero (eliminated kept row c) i
-    (at_eliminated kept row c i e ∙ ap₂ (λ a b. row_factor kept row c *ℤ a -ℤ kept_factor kept row c *ℤ b) r k
+    (at_eliminated kept row c i e
+    ∙ ap₂ (λ a b. row_factor kept row c *ℤ a -ℤ kept_factor kept row c *ℤ b) r k
     ∙ zeros (row_factor kept row c) (kept_factor kept row c))
   where
     zeros : (u v : ℤ) → u *ℤ pos 0 -ℤ v *ℤ pos 0 ≡ pos 0
     zeros u v = omega (arith, ints)
 
 -- and at the column of the step
-pub reduced_at_column : (kept row : List ℤ) (c : ℕ) → length kept ≡ length row → at_column (reduced kept row c) c ≡ pos 0
+pub reduced_at_column : (kept row : List ℤ) (c : ℕ) → length kept ≡ length row →
+    at_column (reduced kept row c) c ≡ pos 0
 unfolding reduced
 reduced_at_column kept row c e =
     divided_at_zero (eliminated kept row c) c
     (at_eliminated kept row c c e
     ∙ crossed (row_factor kept row c) (kept_factor kept row c)
-    (pos (gcd_of (unsigned_abs (at_column row c)) (unsigned_abs (at_column kept c)))) (at_column kept c) (at_column row c)
+    (pos (gcd_of (unsigned_abs (at_column row c)) (unsigned_abs (at_column kept c))))
+    (at_column kept c) (at_column row c)
     (row_factor_times kept row c) (kept_factor_times kept row c))
   where
     crossed : (u v g k r : ℤ) → u *ℤ g ≡ k → v *ℤ g ≡ r → u *ℤ r -ℤ v *ℤ k ≡ pos 0
@@ -101,7 +113,8 @@ reduced_at_column kept row c e =
 
 -- ---- a row as it is kept
 
-pub kept_at_zero : (row : List ℤ) (c i : ℕ) → at_column row i ≡ pos 0 → at_column (kept_entries row c) i ≡ pos 0
+pub kept_at_zero : (row : List ℤ) (c i : ℕ) → at_column row i ≡ pos 0 →
+    at_column (kept_entries row c) i ≡ pos 0
 unfolding kept_entries
 kept_at_zero row c i e = by_sign (int_lt (at_column row c) (pos 0))
   where
@@ -109,7 +122,8 @@ kept_at_zero row c i e = by_sign (int_lt (at_column row c) (pos 0))
     by_sign true = at_negated (divided row) i ∙ ap neg_ℤ (divided_at_zero row i e)
     by_sign false = divided_at_zero row i e
 
-pub kept_at_pivot : (row : List ℤ) (c : ℕ) → at_column row c ≢ pos 0 → pos 0 <ℤ at_column (kept_entries row c) c
+pub kept_at_pivot : (row : List ℤ) (c : ℕ) → at_column row c ≢ pos 0 →
+    pos 0 <ℤ at_column (kept_entries row c) c
 unfolding kept_entries
 kept_at_pivot row c some = by_sign (int_lt (at_column row c) (pos 0)) refl
   where
@@ -121,18 +135,21 @@ kept_at_pivot row c some = by_sign (int_lt (at_column row c) (pos 0)) refl
         let negative = divided_at_negative row c below in
         omega (arith, ints)
     by_sign false e =
-        let apart : unsigned_abs (at_column row c) ≢ 0 = λ z. some (abs_zero_z (at_column row c) z) in
+        let apart : unsigned_abs (at_column row c) ≢ 0 =
+        λ z. some (abs_zero_z (at_column row c) z) in
         let above : pos 0 <ℤ at_column row c = omega (arith, ints) in
         divided_at_positive row c above
 
 -- ---- a row of zeros
 
-pub zeros_solved : (row w : List ℤ) → ((i : ℕ) → i < length row → at_column row i ≡ pos 0) → Solves w row
+pub zeros_solved : (row w : List ℤ) → ((i : ℕ) → i < length row → at_column row i ≡ pos 0) →
+    Solves w row
 zeros_solved [] w h = refl
 zeros_solved (x ∷ xs) [] h = refl
 zeros_solved (x ∷ xs) (v ∷ w) h =
     let here : x ≡ pos 0 = h 0 (omega arith) in
-    let more : sum_of_products xs w ≡ pos 0 = zeros_solved xs w (λ i below. h (suc i) (omega arith)) in
+    let more : sum_of_products xs w ≡ pos 0 =
+    zeros_solved xs w (λ i below. h (suc i) (omega arith)) in
     ap₂ (λ a b. a *ℤ v +ℤ b) here more ∙ zero_times v
   where
     zero_times : (v : ℤ) → pos 0 *ℤ v +ℤ pos 0 ≡ pos 0

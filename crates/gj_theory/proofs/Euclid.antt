@@ -33,14 +33,19 @@ pub euclid_step : (m x r n s t f : ℕ) → IsEuclid m x r n s t → 0 < m → f
     pos f ≡ residue m (pos s -ℤ pos (r / n) *ℤ pos t) → IsEuclid m x n (r % n) t f
 euclid_step m x r n s t f h some low is =
     let z = pos s -ℤ pos (r / n) *ℤ pos t in
-    let apart : IsZeroModulo m (z -ℤ pos f) = subst (λ (y : ℤ). IsZeroModulo m (z -ℤ y)) (sym is) (residue_same m z some) in
+    let apart : IsZeroModulo m (z -ℤ pos f) = subst (λ (y : ℤ). IsZeroModulo m (z -ℤ y)) (sym is)
+    (residue_same m z some) in
     record {
       first = h.second;
       second = zero_is m (pos (r % n) -ℤ pos f *ℤ pos x)
-          (((pos r -ℤ pos s *ℤ pos x) -ℤ pos (r / n) *ℤ (pos n -ℤ pos t *ℤ pos x)) +ℤ pos x *ℤ (z -ℤ pos f))
-          (ap (λ y. y -ℤ pos f *ℤ pos x) rest ∙ regroup (pos r) (pos (r / n)) (pos n) (pos s) (pos t) (pos x) (pos f))
-          (zero_sum m ((pos r -ℤ pos s *ℤ pos x) -ℤ pos (r / n) *ℤ (pos n -ℤ pos t *ℤ pos x)) (pos x *ℤ (z -ℤ pos f))
-          (zero_difference m (pos r -ℤ pos s *ℤ pos x) (pos (r / n) *ℤ (pos n -ℤ pos t *ℤ pos x)) h.first
+          (((pos r -ℤ pos s *ℤ pos x) -ℤ pos (r / n) *ℤ (pos n -ℤ pos t *ℤ pos x)) +ℤ pos x
+          *ℤ (z -ℤ pos f))
+          (ap (λ y. y -ℤ pos f *ℤ pos x) rest
+          ∙ regroup (pos r) (pos (r / n)) (pos n) (pos s) (pos t) (pos x) (pos f))
+          (zero_sum m ((pos r -ℤ pos s *ℤ pos x) -ℤ pos (r / n) *ℤ (pos n -ℤ pos t *ℤ pos x))
+          (pos x *ℤ (z -ℤ pos f))
+          (zero_difference m (pos r -ℤ pos s *ℤ pos x) (pos (r / n) *ℤ (pos n -ℤ pos t *ℤ pos x))
+          h.first
           (zero_times m (pos (r / n)) (pos n -ℤ pos t *ℤ pos x) h.second))
           (zero_times m (pos x) (z -ℤ pos f) apart));
       gcd = λ g k. h.gcd g (IsGcd-from_mod r n g k);
@@ -55,13 +60,16 @@ euclid_step m x r n s t f h some low is =
         (r -ℤ q *ℤ n) -ℤ f *ℤ x ≡ ((r -ℤ s *ℤ x) -ℤ q *ℤ (n -ℤ t *ℤ x)) +ℤ x *ℤ ((s -ℤ q *ℤ t) -ℤ f)
     regroup r q n s t x f = by_ring (r ∷ q ∷ n ∷ s ∷ t ∷ x ∷ f ∷ []) (search ring depth 20) refl
 
-pub euclid_inverse : (m x n s t r : ℕ) → 1 < m → IsEuclid m x r n s t → r ≡ 1 → inverse m (pos x) ≡ Some s
+pub euclid_inverse : (m x n s t r : ℕ) → 1 < m → IsEuclid m x r n s t → r ≡ 1 →
+    inverse m (pos x) ≡ Some s
 euclid_inverse m x n s t r large h one =
     inverse_only m s (pos x) large h.low
     (zero_is m (pos s *ℤ pos x -ℤ pos 1) (pos 0 -ℤ (pos r -ℤ pos s *ℤ pos x)) (omega (arith, ints))
     (zero_difference m (pos 0) (pos r -ℤ pos s *ℤ pos x) (zero_none m) h.first))
 
-pub euclid_none : (m x n s t r : ℕ) → 1 < m → IsEuclid m x r n s t → n ≡ 0 → r ≢ 1 → inverse m (pos x) ≡ None
+pub euclid_none : (m x n s t r : ℕ) → 1 < m → IsEuclid m x r n s t → n ≡ 0 → r ≢ 1 →
+    inverse m (pos x) ≡ None
 euclid_none m x n s t r large h none apart =
     (inverse_none m (pos x) large).1
-    (λ one. apart (gcd_is_gcd_of x m r (h.gcd r (subst (λ (k : ℕ). IsGcd r k r) (sym none) (IsGcd-from_zero r 0 refl))) ∙ one))
+    (λ one. apart (gcd_is_gcd_of x m r
+    (h.gcd r (subst (λ (k : ℕ). IsGcd r k r) (sym none) (IsGcd-from_zero r 0 refl))) ∙ one))

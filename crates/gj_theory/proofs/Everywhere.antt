@@ -14,15 +14,18 @@ opposite_index i j k n some e =
     let r = i % n in
     let small : r < n = mod-lt i some in
     let turned : (r + j) % n ≡ k % n = mod-add-mod i n j ∙ e in
-    let more : ((r + j) % n + (n - r)) % n ≡ (k % n + (n - r)) % n = ap (λ x. (x + (n - r)) % n) turned in
+    let more : ((r + j) % n + (n - r)) % n ≡ (k % n + (n - r)) % n =
+    ap (λ x. (x + (n - r)) % n) turned in
     let whole : r + j + (n - r) ≡ j + n = omega arith in
     sym (add-mod_right j n) ∙ ap (λ x. x % n) (sym whole)
     ∙ sym (mod-add-mod (r + j) n (n - r)) ∙ more ∙ mod-add-mod k n (n - r)
 
 -- what holds of each entry below the length holds of each entry
-pub everywhere : (P : ℤ → Type 0) (xs : List ℤ) (n : ℕ) → length xs ≡ n → 0 < n → ((i : ℕ) → i < n → P (at xs i)) →
+pub everywhere : (P : ℤ → Type 0) (xs : List ℤ) (n : ℕ) → length xs ≡ n → 0 < n →
+    ((i : ℕ) → i < n → P (at xs i)) →
     (i : ℕ) → P (at xs i)
-everywhere P xs n len some h i = subst P (at_wrapped xs i (i % n) n len refl) (h (i % n) (mod-lt i some))
+everywhere P xs n len some h i =
+    subst P (at_wrapped xs i (i % n) n len refl) (h (i % n) (mod-lt i some))
 
 -- symmetry
 pub symmetric_everywhere : (xs : List ℤ) (n k s : ℕ) → length xs ≡ n → 0 < n →

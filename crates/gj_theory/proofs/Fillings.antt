@@ -19,7 +19,8 @@ use Rattle.gj_theory.proofs.TightFaces.{value_at_place}
 last_weight_z : (m : ℕ) (x y z : ℤ) → pos (m - 0) *ℤ y +ℤ pos 0 *ℤ z ≡ pos 0 *ℤ x +ℤ pos m *ℤ y
 last_weight_z m x y z =
     let whole : m - 0 ≡ m = omega arith in
-    ap (λ n. pos n *ℤ y +ℤ pos 0 *ℤ z) whole ∙ by_ring (pos m ∷ x ∷ y ∷ z ∷ []) (search ring depth 20) refl
+    ap (λ n. pos n *ℤ y +ℤ pos 0 *ℤ z) whole
+    ∙ by_ring (pos m ∷ x ∷ y ∷ z ∷ []) (search ring depth 20) refl
 
 pub filling_at : (t : ℕ → ℤ) (m i a u r : ℕ) → 0 < m → i ≡ a * m + r → u + r ≡ m →
     filling t m i ≡ pos u *ℤ t a +ℤ pos r *ℤ t (a + 1)
@@ -58,11 +59,13 @@ parts_at i m = sym (div-add-mod' i m)
 
 -- ---- signs and sums of the entries
 
-filling_nonnegative : (t : ℕ → ℤ) (m : ℕ) → ((i : ℕ) → pos 0 ≤ℤ t i) → (i : ℕ) → pos 0 ≤ℤ filling t m i
+filling_nonnegative : (t : ℕ → ℤ) (m : ℕ) → ((i : ℕ) → pos 0 ≤ℤ t i) → (i : ℕ) →
+    pos 0 ≤ℤ filling t m i
 unfolding filling
 filling_nonnegative t m h i =
     let first = mul_nonnegative_z (pos (m - i % m)) (t (i / m)) (omega (arith, ints)) (h (i / m)) in
-    let second = mul_nonnegative_z (pos (i % m)) (t (i / m + 1)) (omega (arith, ints)) (h (i / m + 1)) in
+    let second = mul_nonnegative_z (pos (i % m)) (t (i / m + 1)) (omega (arith, ints))
+    (h (i / m + 1)) in
     omega (arith, ints)
 
 low_le : (w r s : ℕ) (x x' y y' z z' : ℤ) → z ≤ℤ (x +ℤ y) → z' ≤ℤ (x' +ℤ y) → z' ≤ℤ (x +ℤ y') →
@@ -79,7 +82,8 @@ low_le w r s x x' y y' z z' e g h =
     by_ring (pos r ∷ pos s ∷ z' ∷ []) (search ring depth 20) refl in
     rw (whole, part) (sum_le first second third)
   where
-    sum_le : {a b c a' b' c' : ℤ} → a ≤ℤ a' → b ≤ℤ b' → c ≤ℤ c' → (a +ℤ (b +ℤ c)) ≤ℤ (a' +ℤ (b' +ℤ c'))
+    sum_le : {a b c a' b' c' : ℤ} → a ≤ℤ a' → b ≤ℤ b' → c ≤ℤ c' →
+        (a +ℤ (b +ℤ c)) ≤ℤ (a' +ℤ (b' +ℤ c'))
     sum_le p q o = omega (arith, ints)
 
 high_le : (u v w : ℕ) (x x' y y' z z' : ℤ) → z ≤ℤ (x +ℤ y') → z ≤ℤ (x' +ℤ y) → z' ≤ℤ (x' +ℤ y') →
@@ -96,7 +100,8 @@ high_le u v w x x' y y' z z' e g h =
     by_ring (pos u ∷ pos v ∷ pos w ∷ z ∷ z' ∷ []) (search ring depth 20) refl in
     rw (whole, part) (sum_le first second third)
   where
-    sum_le : {a b c a' b' c' : ℤ} → a ≤ℤ a' → b ≤ℤ b' → c ≤ℤ c' → (a +ℤ (b +ℤ c)) ≤ℤ (a' +ℤ (b' +ℤ c'))
+    sum_le : {a b c a' b' c' : ℤ} → a ≤ℤ a' → b ≤ℤ b' → c ≤ℤ c' →
+        (a +ℤ (b +ℤ c)) ≤ℤ (a' +ℤ (b' +ℤ c'))
     sum_le p q o = omega (arith, ints)
 
 -- three numbers in place of what they are
@@ -104,10 +109,12 @@ le_by : {x x' y y' z z' : ℤ} → x ≡ x' → y ≡ y' → z ≡ z' → z' ≤
 le_by e g h sum = rw (e, g, h) sum
 
 -- an entry at a sum, spelled otherwise
-at_sum : (t : ℕ → ℤ) → ((i j : ℕ) → t (i + j) ≤ℤ (t i +ℤ t j)) → (i j k : ℕ) → k ≡ i + j → t k ≤ℤ (t i +ℤ t j)
+at_sum : (t : ℕ → ℤ) → ((i j : ℕ) → t (i + j) ≤ℤ (t i +ℤ t j)) → (i j k : ℕ) → k ≡ i + j →
+    t k ≤ℤ (t i +ℤ t j)
 at_sum t h i j k e = subst (λ (n : ℕ). t n ≤ℤ (t i +ℤ t j)) (sym e) (h i j)
 
-filling_subadditive : (t : ℕ → ℤ) (m : ℕ) → 0 < m → ((i j : ℕ) → t (i + j) ≤ℤ (t i +ℤ t j)) → (i j : ℕ) →
+filling_subadditive : (t : ℕ → ℤ) (m : ℕ) → 0 < m → ((i j : ℕ) → t (i + j) ≤ℤ (t i +ℤ t j)) →
+    (i j : ℕ) →
     filling t m (i + j) ≤ℤ (filling t m i +ℤ filling t m j)
 filling_subadditive t m some h i j =
     let a = i / m in
@@ -134,7 +141,8 @@ filling_subadditive t m some h i j =
           (filling_at t m j b v (u + w) some (omega arith) (omega arith))
           (filling_at t m (i + j) (a + b + 1) (u + v) w some (omega arith) (omega arith))
           (high_le u v w _ _ _ _ _ _ (at_sum t h a (b + 1) (a + b + 1) (omega arith))
-          (at_sum t h (a + 1) b (a + b + 1) (omega arith)) (at_sum t h (a + 1) (b + 1) (a + b + 1 + 1) (omega arith)))
+          (at_sum t h (a + 1) b (a + b + 1) (omega arith))
+          (at_sum t h (a + 1) (b + 1) (a + b + 1 + 1) (omega arith)))
     ]
 
 -- ---- symmetry
@@ -158,7 +166,8 @@ opposite_sum u r m s x x' y y' whole e g =
     ∙ by_ring (pos u ∷ pos r ∷ pos s ∷ []) (search ring depth 20) refl ∙ ap (λ n. pos (s * n)) whole
 
 -- for places that add up to at least one more than i, in units of m
-filling_opposite : (t : ℕ → ℤ) (n k s m : ℕ) → 0 < n → 0 < m → IsMinimalTable t n k s → (i j : ℕ) → m ≤ j →
+filling_opposite : (t : ℕ → ℤ) (n k s m : ℕ) → 0 < n → 0 < m → IsMinimalTable t n k s → (i j : ℕ) →
+    m ≤ j →
     (i + j) % (n * m) ≡ (k * m) % (n * m) → filling t m i +ℤ filling t m j ≡ pos (s * m)
 filling_opposite t n k s m n_some m_some h i j high e =
     let parts = opposite_parts i j k n m n_some m_some e in
@@ -177,7 +186,8 @@ filling_opposite t n k s m n_some m_some h i j high e =
     ap₂ (λ x y. x +ℤ y) (filling_at t m i a u r m_some first (omega arith))
     (filling_at t m j b r u m_some second (omega arith))
     ∙ opposite_sum u r m s (t a) (t (a + 1)) (t b) (t (b + 1)) (omega arith)
-    (h.symmetric a (b + 1) (ap (λ x. x % n) one ∙ parts.0)) (h.symmetric (a + 1) b (ap (λ x. x % n) other ∙ parts.0))
+    (h.symmetric a (b + 1) (ap (λ x. x % n) one ∙ parts.0))
+    (h.symmetric (a + 1) b (ap (λ x. x % n) other ∙ parts.0))
 
 filling_symmetric : (t : ℕ → ℤ) (n k s m : ℕ) → 0 < n → 0 < m → IsMinimalTable t n k s → (i j : ℕ) →
     (i + j) % (n * m) ≡ (k * m) % (n * m) → filling t m i +ℤ filling t m j ≡ pos (s * m)
@@ -194,7 +204,8 @@ filling_minimal t n k s m n_some m_some h = record {
   has_period = filling_period t n m m_some h.has_period;
   zero_at_zero =
       let start : 0 ≡ 0 * m = omega arith in
-      ap (filling t m) start ∙ filling_at_multiple t m 0 m_some ∙ ap (λ x. pos m *ℤ x) h.zero_at_zero
+      ap (filling t m) start ∙ filling_at_multiple t m 0 m_some
+      ∙ ap (λ x. pos m *ℤ x) h.zero_at_zero
       ∙ omega (arith, ints);
   nonnegative = filling_nonnegative t m h.nonnegative;
   subadditive = filling_subadditive t m m_some h.subadditive;
@@ -206,7 +217,8 @@ filling_minimal t n k s m n_some m_some h = record {
 finer_z : (u r g e : ℕ) (x y : ℤ) →
     pos (g * (u + r) + u) *ℤ x +ℤ pos (e * (u + r) + r) *ℤ y
     ≡ pos u *ℤ (pos (g + 1) *ℤ x +ℤ pos e *ℤ y) +ℤ pos r *ℤ (pos g *ℤ x +ℤ pos (e + 1) *ℤ y)
-finer_z u r g e x y = by_ring (pos u ∷ pos r ∷ pos g ∷ pos e ∷ x ∷ y ∷ []) (search ring depth 30) refl
+finer_z u r g e x y = by_ring (pos u ∷ pos r ∷ pos g ∷ pos e ∷ x ∷ y ∷ [])
+    (search ring depth 30) refl
 
 finer_at : (f : FunctionData) (i j a u r g e : ℕ) → IsContinuous f → 0 < u → i ≡ j * (u + r) + r →
     j ≡ a * (g + 1 + e) + e →
@@ -216,7 +228,8 @@ finer_at f i j a u r g e c u_some i_is j_is =
     let m = u + r in
     let next : j + 1 ≡ a * d + (e + 1) = omega arith in
     let place : i ≡ a * (d * m) + (e * m + r) = i_is ∙ ap (λ x. x * m + r) j_is ∙ omega arith in
-    value_at_place f (d * m) i a (g * m + u) (e * m + r) c (mul-pos (omega arith) (omega arith)) place (omega arith)
+    value_at_place f (d * m) i a (g * m + u) (e * m + r) c
+    (mul-pos (omega arith) (omega arith)) place (omega arith)
     ∙ finer_z u r g e (at f.value a) (at f.value (a + 1))
     ∙ ap₂ (λ x y. pos u *ℤ x +ℤ pos r *ℤ y)
     (sym (value_at_place f d j a (g + 1) e c (omega arith) j_is refl))
@@ -241,7 +254,8 @@ finer_is_filling f d m i c d_some m_some =
 
 -- ---- halves on finer grids
 
-pub finer_halves : (t : ℕ → ℤ) (n k s c m : ℕ) (a b : ℕ → ℤ) → 0 < n → 0 < m → AreDifferentHalves t n k s c a b →
+pub finer_halves : (t : ℕ → ℤ) (n k s c m : ℕ) (a b : ℕ → ℤ) → 0 < n → 0 < m →
+    AreDifferentHalves t n k s c a b →
     AreDifferentHalves (filling t m) (n * m) (k * m) (s * m) c (filling a m) (filling b m)
 finer_halves t n k s c m a b n_some m_some h = record {
   factor = h.factor;
@@ -251,28 +265,34 @@ finer_halves t n k s c m a b n_some m_some h = record {
       let at_i = λ (x : ℕ → ℤ). filling_at x m i (i / m) (m - i % m) (i % m) m_some (parts_at i m)
       (let low = mod-lt i m_some in omega arith) in
       ap₂ (λ x y. x +ℤ y) (at_i a) (at_i b)
-      ∙ average_between (m - i % m) (i % m) (2 * c) _ _ _ _ _ _ (h.average (i / m)) (h.average (i / m + 1))
+      ∙ average_between (m - i % m) (i % m) (2 * c) _ _ _ _ _ _ (h.average (i / m))
+      (h.average (i / m + 1))
       ∙ ap (λ x. pos (2 * c) *ℤ x) (sym (at_i t));
   index = h.index * m;
   different = λ same. h.different
       (mul_cancel_left_z (a h.index) (b h.index) (pos m)
-      (sym (filling_at_multiple a m h.index m_some) ∙ same ∙ filling_at_multiple b m h.index m_some) (omega arith));
+      (sym (filling_at_multiple a m h.index m_some) ∙ same ∙ filling_at_multiple b m h.index m_some)
+      (omega arith));
 }
   where
-    minimal : (x : ℕ → ℤ) → IsMinimalTable x n k (c * s) → IsMinimalTable (filling x m) (n * m) (k * m) (c * (s * m))
+    minimal : (x : ℕ → ℤ) → IsMinimalTable x n k (c * s) →
+        IsMinimalTable (filling x m) (n * m) (k * m) (c * (s * m))
     minimal x x_minimal =
         subst (IsMinimalTable (filling x m) (n * m) (k * m)) (mul_assoc c s m)
         (filling_minimal x n k (c * s) m n_some m_some x_minimal)
 
-    average_between : (u r c : ℕ) (x x' y y' z z' : ℤ) → x +ℤ y ≡ pos c *ℤ z → x' +ℤ y' ≡ pos c *ℤ z' →
-        (pos u *ℤ x +ℤ pos r *ℤ x') +ℤ (pos u *ℤ y +ℤ pos r *ℤ y') ≡ pos c *ℤ (pos u *ℤ z +ℤ pos r *ℤ z')
+    average_between : (u r c : ℕ) (x x' y y' z z' : ℤ) → x +ℤ y ≡ pos c *ℤ z →
+        x' +ℤ y' ≡ pos c *ℤ z' →
+        (pos u *ℤ x +ℤ pos r *ℤ x') +ℤ (pos u *ℤ y +ℤ pos r *ℤ y')
+        ≡ pos c *ℤ (pos u *ℤ z +ℤ pos r *ℤ z')
     average_between u r c x x' y y' z z' e g =
         by_ring (pos u ∷ pos r ∷ x ∷ x' ∷ y ∷ y' ∷ []) (search ring depth 20) refl
         ∙ ap₂ (λ v w. pos u *ℤ v +ℤ pos r *ℤ w) e g
         ∙ by_ring (pos u ∷ pos r ∷ pos c ∷ z ∷ z' ∷ []) (search ring depth 20) refl
 
 -- halves of a table are halves of one with the same entries
-halves_of_same : (t t' a b : ℕ → ℤ) (n k s n' k' s' c : ℕ) → ((i : ℕ) → t' i ≡ t i) → n ≡ n' → k ≡ k' → s ≡ s' →
+halves_of_same : (t t' a b : ℕ → ℤ) (n k s n' k' s' c : ℕ) → ((i : ℕ) → t' i ≡ t i) → n ≡ n' →
+    k ≡ k' → s ≡ s' →
     AreDifferentHalves t n k s c a b → AreDifferentHalves t' n' k' s' c a b
 halves_of_same t t' a b n k s n' k' s' c e n_is k_is s_is h = record {
   factor = h.factor;
@@ -283,18 +303,25 @@ halves_of_same t t' a b n k s n' k' s' c e n_is k_is s_is h = record {
   different = h.different;
 }
 
-pub function_finer_halves : (f : FunctionData) (d m c : ℕ) (a b : ℕ → ℤ) → IsWithinBounds f → IsContinuous f → 0 < d →
+pub function_finer_halves : (f : FunctionData) (d m c : ℕ) (a b : ℕ → ℤ) → IsWithinBounds f →
+    IsContinuous f → 0 < d →
     0 < m → AreDifferentHalves (table f d) (f.order * d) (f.place * d) (f.scale * d) c a b →
-    AreDifferentHalves (table f (d * m)) (f.order * (d * m)) (f.place * (d * m)) (f.scale * (d * m)) c
+    AreDifferentHalves (table f (d * m)) (f.order * (d * m)) (f.place * (d * m))
+    (f.scale * (d * m)) c
     (filling a m) (filling b m)
 function_finer_halves f d m c a b l continuous d_some m_some h =
-    halves_of_same (filling (table f d) m) (table f (d * m)) (filling a m) (filling b m) (f.order * d * m)
-    (f.place * d * m) (f.scale * d * m) (f.order * (d * m)) (f.place * (d * m)) (f.scale * (d * m)) c
-    (λ i. finer_is_filling f d m i continuous d_some m_some) (mul_assoc f.order d m) (mul_assoc f.place d m)
+    halves_of_same (filling (table f d) m) (table f (d * m)) (filling a m) (filling b m)
+    (f.order * d * m)
+    (f.place * d * m) (f.scale * d * m) (f.order * (d * m)) (f.place * (d * m))
+    (f.scale * (d * m)) c
+    (λ i. finer_is_filling f d m i continuous d_some m_some) (mul_assoc f.order d m)
+    (mul_assoc f.place d m)
     (mul_assoc f.scale d m)
-    (finer_halves (table f d) (f.order * d) (f.place * d) (f.scale * d) c m a b (mul-pos (omega arith) d_some) m_some h)
+    (finer_halves (table f d) (f.order * d) (f.place * d) (f.scale * d) c m a b
+    (mul-pos (omega arith) d_some) m_some h)
 
 -- different halves deny that the table is extreme
-pub halves_deny : (t : ℕ → ℤ) (n k s c : ℕ) (a b : ℕ → ℤ) → AreDifferentHalves t n k s c a b → IsExtremeTable t n k s → ⊥
+pub halves_deny : (t : ℕ → ℤ) (n k s c : ℕ) (a b : ℕ → ℤ) → AreDifferentHalves t n k s c a b →
+    IsExtremeTable t n k s → ⊥
 halves_deny t n k s c a b h extreme =
     h.different (extreme.no_average c a b h.factor h.first h.second h.average h.index)

@@ -65,7 +65,8 @@ rest_of_sum n i j some =
     (cases_lt (i % n + j % n) n)
 
 -- an entry on the rising line and any other
-rising_and_any : (k l r u s v q w g h e : ℕ) → IsEntry k l q w e → IsRestOfSum (k + l) r s q → r + u ≡ k + l → g ≡ l * r →
+rising_and_any : (k l r u s v q w g h e : ℕ) → IsEntry k l q w e → IsRestOfSum (k + l) r s q →
+    r + u ≡ k + l → g ≡ l * r →
     IsEntry k l s v h → e ≤ g + h
 rising_and_any k l r u s v q w g h e sum rest whole rises other =
     let below_left = below_rising k l q w e sum in
@@ -89,7 +90,8 @@ rising_and_any k l r u s v q w g h e sum rest whole rises other =
     other.line
 
 -- two entries on the falling line
-falling_both : (k l r u s v q w g h e : ℕ) → IsEntry k l q w e → IsRestOfSum (k + l) r s q → r + u ≡ k + l → s + v ≡ k + l →
+falling_both : (k l r u s v q w g h e : ℕ) → IsEntry k l q w e → IsRestOfSum (k + l) r s q →
+    r + u ≡ k + l → s + v ≡ k + l →
     g ≡ k * u → h ≡ k * v → e ≤ g + h
 falling_both k l r u s v q w g h e sum rest whole other_whole falls other_falls =
     let below_right = below_falling k l q w e sum in
@@ -101,15 +103,18 @@ falling_both k l r u s v q w g h e sum rest whole other_whole falls other_falls 
 rest_swapped : (n r s q : ℕ) → IsRestOfSum n r s q → IsRestOfSum n s r q
 rest_swapped n r s q = ⊎_elim (λ low. inl (omega arith)) (λ high. inr (omega arith))
 
-below_sum : (k l r u s v q w g h e : ℕ) → IsEntry k l r u g → IsEntry k l s v h → IsEntry k l q w e →
+below_sum : (k l r u s v q w g h e : ℕ) → IsEntry k l r u g → IsEntry k l s v h →
+    IsEntry k l q w e →
     IsRestOfSum (k + l) r s q → e ≤ g + h
 below_sum k l r u s v q w g h e one other sum rest =
     ⊎_elim (λ rises. rising_and_any k l r u s v q w g h e sum rest one.whole rises.1 other)
     (λ falls. ⊎_elim
     (λ rises.
-    let turned = rising_and_any k l s v r u q w h g e sum (rest_swapped (k + l) r s q rest) other.whole rises.1 one in
+    let turned = rising_and_any k l s v r u q w h g e sum
+    (rest_swapped (k + l) r s q rest) other.whole rises.1 one in
     omega arith)
-    (λ both. falling_both k l r u s v q w g h e sum rest one.whole other.whole falls.1 both.1) other.line) one.line
+    (λ both. falling_both k l r u s v q w g h e sum rest one.whole other.whole falls.1 both.1)
+    other.line) one.line
 
 -- two entries at rests that add up to the place k
 opposite_sum : (k l r u s v g h : ℕ) → IsEntry k l r u g → IsEntry k l s v h → 0 < u → 0 < v →
@@ -134,7 +139,8 @@ opposite_sum k l r u s v g h one other u_some v_some rest =
 -- ---- the table
 
 -- each entry of the table is one
-entry_is : (k l i : ℕ) → 0 < k + l → IsEntry k l (i % (k + l)) (k + l - i % (k + l)) (gmic_table (k + l) k i)
+entry_is : (k l i : ℕ) → 0 < k + l →
+    IsEntry k l (i % (k + l)) (k + l - i % (k + l)) (gmic_table (k + l) k i)
 entry_is k l i some =
     let n = k + l in
     let small = mod-lt i some in
@@ -151,7 +157,8 @@ same_rest : (n k i j : ℕ) → i % n ≡ j % n → gmic_table n k i ≡ gmic_ta
 unfolding gmic_table
 same_rest n k i j e = ap (λ r. (if leb r k then (n - k) * r else k * (n - r))) e
 
-minimal_in_parts : (k l : ℕ) → 0 < k → 0 < l → IsMinimalTable (λ i. pos (gmic_table (k + l) k i)) (k + l) k (k * l)
+minimal_in_parts : (k l : ℕ) → 0 < k → 0 < l →
+    IsMinimalTable (λ i. pos (gmic_table (k + l) k i)) (k + l) k (k * l)
 minimal_in_parts k l k_some l_some =
     let n = k + l in
     let some : 0 < n = omega arith in
@@ -164,20 +171,26 @@ minimal_in_parts k l k_some l_some =
           ap pos (entry_rising n k 0 (omega arith) ∙ ap (λ r. (n - k) * r) none ∙ omega arith);
       nonnegative = λ i. omega (arith, ints);
       subadditive = λ i j.
-          let h = below_sum k l (i % n) (rest_of i) (j % n) (rest_of j) ((i + j) % n) (rest_of (i + j)) (t i) (t j) (t (i + j))
-          (entry_is k l i some) (entry_is k l j some) (entry_is k l (i + j) some) (rest_of_sum n i j some) in
+          let h = below_sum k l (i % n) (rest_of i) (j % n) (rest_of j) ((i + j) % n)
+          (rest_of (i + j)) (t i) (t j) (t (i + j))
+          (entry_is k l i some) (entry_is k l j some) (entry_is k l (i + j) some)
+          (rest_of_sum n i j some) in
           omega (arith, ints);
       symmetric = λ i j e.
           let place : (i + j) % n ≡ k = e ∙ mod-eq_of_lt (omega arith) in
           let i_small = mod-lt i some in
           let j_small = mod-lt j some in
-          let h = opposite_sum k l (i % n) (rest_of i) (j % n) (rest_of j) (t i) (t j) (entry_is k l i some) (entry_is k l j some)
-          (omega arith) (omega arith) (subst (λ (q : ℕ). IsRestOfSum n (i % n) (j % n) q) place (rest_of_sum n i j some)) in
+          let h = opposite_sum k l (i % n) (rest_of i) (j % n) (rest_of j) (t i) (t j)
+          (entry_is k l i some) (entry_is k l j some)
+          (omega arith) (omega arith)
+          (subst (λ (q : ℕ). IsRestOfSum n (i % n) (j % n) q) place (rest_of_sum n i j some)) in
           omega (arith, ints);
     }
 
-pub gmic_minimal : (n k : ℕ) → 0 < k → k < n → IsMinimalTable (λ i. pos (gmic_table n k i)) n k (gmic_scale n k)
+pub gmic_minimal : (n k : ℕ) → 0 < k → k < n →
+    IsMinimalTable (λ i. pos (gmic_table n k i)) n k (gmic_scale n k)
 gmic_minimal n k some below =
     let l = n - k in
     let whole : k + l ≡ n = omega arith in
-    subst (λ (m : ℕ). IsMinimalTable (λ i. pos (gmic_table m k i)) m k (k * l)) whole (minimal_in_parts k l some (omega arith))
+    subst (λ (m : ℕ). IsMinimalTable (λ i. pos (gmic_table m k i)) m k (k * l)) whole
+    (minimal_in_parts k l some (omega arith))

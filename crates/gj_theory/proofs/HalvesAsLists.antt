@@ -15,7 +15,8 @@ use Rattle.gj_theory.proofs.PerturbedTables.{halves_of_perturbation}
 use Rattle.gj_theory.proofs.Continuous.{same_minimal_table}
 
 -- the list of the entries over one period has the entries of a table
-pub at_made : (g : ℕ → ℤ) (n : ℕ) → 0 < n → ((i : ℕ) → g (i + n) ≡ g i) → (i : ℕ) → at (map g (range_with_len 0 n)) i ≡ g i
+pub at_made : (g : ℕ → ℤ) (n : ℕ) → 0 < n → ((i : ℕ) → g (i + n) ≡ g i) → (i : ℕ) →
+    at (map g (range_with_len 0 n)) i ≡ g i
 at_made g n some period i =
     let xs = map g (range_with_len 0 n) in
     let len : length xs ≡ n = length-map-range_with_len g 0 n in
@@ -25,7 +26,8 @@ at_made g n some period i =
     ∙ same_at_remainder g n period (i % n) i (mod-mod i n)
 
 -- halves may be replaced by tables with the same entries
-pub same_halves : (t a b a' b' : ℕ → ℤ) (n k s c : ℕ) → ((i : ℕ) → a' i ≡ a i) → ((i : ℕ) → b' i ≡ b i) →
+pub same_halves : (t a b a' b' : ℕ → ℤ) (n k s c : ℕ) → ((i : ℕ) → a' i ≡ a i) →
+    ((i : ℕ) → b' i ≡ b i) →
     AreDifferentHalves t n k s c a b → AreDifferentHalves t n k s c a' b'
 same_halves t a b a' b' n k s c e g h = record {
   factor = h.factor;
@@ -36,9 +38,12 @@ same_halves t a b a' b' n k s c e g h = record {
   different = λ same. h.different (sym (e h.index) ∙ same ∙ g h.index);
 }
 
-pub lists_are_halves : (f : FunctionData) (m : ℕ) (p : ℕ → ℤ) (h : Halves) (i : ℕ) → IsWithinBounds f → IsMinimal f →
-    0 < m → IsPerturbation (table f m) (f.order * m) (f.place * m) p → p i ≢ pos 0 → (halves : AreHalvesOf f m p h) →
-    AreDifferentHalves (table f m) (f.order * m) (f.place * m) (f.scale * m) (3 * halves.p) (at h.first) (at h.second)
+pub lists_are_halves : (f : FunctionData) (m : ℕ) (p : ℕ → ℤ) (h : Halves) (i : ℕ) →
+    IsWithinBounds f → IsMinimal f →
+    0 < m → IsPerturbation (table f m) (f.order * m) (f.place * m) p → p i ≢ pos 0 →
+    (halves : AreHalvesOf f m p h) →
+    AreDifferentHalves (table f m) (f.order * m) (f.place * m) (f.scale * m) (3 * halves.p)
+    (at h.first) (at h.second)
 lists_are_halves f m p h i l minimal some d p_some halves =
     let t = table f m in
     let n = f.order * m in
@@ -49,10 +54,14 @@ lists_are_halves f m p h i l minimal some d p_some halves =
       below = halves.least_slack.least;
     } in
     let made =
-    halves_of_perturbation t p n (f.place * m) (f.scale * m) halves.u halves.p i n_some (minimal m some) d slacks
+    halves_of_perturbation t p n (f.place * m) (f.scale * m) halves.u halves.p i n_some
+    (minimal m some) d slacks
     halves.greatest_size.greatest p_some in
-    same_halves t (raised t p halves.u halves.p) (lowered t p halves.u halves.p) (at h.first) (at h.second) n (f.place * m)
+    same_halves t (raised t p halves.u halves.p) (lowered t p halves.u halves.p) (at h.first)
+    (at h.second) n (f.place * m)
     (f.scale * m) (3 * halves.p)
-    (λ j. ap (λ xs. at xs j) halves.first ∙ at_made (raised t p halves.u halves.p) n n_some made.first.has_period j)
-    (λ j. ap (λ xs. at xs j) halves.second ∙ at_made (lowered t p halves.u halves.p) n n_some made.second.has_period j)
+    (λ j. ap (λ xs. at xs j) halves.first
+    ∙ at_made (raised t p halves.u halves.p) n n_some made.first.has_period j)
+    (λ j. ap (λ xs. at xs j) halves.second
+    ∙ at_made (lowered t p halves.u halves.p) n n_some made.second.has_period j)
     made

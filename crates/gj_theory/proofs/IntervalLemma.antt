@@ -9,7 +9,8 @@ lower_at : (p : ℕ → ℤ) (a b m i j x y z : ℕ) → IsAdditiveOnLower p a b
 lower_at p a b m i j x y z h low first second sum =
     ap₂ (λ u v. p u +ℤ p v) first second ∙ h i j low ∙ ap p (sym sum)
 
-upper_at : (p : ℕ → ℤ) (a b m i j x y z : ℕ) → IsAdditiveOnUpper p a b m → i ≤ m → j ≤ m → m ≤ i + j →
+upper_at : (p : ℕ → ℤ) (a b m i j x y z : ℕ) → IsAdditiveOnUpper p a b m → i ≤ m → j ≤ m →
+    m ≤ i + j →
     x ≡ a + i → y ≡ b + j → z ≡ a + b + i + j → p x +ℤ p y ≡ p z
 upper_at p a b m i j x y z h i_low j_low high first second sum =
     ap₂ (λ u v. p u +ℤ p v) first second ∙ h i j i_low j_low high ∙ ap p (sym sum)
@@ -21,16 +22,21 @@ same_steps x x' y y' s s' e g h = (omega (arith, ints), omega (arith, ints))
 
 -- one place of the lower triangle's run of x against the first step of that of y
 along_lower : (p : ℕ → ℤ) (a b m i : ℕ) → IsAdditiveOnLower p a b m → i < m →
-    (p (a + i + 1) ≡ p (a + i) +ℤ (p (b + 1) -ℤ p b)) × (p (a + b + i + 1) ≡ p (a + b + i) +ℤ (p (b + 1) -ℤ p b))
+    (p (a + i + 1) ≡ p (a + i) +ℤ (p (b + 1) -ℤ p b))
+    × (p (a + b + i + 1) ≡ p (a + b + i) +ℤ (p (b + 1) -ℤ p b))
 along_lower p a b m i h low =
     same_steps _ _ _ _ _ _
-    (lower_at p a b m i 0 (a + i) b (a + b + i) h (omega arith) (omega arith) (omega arith) (omega arith))
-    (lower_at p a b m (i + 1) 0 (a + i + 1) b (a + b + i + 1) h (omega arith) (omega arith) (omega arith) (omega arith))
-    (lower_at p a b m i 1 (a + i) (b + 1) (a + b + i + 1) h (omega arith) (omega arith) (omega arith) (omega arith))
+    (lower_at p a b m i 0 (a + i) b (a + b + i) h (omega arith) (omega arith) (omega arith)
+    (omega arith))
+    (lower_at p a b m (i + 1) 0 (a + i + 1) b (a + b + i + 1) h (omega arith) (omega arith)
+    (omega arith) (omega arith))
+    (lower_at p a b m i 1 (a + i) (b + 1) (a + b + i + 1) h (omega arith) (omega arith)
+    (omega arith) (omega arith))
 
 turned_lower : (p : ℕ → ℤ) (a b m : ℕ) → IsAdditiveOnLower p a b m → IsAdditiveOnLower p b a m
 turned_lower p a b m h i j low =
-    let e = lower_at p a b m j i (a + j) (b + i) (b + a + i + j) h (omega arith) (omega arith) (omega arith) (omega arith) in
+    let e = lower_at p a b m j i (a + j) (b + i) (b + a + i + j) h (omega arith) (omega arith)
+    (omega arith) (omega arith) in
     omega (arith, ints)
 
 pub step_on_lower : (p : ℕ → ℤ) (a b m : ℕ) → IsAdditiveOnLower p a b m →
@@ -40,7 +46,8 @@ step_on_lower p a b m h =
       p (b + 1) -ℤ p b,
       (λ i low. (along_lower p a b m i h low).0),
       (λ i low.
-          let first : p (a + 0 + 1) ≡ p (a + 0) +ℤ (p (b + 1) -ℤ p b) = (along_lower p a b m 0 h (omega arith)).0 in
+          let first : p (a + 0 + 1) ≡ p (a + 0) +ℤ (p (b + 1) -ℤ p b) =
+          (along_lower p a b m 0 h (omega arith)).0 in
           let zero : p (a + 0) ≡ p a = ap p (omega arith) in
           let one : p (a + 0 + 1) ≡ p (a + 1) = ap p (omega arith) in
           let step = (along_lower p b a m i back low).0 in

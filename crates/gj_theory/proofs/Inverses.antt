@@ -35,7 +35,8 @@ combined_step : (a b d : ℕ) → IsCombined b (a % b) d → IsCombined a b d
 combined_step a b d h = record {
   s = h.t;
   t = h.s -ℤ h.t *ℤ pos (a / b);
-  is = h.is ∙ ap (λ z. h.s *ℤ pos b +ℤ h.t *ℤ z) rest ∙ regroup h.s h.t (pos b) (pos a) (pos (a / b));
+  is = h.is ∙ ap (λ z. h.s *ℤ pos b +ℤ h.t *ℤ z) rest
+      ∙ regroup h.s h.t (pos b) (pos a) (pos (a / b));
 }
   where
     rest : pos (a % b) ≡ pos a -ℤ pos (a / b) *ℤ pos b
@@ -46,11 +47,13 @@ combined_step a b d h = record {
 
 combined_within : (steps a b : ℕ) → b ≤ steps → IsCombined a b (gcd_within steps a b)
 unfolding gcd_within
-combined_within zero a b h = subst (λ (c : ℕ). IsCombined a c a) (let e : 0 ≡ b = omega arith in e) (combined_zero a)
+combined_within zero a b h = subst (λ (c : ℕ). IsCombined a c a) (let e : 0 ≡ b = omega arith in e)
+    (combined_zero a)
 combined_within (suc steps) a zero h = combined_zero a
 combined_within (suc steps) a (suc b) h =
     let small : a % suc b ≤ steps = omega arith in
-    combined_step a (suc b) (gcd_within steps (suc b) (a % suc b)) (combined_within steps (suc b) (a % suc b) small)
+    combined_step a (suc b) (gcd_within steps (suc b) (a % suc b))
+    (combined_within steps (suc b) (a % suc b) small)
 
 combined : (a b : ℕ) → IsCombined a b (gcd_of a b)
 unfolding gcd_of
@@ -74,13 +77,15 @@ inverse_exists m x large one =
     let (w, is, low) = residue_below m u some in
     let sum : pos 1 ≡ h.s *ℤ (e *ℤ x) +ℤ h.t *ℤ pos m =
     ap pos (sym one) ∙ h.is ∙ ap (λ z. h.s *ℤ z +ℤ h.t *ℤ pos m) sized in
-    let apart : IsZeroModulo m (u -ℤ pos w) = subst (λ (z : ℤ). IsZeroModulo m (u -ℤ z)) is (residue_same m u some) in
+    let apart : IsZeroModulo m (u -ℤ pos w) =
+    subst (λ (z : ℤ). IsZeroModulo m (u -ℤ z)) is (residue_same m u some) in
     let multiple : IsZeroModulo m (neg_ℤ h.t *ℤ pos m) = (neg_ℤ h.t, refl) in (
       w,
       low,
       zero_is m (pos w *ℤ x -ℤ pos 1) (neg_ℤ h.t *ℤ pos m -ℤ x *ℤ (u -ℤ pos w))
           (ap (λ z. pos w *ℤ x -ℤ z) sum ∙ regroup (pos w) x h.s e h.t (pos m))
-          (zero_difference m (neg_ℤ h.t *ℤ pos m) (x *ℤ (u -ℤ pos w)) multiple (zero_times m x (u -ℤ pos w) apart)),
+          (zero_difference m (neg_ℤ h.t *ℤ pos m) (x *ℤ (u -ℤ pos w)) multiple
+          (zero_times m x (u -ℤ pos w) apart)),
     )
   where
     regroup : (w x s e t m : ℤ) →
@@ -97,10 +102,12 @@ zero_of_divisor d (negsuc n) h =
 
 divisor_of_zero : (d n : ℕ) → IsZeroModulo d (pos n) → d ∣ n
 divisor_of_zero d n (k, is) =
-    divides_product d n (unsigned_abs k) (ap unsigned_abs is ∙ unsigned_abs-mul k (pos d) ∙ mul_comm (unsigned_abs k) d)
+    divides_product d n (unsigned_abs k) (ap unsigned_abs is ∙ unsigned_abs-mul k (pos d)
+    ∙ mul_comm (unsigned_abs k) d)
 
 -- what has an inverse has only 1 in common with m
-pub coprime_of_inverse : (m : ℕ) (w x : ℤ) → IsZeroModulo m (w *ℤ x -ℤ pos 1) → IsGcd (unsigned_abs x) m 1
+pub coprime_of_inverse : (m : ℕ) (w x : ℤ) → IsZeroModulo m (w *ℤ x -ℤ pos 1) →
+    IsGcd (unsigned_abs x) m 1
 coprime_of_inverse m w x (k, is) = (
   one-dvd (unsigned_abs x),
   one-dvd m,
@@ -117,7 +124,8 @@ coprime_of_inverse m w x (k, is) = (
 -- ---- what is found
 
 -- if nothing is found, nothing is there
-pub find_none : {X : Type 0} (p : X → Bool) (xs : List X) → find p xs ≡ None → All (λ x. p x ≡ false) xs
+pub find_none : {X : Type 0} (p : X → Bool) (xs : List X) → find p xs ≡ None →
+    All (λ x. p x ≡ false) xs
 find_none p [] e = All-nil (λ x. p x ≡ false)
 find_none p (y ∷ ys) e = by_test (p y) refl e (find_none p ys)
   where
@@ -127,29 +135,37 @@ find_none p (y ∷ ys) e = by_test (p y) refl e (find_none p ys)
     by_test false t e later = All-cons (λ x. p x ≡ false) y ys t (later e)
 
 -- the residue of the product is 1
-inverts : (m : ℕ) (w : ℕ) (x : ℤ) → 1 < m → IsZeroModulo m (pos w *ℤ x -ℤ pos 1) → residue m (pos w *ℤ x) ≡ pos 1
+inverts : (m : ℕ) (w : ℕ) (x : ℤ) → 1 < m → IsZeroModulo m (pos w *ℤ x -ℤ pos 1) →
+    residue m (pos w *ℤ x) ≡ pos 1
 inverts m w x large h = residue_only m (pos w *ℤ x) 1 large h
 
-inverse_is : (m w : ℕ) (x : ℤ) → 1 < m → inverse m x ≡ Some w → (w < m) × IsZeroModulo m (pos w *ℤ x -ℤ pos 1)
+inverse_is : (m w : ℕ) (x : ℤ) → 1 < m → inverse m x ≡ Some w →
+    (w < m) × IsZeroModulo m (pos w *ℤ x -ℤ pos 1)
 unfolding inverse
 inverse_is m w x large e =
-    let (low, is) = find_has (λ v. v < m) (λ v. int_eq (residue m (pos v *ℤ x)) (pos 1)) (range_with_len 0 m) w
+    let (low, is) = find_has (λ v. v < m) (λ v. int_eq (residue m (pos v *ℤ x)) (pos 1))
+    (range_with_len 0 m) w
     (All-range (λ v. v < m) 0 m (λ i below. omega arith)) e in (
       low,
-      subst (λ (z : ℤ). IsZeroModulo m (pos w *ℤ x -ℤ z)) ((Decides-int_eq (residue m (pos w *ℤ x)) (pos 1)).0 is)
+      subst (λ (z : ℤ). IsZeroModulo m (pos w *ℤ x -ℤ z))
+          ((Decides-int_eq (residue m (pos w *ℤ x)) (pos 1)).0 is)
           (residue_same m (pos w *ℤ x) (omega arith)),
     )
 
-none_inverts : (m w : ℕ) (x : ℤ) → 1 < m → inverse m x ≡ None → w < m → IsZeroModulo m (pos w *ℤ x -ℤ pos 1) → ⊥
+none_inverts : (m w : ℕ) (x : ℤ) → 1 < m → inverse m x ≡ None → w < m →
+    IsZeroModulo m (pos w *ℤ x -ℤ pos 1) → ⊥
 unfolding inverse
 none_inverts m w x large e low h =
     let len = length-range_with_len 0 m in
     let all = find_none (λ v. int_eq (residue m (pos v *ℤ x)) (pos 1)) (range_with_len 0 m) e in
-    let place : get_or (range_with_len 0 m) w 0 ≡ w = get_or-range_with_len 0 m w 0 low ∙ omega arith in
+    let place : get_or (range_with_len 0 m) w 0 ≡ w = get_or-range_with_len 0 m w 0 low
+    ∙ omega arith in
     let apart : int_eq (residue m (pos w *ℤ x)) (pos 1) ≡ false =
     subst (λ (v : ℕ). int_eq (residue m (pos v *ℤ x)) (pos 1) ≡ false) place
-    (All-get_or (λ v. int_eq (residue m (pos v *ℤ x)) (pos 1) ≡ false) (range_with_len 0 m) w 0 (omega arith) all) in
-    not_from_Decides _ (Decides-int_eq (residue m (pos w *ℤ x)) (pos 1)) apart (inverts m w x large h)
+    (All-get_or (λ v. int_eq (residue m (pos v *ℤ x)) (pos 1) ≡ false) (range_with_len 0 m) w 0
+    (omega arith) all) in
+    not_from_Decides _ (Decides-int_eq (residue m (pos w *ℤ x)) (pos 1)) apart
+    (inverts m w x large h)
 
 -- two inverses are the same
 same_inverse : (m v w : ℕ) (x : ℤ) → v < m → w < m → IsZeroModulo m (pos v *ℤ x -ℤ pos 1) →
@@ -159,27 +175,33 @@ same_inverse m v w x v_low w_low first second =
     (zero_is m (pos v -ℤ pos w) (pos w *ℤ (pos v *ℤ x -ℤ pos 1) -ℤ pos v *ℤ (pos w *ℤ x -ℤ pos 1))
     (regroup (pos v) (pos w) x)
     (zero_difference m (pos w *ℤ (pos v *ℤ x -ℤ pos 1)) (pos v *ℤ (pos w *ℤ x -ℤ pos 1))
-    (zero_times m (pos w) (pos v *ℤ x -ℤ pos 1) first) (zero_times m (pos v) (pos w *ℤ x -ℤ pos 1) second)))
+    (zero_times m (pos w) (pos v *ℤ x -ℤ pos 1) first)
+    (zero_times m (pos v) (pos w *ℤ x -ℤ pos 1) second)))
   where
     regroup : (v w x : ℤ) → v -ℤ w ≡ w *ℤ (v *ℤ x -ℤ pos 1) -ℤ v *ℤ (w *ℤ x -ℤ pos 1)
     regroup v w x = by_ring (v ∷ w ∷ x ∷ []) (search ring depth 20) refl
 
-pub inverse_found : (m : ℕ) (x : ℤ) → 1 < m → IfSome (inverse m x) (λ w. (w < m) × IsZeroModulo m (pos w *ℤ x -ℤ pos 1))
+pub inverse_found : (m : ℕ) (x : ℤ) → 1 < m →
+    IfSome (inverse m x) (λ w. (w < m) × IsZeroModulo m (pos w *ℤ x -ℤ pos 1))
 inverse_found m x large = by_case (inverse m x) refl
   where
-    by_case : (o : Option ℕ) → inverse m x ≡ o → IfSome o (λ w. (w < m) × IsZeroModulo m (pos w *ℤ x -ℤ pos 1))
+    by_case : (o : Option ℕ) → inverse m x ≡ o →
+        IfSome o (λ w. (w < m) × IsZeroModulo m (pos w *ℤ x -ℤ pos 1))
     by_case None e = tt
     by_case (Some w) e = inverse_is m w x large e
 
-pub inverse_only : (m w : ℕ) (x : ℤ) → 1 < m → w < m → IsZeroModulo m (pos w *ℤ x -ℤ pos 1) → inverse m x ≡ Some w
+pub inverse_only : (m w : ℕ) (x : ℤ) → 1 < m → w < m → IsZeroModulo m (pos w *ℤ x -ℤ pos 1) →
+    inverse m x ≡ Some w
 inverse_only m w x large low h = by_case (inverse m x) refl
   where
     by_case : (o : Option ℕ) → inverse m x ≡ o → o ≡ Some w
     by_case None e = absurd (none_inverts m w x large e low h)
     by_case (Some v) e =
-        let (v_low, v_is) = inverse_is m v x large e in ap Some (same_inverse m v w x v_low low v_is h)
+        let (v_low, v_is) = inverse_is m v x large e in
+        ap Some (same_inverse m v w x v_low low v_is h)
 
-pub inverse_none : (m : ℕ) (x : ℤ) → 1 < m → ((inverse m x ≡ None) ↔ (gcd_of (unsigned_abs x) m ≢ 1))
+pub inverse_none : (m : ℕ) (x : ℤ) → 1 < m →
+    ((inverse m x ≡ None) ↔ (gcd_of (unsigned_abs x) m ≢ 1))
 inverse_none m x large = (
   λ e one. let (w, low, h) = inverse_exists m x large one in none_inverts m w x large e low h,
   λ apart. by_case apart (inverse m x) refl,
@@ -188,4 +210,5 @@ inverse_none m x large = (
     by_case : gcd_of (unsigned_abs x) m ≢ 1 → (o : Option ℕ) → inverse m x ≡ o → o ≡ None
     by_case apart None e = refl
     by_case apart (Some w) e =
-        absurd (apart (sym (gcd_is_gcd_of (unsigned_abs x) m 1 (coprime_of_inverse m (pos w) x (inverse_is m w x large e).1))))
+        absurd (apart (sym (gcd_is_gcd_of (unsigned_abs x) m 1
+        (coprime_of_inverse m (pos w) x (inverse_is m w x large e).1))))

@@ -18,7 +18,8 @@ use Rattle.gj_theory.proofs.Everywhere.{everywhere}
 -- ---- from 0 to the scale
 
 -- what holds of each entry one further on than an index below the length
-pub each_below : (P : ℤ → Type 0) (xs : List ℤ) (n : ℕ) → length xs ≡ n → ((i : ℕ) → i < n → P (at xs (i + 1))) →
+pub each_below : (P : ℤ → Type 0) (xs : List ℤ) (n : ℕ) → length xs ≡ n →
+    ((i : ℕ) → i < n → P (at xs (i + 1))) →
     (i : ℕ) → i < n → P (at xs i)
 each_below P xs n len h zero below =
     let last : n - 1 + 1 ≡ 0 + length xs = omega arith in
@@ -47,16 +48,21 @@ at_most x y s e low = omega (arith, ints)
 pub are_bounded : (f : FunctionData) → IsWithinBounds f → PassesSymmetry f → AreBounded f
 are_bounded f l h =
     let some : 0 < f.order = omega arith in
-    let values = everywhere (λ z. pos 0 ≤ℤ z) f.value f.order l.value_length some h.mirrors.signs.values.nonnegative in
-    let lefts = everywhere_after (λ z. pos 0 ≤ℤ z) f.left f.order l.left_length some h.mirrors.signs.before in
-    let rights = everywhere (λ z. pos 0 ≤ℤ z) f.right f.order l.right_length some h.mirrors.signs.after in
+    let values = everywhere (λ z. pos 0 ≤ℤ z) f.value f.order l.value_length some
+    h.mirrors.signs.values.nonnegative in
+    let lefts = everywhere_after (λ z. pos 0 ≤ℤ z) f.left f.order l.left_length some
+    h.mirrors.signs.before in
+    let rights = everywhere (λ z. pos 0 ≤ℤ z) f.right f.order l.right_length some
+    h.mirrors.signs.after in
     record {
       value_low = values;
       value_high = everywhere (λ z. z ≤ℤ pos f.scale) f.value f.order l.value_length some
-          (λ i below. at_most _ _ f.scale (h.mirrors.symmetric i below) (values (f.place + (f.order - i))));
+          (λ i below. at_most _ _ f.scale (h.mirrors.symmetric i below)
+          (values (f.place + (f.order - i))));
       left_low = lefts;
       left_high = everywhere_after (λ z. z ≤ℤ pos f.scale) f.left f.order l.left_length some
-          (λ i below. at_most _ _ f.scale (h.between i below).1 (rights (f.place + (f.order - (i + 1)))));
+          (λ i below. at_most _ _ f.scale (h.between i below).1
+          (rights (f.place + (f.order - (i + 1)))));
       right_low = rights;
       right_high = everywhere (λ z. z ≤ℤ pos f.scale) f.right f.order l.right_length some
           (λ i below. at_most _ _ f.scale (h.between i below).0 (lefts (f.place + (f.order - i))));
@@ -71,7 +77,8 @@ max_zero x y m e = (λ h. (omega arith, omega arith), λ h. omega arith)
 -- the limits at the corners of all faces of the square (a, b) pass
 abbrev pub PassesAt : FunctionData → ℕ → ℕ → Type 0
 PassesAt f a b =
-    (kind : FaceKind) (c : ℕ) → c < length (corners_of kind a b) → Passes f (subadditive_at kind a b c)
+    (kind : FaceKind) (c : ℕ) → c < length (corners_of kind a b) →
+    Passes f (subadditive_at kind a b c)
 
 -- what holds at one, two or three corners
 one_corner : (P : ℕ → Type 0) → P 0 → (c : ℕ) → c < 1 → P c
@@ -90,12 +97,14 @@ swapped x y s t e h = omega (arith, ints)
 -- so the slack at (b/q, a/q) is that at (a/q, b/q)
 pub mirrored_vertex : (f : FunctionData) (a b : ℕ) → Passes f (subadditive_at Vertex a b 0) →
     Passes f (subadditive_at Vertex b a 0)
-mirrored_vertex f a b h = swapped (at f.value a) (at f.value b) _ _ (ap (at f.value) (add_comm a b)) h
+mirrored_vertex f a b h =
+    swapped (at f.value a) (at f.value b) _ _ (ap (at f.value) (add_comm a b)) h
 
 -- and the limits in the square (b, a) are those in the square (a, b)
 pub mirrored_square : (f : FunctionData) (a b : ℕ) → PassesAt f a b → PassesAt f b a
 mirrored_square f a b h Vertex =
-    one_corner (λ c. Passes f (subadditive_at Vertex b a c)) (mirrored_vertex f a b (h Vertex 0 (lit< tt)))
+    one_corner (λ c. Passes f (subadditive_at Vertex b a c))
+    (mirrored_vertex f a b (h Vertex 0 (lit< tt)))
 mirrored_square f a b h Horizontal =
     let sum = λ (xs : List ℤ). ap (at xs) (add_comm a b) in
     let next = λ (xs : List ℤ). ap (λ i. at xs (i + 1)) (add_comm a b) in
@@ -142,15 +151,18 @@ pub record FitLanes (left value right : ℕ → ℕ) (a b : ℕ) : Type 0 where
   pub horizontal : (right (a + b) ≤ right a + value b) × (left (a + b) ≤ left a + value b)
   pub vertical : (right (a + b) ≤ value a + right b) × (left (a + b) ≤ value a + left b)
   pub diagonal : (value (a + b + 1) ≤ left a + right b) × (value (a + b + 1) ≤ right a + left b)
-  pub lower : (right (a + b) ≤ right a + right b) × (left (a + b) ≤ left a + right b) × (left (a + b) ≤ right a + left b)
+  pub lower : (right (a + b) ≤ right a + right b) × (left (a + b) ≤ left a + right b)
+      × (left (a + b) ≤ right a + left b)
   pub upper : (right (a + b + 1) ≤ left a + right b) × (right (a + b + 1) ≤ right a + left b)
       × (left (a + b + 1) ≤ left a + left b)
 
 -- the same, by where the sum is: at the sum of the indices, before and at the next index, and
 -- before the one after that
 pub record FitAtSums (left value right : ℕ → ℕ) (a b : ℕ) : Type 0 where
-  pub at_sum : (right (a + b) ≤ right a + value b) × (right (a + b) ≤ min (right a) (value a) + right b)
-  pub before_next : (left (a + b) ≤ left a + min (value b) (right b)) × (left (a + b) ≤ min (right a) (value a) + left b)
+  pub at_sum : (right (a + b) ≤ right a + value b)
+      × (right (a + b) ≤ min (right a) (value a) + right b)
+  pub before_next : (left (a + b) ≤ left a + min (value b) (right b))
+      × (left (a + b) ≤ min (right a) (value a) + left b)
   pub at_next : (max (value (a + b + 1)) (right (a + b + 1)) ≤ left a + right b)
       × (max (value (a + b + 1)) (right (a + b + 1)) ≤ right a + left b)
   pub before_last : left (a + b + 1) ≤ left a + left b
@@ -164,13 +176,17 @@ min_above_first s t x y = (λ h. (omega arith, omega arith), λ h. omega arith)
 max_below : (x y t : ℕ) → (max x y ≤ t) ↔ ((x ≤ t) × (y ≤ t))
 max_below x y t = (λ h. (omega arith, omega arith), λ h. omega arith)
 
-pub fit_from_sums : (left value right : ℕ → ℕ) (a b : ℕ) → FitAtSums left value right a b → FitLanes left value right a b
+pub fit_from_sums : (left value right : ℕ → ℕ) (a b : ℕ) → FitAtSums left value right a b →
+    FitLanes left value right a b
 fit_from_sums left value right a b h =
     let sum = (min_above_first (right (a + b)) (right b) (right a) (value a)).0 h.at_sum.1 in
     let next = (min_above (left (a + b)) (left a) (value b) (right b)).0 h.before_next.0 in
-    let next_first = (min_above_first (left (a + b)) (left b) (right a) (value a)).0 h.before_next.1 in
-    let across = (max_below (value (a + b + 1)) (right (a + b + 1)) (left a + right b)).0 h.at_next.0 in
-    let across_first = (max_below (value (a + b + 1)) (right (a + b + 1)) (right a + left b)).0 h.at_next.1 in
+    let next_first = (min_above_first (left (a + b)) (left b) (right a) (value a)).0
+    h.before_next.1 in
+    let across = (max_below (value (a + b + 1)) (right (a + b + 1)) (left a + right b)).0
+    h.at_next.0 in
+    let across_first = (max_below (value (a + b + 1)) (right (a + b + 1)) (right a + left b)).0
+    h.at_next.1 in
     record {
       horizontal = (h.at_sum.0, next.0);
       vertical = (sum.1, next_first.1);
@@ -179,7 +195,8 @@ fit_from_sums left value right a b h =
       upper = (across.1, across_first.1, h.before_last);
     }
 
-pub fit_at_sums : (left value right : ℕ → ℕ) (a b : ℕ) → FitLanes left value right a b → FitAtSums left value right a b
+pub fit_at_sums : (left value right : ℕ → ℕ) (a b : ℕ) → FitLanes left value right a b →
+    FitAtSums left value right a b
 fit_at_sums left value right a b h = record {
   at_sum = (
     h.horizontal.0,
@@ -190,8 +207,10 @@ fit_at_sums left value right a b h = record {
     (min_above_first (left (a + b)) (left b) (right a) (value a)).1 (h.lower.2, h.vertical.1),
   );
   at_next = (
-    (max_below (value (a + b + 1)) (right (a + b + 1)) (left a + right b)).1 (h.diagonal.0, h.upper.0),
-    (max_below (value (a + b + 1)) (right (a + b + 1)) (right a + left b)).1 (h.diagonal.1, h.upper.1),
+    (max_below (value (a + b + 1)) (right (a + b + 1)) (left a + right b)).1
+        (h.diagonal.0, h.upper.0),
+    (max_below (value (a + b + 1)) (right (a + b + 1)) (right a + left b)).1
+        (h.diagonal.1, h.upper.1),
   );
   before_last = h.upper.2;
 }
@@ -201,7 +220,8 @@ slack_of_lanes : (x y s : ℕ) (u v t : ℤ) → pos x ≡ u → pos y ≡ v →
 slack_of_lanes x y s u v t e g h = (λ fits. omega (arith, ints), λ fits. omega (arith, ints))
 
 -- the test at a vertex
-pub vertex_of_lanes : (f : FunctionData) (value : ℕ → ℕ) (n a b : ℕ) → ((i : ℕ) → i < n → pos (value i) ≡ at f.value i) →
+pub vertex_of_lanes : (f : FunctionData) (value : ℕ → ℕ) (n a b : ℕ) →
+    ((i : ℕ) → i < n → pos (value i) ≡ at f.value i) →
     a + b < n → (value (a + b) ≤ value a + value b) ↔ Passes f (subadditive_at Vertex a b 0)
 vertex_of_lanes f value n a b has below =
     slack_of_lanes _ _ _ _ _ _ (has a (omega arith)) (has b (omega arith)) (has (a + b) below)
@@ -221,7 +241,8 @@ record AreTested (f : FunctionData) (left value right : ℕ → ℕ) (a b : ℕ)
   upper_second : (right (a + b + 1) ≤ right a + left b) ↔ Passes f (subadditive_at Upper a b 1)
   upper : (left (a + b + 1) ≤ left a + left b) ↔ Passes f (subadditive_at Upper a b 2)
 
-are_tested : (f : FunctionData) (left value right : ℕ → ℕ) (n a b : ℕ) → HasLanes f left value right n →
+are_tested : (f : FunctionData) (left value right : ℕ → ℕ) (n a b : ℕ) →
+    HasLanes f left value right n →
     a + b + 1 < n → AreTested f left value right a b
 are_tested f left value right n a b has below =
     let first : a < n = omega arith in
@@ -248,7 +269,8 @@ are_tested f left value right n a b has below =
       upper = slack_of_lanes _ _ _ _ _ _ l l' (has.lefts (a + b + 1) below);
     }
 
-each_passes : (f : FunctionData) (left value right : ℕ → ℕ) (a b : ℕ) → AreTested f left value right a b →
+each_passes : (f : FunctionData) (left value right : ℕ → ℕ) (a b : ℕ) →
+    AreTested f left value right a b →
     Passes f (subadditive_at Vertex a b 0) → FitLanes left value right a b → PassesAt f a b
 each_passes f left value right a b t vertex fit Vertex =
     one_corner (λ c. Passes f (subadditive_at Vertex a b c)) vertex
@@ -262,25 +284,33 @@ each_passes f left value right a b t vertex fit Diagonal =
     two_corners (λ c. Passes f (subadditive_at Diagonal a b c)) (t.diagonal.0 fit.diagonal.0)
     (t.diagonal_end.0 fit.diagonal.1)
 each_passes f left value right a b t vertex fit Lower =
-    three_corners (λ c. Passes f (subadditive_at Lower a b c)) (t.lower.0 fit.lower.0) (t.lower_first.0 fit.lower.1)
+    three_corners (λ c. Passes f (subadditive_at Lower a b c)) (t.lower.0 fit.lower.0)
+    (t.lower_first.0 fit.lower.1)
     (t.lower_second.0 fit.lower.2)
 each_passes f left value right a b t vertex fit Upper =
     three_corners (λ c. Passes f (subadditive_at Upper a b c)) (t.upper_first.0 fit.upper.0)
     (t.upper_second.0 fit.upper.1) (t.upper.0 fit.upper.2)
 
 -- the tests in a square pass if no limit is negative over lanes
-pub square_passes : (f : FunctionData) (left value right : ℕ → ℕ) (n a b : ℕ) → HasLanes f left value right n →
-    a + b + 1 < n → Passes f (subadditive_at Vertex a b 0) → FitLanes left value right a b → PassesAt f a b
+pub square_passes : (f : FunctionData) (left value right : ℕ → ℕ) (n a b : ℕ) →
+    HasLanes f left value right n →
+    a + b + 1 < n → Passes f (subadditive_at Vertex a b 0) → FitLanes left value right a b →
+    PassesAt f a b
 square_passes f left value right n a b has below =
     each_passes f left value right a b (are_tested f left value right n a b has below)
 
 -- and only there
-pub square_fits : (f : FunctionData) (left value right : ℕ → ℕ) (n a b : ℕ) → HasLanes f left value right n →
+pub square_fits : (f : FunctionData) (left value right : ℕ → ℕ) (n a b : ℕ) →
+    HasLanes f left value right n →
     a + b + 1 < n → PassesAt f a b → FitLanes left value right a b
 square_fits f left value right n a b has below h =
     let t = are_tested f left value right n a b has below in
     record {
-      horizontal = (t.horizontal.1 (h Horizontal 0 (lit< tt)), t.horizontal_end.1 (h Horizontal 1 (lit< tt)));
+      horizontal = (
+        t.horizontal.1 (h Horizontal 0 (lit< tt)),
+        t.horizontal_end.1
+            (h Horizontal 1 (lit< tt)),
+      );
       vertical = (t.vertical.1 (h Vertical 0 (lit< tt)), t.vertical_end.1 (h Vertical 1 (lit< tt)));
       diagonal = (t.diagonal.1 (h Diagonal 0 (lit< tt)), t.diagonal_end.1 (h Diagonal 1 (lit< tt)));
       lower = (
@@ -304,8 +334,10 @@ vertex_anywhere : (f : FunctionData) → IsWithinBounds f →
 vertex_anywhere f l h a b =
     let n = f.order in
     let some : 0 < f.order = omega (arith, l.order_low) in
-    let first : at f.value (a % n) ≡ at f.value a = at_wrapped f.value a (a % n) n l.value_length refl in
-    let second : at f.value (b % n) ≡ at f.value b = at_wrapped f.value b (b % n) n l.value_length refl in
+    let first : at f.value (a % n) ≡ at f.value a =
+    at_wrapped f.value a (a % n) n l.value_length refl in
+    let second : at f.value (b % n) ≡ at f.value b =
+    at_wrapped f.value b (b % n) n l.value_length refl in
     let sum : at f.value (a % n + b % n) ≡ at f.value (a + b) =
     sym (at_wrapped f.value (a % n + b % n) ((a + b) % n) n l.value_length (add-mod a b n))
     ∙ at_wrapped f.value (a + b) ((a + b) % n) n l.value_length refl in
@@ -314,7 +346,8 @@ vertex_anywhere f l h a b =
 
 -- so all limits pass, since they are slacks at grid points
 pub continuous_square : (f : FunctionData) → IsWithinBounds f → IsContinuous f →
-    ((a b : ℕ) → a < f.order → b < f.order → Passes f (subadditive_at Vertex a b 0)) → (a b : ℕ) → PassesAt f a b
+    ((a b : ℕ) → a < f.order → b < f.order → Passes f (subadditive_at Vertex a b 0)) → (a b : ℕ) →
+    PassesAt f a b
 continuous_square f l continuous h a b kind c below =
     let corners = corners_of kind a b in
     let corner = get_or corners c (0, 0) in

@@ -23,7 +23,8 @@ equal_turned x y = by_test (eqb x y) refl
     by_test : (b : Bool) → eqb x y ≡ b → eqb x y ≡ eqb y x
     by_test true t = t ∙ sym (eq-eqb y x (sym ((Decides-eqb x y).0 t)))
     by_test false t =
-        t ∙ sym (never_true (eqb y x) (λ u. let v = eq-eqb x y (sym ((Decides-eqb y x).0 u)) in absurd cc))
+        t ∙ sym (never_true (eqb y x) (λ u. let v = eq-eqb x y (sym ((Decides-eqb y x).0 u)) in
+        absurd cc))
 
 equal_laws : IsEquivalence eqb
 equal_laws = record {
@@ -35,12 +36,15 @@ equal_laws = record {
 abbrev pub intervals_of : List CoverLine → List ℕ
 intervals_of lines = map (λ l. l.interval) lines
 
-line_listed : (lines : List CoverLine) (i : ℕ) → list_any (eqb i) (intervals_of lines) ≡ true → HasCoverLine lines i
+line_listed : (lines : List CoverLine) (i : ℕ) → list_any (eqb i) (intervals_of lines) ≡ true →
+    HasCoverLine lines i
 line_listed [] i e = absurd cc
 line_listed (l ∷ lines) i e = by_test (eqb i l.interval) refl e (line_listed lines i)
   where
-    by_test : (b : Bool) → eqb i l.interval ≡ b → (b || list_any (eqb i) (intervals_of lines)) ≡ true →
-        (list_any (eqb i) (intervals_of lines) ≡ true → HasCoverLine lines i) → HasCoverLine (l ∷ lines) i
+    by_test : (b : Bool) → eqb i l.interval ≡ b → (b || list_any (eqb i) (intervals_of lines))
+        ≡ true →
+        (list_any (eqb i) (intervals_of lines) ≡ true → HasCoverLine lines i) →
+        HasCoverLine (l ∷ lines) i
     by_test true t e later = (0, l, omega arith, refl, sym ((Decides-eqb i l.interval).0 t))
     by_test false t e later = one_further (later e)
       where
@@ -52,60 +56,76 @@ unfolding IsDistinct
 none_distinct = tt
 
 -- no two lines have one interval
-intervals_distinct : (q : ℕ) (Tight : ℕ → ℕ → Type 0) (lines : List CoverLine) → MeetsCoverRules q Tight lines →
-    (front rest : List CoverLine) → lines ≡ front ++ rest → IsDistinct eqb (intervals_of front) → IsDistinct eqb (intervals_of lines)
+intervals_distinct : (q : ℕ) (Tight : ℕ → ℕ → Type 0) (lines : List CoverLine) →
+    MeetsCoverRules q Tight lines →
+    (front rest : List CoverLine) → lines ≡ front ++ rest → IsDistinct eqb (intervals_of front) →
+    IsDistinct eqb (intervals_of lines)
 intervals_distinct q Tight lines rules front [] place h =
-    subst (λ (ls : List CoverLine). IsDistinct eqb (intervals_of ls)) (sym (place ∙ append-nil front)) h
+    subst (λ (ls : List CoverLine). IsDistinct eqb (intervals_of ls))
+    (sym (place ∙ append-nil front)) h
 intervals_distinct q Tight lines rules front (l ∷ rest) place h =
-    intervals_distinct q Tight lines rules (front ++ l ∷ []) rest (place ∙ sym (append_assoc front (l ∷ []) rest))
+    intervals_distinct q Tight lines rules (front ++ l ∷ []) rest
+    (place ∙ sym (append_assoc front (l ∷ []) rest))
     (subst (IsDistinct eqb) (sym (map_push (λ m. m.interval) front l))
     (IsDistinct-push equal_laws (intervals_of front) l.interval h
     (never_true (list_any (eqb l.interval) (intervals_of front))
     (λ t. (rules front l rest place).new (line_listed front l.interval t)))))
 
-pub line_for_each : (q : ℕ) (Tight : ℕ → ℕ → Type 0) (lines : List CoverLine) → MeetsCoverRules q Tight lines →
+pub line_for_each : (q : ℕ) (Tight : ℕ → ℕ → Type 0) (lines : List CoverLine) →
+    MeetsCoverRules q Tight lines →
     All (λ l. l.interval < q) lines → length lines ≡ q → (i : ℕ) → i < q → HasCoverLine lines i
-line_for_each q Tight lines rules below long i low = by_test (list_any (eqb i) (intervals_of lines)) refl
+line_for_each q Tight lines rules below long i low =
+    by_test (list_any (eqb i) (intervals_of lines)) refl
   where
     by_test : (b : Bool) → list_any (eqb i) (intervals_of lines) ≡ b → HasCoverLine lines i
     by_test true t = line_listed lines i t
     by_test false t =
         let xs : List ℕ = intervals_of lines in
         let distinct =
-        IsDistinct-push equal_laws xs i (intervals_distinct q Tight lines rules [] lines refl none_distinct) t in
+        IsDistinct-push equal_laws xs i
+        (intervals_distinct q Tight lines rules [] lines refl none_distinct) t in
         let within =
         All-push (λ x. x < q) xs i (All-map (λ x. x < q) (λ l. l.interval) lines below) low in
         let count =
-        length-le_from_distinct_below (xs ++ i ∷ []) q distinct (λ p has. below_from_any q (xs ++ i ∷ []) p within has) in
+        length-le_from_distinct_below (xs ++ i ∷ []) q distinct
+        (λ p has. below_from_any q (xs ++ i ∷ []) p within has) in
         let more = length_push xs i in
         let len = length-map lines (λ l. l.interval) in
         absurd (omega arith)
 
-listed_line : (lines : List CoverLine) (i : ℕ) → HasCoverLine lines i → list_any (eqb i) (intervals_of lines) ≡ true
+listed_line : (lines : List CoverLine) (i : ℕ) → HasCoverLine lines i →
+    list_any (eqb i) (intervals_of lines) ≡ true
 listed_line lines i line = by_test (list_any (eqb i) (intervals_of lines)) refl
   where
-    none : (ls : List CoverLine) → list_any (eqb i) (intervals_of ls) ≡ false → HasCoverLine ls i → ⊥
+    none : (ls : List CoverLine) → list_any (eqb i) (intervals_of ls) ≡ false → HasCoverLine ls i →
+        ⊥
     none [] e (k, m, low, there, is) = absurd (omega arith)
     none (l ∷ ls) e (zero, m, low, there, is) =
-        let same : eqb i l.interval ≡ true = eq-eqb i l.interval (sym is ∙ sym (ap (λ x. x.interval) there)) in absurd cc
-    none (l ∷ ls) e (suc k, m, low, there, is) = further (eqb i l.interval) e (λ f. none ls f (k, m, omega arith, there, is))
+        let same : eqb i l.interval ≡ true =
+        eq-eqb i l.interval (sym is ∙ sym (ap (λ x. x.interval) there)) in absurd cc
+    none (l ∷ ls) e (suc k, m, low, there, is) =
+        further (eqb i l.interval) e (λ f. none ls f (k, m, omega arith, there, is))
       where
-        further : (b : Bool) → (b || list_any (eqb i) (intervals_of ls)) ≡ false → (list_any (eqb i) (intervals_of ls) ≡ false → ⊥) → ⊥
+        further : (b : Bool) → (b || list_any (eqb i) (intervals_of ls)) ≡ false →
+            (list_any (eqb i) (intervals_of ls) ≡ false → ⊥) → ⊥
         further true e later = absurd cc
         further false e later = later e
 
-    by_test : (b : Bool) → list_any (eqb i) (intervals_of lines) ≡ b → list_any (eqb i) (intervals_of lines) ≡ true
+    by_test : (b : Bool) → list_any (eqb i) (intervals_of lines) ≡ b →
+        list_any (eqb i) (intervals_of lines) ≡ true
     by_test true t = t
     by_test false t = absurd (none lines t line)
 
 -- if each interval has a line, there are as many lines as intervals
-pub lines_for_all : (q : ℕ) (Tight : ℕ → ℕ → Type 0) (lines : List CoverLine) → MeetsCoverRules q Tight lines →
+pub lines_for_all : (q : ℕ) (Tight : ℕ → ℕ → Type 0) (lines : List CoverLine) →
+    MeetsCoverRules q Tight lines →
     All (λ l. l.interval < q) lines → ((i : ℕ) → i < q → HasCoverLine lines i) → length lines ≡ q
 lines_for_all q Tight lines rules below each =
     let xs : List ℕ = intervals_of lines in
     let within : All (λ x. x < q) xs = All-map (λ x. x < q) (λ l. l.interval) lines below in
     let few =
-    length-le_from_distinct_below xs q (intervals_distinct q Tight lines rules [] lines refl none_distinct)
+    length-le_from_distinct_below xs q
+    (intervals_distinct q Tight lines rules [] lines refl none_distinct)
     (λ p has. below_from_any q xs p within has) in
     let many = le-length_from_below xs q (λ i low. listed_line lines i (each i low)) in
     let len = length-map lines (λ l. l.interval) in

@@ -20,13 +20,16 @@ joined_each : {X : Type 0} (P : X → Type 0) (g : ℕ → List X) (a n i : ℕ)
     All P (flat_map g (range_with_len a n)) → All P (g i)
 joined_each P g a zero i low high all = absurd (omega arith)
 joined_each P g a (suc n) i low high all = elim (cases_eq i a) [
-  | inl e ↦ subst (λ (k : ℕ). All P (g k)) (sym e) (All-front P (g a) (flat_map g (range_with_len (a + 1) n)) all)
+  | inl e ↦ subst (λ (k : ℕ). All P (g k)) (sym e)
+      (All-front P (g a) (flat_map g (range_with_len (a + 1) n)) all)
   | inr other ↦
-      joined_each P g (a + 1) n i (omega arith) (omega arith) (All-back P (g a) (flat_map g (range_with_len (a + 1) n)) all)
+      joined_each P g (a + 1) n i (omega arith) (omega arith)
+      (All-back P (g a) (flat_map g (range_with_len (a + 1) n)) all)
 ]
 
 -- what holds of all elements made from the numbers of a range that pass a test holds of each
-filtered_each : {X : Type 0} (P : X → Type 0) (h : ℕ → X) (test : ℕ → Bool) (a n i : ℕ) → a ≤ i → i < a + n →
+filtered_each : {X : Type 0} (P : X → Type 0) (h : ℕ → X) (test : ℕ → Bool) (a n i : ℕ) → a ≤ i →
+    i < a + n →
     test i ≡ true → All P (map h (filter test (range_with_len a n))) → P (h i)
 filtered_each P h test a zero i low high passes all = absurd (omega arith)
 filtered_each P h test a (suc n) i low high passes all = elim (cases_eq i a) [
@@ -47,7 +50,8 @@ filtered_each P h test a (suc n) i low high passes all = elim (cases_eq i a) [
     later false here = here
 
 -- what holds of all holds of the one of a pair
-pub pair_of_all : {X : Type 0} (P : X → Type 0) (g : ℕ → ℕ → X) (test : ℕ → ℕ → Bool) (n : ℕ) → All P (made_of_pairs g test n) →
+pub pair_of_all : {X : Type 0} (P : X → Type 0) (g : ℕ → ℕ → X) (test : ℕ → ℕ → Bool) (n : ℕ) →
+    All P (made_of_pairs g test n) →
     (a b : ℕ) → 1 ≤ a → a ≤ b → b < n → test a b ≡ true → P (g a b)
 pair_of_all P g test n all a b low up high passes =
     filtered_each P (g a) (test a) a (n - a) b up (omega arith) passes
@@ -55,11 +59,13 @@ pair_of_all P g test n all a b low up high passes =
 
 -- ---- all
 
-made_with_all : {X : Type 0} (P : X → Type 0) (g : ℕ → ℕ → X) (test : ℕ → ℕ → Bool) (n a : ℕ) → a < 1 + (n - 1) →
+made_with_all : {X : Type 0} (P : X → Type 0) (g : ℕ → ℕ → X) (test : ℕ → ℕ → Bool) (n a : ℕ) →
+    a < 1 + (n - 1) →
     ((b : ℕ) → a < n → b < n → test a b ≡ true → P (g a b)) → All P (made_with g test n a)
 made_with_all P g test n a low each =
     let numbers = range_with_len a (n - a) in
-    let range : All (λ b. b < n) numbers = All-range (λ b. b < n) a (n - a) (λ b below. omega arith) in
+    let range : All (λ b. b < n) numbers =
+    All-range (λ b. b < n) a (n - a) (λ b below. omega arith) in
     let within = All-filter (test a) (λ b. b < n) numbers range in
     let passes = filter_passes (test a) numbers in
     All-map P (g a) (filter (test a) numbers)
@@ -71,4 +77,5 @@ made_with_all P g test n a low each =
 pub all_pairs : {X : Type 0} (P : X → Type 0) (g : ℕ → ℕ → X) (test : ℕ → ℕ → Bool) (n : ℕ) →
     ((a b : ℕ) → a < n → b < n → test a b ≡ true → P (g a b)) → All P (made_of_pairs g test n)
 all_pairs P g test n each =
-    All-joined P (made_with g test n) 1 (n - 1) (λ a below. made_with_all P g test n a below (λ b. each a b))
+    All-joined P (made_with g test n) 1 (n - 1)
+    (λ a below. made_with_all P g test n a below (λ b. each a b))

@@ -17,14 +17,16 @@ pub later_passes : (x : ℤ) (xs : List ℤ) → Passes xs → Passes (x ∷ xs)
 later_passes x xs h = (suc h.0, h.1, omega (arith, h.2), h.3, h.4)
 
 pub passes_cases : (x : ℤ) (xs : List ℤ) → Passes (x ∷ xs) → (2 ^ 127 ≤ unsigned_abs x) ⊎ Passes xs
-passes_cases x xs (zero, y, below, is, h) = inl (subst (λ (z : ℤ). 2 ^ 127 ≤ unsigned_abs z) (sym is) h)
+passes_cases x xs (zero, y, below, is, h) =
+    inl (subst (λ (z : ℤ). 2 ^ 127 ≤ unsigned_abs z) (sym is) h)
 passes_cases x xs (suc k, y, below, is, h) = inr (k, y, omega arith, is, h)
 
 pub front_passes : (xs ys : List ℤ) → Passes xs → Passes (xs ++ ys)
 front_passes [] ys h = absurd (none_passes h)
 front_passes (x ∷ xs) ys h = by_case (passes_cases x xs h) (front_passes xs ys)
   where
-    by_case : (2 ^ 127 ≤ unsigned_abs x) ⊎ Passes xs → (Passes xs → Passes (xs ++ ys)) → Passes (x ∷ (xs ++ ys))
+    by_case : (2 ^ 127 ≤ unsigned_abs x) ⊎ Passes xs → (Passes xs → Passes (xs ++ ys)) →
+        Passes (x ∷ (xs ++ ys))
     by_case (inl here) later = first_passes x (xs ++ ys) here
     by_case (inr there) later = later_passes x (xs ++ ys) (later there)
 
@@ -36,7 +38,8 @@ pub either_passes : (xs ys : List ℤ) → Passes (xs ++ ys) → Passes xs ⊎ P
 either_passes [] ys h = inr h
 either_passes (x ∷ xs) ys h = by_case (passes_cases x (xs ++ ys) h) (either_passes xs ys)
   where
-    by_case : (2 ^ 127 ≤ unsigned_abs x) ⊎ Passes (xs ++ ys) → (Passes (xs ++ ys) → Passes xs ⊎ Passes ys) →
+    by_case : (2 ^ 127 ≤ unsigned_abs x) ⊎ Passes (xs ++ ys) →
+        (Passes (xs ++ ys) → Passes xs ⊎ Passes ys) →
         Passes (x ∷ xs) ⊎ Passes ys
     by_case (inl here) later = inl (first_passes x xs here)
     by_case (inr there) later = rest (later there)
@@ -47,10 +50,13 @@ either_passes (x ∷ xs) ys h = by_case (passes_cases x (xs ++ ys) h) (either_pa
 
 -- ---- by index
 
-pub passes_at : (xs : List ℤ) (k : ℕ) → k < length xs → 2 ^ 127 ≤ unsigned_abs (get_or xs k (pos 0)) → Passes xs
-passes_at xs k below h = (k, get_or xs k (pos 0), below, get_or_default xs k (get_or xs k (pos 0)) (pos 0) below, h)
+pub passes_at : (xs : List ℤ) (k : ℕ) → k < length xs →
+    2 ^ 127 ≤ unsigned_abs (get_or xs k (pos 0)) → Passes xs
+passes_at xs k below h =
+    (k, get_or xs k (pos 0), below, get_or_default xs k (get_or xs k (pos 0)) (pos 0) below, h)
 
-pub none_pass : (xs : List ℤ) → ((k : ℕ) → k < length xs → Fits (get_or xs k (pos 0))) → Passes xs → ⊥
+pub none_pass : (xs : List ℤ) → ((k : ℕ) → k < length xs → Fits (get_or xs k (pos 0))) → Passes xs →
+    ⊥
 none_pass xs all (k, x, below, is, h) =
     let same : get_or xs k (pos 0) ≡ x = get_or_default xs k (pos 0) x below ∙ is in
     let small : unsigned_abs x < 2 ^ 127 = subst Fits same (all k below) in
@@ -58,9 +64,11 @@ none_pass xs all (k, x, below, is, h) =
 
 -- if none passes, all fit
 pub all_fit : (xs : List ℤ) → (Passes xs → ⊥) → All Fits xs
-all_fit xs none = All-from_get_or Fits xs (pos 0) (λ k below. by_size k below (cases_lt (unsigned_abs (get_or xs k (pos 0))) (2 ^ 127)))
+all_fit xs none = All-from_get_or Fits xs (pos 0)
+    (λ k below. by_size k below (cases_lt (unsigned_abs (get_or xs k (pos 0))) (2 ^ 127)))
   where
-    by_size : (k : ℕ) → k < length xs → (unsigned_abs (get_or xs k (pos 0)) < 2 ^ 127) ⊎ (2 ^ 127 ≤ unsigned_abs (get_or xs k (pos 0))) →
+    by_size : (k : ℕ) → k < length xs → (unsigned_abs (get_or xs k (pos 0)) < 2 ^ 127)
+        ⊎ (2 ^ 127 ≤ unsigned_abs (get_or xs k (pos 0))) →
         Fits (get_or xs k (pos 0))
     by_size k below (inl small) = small
     by_size k below (inr large) = absurd (none (passes_at xs k below large))

@@ -10,7 +10,8 @@ use Rattle.gj_theory.proofs.Continuous.{same_minimal_table}
 
 -- ---- over plain numbers: w t + v p, if w is at least the slack of p and v at most that of t
 
-loose_step : (w v x y z p q r : ℤ) → pos 0 ≤ℤ w → pos 0 ≤ℤ v → v ≤ℤ (x +ℤ y -ℤ z) → (r -ℤ p -ℤ q) ≤ℤ w →
+loose_step : (w v x y z p q r : ℤ) → pos 0 ≤ℤ w → pos 0 ≤ℤ v → v ≤ℤ (x +ℤ y -ℤ z) →
+    (r -ℤ p -ℤ q) ≤ℤ w →
     (w *ℤ z +ℤ v *ℤ r) ≤ℤ ((w *ℤ x +ℤ v *ℤ p) +ℤ (w *ℤ y +ℤ v *ℤ q))
 loose_step w v x y z p q r w_sign v_sign slack size =
     let first = mul_le_mul_left_z v (x +ℤ y -ℤ z) w w_sign slack in
@@ -38,11 +39,13 @@ multiples a zero_at_zero h i (suc c) =
     let next : a (i * suc c) ≡ a (i * c + i) = ap a (omega arith) in
     let step = h (i * c) i in
     let before = multiples a zero_at_zero h i c in
-    let split : a i *ℤ pos (suc c) ≡ a i *ℤ pos c +ℤ a i = by_ring (a i ∷ pos c ∷ []) (search ring depth 20) refl in
+    let split : a i *ℤ pos (suc c) ≡ a i *ℤ pos c +ℤ a i =
+    by_ring (a i ∷ pos c ∷ []) (search ring depth 20) refl in
     omega (arith, ints)
 
 -- 0 = a (n i) ≤ n a i
-nonnegative_from_subadditive : (a : ℕ → ℤ) (n : ℕ) → 0 < n → ((i : ℕ) → a (i + n) ≡ a i) → a 0 ≡ pos 0 →
+nonnegative_from_subadditive : (a : ℕ → ℤ) (n : ℕ) → 0 < n → ((i : ℕ) → a (i + n) ≡ a i) →
+    a 0 ≡ pos 0 →
     ((i j : ℕ) → a (i + j) ≤ℤ (a i +ℤ a j)) → (i : ℕ) → pos 0 ≤ℤ a i
 nonnegative_from_subadditive a n some period zero_at_zero h i =
     let whole : a (i * n) ≡ pos 0 = ap a (omega arith) ∙ periods a n period 0 i ∙ zero_at_zero in
@@ -52,7 +55,8 @@ nonnegative_from_subadditive a n some period zero_at_zero h i =
 -- ---- the perturbed tables
 
 -- a perturbation is 0 at 0
-pub perturbation_at_zero : (t : ℕ → ℤ) (n k s : ℕ) (p : ℕ → ℤ) → IsMinimalTable t n k s → IsPerturbation t n k p → p 0 ≡ pos 0
+pub perturbation_at_zero : (t : ℕ → ℤ) (n k s : ℕ) (p : ℕ → ℤ) → IsMinimalTable t n k s →
+    IsPerturbation t n k p → p 0 ≡ pos 0
 perturbation_at_zero t n k s p h d =
     let zero_at_zero = h.zero_at_zero in
     let twice : t 0 +ℤ t 0 ≡ t (0 + 0) = omega (arith, ints) in
@@ -60,7 +64,8 @@ perturbation_at_zero t n k s p h d =
     omega (arith, ints)
 
 -- entries at places that add up to f: tight, and the perturbations add up to 0
-opposite_tight : (t : ℕ → ℤ) (n k s : ℕ) → IsMinimalTable t n k s → (i j : ℕ) → (i + j) % n ≡ k % n →
+opposite_tight : (t : ℕ → ℤ) (n k s : ℕ) → IsMinimalTable t n k s → (i j : ℕ) →
+    (i + j) % n ≡ k % n →
     t i +ℤ t j ≡ t (i + j)
 opposite_tight t n k s h i j opposite =
     let zero_at_zero = h.zero_at_zero in
@@ -69,13 +74,15 @@ opposite_tight t n k s h i j opposite =
     let sum = h.symmetric i j opposite in
     omega (arith, ints)
 
-opposite_zero : (t : ℕ → ℤ) (n k s : ℕ) (p : ℕ → ℤ) → IsMinimalTable t n k s → IsPerturbation t n k p →
+opposite_zero : (t : ℕ → ℤ) (n k s : ℕ) (p : ℕ → ℤ) → IsMinimalTable t n k s →
+    IsPerturbation t n k p →
     (i j : ℕ) → (i + j) % n ≡ k % n → p i +ℤ p j ≡ pos 0
 opposite_zero t n k s p h d i j opposite =
     d.at_tight.additive i j (opposite_tight t n k s h i j opposite)
     ∙ same_at_remainder p n d.at_tight.has_period (i + j) k opposite ∙ d.zero_at_place
 
-raised_subadditive : (t p : ℕ → ℤ) (n k s u size : ℕ) → IsMinimalTable t n k s → IsPerturbation t n k p →
+raised_subadditive : (t p : ℕ → ℤ) (n k s u size : ℕ) → IsMinimalTable t n k s →
+    IsPerturbation t n k p →
     IsBelowSlacks t u → ((j : ℕ) → unsigned_abs (p j) ≤ size) → (i j : ℕ) →
     raised t p u size (i + j) ≤ℤ (raised t p u size i +ℤ raised t p u size j)
 raised_subadditive t p n k s u size h d slacks sizes i j =
@@ -84,7 +91,8 @@ raised_subadditive t p n k s u size h d slacks sizes i j =
     let first = sizes i in
     let second = sizes j in
     let both = sizes (i + j) in
-    loose_step (pos (3 * size)) (pos u) (t i) (t j) (t (i + j)) (p i) (p j) (p (i + j)) (omega (arith, ints))
+    loose_step (pos (3 * size)) (pos u) (t i) (t j) (t (i + j)) (p i) (p j) (p (i + j))
+    (omega (arith, ints))
     (omega (arith, ints)) (slacks.below i j loose) (omega (arith, ints)))
     (λ low.
     let least = h.subadditive i j in
@@ -94,18 +102,24 @@ raised_subadditive t p n k s u size h d slacks sizes i j =
     (d.at_tight.additive i j tight) in
     omega (arith, ints))
 
-raised_symmetric : (w s v x y p q : ℤ) → x +ℤ y ≡ s → p +ℤ q ≡ pos 0 → (w *ℤ x +ℤ v *ℤ p) +ℤ (w *ℤ y +ℤ v *ℤ q) ≡ w *ℤ s
+raised_symmetric : (w s v x y p q : ℤ) → x +ℤ y ≡ s → p +ℤ q ≡ pos 0 →
+    (w *ℤ x +ℤ v *ℤ p) +ℤ (w *ℤ y +ℤ v *ℤ q) ≡ w *ℤ s
 raised_symmetric w s v x y p q e g =
-    sym (tight_step w v x y s p q (pos 0) e g) ∙ by_ring (w ∷ v ∷ s ∷ []) (search ring depth 20) refl
+    sym (tight_step w v x y s p q (pos 0) e g)
+    ∙ by_ring (w ∷ v ∷ s ∷ []) (search ring depth 20) refl
 
-raised_minimal : (t p : ℕ → ℤ) (n k s u size : ℕ) → 0 < n → IsMinimalTable t n k s → IsPerturbation t n k p →
-    IsBelowSlacks t u → ((j : ℕ) → unsigned_abs (p j) ≤ size) → IsMinimalTable (raised t p u size) n k (3 * size * s)
+raised_minimal : (t p : ℕ → ℤ) (n k s u size : ℕ) → 0 < n → IsMinimalTable t n k s →
+    IsPerturbation t n k p →
+    IsBelowSlacks t u → ((j : ℕ) → unsigned_abs (p j) ≤ size) →
+    IsMinimalTable (raised t p u size) n k (3 * size * s)
 raised_minimal t p n k s u size some h d slacks sizes =
     let a = raised t p u size in
     let period : (i : ℕ) → a (i + n) ≡ a i =
-    λ i. ap₂ (λ x y. pos (3 * size) *ℤ x +ℤ pos u *ℤ y) (h.has_period i) (d.at_tight.has_period i) in
+    λ i. ap₂ (λ x y. pos (3 * size) *ℤ x +ℤ pos u *ℤ y) (h.has_period i)
+    (d.at_tight.has_period i) in
     let start : a 0 ≡ pos 0 =
-    ap₂ (λ x y. pos (3 * size) *ℤ x +ℤ pos u *ℤ y) h.zero_at_zero (perturbation_at_zero t n k s p h d)
+    ap₂ (λ x y. pos (3 * size) *ℤ x +ℤ pos u *ℤ y) h.zero_at_zero
+    (perturbation_at_zero t n k s p h d)
     ∙ by_ring (pos (3 * size) ∷ pos u ∷ []) (search ring depth 20) refl in
     let subadditive = raised_subadditive t p n k s u size h d slacks sizes in
     record {
@@ -114,7 +128,8 @@ raised_minimal t p n k s u size some h d slacks sizes =
       nonnegative = nonnegative_from_subadditive a n some period start subadditive;
       subadditive = subadditive;
       symmetric = λ i j opposite.
-          raised_symmetric (pos (3 * size)) (pos s) (pos u) (t i) (t j) (p i) (p j) (h.symmetric i j opposite)
+          raised_symmetric (pos (3 * size)) (pos s) (pos u) (t i) (t j) (p i) (p j)
+          (h.symmetric i j opposite)
           (opposite_zero t n k s p h d i j opposite);
     }
 
@@ -130,8 +145,10 @@ opposite_perturbation t n k p d = record {
   zero_at_place = ap neg_ℤ d.zero_at_place;
 }
 
-lowered_minimal : (t p : ℕ → ℤ) (n k s u size : ℕ) → 0 < n → IsMinimalTable t n k s → IsPerturbation t n k p →
-    IsBelowSlacks t u → ((j : ℕ) → unsigned_abs (p j) ≤ size) → IsMinimalTable (lowered t p u size) n k (3 * size * s)
+lowered_minimal : (t p : ℕ → ℤ) (n k s u size : ℕ) → 0 < n → IsMinimalTable t n k s →
+    IsPerturbation t n k p →
+    IsBelowSlacks t u → ((j : ℕ) → unsigned_abs (p j) ≤ size) →
+    IsMinimalTable (lowered t p u size) n k (3 * size * s)
 lowered_minimal t p n k s u size some h d slacks sizes =
     let turned = λ (i : ℕ). neg_ℤ (p i) in
     same_minimal_table (raised t turned u size) (lowered t p u size) n k (3 * size * s)
@@ -144,7 +161,8 @@ different_where x v p v_some p_some e =
     let zero_product : v *ℤ p ≡ v *ℤ pos 0 = omega (arith, ints) in
     p_some (mul_cancel_left_z p (pos 0) v zero_product v_some)
 
-pub halves_of_perturbation : (t p : ℕ → ℤ) (n k s u size i : ℕ) → 0 < n → IsMinimalTable t n k s → IsPerturbation t n k p →
+pub halves_of_perturbation : (t p : ℕ → ℤ) (n k s u size i : ℕ) → 0 < n → IsMinimalTable t n k s →
+    IsPerturbation t n k p →
     IsBelowSlacks t u → ((j : ℕ) → unsigned_abs (p j) ≤ size) → p i ≢ pos 0 →
     AreDifferentHalves t n k s (3 * size) (raised t p u size) (lowered t p u size)
 halves_of_perturbation t p n k s u size i some h d slacks sizes p_some = record {

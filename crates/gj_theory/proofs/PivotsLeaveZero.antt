@@ -26,10 +26,12 @@ unfolding pivots
 pivot_count pivot zero = refl
 pivot_count pivot (suc g) = ap suc (pivot_count pivot g)
 
-each_pivot : (P : ℕ → Type 0) (pivot : ℕ → ℕ) (g : ℕ) → ((h : ℕ) → h < g → P (pivot h)) → AllByRecursion P (pivots pivot g)
+each_pivot : (P : ℕ → Type 0) (pivot : ℕ → ℕ) (g : ℕ) → ((h : ℕ) → h < g → P (pivot h)) →
+    AllByRecursion P (pivots pivot g)
 unfolding pivots
 each_pivot P pivot zero each = tt
-each_pivot P pivot (suc g) each = (each g (omega arith), each_pivot P pivot g (λ h low. each h (omega arith)))
+each_pivot P pivot (suc g) each =
+    (each g (omega arith), each_pivot P pivot g (λ h low. each h (omega arith)))
 
 pivots_distinct : (pivot : ℕ → ℕ) (n : ℕ) → ((g h : ℕ) → g < h → h < n → pivot g ≢ pivot h) →
     (g : ℕ) → g ≤ n → IsDistinct eqb (pivots pivot g)
@@ -66,14 +68,18 @@ find_pivot_below n pivot c inside different within =
       | inr none ↦
           let columns = c ∷ pivots pivot n in
           let distinct = IsDistinct-cons eqb c (pivots pivot n)
-          (each_pivot (λ y. eqb c y ≡ false) pivot n (λ h low. ne_eqb c (pivot h) (λ e. none h low (sym e))))
+          (each_pivot (λ y. eqb c y ≡ false) pivot n
+          (λ h low. ne_eqb c (pivot h) (λ e. none h low (sym e))))
           (pivots_distinct pivot n different n (omega arith)) in
           let below : All (λ x. x < n) columns =
-          All-from_recursion (λ x. x < n) columns (within, each_pivot (λ x. x < n) pivot n inside) in
+          All-from_recursion (λ x. x < n) columns
+          (within, each_pivot (λ x. x < n) pivot n inside) in
           let member = λ (q : ℕ) (e : list_any (eqb q) columns ≡ true).
-          let found = all_of_any (λ x. x < n) (λ x. eqb q x ≡ true) columns below (Any-from_list_any (eqb q) columns e) in
+          let found = all_of_any (λ x. x < n) (λ x. eqb q x ≡ true) columns below
+          (Any-from_list_any (eqb q) columns e) in
           subst (λ (x : ℕ). x < n) (sym (eqb-true q found.0 found.2)) found.1 in
-          let long : suc (length (pivots pivot n)) ≤ n = length-le_from_distinct_below columns n distinct member in
+          let long : suc (length (pivots pivot n)) ≤ n =
+          length-le_from_distinct_below columns n distinct member in
           let count = pivot_count pivot n in
           absurd (omega arith)
     ]
@@ -104,19 +110,25 @@ sum_zero {Z = Z} h x y z e first second =
 
 -- ---- the sum of products, if all but one are 0
 
-pub no_products : {Z P : ℤ → Type 0} (h : CancelsZero Z P) (row numbers : List ℤ) → ((d : ℕ) → Z (at_column numbers d)) →
+pub no_products : {Z P : ℤ → Type 0} (h : CancelsZero Z P) (row numbers : List ℤ) →
+    ((d : ℕ) → Z (at_column numbers d)) →
     Z (sum_of_products row numbers)
 no_products h [] numbers zeros = h.none
 no_products h (x ∷ row) [] zeros = h.none
 no_products h (x ∷ row) (y ∷ numbers) zeros =
-    sum_zero h (x *ℤ y) (sum_of_products row numbers) _ refl (h.times x y (zeros 0)) (no_products h row numbers (λ d. zeros (suc d)))
+    sum_zero h (x *ℤ y) (sum_of_products row numbers) _ refl (h.times x y (zeros 0))
+    (no_products h row numbers (λ d. zeros (suc d)))
 
-one_product : {Z P : ℤ → Type 0} (h : CancelsZero Z P) (row numbers : List ℤ) (c : ℕ) → ((d : ℕ) → d < c → Z (at_column row d)) →
-    ((d : ℕ) → c < d → Z (at_column numbers d)) → Z (sum_of_products row numbers -ℤ at_column row c *ℤ at_column numbers c)
+one_product : {Z P : ℤ → Type 0} (h : CancelsZero Z P) (row numbers : List ℤ) (c : ℕ) →
+    ((d : ℕ) → d < c → Z (at_column row d)) →
+    ((d : ℕ) → c < d → Z (at_column numbers d)) →
+    Z (sum_of_products row numbers -ℤ at_column row c *ℤ at_column numbers c)
 one_product {Z = Z} h [] numbers c before behind =
-    let none : pos 0 ≡ pos 0 -ℤ pos 0 *ℤ at_column numbers c = omega (arith, ints) in subst Z none h.none
+    let none : pos 0 ≡ pos 0 -ℤ pos 0 *ℤ at_column numbers c = omega (arith, ints) in
+    subst Z none h.none
 one_product {Z = Z} h (x ∷ row) [] c before behind =
-    let none : pos 0 ≡ pos 0 -ℤ at_column (x ∷ row) c *ℤ pos 0 = omega (arith, ints) in subst Z none h.none
+    let none : pos 0 ≡ pos 0 -ℤ at_column (x ∷ row) c *ℤ pos 0 = omega (arith, ints) in
+    subst Z none h.none
 one_product {Z = Z} h (x ∷ row) (y ∷ numbers) zero before behind =
     let s = sum_of_products row numbers in
     let same : s ≡ (x *ℤ y +ℤ s) -ℤ x *ℤ y = omega (arith, ints) in
@@ -125,22 +137,29 @@ one_product h (x ∷ row) (y ∷ numbers) (suc c) before behind =
     let s = sum_of_products row numbers in
     let p = at_column row c *ℤ at_column numbers c in
     let turned = mul_comm_z x y in
-    sum_zero h (y *ℤ x) (s -ℤ p) ((x *ℤ y +ℤ s) -ℤ p) (omega (arith, ints)) (h.times y x (before 0 (omega arith)))
-    (one_product h row numbers c (λ d low. before (suc d) (omega arith)) (λ d high. behind (suc d) (omega arith)))
+    sum_zero h (y *ℤ x) (s -ℤ p) ((x *ℤ y +ℤ s) -ℤ p) (omega (arith, ints))
+    (h.times y x (before 0 (omega arith)))
+    (one_product h row numbers c (λ d low. before (suc d) (omega arith))
+    (λ d high. behind (suc d) (omega arith)))
 
 pub only_term : (row w : List ℤ) (c : ℕ) → ((j : ℕ) → j < c → at_column row j ≡ pos 0) →
-    ((j : ℕ) → c < j → at_column w j ≡ pos 0) → sum_of_products row w ≡ at_column row c *ℤ at_column w c
-only_term row w c before behind = let apart = one_product whole_cancels row w c before behind in omega (arith, ints)
+    ((j : ℕ) → c < j → at_column w j ≡ pos 0) →
+    sum_of_products row w ≡ at_column row c *ℤ at_column w c
+only_term row w c before behind = let apart = one_product whole_cancels row w c before behind in
+    omega (arith, ints)
 
 -- ---- from the last column down
 
-zero_from : {Z P : ℤ → Type 0} (h : CancelsZero Z P) (n : ℕ) (row : ℕ → List ℤ) (pivot : ℕ → ℕ) (numbers : List ℤ) →
-    HavePivotsBy Z P n row pivot → length numbers ≡ n → ((g : ℕ) → g < n → Z (sum_of_products (row g) numbers)) →
+zero_from : {Z P : ℤ → Type 0} (h : CancelsZero Z P) (n : ℕ) (row : ℕ → List ℤ) (pivot : ℕ → ℕ)
+    (numbers : List ℤ) →
+    HavePivotsBy Z P n row pivot → length numbers ≡ n →
+    ((g : ℕ) → g < n → Z (sum_of_products (row g) numbers)) →
     (k c : ℕ) → n ≤ c + k → Z (at_column numbers c)
 zero_from {Z = Z} h n row pivot numbers rows long solved zero c high =
     subst Z (sym (get_or_past numbers c (pos 0) (omega arith))) h.none
 zero_from {Z = Z} {P = P} h n row pivot numbers rows long solved (suc k) c high =
-    let behind = λ (d : ℕ) (later : c < d). zero_from h n row pivot numbers rows long solved k d (omega arith) in
+    let behind = λ (d : ℕ) (later : c < d). zero_from h n row pivot numbers rows long solved k d
+    (omega arith) in
     elim (cases_lt c n) [
       | inr past ↦ subst Z (sym (get_or_past numbers c (pos 0) (omega arith))) h.none
       | inl within ↦
@@ -148,14 +167,19 @@ zero_from {Z = Z} {P = P} h n row pivot numbers rows long solved (suc k) c high 
           let own = row found.0 in
           let sum = sum_of_products own numbers in
           let product = at_column own c *ℤ at_column numbers c in
-          let before = λ (d : ℕ) (low : d < c). rows.zero_before found.0 d found.1 (subst (λ (x : ℕ). d < x) (sym found.2) low) in
+          let before = λ (d : ℕ) (low : d < c). rows.zero_before found.0 d found.1
+          (subst (λ (x : ℕ). d < x) (sym found.2) low) in
           let same : sum -ℤ (sum -ℤ product) ≡ product = omega (arith, ints) in
           h.cancel (at_column own c) (at_column numbers c)
           (subst (λ (x : ℕ). P (at_column own x)) found.2 (rows.at_pivot found.0 found.1))
-          (subst Z same (h.difference sum (sum -ℤ product) (solved found.0 found.1) (one_product h own numbers c before behind)))
+          (subst Z same (h.difference sum (sum -ℤ product) (solved found.0 found.1)
+          (one_product h own numbers c before behind)))
     ]
 
-pub only_zero : {Z P : ℤ → Type 0} (h : CancelsZero Z P) (n : ℕ) (row : ℕ → List ℤ) (pivot : ℕ → ℕ) (numbers : List ℤ) →
-    HavePivotsBy Z P n row pivot → length numbers ≡ n → ((g : ℕ) → g < n → Z (sum_of_products (row g) numbers)) → All Z numbers
+pub only_zero : {Z P : ℤ → Type 0} (h : CancelsZero Z P) (n : ℕ) (row : ℕ → List ℤ) (pivot : ℕ → ℕ)
+    (numbers : List ℤ) →
+    HavePivotsBy Z P n row pivot → length numbers ≡ n →
+    ((g : ℕ) → g < n → Z (sum_of_products (row g) numbers)) → All Z numbers
 only_zero {Z = Z} h n row pivot numbers rows long solved =
-    All-from_get_or Z numbers (pos 0) (λ c low. zero_from h n row pivot numbers rows long solved n c (omega arith))
+    All-from_get_or Z numbers (pos 0)
+    (λ c low. zero_from h n row pivot numbers rows long solved n c (omega arith))

@@ -31,7 +31,8 @@ pub pass_or_fit : (xs : List ℤ) → Passes xs ⊎ All Fits xs
 pass_or_fit [] = inr (All-nil Fits)
 pass_or_fit (x ∷ xs) = by_size (cases_lt (unsigned_abs x) (2 ^ 127)) (pass_or_fit xs)
   where
-    by_size : (unsigned_abs x < 2 ^ 127) ⊎ (2 ^ 127 ≤ unsigned_abs x) → Passes xs ⊎ All Fits xs → Passes (x ∷ xs) ⊎ All Fits (x ∷ xs)
+    by_size : (unsigned_abs x < 2 ^ 127) ⊎ (2 ^ 127 ≤ unsigned_abs x) → Passes xs ⊎ All Fits xs →
+        Passes (x ∷ xs) ⊎ All Fits (x ∷ xs)
     by_size (inr large) rest = inl (first_passes x xs large)
     by_size (inl small) (inl p) = inl (later_passes x xs p)
     by_size (inl small) (inr all) = inr (All-cons Fits x xs small all)
@@ -47,7 +48,8 @@ IsZeros row = (i : ℕ) → at_column row i ≡ pos 0
 abbrev pub nothing_left : Insertion
 nothing_left = record { reduce = []; kept = None; marked = [] }
 
-pub zeros_inserted : (by : Arithmetic) (kept : List KeptRow) (columns : List ℕ) (row : List ℤ) → IsZeros row →
+pub zeros_inserted : (by : Arithmetic) (kept : List KeptRow) (columns : List ℕ) (row : List ℤ) →
+    IsZeros row →
     insertion_by by kept columns row ≡ nothing_left
 unfolding insertion_by
 zeros_inserted by kept [] row zeros = refl
@@ -70,7 +72,8 @@ multiple_of_kept row c = by_sign (int_lt (at_column row c) (pos 0)) (divided_tim
     turned g [] = refl
     turned g (x ∷ xs) =
         ap₂ (λ y ys. y ∷ ys)
-        (let first = neg_mul_z (pos g) (neg_ℤ x) in let second = mul_neg_z (pos g) x in omega (arith, ints)) (turned g xs)
+        (let first = neg_mul_z (pos g) (neg_ℤ x) in let second = mul_neg_z (pos g) x in
+        omega (arith, ints)) (turned g xs)
 
     by_sign : (b : Bool) → (g : ℕ) × (0 < g) × (scaled (pos g) (divided row) ≡ row) →
         (d : ℤ) × (scaled d (if b then map neg_ℤ (divided row) else divided row) ≡ row)
@@ -78,26 +81,35 @@ multiple_of_kept row c = by_sign (int_lt (at_column row c) (pos 0)) (divided_tim
     by_sign false (g, some, is) = (pos g, is)
 
 -- the factors are 1 and that multiple
-factors_of_itself : (row : List ℤ) (c : ℕ) (d : ℤ) → at_column row c ≢ pos 0 → scaled d (kept_entries row c) ≡ row →
+factors_of_itself : (row : List ℤ) (c : ℕ) (d : ℤ) → at_column row c ≢ pos 0 →
+    scaled d (kept_entries row c) ≡ row →
     (row_factor (kept_entries row c) row c ≡ pos 1) × (kept_factor (kept_entries row c) row c ≡ d)
 factors_of_itself row c d some is =
     let e = at_column (kept_entries row c) c in
     let v = at_column row c in
     let positive : pos 0 <ℤ e = kept_at_pivot row c some in
-    let product : d *ℤ e ≡ v = sym (at_scaled d (kept_entries row c) c) ∙ ap (λ xs. at_column xs c) is in
-    let size : unsigned_abs v ≡ unsigned_abs d * unsigned_abs e = ap unsigned_abs (sym product) ∙ unsigned_abs-mul d e in
+    let product : d *ℤ e ≡ v = sym (at_scaled d (kept_entries row c) c)
+    ∙ ap (λ xs. at_column xs c) is in
+    let size : unsigned_abs v ≡ unsigned_abs d * unsigned_abs e = ap unsigned_abs (sym product)
+    ∙ unsigned_abs-mul d e in
     let common : IsGcd (unsigned_abs d * unsigned_abs e) (unsigned_abs e) (unsigned_abs e) =
     (dvd-mul_left (unsigned_abs e) (unsigned_abs d), dvd_refl (unsigned_abs e), λ a p q. q) in
     let gcd : gcd_of (unsigned_abs v) (unsigned_abs e) ≡ unsigned_abs e =
     ap (λ n. gcd_of n (unsigned_abs e)) size
-    ∙ sym (gcd_is_gcd_of (unsigned_abs d * unsigned_abs e) (unsigned_abs e) (unsigned_abs e) common) in
-    let whole : pos (gcd_of (unsigned_abs v) (unsigned_abs e)) ≡ e = ap pos gcd ∙ pos_abs_z e (omega (arith, ints)) in
+    ∙ sym (gcd_is_gcd_of (unsigned_abs d * unsigned_abs e) (unsigned_abs e)
+    (unsigned_abs e) common) in
+    let whole : pos (gcd_of (unsigned_abs v) (unsigned_abs e)) ≡ e = ap pos gcd
+    ∙ pos_abs_z e (omega (arith, ints)) in
     let first : row_factor (kept_entries row c) row c *ℤ e ≡ e =
-    ap (λ z. row_factor (kept_entries row c) row c *ℤ z) (sym whole) ∙ row_factor_times (kept_entries row c) row c in
+    ap (λ z. row_factor (kept_entries row c) row c *ℤ z) (sym whole)
+    ∙ row_factor_times (kept_entries row c) row c in
     let second : kept_factor (kept_entries row c) row c *ℤ e ≡ v =
-    ap (λ z. kept_factor (kept_entries row c) row c *ℤ z) (sym whole) ∙ kept_factor_times (kept_entries row c) row c in (
-      mul_cancel_right_z (row_factor (kept_entries row c) row c) (pos 1) e (first ∙ sym (one_mul_z e)) (positive_some_z e positive),
-      mul_cancel_right_z (kept_factor (kept_entries row c) row c) d e (second ∙ sym product) (positive_some_z e positive),
+    ap (λ z. kept_factor (kept_entries row c) row c *ℤ z) (sym whole)
+    ∙ kept_factor_times (kept_entries row c) row c in (
+      mul_cancel_right_z (row_factor (kept_entries row c) row c) (pos 1) e
+          (first ∙ sym (one_mul_z e)) (positive_some_z e positive),
+      mul_cancel_right_z (kept_factor (kept_entries row c) row c) d e (second ∙ sym product)
+          (positive_some_z e positive),
     )
 
 no_difference : (xs : List ℤ) → IsZeros (differences xs xs)
@@ -111,18 +123,24 @@ products_of_itself : (row : List ℤ) (c : ℕ) → at_column row c ≢ pos 0 �
     × (scaled (kept_factor (kept_entries row c) row c) (kept_entries row c) ≡ row)
 products_of_itself row c some =
     let (d, is) = multiple_of_kept row c in
-    let (first, second) = factors_of_itself row c d some is in
-    (ap (λ u. scaled u row) first ∙ scaled_one row, ap (λ u. scaled u (kept_entries row c)) second ∙ is)
+    let (first, second) = factors_of_itself row c d some is in (
+      ap (λ u. scaled u row) first ∙ scaled_one row,
+      ap (λ u. scaled u (kept_entries row c)) second
+          ∙ is,
+    )
 
-zeros_left : (row : List ℤ) (c : ℕ) → at_column row c ≢ pos 0 → IsZeros (eliminated (kept_entries row c) row c)
+zeros_left : (row : List ℤ) (c : ℕ) → at_column row c ≢ pos 0 →
+    IsZeros (eliminated (kept_entries row c) row c)
 unfolding eliminated
 zeros_left row c some i =
     let (first, second) = products_of_itself row c some in
     ap (λ xs. at_column xs i) (ap₂ differences first second) ∙ no_difference row i
 
-reduced_by_itself : (row : List ℤ) (c : ℕ) → at_column row c ≢ pos 0 → IsZeros (reduced (kept_entries row c) row c)
+reduced_by_itself : (row : List ℤ) (c : ℕ) → at_column row c ≢ pos 0 →
+    IsZeros (reduced (kept_entries row c) row c)
 unfolding reduced
-reduced_by_itself row c some i = divided_at_zero (eliminated (kept_entries row c) row c) i (zeros_left row c some i)
+reduced_by_itself row c some i = divided_at_zero (eliminated (kept_entries row c) row c) i
+    (zeros_left row c some i)
 
 itself_marks_nothing : (row : List ℤ) (c : ℕ) → at_column row c ≢ pos 0 → All Fits row →
     Passes (marked_in_step (kept_entries row c) row c) → ⊥
@@ -130,7 +148,8 @@ unfolding marked_in_step
 itself_marks_nothing row c some fits p =
     by_part
     (either_passes
-    (scaled (row_factor (kept_entries row c) row c) row ++ scaled (kept_factor (kept_entries row c) row c) (kept_entries row c))
+    (scaled (row_factor (kept_entries row c) row c) row ++ scaled
+    (kept_factor (kept_entries row c) row c) (kept_entries row c))
     (eliminated (kept_entries row c) row c) p)
   where
     products : Passes (scaled (row_factor (kept_entries row c) row c) row)
@@ -139,7 +158,8 @@ itself_marks_nothing row c some fits p =
     products (inr q) = fitting_pass_not row fits (subst Passes (products_of_itself row c some).1 q)
 
     by_part : Passes
-        (scaled (row_factor (kept_entries row c) row c) row ++ scaled (kept_factor (kept_entries row c) row c) (kept_entries row c))
+        (scaled (row_factor (kept_entries row c) row c) row ++ scaled
+        (kept_factor (kept_entries row c) row c) (kept_entries row c))
         ⊎ Passes (eliminated (kept_entries row c) row c) → ⊥
     by_part (inl q) =
         products
@@ -165,8 +185,10 @@ abbrev at_pivot : Option KeptRow → ℕ → List ℤ → (List ℤ → Insertio
 at_pivot o c row onward = inserted_at o c row onward
 
 by_step : (kept all : List KeptRow) (columns : List ℕ) (k : List ℤ) (row : List ℤ) (c : ℕ) →
-    ChangesNothing (reduced k row c) (insertion kept columns (reduced k row c)) (insertion all columns (reduced k row c)) →
-    All Fits row → Passes (marked_in_step k row c ++ (insertion all columns (reduced k row c)).marked) →
+    ChangesNothing (reduced k row c) (insertion kept columns (reduced k row c))
+    (insertion all columns (reduced k row c)) →
+    All Fits row → Passes
+    (marked_in_step k row c ++ (insertion all columns (reduced k row c)).marked) →
     Passes (marked_in_step k row c ++ (insertion kept columns (reduced k row c)).marked)
 unfolding reduced marked_in_step
 by_step kept all columns k row c inner fits p =
@@ -176,25 +198,31 @@ by_step kept all columns k row c inner fits p =
     by_marked : Passes (marked_in_step k row c) ⊎ All Fits (marked_in_step k row c) →
         Passes (marked_in_step k row c) ⊎ Passes (insertion all columns (reduced k row c)).marked →
         Passes (marked_in_step k row c ++ (insertion kept columns (reduced k row c)).marked)
-    by_marked (inl q) either = front_passes (marked_in_step k row c) (insertion kept columns (reduced k row c)).marked q
-    by_marked (inr small) (inl q) = front_passes (marked_in_step k row c) (insertion kept columns (reduced k row c)).marked q
+    by_marked (inl q) either =
+        front_passes (marked_in_step k row c) (insertion kept columns (reduced k row c)).marked q
+    by_marked (inr small) (inl q) =
+        front_passes (marked_in_step k row c) (insertion kept columns (reduced k row c)).marked q
     by_marked (inr small) (inr q) =
         back_passes (marked_in_step k row c) (insertion kept columns (reduced k row c)).marked
         (inner.passes
         (divided_fits (eliminated k row c)
-        (All-back Fits (scaled (row_factor k row c) row ++ scaled (kept_factor k row c) k) (eliminated k row c) small))
+        (All-back Fits (scaled (row_factor k row c) row ++ scaled (kept_factor k row c) k)
+        (eliminated k row c) small))
         q)
 
-again_at_pivot : (kept all : List KeptRow) (columns : List ℕ) (row : List ℤ) (c : ℕ) → at_column row c ≢ pos 0 →
+again_at_pivot : (kept all : List KeptRow) (columns : List ℕ) (row : List ℤ) (c : ℕ) →
+    at_column row c ≢ pos 0 →
     ((next : List ℤ) → Extends kept all (insertion kept columns next).kept →
     ChangesNothing next (insertion kept columns next) (insertion all columns next)) →
-    (o : Option KeptRow) → row_with_pivot kept c ≡ o → Extends kept all (at_pivot o c row (insertion kept columns)).kept →
+    (o : Option KeptRow) → row_with_pivot kept c ≡ o →
+    Extends kept all (at_pivot o c row (insertion kept columns)).kept →
     ChangesNothing row (at_pivot o c row (insertion kept columns))
     (at_pivot (row_with_pivot all c) c row (insertion all columns))
 unfolding inserted_at_by
 again_at_pivot kept all columns row c some later (Some k) e h =
     let inner = later (reduced k.entries row c) h in
-    subst (λ a. ChangesNothing row (at_pivot (Some k) c row (insertion kept columns)) (at_pivot a c row (insertion all columns)))
+    subst (λ a. ChangesNothing row (at_pivot (Some k) c row (insertion kept columns))
+    (at_pivot a c row (insertion all columns)))
     (sym (h.same c k e))
     record { nothing = inner.nothing; passes = by_step kept all columns k.entries row c inner }
 again_at_pivot kept all columns row c some later None e h =
@@ -203,7 +231,8 @@ again_at_pivot kept all columns row c some later None e h =
     λ i. ap (λ xs. at_column (reduced xs row c) i) is ∙ reduced_by_itself row c some i in
     let left : insertion all columns (reduced k.entries row c) ≡ nothing_left =
     zeros_inserted whole_numbers all columns (reduced k.entries row c) zeros in
-    subst (λ a. ChangesNothing row (at_pivot None c row (insertion kept columns)) (at_pivot a c row (insertion all columns)))
+    subst (λ a. ChangesNothing row (at_pivot None c row (insertion kept columns))
+    (at_pivot a c row (insertion all columns)))
     (sym found)
     record {
       nothing = ap (λ i. i.kept) left;
@@ -213,11 +242,14 @@ again_at_pivot kept all columns row c some later None e h =
     rest_marks : (i : Insertion) → i ≡ nothing_left → Passes i.marked → ⊥
     rest_marks i left p = none_passes (subst (λ (j : Insertion). Passes j.marked) left p)
 
-    no_marks : (xs : List ℤ) → xs ≡ kept_entries row c → insertion all columns (reduced xs row c) ≡ nothing_left → All Fits row →
+    no_marks : (xs : List ℤ) → xs ≡ kept_entries row c → insertion all columns (reduced xs row c)
+        ≡ nothing_left → All Fits row →
         Passes (marked_in_step xs row c ++ (insertion all columns (reduced xs row c)).marked) → ⊥
     no_marks xs is left fits p =
-        elim (either_passes (marked_in_step xs row c) (insertion all columns (reduced xs row c)).marked p) [
-          | inl q ↦ itself_marks_nothing row c some fits (subst (λ (ys : List ℤ). Passes (marked_in_step ys row c)) is q)
+        elim (either_passes (marked_in_step xs row c)
+        (insertion all columns (reduced xs row c)).marked p) [
+          | inl q ↦ itself_marks_nothing row c some fits
+              (subst (λ (ys : List ℤ). Passes (marked_in_step ys row c)) is q)
           | inr q ↦ rest_marks (insertion all columns (reduced xs row c)) left q
         ]
 
@@ -225,27 +257,34 @@ again_at : (kept all : List KeptRow) (columns : List ℕ) (row : List ℤ) (c : 
     ((next : List ℤ) → Extends kept all (insertion kept columns next).kept →
     ChangesNothing next (insertion kept columns next) (insertion all columns next)) →
     (b : Bool) → int_eq (at_column row c) (pos 0) ≡ b →
-    Extends kept all (if b then insertion kept columns row else at_pivot (row_with_pivot kept c) c row (insertion kept columns)).kept →
-    ChangesNothing row (if b then insertion kept columns row else at_pivot (row_with_pivot kept c) c row (insertion kept columns))
-    (if b then insertion all columns row else at_pivot (row_with_pivot all c) c row (insertion all columns))
+    Extends kept all (if b then insertion kept columns row else at_pivot
+    (row_with_pivot kept c) c row (insertion kept columns)).kept →
+    ChangesNothing row (if b then insertion kept columns row else at_pivot
+    (row_with_pivot kept c) c row (insertion kept columns))
+    (if b then insertion all columns row else at_pivot (row_with_pivot all c) c row
+    (insertion all columns))
 again_at kept all columns row c later true e h = later row h
 again_at kept all columns row c later false e h =
     again_at_pivot kept all columns row c
-    (not_from_Decides (int_eq (at_column row c) (pos 0)) (Decides-int_eq (at_column row c) (pos 0)) e)
+    (not_from_Decides (int_eq (at_column row c) (pos 0)) (Decides-int_eq (at_column row c) (pos 0))
+    e)
     later (row_with_pivot kept c) refl h
 
-pub again : (kept all : List KeptRow) (columns : List ℕ) (row : List ℤ) → Extends kept all (insertion kept columns row).kept →
+pub again : (kept all : List KeptRow) (columns : List ℕ) (row : List ℤ) →
+    Extends kept all (insertion kept columns row).kept →
     ChangesNothing row (insertion kept columns row) (insertion all columns row)
 unfolding insertion_by
 again kept all [] row h = record { nothing = refl; passes = λ fits p. p }
 again kept all (c ∷ columns) row h =
-    again_at kept all columns row c (again kept all columns) (int_eq (at_column row c) (pos 0)) refl h
+    again_at kept all columns row c (again kept all columns) (int_eq (at_column row c) (pos 0)) refl
+    h
 
 -- ---- the kept rows behind the first insertion
 
 -- the pivot of a row that is kept was free
 free_at : (kept : List KeptRow) (columns : List ℕ) (row : List ℤ) (c : ℕ) →
-    ((next : List ℤ) → IfSome (insertion kept columns next).kept (λ p. row_with_pivot kept p.0 ≡ None)) →
+    ((next : List ℤ) → IfSome (insertion kept columns next).kept
+    (λ p. row_with_pivot kept p.0 ≡ None)) →
     (o : Option KeptRow) → row_with_pivot kept c ≡ o →
     IfSome (at_pivot o c row (insertion kept columns)).kept (λ p. row_with_pivot kept p.0 ≡ None)
 unfolding inserted_at_by
@@ -260,9 +299,12 @@ kept_is_free kept (c ∷ columns) row =
     by_test (int_eq (at_column row c) (pos 0)) (kept_is_free kept columns row)
     (free_at kept columns row c (kept_is_free kept columns) (row_with_pivot kept c) refl)
   where
-    by_test : (b : Bool) → IfSome (insertion kept columns row).kept (λ p. row_with_pivot kept p.0 ≡ None) →
-        IfSome (at_pivot (row_with_pivot kept c) c row (insertion kept columns)).kept (λ p. row_with_pivot kept p.0 ≡ None) →
-        IfSome (if b then insertion kept columns row else at_pivot (row_with_pivot kept c) c row (insertion kept columns)).kept
+    by_test : (b : Bool) →
+        IfSome (insertion kept columns row).kept (λ p. row_with_pivot kept p.0 ≡ None) →
+        IfSome (at_pivot (row_with_pivot kept c) c row (insertion kept columns)).kept
+        (λ p. row_with_pivot kept p.0 ≡ None) →
+        IfSome (if b then insertion kept columns row else at_pivot (row_with_pivot kept c) c row
+        (insertion kept columns)).kept
         (λ p. row_with_pivot kept p.0 ≡ None)
     by_test true first second = first
     by_test false first second = second
@@ -276,15 +318,20 @@ found_before kept more c k e =
 found_new : (kept : List KeptRow) (k : KeptRow) → row_with_pivot kept k.pivot ≡ None →
     row_with_pivot (kept ++ k ∷ []) k.pivot ≡ Some k
 found_new kept k e =
-    find-append (λ r. eqb r.pivot k.pivot) kept (k ∷ []) ∙ ap (λ o. option_or o (row_with_pivot (k ∷ []) k.pivot)) e
+    find-append (λ r. eqb r.pivot k.pivot) kept (k ∷ [])
+    ∙ ap (λ o. option_or o (row_with_pivot (k ∷ []) k.pivot)) e
     ∙ ap (λ b. cond b (Some k) None) (eq-eqb k.pivot k.pivot refl)
 
-extends_behind : (kept more : List KeptRow) (number : ℕ) (reduce : List ℕ) (o : Option (ℕ × List ℤ)) →
-    IfSome o (λ p. row_with_pivot kept p.0 ≡ None) → Extends kept (kept_behind kept number reduce o ++ more) o
+extends_behind : (kept more : List KeptRow) (number : ℕ) (reduce : List ℕ)
+    (o : Option (ℕ × List ℤ)) →
+    IfSome o (λ p. row_with_pivot kept p.0 ≡ None) →
+    Extends kept (kept_behind kept number reduce o ++ more) o
 unfolding kept_behind
-extends_behind kept more number reduce None free = record { same = λ c k e. found_before kept more c k e; new = tt }
+extends_behind kept more number reduce None free =
+    record { same = λ c k e. found_before kept more c k e; new = tt }
 extends_behind kept more number reduce (Some p) free =
-    let k : KeptRow = record { number = number; reduce = reduce; pivot = p.0; entries = p.1 } in record {
+    let k : KeptRow = record { number = number; reduce = reduce; pivot = p.0; entries = p.1 } in
+    record {
       same = λ c r e. found_before (kept ++ k ∷ []) more c r (found_before kept (k ∷ []) c r e);
       new = (k, found_before (kept ++ k ∷ []) more p.0 k (found_new kept k free), refl);
     }
@@ -301,5 +348,6 @@ pub repeated_keeps_nothing : (n number : ℕ) (kept more : List KeptRow) (row : 
 repeated_keeps_nothing n number kept more row = (repeated n number kept more row).nothing
 
 pub repeated_passes : (n number : ℕ) (kept more : List KeptRow) (row : List ℤ) → All Fits row →
-    Passes (inserted n (kept_after n kept number row more) row).marked → Passes (inserted n kept row).marked
+    Passes (inserted n (kept_after n kept number row more) row).marked →
+    Passes (inserted n kept row).marked
 repeated_passes n number kept more row = (repeated n number kept more row).passes

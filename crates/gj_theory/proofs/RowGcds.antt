@@ -32,12 +32,14 @@ gcd_assoc a b c =
     )
 
 -- one more entry
-pub gcd_more : (d x g rest whole : ℕ) → whole ≡ gcd_of d (gcd_of x rest) → IsGcd d x g → whole ≡ gcd_of g rest
+pub gcd_more : (d x g rest whole : ℕ) → whole ≡ gcd_of d (gcd_of x rest) → IsGcd d x g →
+    whole ≡ gcd_of g rest
 gcd_more d x g rest whole h is =
     h ∙ gcd_assoc d x rest ∙ ap (λ n. gcd_of n rest) (sym (gcd_is_gcd_of d x g is))
 
 -- in a row
-pub gcd_next : (row : List ℤ) (i d x g : ℕ) → i < length row → x ≡ unsigned_abs (get_or row i (pos 0)) →
+pub gcd_next : (row : List ℤ) (i d x g : ℕ) → i < length row →
+    x ≡ unsigned_abs (get_or row i (pos 0)) →
     gcd_of_row row ≡ gcd_of d (gcd_of_row (drop i row)) → IsGcd d x g →
     gcd_of_row row ≡ gcd_of g (gcd_of_row (drop (i + 1) row))
 gcd_next row i d x g inside x_is h is =
@@ -48,7 +50,8 @@ gcd_next row i d x g inside x_is h is =
     is
 
 -- at the end
-pub gcd_last : (row : List ℤ) (i d : ℕ) → length row ≤ i → gcd_of_row row ≡ gcd_of d (gcd_of_row (drop i row)) →
+pub gcd_last : (row : List ℤ) (i d : ℕ) → length row ≤ i →
+    gcd_of_row row ≡ gcd_of d (gcd_of_row (drop i row)) →
     d ≡ gcd_of_row row
 gcd_last row i d past h =
     sym (h ∙ ap (λ xs. gcd_of d (gcd_of_row xs)) (drop_of_length-le row past) ∙ gcd_of_zero d)
@@ -57,9 +60,11 @@ gcd_last row i d past h =
 gcd_below : (a b n : ℕ) → a < n → b < n → gcd_of a b < n
 gcd_below zero b n a_below b_below = subst (λ (g : ℕ). g < n) (sym (gcd_zero_of b)) b_below
 gcd_below (suc a) b n a_below b_below =
-    let at_most : gcd_of (suc a) b ≤ suc a = le_of_dvd (omega arith) (gcd_of_is (suc a) b).0 in omega arith
+    let at_most : gcd_of (suc a) b ≤ suc a = le_of_dvd (omega arith) (gcd_of_is (suc a) b).0 in
+    omega arith
 
 pub gcd_of_row_small : (xs : List ℤ) → All Fits xs → gcd_of_row xs < 2 ^ 127
 gcd_of_row_small [] h = lit< tt
 gcd_of_row_small (x ∷ xs) h =
-    gcd_below (unsigned_abs x) (gcd_of_row xs) (2 ^ 127) (All-head Fits x xs h) (gcd_of_row_small xs (All-tail Fits x xs h))
+    gcd_below (unsigned_abs x) (gcd_of_row xs) (2 ^ 127) (All-head Fits x xs h)
+    (gcd_of_row_small xs (All-tail Fits x xs h))

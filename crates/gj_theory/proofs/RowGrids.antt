@@ -29,18 +29,22 @@ use Rattle.gj_theory.proofs.GmicValues.{closed_form}
 -- ---- places on a grid
 
 -- a fractional part on a finer grid
-pub part_on_grid : (x : Frac) (k n m : ℕ) → HasFractionalPart x (pos k) (pos n) → HasFractionalPart x (pos (k * m)) (pos (n * m))
+pub part_on_grid : (x : Frac) (k n m : ℕ) → HasFractionalPart x (pos k) (pos n) →
+    HasFractionalPart x (pos (k * m)) (pos (n * m))
 part_on_grid x k n m h w floor =
-    sym (mul_assoc_z _ (pos n) (pos m)) ∙ ap (λ z. z *ℤ pos m) (h w floor) ∙ swap_last_z (pos k) x.den (pos m)
+    sym (mul_assoc_z _ (pos n) (pos m)) ∙ ap (λ z. z *ℤ pos m) (h w floor)
+    ∙ swap_last_z (pos k) x.den (pos m)
 
 -- a fraction on a grid of its denominator d times e times n
-place_on_grid : (x : Frac) (n d e : ℕ) → pos d ≡ denominator x → IsRatio x (numerator x *ℤ pos n *ℤ pos e) (pos (n * (d * e)))
+place_on_grid : (x : Frac) (n d e : ℕ) → pos d ≡ denominator x →
+    IsRatio x (numerator x *ℤ pos n *ℤ pos e) (pos (n * (d * e)))
 place_on_grid x n d e h = place_moved x.num n d e ∙ ap (λ z. (x.num *ℤ pos n *ℤ pos e) *ℤ z) h
   where
     place_moved : (a : ℤ) (n d e : ℕ) → a *ℤ pos (n * (d * e)) ≡ (a *ℤ pos n *ℤ pos e) *ℤ pos d
     place_moved a n d e = by_ring (a ∷ pos n ∷ pos d ∷ pos e ∷ []) (search ring depth 30) refl
 
-congruent_on_grid : (i : ℕ) (a : ℤ) (n d e : ℕ) → IsCongruent (pos i) a (n * d) → IsCongruent (pos (i * e)) (a *ℤ pos e) (n * (d * e))
+congruent_on_grid : (i : ℕ) (a : ℤ) (n d e : ℕ) → IsCongruent (pos i) a (n * d) →
+    IsCongruent (pos (i * e)) (a *ℤ pos e) (n * (d * e))
 congruent_on_grid i a n d e (k, h) = (k, ap (λ z. z *ℤ pos e) h ∙ moved_index_z a k n d e)
 
 -- ---- values of a function
@@ -51,7 +55,8 @@ ratio_left y s d e = by_ring (y ∷ pos s ∷ pos d ∷ pos e ∷ []) (search ri
 ratio_right : (t b e : ℤ) → (t *ℤ b) *ℤ e ≡ (e *ℤ t) *ℤ b
 ratio_right t b e = by_ring (t ∷ b ∷ e ∷ []) (search ring depth 30) refl
 
-value_on_grid : (f : FunctionData) (x y : Frac) (m : ℕ) → 0 < f.order → 0 < m → Divides m x → IsValueOf f x y →
+value_on_grid : (f : FunctionData) (x y : Frac) (m : ℕ) → 0 < f.order → 0 < m → Divides m x →
+    IsValueOf f x y →
     IsEntryAt (table f m) (f.order * m) (f.scale * m) x y
 value_on_grid f x y m order_some some divides value =
     let d = unsigned_abs (denominator x) in
@@ -66,7 +71,8 @@ value_on_grid f x y m order_some some divides value =
       index = i.0 * e;
       index_is = congruent_on_grid i.0 a f.order d e i.1;
       entry_is =
-          ratio_left y.num f.scale d e ∙ ap (λ z. z *ℤ pos e) (value i.0 i.1) ∙ ratio_right (table f d i.0) y.den (pos e)
+          ratio_left y.num f.scale d e ∙ ap (λ z. z *ℤ pos e) (value i.0 i.1)
+          ∙ ratio_right (table f d i.0) y.den (pos e)
           ∙ ap (λ z. z *ℤ y.den) (sym (table_finer f d e i.0 d_some e_some));
     })
   where
@@ -74,7 +80,8 @@ value_on_grid f x y m order_some some divides value =
     factor_positive d zero m whole some = absurd (omega arith)
     factor_positive d (suc e) m whole some = omega arith
 
-pub values_on_grid : (f : FunctionData) (xs ys : List Frac) (m : ℕ) → 0 < f.order → 0 < m → IsCommonDenominator xs m →
+pub values_on_grid : (f : FunctionData) (xs ys : List Frac) (m : ℕ) → 0 < f.order → 0 < m →
+    IsCommonDenominator xs m →
     AllZip (IsValueOf f) xs ys → AllZip (IsEntryAt (table f m) (f.order * m) (f.scale * m)) xs ys
 values_on_grid f [] [] m order_some some divide h = tt
 values_on_grid f [] (y ∷ ys) m order_some some divide h = absurd h
@@ -84,7 +91,8 @@ values_on_grid f (x ∷ xs) (y ∷ ys) m order_some some divide h = (
   values_on_grid f xs ys m order_some some (All-tail (Divides m) x xs divide) h.1,
 )
 
-pub cut_by_function : (f : FunctionData) (entries : List Frac) (right : Frac) (coefficients : List Frac) →
+pub cut_by_function : (f : FunctionData) (entries : List Frac) (right : Frac)
+    (coefficients : List Frac) →
     IsWithinBounds f → IsMinimal f → HasFractionalPart right (pos f.place) (pos f.order) →
     AllZip (IsValueOf f) entries coefficients → CutHolds entries right coefficients
 cut_by_function f entries right coefficients bounds minimal part h =
@@ -92,7 +100,8 @@ cut_by_function f entries right coefficients bounds minimal part h =
     let some : 0 < m = product_some entries in
     let order_some : 0 < f.order = omega (arith, bounds.order_low) in
     let scale_some : 0 < f.scale = omega (arith, bounds.scale_low) in
-    cut_by_table (table f m) (f.order * m) (f.place * m) (f.scale * m) entries right coefficients (minimal m some)
+    cut_by_table (table f m) (f.order * m) (f.place * m) (f.scale * m) entries right coefficients
+    (minimal m some)
     (mul-pos order_some some) (mul-pos scale_some some) (part_on_grid right f.place f.order m part)
     (values_on_grid f entries coefficients m order_some some (product_common entries) h)
 
@@ -102,32 +111,38 @@ cut_by_function f entries right coefficients bounds minimal part h =
 abbrev pub table_of : ℕ → ℕ → ℕ → ℕ → ℤ
 table_of q p m i = pos (gmic_table (q * m) (p * m) i)
 
-pub place_over : (f : Frac) (q p m : ℕ) → pos q ≡ denominator f → pos p ≡ numerator f → IsRatio f (pos (p * m)) (pos (q * m))
+pub place_over : (f : Frac) (q p m : ℕ) → pos q ≡ denominator f → pos p ≡ numerator f →
+    IsRatio f (pos (p * m)) (pos (q * m))
 place_over f q p m q_is p_is =
     ap (λ z. z *ℤ pos (q * m)) (sym p_is) ∙ crossed p q m ∙ ap (λ z. pos (p * m) *ℤ z) q_is
   where
     crossed : (p q m : ℕ) → pos p *ℤ pos (q * m) ≡ pos (p * m) *ℤ pos q
     crossed p q m = by_ring (pos p ∷ pos q ∷ pos m ∷ []) (search ring depth 30) refl
 
-gmic_on_grid : (f x y : Frac) (q p m : ℕ) → pos q ≡ denominator f → pos p ≡ numerator f → 0 < p → p < q → 0 < m →
-    Divides m x → IsGmicValue f x y → IsEntryAt (table_of q p m) (q * m) (gmic_scale (q * m) (p * m)) x y
+gmic_on_grid : (f x y : Frac) (q p m : ℕ) → pos q ≡ denominator f → pos p ≡ numerator f → 0 < p →
+    p < q → 0 < m →
+    Divides m x → IsGmicValue f x y →
+    IsEntryAt (table_of q p m) (q * m) (gmic_scale (q * m) (p * m)) x y
 gmic_on_grid f x y q p m q_is p_is p_some below some divides value =
     let d = unsigned_abs (denominator x) in
     let (e, whole) = cofactor d m divides in
     let a = numerator x *ℤ pos q *ℤ pos e in
     let i = natural_index a (q * m) (mul-pos (omega arith) some) in
     let place_is : IsRatio x a (pos (q * m)) =
-    subst (λ (n : ℕ). IsRatio x a (pos (q * n))) (sym whole) (place_on_grid x q d e (denominator_is x)) in
+    subst (λ (n : ℕ). IsRatio x a (pos (q * n))) (sym whole)
+    (place_on_grid x q d e (denominator_is x)) in
     record {
       place = a;
       place_is = place_is;
       index = i.0;
       index_is = i.1;
-      entry_is = closed_form f x y (q * m) (p * m) i.0 a (mul-pos p_some some) (mul-lt-mul_of_pos_right below some)
+      entry_is = closed_form f x y (q * m) (p * m) i.0 a (mul-pos p_some some)
+          (mul-lt-mul_of_pos_right below some)
           (place_over f q p m q_is p_is) place_is i.1 value;
     }
 
-pub gmics_on_grid : (f : Frac) (xs ys : List Frac) (q p m : ℕ) → pos q ≡ denominator f → pos p ≡ numerator f → 0 < p → p < q → 0 < m →
+pub gmics_on_grid : (f : Frac) (xs ys : List Frac) (q p m : ℕ) → pos q ≡ denominator f →
+    pos p ≡ numerator f → 0 < p → p < q → 0 < m →
     IsCommonDenominator xs m → AllZip (IsGmicValue f) xs ys →
     AllZip (IsEntryAt (table_of q p m) (q * m) (gmic_scale (q * m) (p * m))) xs ys
 gmics_on_grid f [] [] q p m q_is p_is p_some below some divide h = tt
@@ -138,8 +153,10 @@ gmics_on_grid f (x ∷ xs) (y ∷ ys) q p m q_is p_is p_some below some divide h
   gmics_on_grid f xs ys q p m q_is p_is p_some below some (All-tail (Divides m) x xs divide) h.1,
 )
 
-pub cut_by_gmic : (f : Frac) (entries : List Frac) (right : Frac) (coefficients : List Frac) → IsInside f →
-    HasFractionalPart right (numerator f) (denominator f) → AllZip (IsGmicValue f) entries coefficients →
+pub cut_by_gmic : (f : Frac) (entries : List Frac) (right : Frac) (coefficients : List Frac) →
+    IsInside f →
+    HasFractionalPart right (numerator f) (denominator f) →
+    AllZip (IsGmicValue f) entries coefficients →
     CutHolds entries right coefficients
 cut_by_gmic f entries right coefficients inside part h =
     let m = product_of entries in
@@ -154,7 +171,9 @@ cut_by_gmic f entries right coefficients inside part h =
     let k = p * m in
     let k_some : 0 < k = mul-pos p_some some in
     let k_below : k < n = mul-lt-mul_of_pos_right below some in
-    cut_by_table (table_of q p m) n k (gmic_scale n k) entries right coefficients (gmic_minimal n k k_some k_below)
+    cut_by_table (table_of q p m) n k (gmic_scale n k) entries right coefficients
+    (gmic_minimal n k k_some k_below)
     (mul-pos (omega arith) some) (mul-pos k_some (omega arith))
     (part_on_grid right p q m (subst₂ (HasFractionalPart right) (sym p_is) (sym q_is) part))
-    (gmics_on_grid f entries coefficients q p m q_is p_is p_some below some (product_common entries) h)
+    (gmics_on_grid f entries coefficients q p m q_is p_is p_some below some
+    (product_common entries) h)

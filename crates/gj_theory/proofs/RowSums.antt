@@ -13,7 +13,8 @@ use Rattle.gj_theory.specs.TriangularRows.{Solves}
 
 -- ---- sums
 
-pub sum_scaled : (u : ℤ) (xs w : List ℤ) → sum_of_products (scaled u xs) w ≡ u *ℤ sum_of_products xs w
+pub sum_scaled : (u : ℤ) (xs w : List ℤ) →
+    sum_of_products (scaled u xs) w ≡ u *ℤ sum_of_products xs w
 sum_scaled u [] w = omega (arith, ints)
 sum_scaled u (x ∷ xs) [] = omega (arith, ints)
 sum_scaled u (x ∷ xs) (v ∷ w) =
@@ -28,10 +29,12 @@ sum_differences [] (y ∷ ys) w e = absurd (omega arith)
 sum_differences (x ∷ xs) [] w e = absurd (omega arith)
 sum_differences (x ∷ xs) (y ∷ ys) [] e = refl
 sum_differences (x ∷ xs) (y ∷ ys) (v ∷ w) e =
-    let more : sum_of_products (differences xs ys) w ≡ sum_of_products xs w -ℤ sum_of_products ys w =
+    let more : sum_of_products (differences xs ys) w
+    ≡ sum_of_products xs w -ℤ sum_of_products ys w =
     sum_differences xs ys w (omega arith) in
     let here : (x -ℤ y) *ℤ v ≡ x *ℤ v -ℤ y *ℤ v = sub_mul_z x y v in
-    regroup ((x -ℤ y) *ℤ v) (sum_of_products (differences xs ys) w) (x *ℤ v) (y *ℤ v) (sum_of_products xs w)
+    regroup ((x -ℤ y) *ℤ v) (sum_of_products (differences xs ys) w) (x *ℤ v) (y *ℤ v)
+    (sum_of_products xs w)
     (sum_of_products ys w) here more
   where
     regroup : (a b c d e f : ℤ) → a ≡ c -ℤ d → b ≡ e -ℤ f → a +ℤ b ≡ (c +ℤ e) -ℤ (d +ℤ f)
@@ -41,7 +44,8 @@ pub sum_negated : (xs w : List ℤ) → sum_of_products (map neg_ℤ xs) w ≡ n
 sum_negated [] w = refl
 sum_negated (x ∷ xs) [] = refl
 sum_negated (x ∷ xs) (v ∷ w) =
-    regroup (neg_ℤ x *ℤ v) (x *ℤ v) (sum_of_products (map neg_ℤ xs) w) (sum_of_products xs w) (neg_mul_z x v)
+    regroup (neg_ℤ x *ℤ v) (x *ℤ v) (sum_of_products (map neg_ℤ xs) w) (sum_of_products xs w)
+    (neg_mul_z x v)
     (sum_negated xs w)
   where
     regroup : (a b c d : ℤ) → a ≡ neg_ℤ b → c ≡ neg_ℤ d → a +ℤ c ≡ neg_ℤ (b +ℤ d)
@@ -62,12 +66,15 @@ scaled_quotients g (x ∷ xs) h =
 pub divided_zero : (row : List ℤ) → gcd_of_row row ≡ 0 → divided row ≡ row
 unfolding divided
 divided_zero row e =
-    ap (λ b. if b then row else map (λ x. int_div x (pos (gcd_of_row row))) row) (eq-eqb (gcd_of_row row) 0 e)
+    ap (λ b. if b then row else map (λ x. int_div x (pos (gcd_of_row row))) row)
+    (eq-eqb (gcd_of_row row) 0 e)
 
-pub divided_some : (row : List ℤ) → gcd_of_row row ≢ 0 → divided row ≡ map (λ x. int_div x (pos (gcd_of_row row))) row
+pub divided_some : (row : List ℤ) → gcd_of_row row ≢ 0 →
+    divided row ≡ map (λ x. int_div x (pos (gcd_of_row row))) row
 unfolding divided
 divided_some row e =
-    ap (λ b. if b then row else map (λ x. int_div x (pos (gcd_of_row row))) row) (ne_eqb (gcd_of_row row) 0 e)
+    ap (λ b. if b then row else map (λ x. int_div x (pos (gcd_of_row row))) row)
+    (ne_eqb (gcd_of_row row) 0 e)
 
 pub zero_or_not : (n : ℕ) → (n ≡ 0) ⊎ (n ≢ 0)
 zero_or_not zero = inl refl
@@ -88,10 +95,12 @@ divided_times row = ⊎_elim zero_case some_case (zero_or_not (gcd_of_row row))
     some_case e = (
       gcd_of_row row,
       omega arith,
-      ap (scaled (pos (gcd_of_row row))) (divided_some row e) ∙ scaled_quotients (gcd_of_row row) row (dvd_refl _),
+      ap (scaled (pos (gcd_of_row row))) (divided_some row e)
+          ∙ scaled_quotients (gcd_of_row row) row (dvd_refl _),
     )
 
-pub solves_scaled : (u : ℤ) (row w : List ℤ) → unsigned_abs u ≢ 0 → (Solves w (scaled u row) ↔ Solves w row)
+pub solves_scaled : (u : ℤ) (row w : List ℤ) → unsigned_abs u ≢ 0 →
+    (Solves w (scaled u row) ↔ Solves w row)
 solves_scaled u row w some = (
   λ h. mul_cancel_left_z (sum_of_products row w) (pos 0) u
       (sym (sum_scaled u row w) ∙ h ∙ sym (times_zero u)) some,
@@ -110,13 +119,15 @@ solves_divided row w =
     )
 
 pub solves_negated : (row w : List ℤ) → (Solves w (map neg_ℤ row) ↔ Solves w row)
-solves_negated row w = let e = sum_negated row w in (λ h. omega (arith, ints), λ h. omega (arith, ints))
+solves_negated row w = let e = sum_negated row w in
+    (λ h. omega (arith, ints), λ h. omega (arith, ints))
 
 pub solves_kept_entries : (row w : List ℤ) (c : ℕ) → (Solves w (kept_entries row c) ↔ Solves w row)
 unfolding kept_entries
 solves_kept_entries row w c = by_sign (int_lt (at_column row c) (pos 0))
   where
-    by_sign : (b : Bool) → (Solves w (if b then map neg_ℤ (divided row) else divided row) ↔ Solves w row)
+    by_sign : (b : Bool) →
+        (Solves w (if b then map neg_ℤ (divided row) else divided row) ↔ Solves w row)
     by_sign true =
         let turned = solves_negated (divided row) w in
         let both = solves_divided row w in (λ h. both.0 (turned.0 h), λ h. turned.1 (both.1 h))

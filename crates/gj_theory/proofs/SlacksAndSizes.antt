@@ -10,7 +10,8 @@ use Rattle.gj_shape.specs.Perturbation.{IsLeastSlack, IsGreatestSize}
 use Rattle.gj_shape.specs.Table.{table, IsMinimalTable, IsMinimal}
 
 -- what holds below n and at n holds below n + 1
-and_last : (P : ℤ → Type 0) (g : ℕ → ℤ) (n : ℕ) → ((j : ℕ) → j < n → P (g j)) → P (g n) → (j : ℕ) → j < suc n → P (g j)
+and_last : (P : ℤ → Type 0) (g : ℕ → ℤ) (n : ℕ) → ((j : ℕ) → j < n → P (g j)) → P (g n) → (j : ℕ) →
+    j < suc n → P (g j)
 and_last P g n before last j below = elim (cases_lt j n) [
   | inl earlier ↦ before j earlier
   | inr here ↦ subst (λ x. P (g x)) (let e : n ≡ j = omega arith in e) last
@@ -27,7 +28,8 @@ greatest_up_to p zero = (
   0,
   record {
     greatest = λ j below.
-        let e : unsigned_abs (p j) ≡ unsigned_abs (p 0) = ap (λ x. unsigned_abs (p x)) (omega arith) in omega arith;
+        let e : unsigned_abs (p j) ≡ unsigned_abs (p 0) =
+        ap (λ x. unsigned_abs (p x)) (omega arith) in omega arith;
   },
 )
 greatest_up_to p (suc n) = one_more (greatest_up_to p n)
@@ -44,12 +46,14 @@ greatest_up_to p (suc n) = one_more (greatest_up_to p n)
       | inr less ↦ (
         i,
         record {
-          greatest = and_last (λ z. unsigned_abs z ≤ unsigned_abs (p i)) p (suc n) before.greatest less;
+          greatest = and_last (λ z. unsigned_abs z ≤ unsigned_abs (p i)) p
+              (suc n) before.greatest less;
         },
       )
     ]
 
-pub greatest_size : (p : ℕ → ℤ) (n : ℕ) → 0 < n → ((i : ℕ) → p (i + n) ≡ p i) → (size : ℕ) × IsGreatestSize p size
+pub greatest_size : (p : ℕ → ℤ) (n : ℕ) → 0 < n → ((i : ℕ) → p (i + n) ≡ p i) →
+    (size : ℕ) × IsGreatestSize p size
 greatest_size p n some period = of_period (greatest_up_to p n)
   where
     of_period : (i : ℕ) × IsGreatestUpTo p n i → (size : ℕ) × IsGreatestSize p size
@@ -61,7 +65,8 @@ greatest_size p n some period = of_period (greatest_up_to p n)
         greatest = λ j.
             let below : j % n < n = mod-lt j some in
             let same : p (j % n) ≡ p j = same_at_remainder p n period (j % n) j (mod-mod j n) in
-            subst (λ z. unsigned_abs z ≤ unsigned_abs (p i)) same (h.greatest (j % n) (omega arith));
+            subst (λ z. unsigned_abs z ≤ unsigned_abs (p i)) same
+            (h.greatest (j % n) (omega arith));
       },
     )
 
@@ -82,7 +87,8 @@ with_one_more g n (inl none) = by_lt_z (pos 0) (g n)
       record {
         positive = positive;
         least = and_last (λ z. pos 0 <ℤ z → g n ≤ℤ z) g n
-            (λ j below above. let low = none j below in absurd (omega (arith, ints))) (λ above. omega (arith, ints));
+            (λ j below above. let low = none j below in absurd (omega (arith, ints)))
+            (λ above. omega (arith, ints));
       },
     ))
     (λ low. inl (and_last (λ z. z ≤ℤ pos 0) g n none low))
@@ -99,7 +105,8 @@ with_one_more g n (inr (i, h)) =
       record {
         positive = positive;
         least = and_last (λ z. pos 0 <ℤ z → g n ≤ℤ z) g n
-            (λ j below above. let least = h.least j below above in omega (arith, ints)) (λ above. omega (arith, ints));
+            (λ j below above. let least = h.least j below above in omega (arith, ints))
+            (λ above. omega (arith, ints));
       },
     ))
     (λ low. inr (i, keep (λ above. absurd (omega (arith, ints))))))
@@ -127,20 +134,23 @@ slack_of_remainders t n period i j =
     let first : t (i % n) ≡ t i = same_at_remainder t n period (i % n) i (mod-mod i n) in
     let second : t (j % n) ≡ t j = same_at_remainder t n period (j % n) j (mod-mod j n) in
     let both : t (i % n + j % n) ≡ t (i + j) =
-    same_at_remainder t n period (i % n + j % n) (i + j) (mod-add-mod i n (j % n) ∙ add-mod-mod i j n) in
+    same_at_remainder t n period (i % n + j % n) (i + j)
+    (mod-add-mod i n (j % n) ∙ add-mod-mod i j n) in
     rw (first, second, both) refl
 
 -- entries of a minimal table are at most its scale
 pub at_most_scale : (t : ℕ → ℤ) (n k s i : ℕ) → 0 < n → IsMinimalTable t n k s → t i ≤ℤ pos s
 at_most_scale t n k s i some h =
     let j = (n - 1) * i + k in
-    let whole : i + j ≡ k + i * n = omega (arith, ap (λ x. x * i) (let e : n - 1 + 1 ≡ n = omega arith in e)) in
+    let whole : i + j ≡ k + i * n =
+    omega (arith, ap (λ x. x * i) (let e : n - 1 + 1 ≡ n = omega arith in e)) in
     let sum = h.symmetric i j (ap (λ x. x % n) whole ∙ add-mul-mod_self_right k i n) in
     let sign = h.nonnegative j in
     omega (arith, ints)
 
 -- the slack at (f, f) is positive
-positive_at_place : (t : ℕ → ℤ) (n k s : ℕ) → 0 < n → 0 < s → IsMinimalTable t n k s → pos 0 <ℤ slack_of t k k
+positive_at_place : (t : ℕ → ℤ) (n k s : ℕ) → 0 < n → 0 < s → IsMinimalTable t n k s →
+    pos 0 <ℤ slack_of t k k
 positive_at_place t n k s some s_some h =
     let zero_at_zero = h.zero_at_zero in
     let place : t 0 +ℤ t k ≡ pos s = h.symmetric 0 k (ap (λ x. x % n) (omega arith)) in
@@ -160,9 +170,11 @@ pub record HasLeastSlack (t : ℕ → ℤ) : Type 0 where
   pub positive : pos 0 <ℤ slack_of t i j
   pub least : (a b : ℕ) → pos 0 <ℤ slack_of t a b → slack_of t i j ≤ℤ slack_of t a b
 
-least_slack_of_table : (t : ℕ → ℤ) (n k s : ℕ) → 0 < n → 0 < s → IsMinimalTable t n k s → HasLeastSlack t
+least_slack_of_table : (t : ℕ → ℤ) (n k s : ℕ) → 0 < n → 0 < s → IsMinimalTable t n k s →
+    HasLeastSlack t
 least_slack_of_table t n k s some s_some h =
-    of_least (least_positive g (n * n) (k % n * n + k % n) (number k k) (subst (λ z. pos 0 <ℤ z) (sym (there k k)) place))
+    of_least (least_positive g (n * n) (k % n * n + k % n) (number k k)
+    (subst (λ z. pos 0 <ℤ z) (sym (there k k)) place))
   where
     g : ℕ → ℤ
     g x = slack_of t (x / n) (x % n)
@@ -170,7 +182,8 @@ least_slack_of_table t n k s some s_some h =
     number : (a b : ℕ) → a % n * n + b % n < n * n
     number a b = pair_number n (a % n) (b % n) (mod-lt a some) (mod-lt b some)
 
-    there : (a b : ℕ) → slack_of t ((a % n * n + b % n) / n) ((a % n * n + b % n) % n) ≡ slack_of t a b
+    there : (a b : ℕ) → slack_of t ((a % n * n + b % n) / n) ((a % n * n + b % n) % n)
+        ≡ slack_of t a b
     there a b =
         let parts = parts_of_place (a % n * n + b % n) (a % n) n (b % n) refl (mod-lt b some) in
         rw (parts.0, parts.1) (slack_of_remainders t n h.has_period a b)
@@ -178,7 +191,8 @@ least_slack_of_table t n k s some s_some h =
     place : pos 0 <ℤ slack_of t k k
     place = positive_at_place t n k s some s_some h
 
-    of_least : (x : ℕ) × IsLeastPositive (λ x. slack_of t (x / n) (x % n)) (n * n) x → HasLeastSlack t
+    of_least : (x : ℕ) × IsLeastPositive (λ x. slack_of t (x / n) (x % n)) (n * n) x →
+        HasLeastSlack t
     of_least (x, found) = record {
       i = x / n;
       j = x % n;
@@ -189,8 +203,10 @@ least_slack_of_table t n k s some s_some h =
           (found.least y (number a b) (subst (λ z. pos 0 <ℤ z) (sym (there a b)) above));
     }
 
-pub least_slack : (f : FunctionData) (m : ℕ) → IsWithinBounds f → IsMinimal f → 0 < m → (u : ℕ) × IsLeastSlack f m u
-least_slack f m l h some = of_table (least_slack_of_table (table f m) (f.order * m) (f.place * m) (f.scale * m)
+pub least_slack : (f : FunctionData) (m : ℕ) → IsWithinBounds f → IsMinimal f → 0 < m →
+    (u : ℕ) × IsLeastSlack f m u
+least_slack f m l h some =
+    of_table (least_slack_of_table (table f m) (f.order * m) (f.place * m) (f.scale * m)
     (mul-pos (omega arith) some) (mul-pos (omega arith) some) (h m some))
   where
     of_table : HasLeastSlack (table f m) → (u : ℕ) × IsLeastSlack f m u

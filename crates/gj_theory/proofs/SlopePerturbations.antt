@@ -32,16 +32,19 @@ abbrev rows_of_pairs : FunctionData → List RowName
 rows_of_pairs f = made_of_pairs Pair (is_tight f) f.order
 
 -- the first two rows, and the row of a tight pair
-pub first_rows_hold : (P : RowName → Type 0) (f : FunctionData) → All P (row_names f) → P Period × P F
+pub first_rows_hold : (P : RowName → Type 0) (f : FunctionData) → All P (row_names f) →
+    P Period × P F
 first_rows_hold P f all =
     let pairs = rows_of_pairs f in
     (All-head P Period (F ∷ pairs) all, All-head P F pairs (All-tail P Period (F ∷ pairs) all))
 
-pub pair_row_holds : (P : RowName → Type 0) (f : FunctionData) → All P (row_names f) → (a b : ℕ) → 1 ≤ a → a ≤ b → b < f.order →
+pub pair_row_holds : (P : RowName → Type 0) (f : FunctionData) → All P (row_names f) → (a b : ℕ) →
+    1 ≤ a → a ≤ b → b < f.order →
     IsTight f a b → P (Pair a b)
 pair_row_holds P f all a b low up high tight =
     let pairs = rows_of_pairs f in
-    pair_of_all P Pair (is_tight f) f.order (All-tail P F pairs (All-tail P Period (F ∷ pairs) all)) a b low up high
+    pair_of_all P Pair (is_tight f) f.order (All-tail P F pairs (All-tail P Period (F ∷ pairs) all))
+    a b low up high
     (tight_test f a b tight)
 
 -- ---- the values of the perturbation
@@ -55,8 +58,10 @@ unfolding sum_before
 total_before slope zero = refl
 total_before slope (suc i) =
     let next : suc i ≡ i + 1 = omega arith in
-    ap (λ n. total (map slope (range_with_len 0 n))) next ∙ ap total (map-range_with_len_more slope 0 i i (zero-add i))
-    ∙ total_push (map slope (range_with_len 0 i)) (slope i) ∙ ap (λ z. z +ℤ slope i) (total_before slope i)
+    ap (λ n. total (map slope (range_with_len 0 n))) next
+    ∙ ap total (map-range_with_len_more slope 0 i i (zero-add i))
+    ∙ total_push (map slope (range_with_len 0 i)) (slope i)
+    ∙ ap (λ z. z +ℤ slope i) (total_before slope i)
 
 sum_more : (slope : ℕ → ℤ) (i : ℕ) → sum_before slope (suc i) ≡ sum_before slope i +ℤ slope i
 unfolding sum_before
@@ -75,32 +80,38 @@ pub record SumsAreAdditive (f : FunctionData) (slope : ℕ → ℤ) : Type 0 whe
   pub pair : (a b : ℕ) → 1 ≤ a → a ≤ b → b < f.order → IsTight f a b →
       sum_before slope a +ℤ sum_before slope b ≡ sum_before slope ((a + b) % f.order)
 
-sums_from_rows : (f : FunctionData) (component : ℕ → ℕ) (n : ℕ) (slopes : List ℤ) → IsWithinBounds f → length slopes ≡ n →
+sums_from_rows : (f : FunctionData) (component : ℕ → ℕ) (n : ℕ) (slopes : List ℤ) →
+    IsWithinBounds f → length slopes ≡ n →
     ((i : ℕ) → i < f.order → component i < n) → SolveRows component n f slopes →
     SumsAreAdditive f (λ i. at_column slopes (component i))
 sums_from_rows f component n slopes l len below solved =
     let s = at_column slopes in
     let before = sum_before (λ i. at_column slopes (component i)) in
-    let Zero = λ (name : RowName). sum_of_products (row_of component n f.order f.place name) slopes ≡ pos 0 in
+    let Zero = λ (name : RowName). sum_of_products (row_of component n f.order f.place name) slopes
+    ≡ pos 0 in
     let same = λ (name : RowName).
     ap (sum_of_products (row_of component n f.order f.place name)) (listed slopes n len) in
     let some : 0 < f.order = omega (arith, l.order_low) in
     let first = first_rows_hold Zero f solved in
     record {
       whole = sym (period_row component s n f.order f.place below) ∙ sym (same Period) ∙ first.0;
-      place = sym (place_row component s n f.order f.place below (omega (arith, l.place_high))) ∙ sym (same F) ∙ first.1;
+      place = sym (place_row component s n f.order f.place below (omega (arith, l.place_high)))
+          ∙ sym (same F) ∙ first.1;
       pair = λ a b low up high tight.
           let r_low = mod-lt (a + b) some in
           let zero : Zero (Pair a b) = pair_row_holds Zero f solved a b low up high tight in
-          let sums = pair_row component s n f.order f.place a b below (omega arith) (omega arith) (omega arith) in
-          from_difference (before a) (before b) (before ((a + b) % f.order)) (sym sums ∙ sym (same (Pair a b)) ∙ zero);
+          let sums = pair_row component s n f.order f.place a b below (omega arith) (omega arith)
+          (omega arith) in
+          from_difference (before a) (before b) (before ((a + b) % f.order))
+          (sym sums ∙ sym (same (Pair a b)) ∙ zero);
     }
   where
     from_difference : (x y z : ℤ) → x +ℤ y -ℤ z ≡ pos 0 → x +ℤ y ≡ z
     from_difference x y z e = omega (arith, ints)
 
 -- the sums are additive at remainders of tight pairs
-additive_sums : (f : FunctionData) (slope : ℕ → ℤ) → SumsAreAdditive f slope → (a b : ℕ) → a < f.order → b < f.order →
+additive_sums : (f : FunctionData) (slope : ℕ → ℤ) → SumsAreAdditive f slope → (a b : ℕ) →
+    a < f.order → b < f.order →
     IsTight f a b → sum_before slope a +ℤ sum_before slope b ≡ sum_before slope ((a + b) % f.order)
 unfolding sum_before
 additive_sums f slope h zero b a_low b_low tight =
@@ -124,9 +135,11 @@ additive_sums f slope h (suc a) (suc b) a_low b_low tight = elim (cases_lt b a) 
   | inr more ↦ h.pair (suc a) (suc b) (omega arith) (omega arith) b_low tight
 ]
 
-pub slopes_perturb : (f : FunctionData) (component : ℕ → ℕ) (n : ℕ) (slopes : List ℤ) → IsWithinBounds f → length slopes ≡ n →
+pub slopes_perturb : (f : FunctionData) (component : ℕ → ℕ) (n : ℕ) (slopes : List ℤ) →
+    IsWithinBounds f → length slopes ≡ n →
     ((i : ℕ) → i < f.order → component i < n) → SolveRows component n f slopes →
-    IsPerturbation (table f 1) (f.order * 1) (f.place * 1) (perturbation_of f.order (λ i. at_column slopes (component i)))
+    IsPerturbation (table f 1) (f.order * 1) (f.place * 1)
+    (perturbation_of f.order (λ i. at_column slopes (component i)))
 slopes_perturb f component n slopes l len below solved = record {
   at_tight = record {
     has_period = λ i.
@@ -135,11 +148,14 @@ slopes_perturb f component n slopes l len below solved = record {
     additive = λ i j tight.
         let sum : (i % q + j % q) % q ≡ (i + j) % q = sym (add-mod i j q) in
         ap₂ (λ x y. x +ℤ y) (total_before slope (i % q)) (total_before slope (j % q))
-        ∙ additive_sums f slope sums (i % q) (j % q) (mod-lt i some) (mod-lt j some) (at_remainders i j tight)
+        ∙ additive_sums f slope sums (i % q) (j % q) (mod-lt i some) (mod-lt j some)
+        (at_remainders i j tight)
         ∙ ap (sum_before slope) sum ∙ sym (total_before slope ((i + j) % q));
   };
   zero_at_place =
-      ap p (mul-one f.place) ∙ ap (λ r. total (map slope (range_with_len 0 r))) (mod-eq_of_lt (let h = l.place_high in h))
+      ap p (mul-one f.place)
+      ∙ ap (λ r. total (map slope (range_with_len 0 r)))
+      (mod-eq_of_lt (let h = l.place_high in h))
       ∙ total_before slope f.place ∙ sums.place;
 }
   where
@@ -158,24 +174,29 @@ slopes_perturb f component n slopes l len below solved = record {
     sums : SumsAreAdditive f slope
     sums = sums_from_rows f component n slopes l len below solved
 
-    at_remainders : (i j : ℕ) → table f 1 i +ℤ table f 1 j ≡ table f 1 (i + j) → IsTight f (i % f.order) (j % f.order)
+    at_remainders : (i j : ℕ) → table f 1 i +ℤ table f 1 j ≡ table f 1 (i + j) →
+        IsTight f (i % f.order) (j % f.order)
     at_remainders i j tight =
         let value = λ (x y : ℕ) (e : x % f.order ≡ y % f.order).
         at_same f.value x y f.order l.value_length e ∙ sym (table_of_order f y) in
-        ap₂ (λ x y. x +ℤ y) (value (i % f.order) i (mod-mod i f.order)) (value (j % f.order) j (mod-mod j f.order))
+        ap₂ (λ x y. x +ℤ y) (value (i % f.order) i (mod-mod i f.order))
+        (value (j % f.order) j (mod-mod j f.order))
         ∙ tight
         ∙ sym (value (i % f.order + j % f.order) (i + j) (sym (add-mod i j f.order)))
 
 -- if the slope of an interval is not 0, the perturbation is not 0 at one of its ends
-pub slopes_not_zero : (f : FunctionData) (component : ℕ → ℕ) (n : ℕ) (slopes : List ℤ) (i : ℕ) → IsWithinBounds f →
-    length slopes ≡ n → ((j : ℕ) → j < f.order → component j < n) → SolveRows component n f slopes → i < f.order →
+pub slopes_not_zero : (f : FunctionData) (component : ℕ → ℕ) (n : ℕ) (slopes : List ℤ) (i : ℕ) →
+    IsWithinBounds f →
+    length slopes ≡ n → ((j : ℕ) → j < f.order → component j < n) → SolveRows component n f slopes →
+    i < f.order →
     at_column slopes (component i) ≢ pos 0 →
     (j : ℕ) × (perturbation_of f.order (λ k. at_column slopes (component k)) j ≢ pos 0)
 slopes_not_zero f component n slopes i l len below solved low some_slope =
     elim (same_or_apart_z (sum_before slope i) (pos 0)) [
       | inl start ↦ elim (cases_lt (suc i) f.order) [
         | inl inner ↦ (suc i, λ e. from_zero start (sym (here (suc i) inner) ∙ e))
-        | inr last ↦ absurd (from_zero start (ap (sum_before slope) (let e : suc i ≡ f.order = omega arith in e) ∙ sums.whole))
+        | inr last ↦ absurd (from_zero start
+            (ap (sum_before slope) (let e : suc i ≡ f.order = omega arith in e) ∙ sums.whole))
       ]
       | inr apart ↦ (i, λ e. apart (sym (here i low) ∙ e))
     ]
@@ -187,7 +208,8 @@ slopes_not_zero f component n slopes i l len below solved low some_slope =
     sums = sums_from_rows f component n slopes l len below solved
 
     here : (j : ℕ) → j < f.order → perturbation_of f.order slope j ≡ sum_before slope j
-    here j inner = ap (λ r. total (map slope (range_with_len 0 r))) (mod-eq_of_lt inner) ∙ total_before slope j
+    here j inner = ap (λ r. total (map slope (range_with_len 0 r))) (mod-eq_of_lt inner)
+        ∙ total_before slope j
 
     from_zero : sum_before slope i ≡ pos 0 → sum_before slope (suc i) ≡ pos 0 → ⊥
     from_zero start end = let step = sum_more slope i in some_slope (omega (arith, ints))

@@ -21,7 +21,8 @@ pub to_carries : {a b : Type 0} → (b ↔ a) → Carries (Unit {0}) a b
 to_carries h = record { onward = h.1; before = λ back. h.0 }
 
 -- the entries with which a row is kept at a column
-pub record KeepsRow (is_pivot : ℤ → Type 0) (solves : List ℤ → List ℤ → Type 0) (back : Type 0) (row : List ℤ) (c : ℕ)
+pub record KeepsRow (is_pivot : ℤ → Type 0) (solves : List ℤ → List ℤ → Type 0) (back : Type 0)
+    (row : List ℤ) (c : ℕ)
     (entries : List ℤ) : Type 0 where
   pub columns : length entries ≡ length row
   pub zero : (i : ℕ) → at_column row i ≡ pos 0 → at_column entries i ≡ pos 0
@@ -37,26 +38,34 @@ pub record SoundArithmetic : Type 1 where
   pub back : Type 0
   pub read_columns : (row : List ℤ) → length (by.read row) ≡ length row
   pub read_solutions : (w row : List ℤ) → Carries back (solves w row) (solves w (by.read row))
-  pub step_columns : (kept row : List ℤ) (c : ℕ) → length kept ≡ length row → length (by.step kept row c) ≡ length row
-  pub step_zero : (kept row : List ℤ) (c i : ℕ) → length kept ≡ length row → at_column kept i ≡ pos 0 → at_column row i ≡ pos 0 →
+  pub step_columns : (kept row : List ℤ) (c : ℕ) → length kept ≡ length row →
+      length (by.step kept row c) ≡ length row
+  pub step_zero : (kept row : List ℤ) (c i : ℕ) → length kept ≡ length row →
+      at_column kept i ≡ pos 0 → at_column row i ≡ pos 0 →
       at_column (by.step kept row c) i ≡ pos 0
-  pub step_here : (kept row : List ℤ) (c : ℕ) → length kept ≡ length row → is_pivot (at_column kept c) →
+  pub step_here : (kept row : List ℤ) (c : ℕ) → length kept ≡ length row →
+      is_pivot (at_column kept c) →
       at_column (by.step kept row c) c ≡ pos 0
-  pub step_onward : (kept row w : List ℤ) (c : ℕ) → length kept ≡ length row → solves w kept → solves w row →
+  pub step_onward : (kept row w : List ℤ) (c : ℕ) → length kept ≡ length row → solves w kept →
+      solves w row →
       solves w (by.step kept row c)
-  pub step_before : back → (kept row w : List ℤ) (c : ℕ) → length kept ≡ length row → is_pivot (at_column kept c) →
+  pub step_before : back → (kept row w : List ℤ) (c : ℕ) → length kept ≡ length row →
+      is_pivot (at_column kept c) →
       solves w kept → solves w (by.step kept row c) → solves w row
   -- a step by no row, and a step of no row, leave no entries
   pub by_none : (row : List ℤ) (c : ℕ) → by.step [] row c ≡ []
   pub of_none : (kept : List ℤ) (c : ℕ) → by.step kept [] c ≡ []
   pub none_solved : (w : List ℤ) → solves w []
-  pub kept : (row : List ℤ) (c : ℕ) (entries : List ℤ) → at_column row c ≢ pos 0 → by.keep row c ≡ Some entries →
+  pub kept : (row : List ℤ) (c : ℕ) (entries : List ℤ) → at_column row c ≢ pos 0 →
+      by.keep row c ≡ Some entries →
       KeepsRow is_pivot solves back row c entries
   -- where there is a way back, each row is kept or 0, and as many kept rows as columns leave only
   -- what solves each row
   pub not_kept : back → (row : List ℤ) (c : ℕ) → by.keep row c ≡ None → ⊥
-  pub zeros_solved : back → (row w : List ℤ) → ((i : ℕ) → i < length row → at_column row i ≡ pos 0) → solves w row
-  pub all_pivots : back → (n : ℕ) (kept : List KeptRow) (w : List ℤ) → AreTriangularBy is_pivot n kept → length kept ≡ n →
+  pub zeros_solved : back → (row w : List ℤ) →
+      ((i : ℕ) → i < length row → at_column row i ≡ pos 0) → solves w row
+  pub all_pivots : back → (n : ℕ) (kept : List KeptRow) (w : List ℤ) →
+      AreTriangularBy is_pivot n kept → length kept ≡ n →
       length w ≡ n → All (λ k. solves w k.entries) kept → (row : List ℤ) → solves w row
 
 -- the numbers solve all kept rows
@@ -74,7 +83,8 @@ pub reduced_of_none : (kept : List ℤ) (c : ℕ) → reduced kept [] c ≡ []
 unfolding reduced eliminated
 reduced_of_none kept c = divided_zero [] refl
 
-pub whole_kept : (row : List ℤ) (c : ℕ) (entries : List ℤ) → at_column row c ≢ pos 0 → Some (kept_entries row c) ≡ Some entries →
+pub whole_kept : (row : List ℤ) (c : ℕ) (entries : List ℤ) → at_column row c ≢ pos 0 →
+    Some (kept_entries row c) ≡ Some entries →
     KeepsRow (λ x. pos 0 <ℤ x) (λ w r. Solves w r) (Unit {0}) row c entries
 whole_kept row c entries some e =
     let same : kept_entries row c ≡ entries = cc in

@@ -25,7 +25,8 @@ opposite_on_grid k q m i j e =
 -- ---- signs and slacks
 
 -- a number that is not negative in large multiples, up to a fixed difference, is not negative
-limit_from_near : (n : ℕ) (x d : ℤ) → ((h : ℕ) → n ≤ h → 0 < h → pos 0 ≤ℤ (pos (h - n) *ℤ x +ℤ d)) → pos 0 ≤ℤ x
+limit_from_near : (n : ℕ) (x d : ℤ) → ((h : ℕ) → n ≤ h → 0 < h → pos 0 ≤ℤ (pos (h - n) *ℤ x +ℤ d)) →
+    pos 0 ≤ℤ x
 limit_from_near n x d h =
     le_from_multiples_z (pos 0) x d (λ k some.
     let back : k + n - n ≡ k = omega arith in
@@ -40,7 +41,8 @@ right_limit f h i =
 
 pub left_limit : (f : FunctionData) → IsMinimal f → (i : ℕ) → pos 0 ≤ℤ at f.left (i + 1)
 left_limit f h i =
-    limit_from_near 2 (at f.left (i + 1)) (total (at f.right i ∷ at f.left (i + 1) ∷ [])) (λ n low some.
+    limit_from_near 2 (at f.left (i + 1)) (total (at f.right i ∷ at f.left (i + 1) ∷ []))
+    (λ n low some.
     subst (λ z. pos 0 ≤ℤ z) (near_before f i n low) ((h n some).nonnegative (i * n + n - 1)))
 
 -- what a sum exceeds another by if it is not less
@@ -64,32 +66,39 @@ slack_limit f h kind a b c below =
 -- the values at opposite places inside intervals, on a grid
 pub between_on_grid : (f : FunctionData) → IsMinimal f → (i j u r : ℕ) → 0 < u → 0 < r →
     i + j + 1 ≡ f.place + f.order →
-    (pos u *ℤ at f.right i +ℤ pos r *ℤ at f.left (i + 1)) +ℤ (pos r *ℤ at f.right j +ℤ pos u *ℤ at f.left (j + 1))
+    (pos u *ℤ at f.right i +ℤ pos r *ℤ at f.left (i + 1))
+    +ℤ (pos r *ℤ at f.right j +ℤ pos u *ℤ at f.left (j + 1))
     ≡ pos (f.scale * (u + r))
 between_on_grid f h i j u r u_some r_some e =
     let m = u + r in
     let first = table_inside f m (i * m + r) i u r refl refl u_some r_some in
     let second = table_inside f m (j * m + u) j r u refl (omega arith) r_some u_some in
-    let whole : i * m + r + (j * m + u) ≡ (f.place + f.order) * m = omega (arith, ap (λ n. n * m) e) in
+    let whole : i * m + r + (j * m + u) ≡ (f.place + f.order) * m =
+    omega (arith, ap (λ n. n * m) e) in
     ap₂ (λ x y. x +ℤ y) (sym first) (sym second)
-    ∙ (h m (omega arith)).symmetric (i * m + r) (j * m + u) (opposite_on_grid f.place f.order m _ _ whole)
+    ∙ (h m (omega arith)).symmetric (i * m + r) (j * m + u)
+    (opposite_on_grid f.place f.order m _ _ whole)
 
 -- two sums from their sum and from twice the one and the other
-two_sums : (s : ℕ) (x x' y y' : ℤ) → (pos 1 *ℤ x +ℤ pos 1 *ℤ x') +ℤ (pos 1 *ℤ y +ℤ pos 1 *ℤ y') ≡ pos (s * (1 + 1)) →
+two_sums : (s : ℕ) (x x' y y' : ℤ) → (pos 1 *ℤ x +ℤ pos 1 *ℤ x') +ℤ (pos 1 *ℤ y +ℤ pos 1 *ℤ y')
+    ≡ pos (s * (1 + 1)) →
     (pos 2 *ℤ x +ℤ pos 1 *ℤ x') +ℤ (pos 1 *ℤ y +ℤ pos 2 *ℤ y') ≡ pos (s * (2 + 1)) →
     (x +ℤ y' ≡ pos s) × (x' +ℤ y ≡ pos s)
 two_sums s x x' y y' e g = (omega (arith, ints), omega (arith, ints))
 
-symmetric_limits : (f : FunctionData) → IsMinimal f → (i : ℕ) → i < f.order → Passes f (symmetric_between i)
+symmetric_limits : (f : FunctionData) → IsMinimal f → (i : ℕ) → i < f.order →
+    Passes f (symmetric_between i)
 symmetric_limits f h i below =
     let j = f.place + (f.order - (i + 1)) in
     let next : j + 1 ≡ f.place + (f.order - i) = omega arith in
-    let sums = two_sums f.scale (at f.right i) (at f.left (i + 1)) (at f.right j) (at f.left (j + 1))
+    let sums = two_sums f.scale (at f.right i) (at f.left (i + 1)) (at f.right j)
+    (at f.left (j + 1))
     (between_on_grid f h i j 1 1 (omega arith) (omega arith) (omega arith))
     (between_on_grid f h i j 2 1 (omega arith) (omega arith) (omega arith)) in
     (ap (λ k. at f.right i +ℤ at f.left k) (sym next) ∙ sums.0, sums.1)
 
-symmetric_values : (f : FunctionData) → IsMinimal f → (i : ℕ) → i < f.order → Passes f (symmetric_at i)
+symmetric_values : (f : FunctionData) → IsMinimal f → (i : ℕ) → i < f.order →
+    Passes f (symmetric_at i)
 symmetric_values f h i below =
     let j = f.place + (f.order - i) in
     ap₂ (λ x y. x +ℤ y) (sym (table_of_order f i)) (sym (table_of_order f j))

@@ -14,24 +14,29 @@ use Rattle.gj_shape.proofs.TableLemmas.{table_at, table_between, table_period, l
 -- ---- the table of a continuous function between two values
 
 -- at the place a m + r, from one multiple of 1/order to the next, both among them
-pub value_at_place : (f : FunctionData) (m i a u r : ℕ) → IsContinuous f → 0 < m → i ≡ a * m + r → u + r ≡ m →
+pub value_at_place : (f : FunctionData) (m i a u r : ℕ) → IsContinuous f → 0 < m → i ≡ a * m + r →
+    u + r ≡ m →
     table f m i ≡ pos u *ℤ at f.value a +ℤ pos r *ℤ at f.value (a + 1)
 value_at_place f m i a u zero continuous some e whole =
     ap (table f m) (e ∙ add-zero (a * m)) ∙ table_at f m a some
-    ∙ ap (λ n. pos n *ℤ at f.value a) (sym whole ∙ add-zero u) ∙ first_only_z u (at f.value a) (at f.value (a + 1))
+    ∙ ap (λ n. pos n *ℤ at f.value a) (sym whole ∙ add-zero u)
+    ∙ first_only_z u (at f.value a) (at f.value (a + 1))
 value_at_place f m i a zero (suc r) continuous some e whole =
     let next : i ≡ (a + 1) * m = omega arith in
     let rest : m ≡ suc r = omega arith in
     ap (table f m) next ∙ table_at f m (a + 1) some
-    ∙ ap (λ n. pos n *ℤ at f.value (a + 1)) rest ∙ second_only_z (suc r) (at f.value a) (at f.value (a + 1))
+    ∙ ap (λ n. pos n *ℤ at f.value (a + 1)) rest
+    ∙ second_only_z (suc r) (at f.value a) (at f.value (a + 1))
 value_at_place f m i a (suc u) (suc r) continuous some e whole =
     let weight : m - suc r ≡ suc u = omega arith in
     ap (table f m) e ∙ table_between f m a (suc r) (omega arith) (omega arith)
     ∙ ap (λ n. pos n *ℤ at f.right a +ℤ pos (suc r) *ℤ at f.left (a + 1)) weight
-    ∙ ap₂ (λ x y. pos (suc u) *ℤ x +ℤ pos (suc r) *ℤ y) (right_is_value f a continuous) (left_is_value f (a + 1) continuous)
+    ∙ ap₂ (λ x y. pos (suc u) *ℤ x +ℤ pos (suc r) *ℤ y) (right_is_value f a continuous)
+    (left_is_value f (a + 1) continuous)
 
 -- at a multiple of 1/order
-place_value : (f : FunctionData) (m i a : ℕ) → 0 < m → i ≡ a * m → table f m i ≡ pos m *ℤ at f.value a
+place_value : (f : FunctionData) (m i a : ℕ) → 0 < m → i ≡ a * m →
+    table f m i ≡ pos m *ℤ at f.value a
 place_value f m i a some e = ap (table f m) e ∙ table_at f m a some
 
 -- ---- sums by weights, over plain numbers
@@ -43,50 +48,60 @@ sum_by e g h sum = ap₂ (λ v w. v +ℤ w) e g ∙ sum ∙ sym h
 horizontal_z : (u r : ℕ) (x x' y t t' : ℤ) → x +ℤ y ≡ t → x' +ℤ y ≡ t' →
     (pos u *ℤ x +ℤ pos r *ℤ x') +ℤ pos (u + r) *ℤ y ≡ pos u *ℤ t +ℤ pos r *ℤ t'
 horizontal_z u r x x' y t t' e g =
-    let sum : (pos u *ℤ x +ℤ pos r *ℤ x') +ℤ pos (u + r) *ℤ y ≡ pos u *ℤ (x +ℤ y) +ℤ pos r *ℤ (x' +ℤ y) =
+    let sum : (pos u *ℤ x +ℤ pos r *ℤ x') +ℤ pos (u + r) *ℤ y ≡ pos u *ℤ (x +ℤ y) +ℤ pos r
+    *ℤ (x' +ℤ y) =
     by_ring (pos u ∷ pos r ∷ x ∷ x' ∷ y ∷ []) (search ring depth 20) refl in
     sum ∙ ap₂ (λ v w. pos u *ℤ v +ℤ pos r *ℤ w) e g
 
 vertical_z : (u r : ℕ) (x y y' t t' : ℤ) → x +ℤ y ≡ t → x +ℤ y' ≡ t' →
     pos (u + r) *ℤ x +ℤ (pos u *ℤ y +ℤ pos r *ℤ y') ≡ pos u *ℤ t +ℤ pos r *ℤ t'
 vertical_z u r x y y' t t' e g =
-    let sum : pos (u + r) *ℤ x +ℤ (pos u *ℤ y +ℤ pos r *ℤ y') ≡ pos u *ℤ (x +ℤ y) +ℤ pos r *ℤ (x +ℤ y') =
+    let sum : pos (u + r) *ℤ x +ℤ (pos u *ℤ y +ℤ pos r *ℤ y') ≡ pos u *ℤ (x +ℤ y) +ℤ pos r
+    *ℤ (x +ℤ y') =
     by_ring (pos u ∷ pos r ∷ x ∷ y ∷ y' ∷ []) (search ring depth 20) refl in
     sum ∙ ap₂ (λ v w. pos u *ℤ v +ℤ pos r *ℤ w) e g
 
 diagonal_z : (r s : ℕ) (x x' y y' t : ℤ) → x' +ℤ y ≡ t → x +ℤ y' ≡ t →
     (pos s *ℤ x +ℤ pos r *ℤ x') +ℤ (pos r *ℤ y +ℤ pos s *ℤ y') ≡ pos (r + s) *ℤ t
 diagonal_z r s x x' y y' t e g =
-    let sum : (pos s *ℤ x +ℤ pos r *ℤ x') +ℤ (pos r *ℤ y +ℤ pos s *ℤ y') ≡ pos r *ℤ (x' +ℤ y) +ℤ pos s *ℤ (x +ℤ y') =
+    let sum : (pos s *ℤ x +ℤ pos r *ℤ x') +ℤ (pos r *ℤ y +ℤ pos s *ℤ y')
+    ≡ pos r *ℤ (x' +ℤ y) +ℤ pos s *ℤ (x +ℤ y') =
     by_ring (pos r ∷ pos s ∷ x ∷ x' ∷ y ∷ y' ∷ []) (search ring depth 20) refl in
-    let one : pos r *ℤ t +ℤ pos s *ℤ t ≡ pos (r + s) *ℤ t = by_ring (pos r ∷ pos s ∷ t ∷ []) (search ring depth 20) refl in
+    let one : pos r *ℤ t +ℤ pos s *ℤ t ≡ pos (r + s) *ℤ t =
+    by_ring (pos r ∷ pos s ∷ t ∷ []) (search ring depth 20) refl in
     sum ∙ ap₂ (λ v w. pos r *ℤ v +ℤ pos s *ℤ w) e g ∙ one
 
 lower_z : (w r s : ℕ) (x x' y y' t t' : ℤ) → x +ℤ y ≡ t → x' +ℤ y ≡ t' → x +ℤ y' ≡ t' →
-    (pos (w + s) *ℤ x +ℤ pos r *ℤ x') +ℤ (pos (w + r) *ℤ y +ℤ pos s *ℤ y') ≡ pos w *ℤ t +ℤ pos (r + s) *ℤ t'
+    (pos (w + s) *ℤ x +ℤ pos r *ℤ x') +ℤ (pos (w + r) *ℤ y +ℤ pos s *ℤ y')
+    ≡ pos w *ℤ t +ℤ pos (r + s) *ℤ t'
 lower_z w r s x x' y y' t t' e g h =
     let sum : (pos (w + s) *ℤ x +ℤ pos r *ℤ x') +ℤ (pos (w + r) *ℤ y +ℤ pos s *ℤ y')
     ≡ pos w *ℤ (x +ℤ y) +ℤ (pos r *ℤ (x' +ℤ y) +ℤ pos s *ℤ (x +ℤ y')) =
     by_ring (pos w ∷ pos r ∷ pos s ∷ x ∷ x' ∷ y ∷ y' ∷ []) (search ring depth 20) refl in
-    let one : pos r *ℤ t' +ℤ pos s *ℤ t' ≡ pos (r + s) *ℤ t' = by_ring (pos r ∷ pos s ∷ t' ∷ []) (search ring depth 20) refl in
+    let one : pos r *ℤ t' +ℤ pos s *ℤ t' ≡ pos (r + s) *ℤ t' =
+    by_ring (pos r ∷ pos s ∷ t' ∷ []) (search ring depth 20) refl in
     sum ∙ ap₂ (λ v n. pos w *ℤ v +ℤ n) e (ap₂ (λ v n. pos r *ℤ v +ℤ pos s *ℤ n) g h ∙ one)
 
 upper_z : (u v w : ℕ) (x x' y y' t t' : ℤ) → x' +ℤ y ≡ t → x +ℤ y' ≡ t → x' +ℤ y' ≡ t' →
-    (pos u *ℤ x +ℤ pos (v + w) *ℤ x') +ℤ (pos v *ℤ y +ℤ pos (u + w) *ℤ y') ≡ pos (u + v) *ℤ t +ℤ pos w *ℤ t'
+    (pos u *ℤ x +ℤ pos (v + w) *ℤ x') +ℤ (pos v *ℤ y +ℤ pos (u + w) *ℤ y')
+    ≡ pos (u + v) *ℤ t +ℤ pos w *ℤ t'
 upper_z u v w x x' y y' t t' e g h =
     let sum : (pos u *ℤ x +ℤ pos (v + w) *ℤ x') +ℤ (pos v *ℤ y +ℤ pos (u + w) *ℤ y')
     ≡ (pos u *ℤ (x +ℤ y') +ℤ pos v *ℤ (x' +ℤ y)) +ℤ pos w *ℤ (x' +ℤ y') =
     by_ring (pos u ∷ pos v ∷ pos w ∷ x ∷ x' ∷ y ∷ y' ∷ []) (search ring depth 20) refl in
-    let one : pos u *ℤ t +ℤ pos v *ℤ t ≡ pos (u + v) *ℤ t = by_ring (pos u ∷ pos v ∷ t ∷ []) (search ring depth 20) refl in
+    let one : pos u *ℤ t +ℤ pos v *ℤ t ≡ pos (u + v) *ℤ t =
+    by_ring (pos u ∷ pos v ∷ t ∷ []) (search ring depth 20) refl in
     sum ∙ ap₂ (λ n z. n +ℤ pos w *ℤ z) (ap₂ (λ n z. pos u *ℤ n +ℤ pos v *ℤ z) g e ∙ one) h
 
 -- ---- each face, in the plane
 
 -- a tight pair, with its sum spelled otherwise
-corner : (f : FunctionData) (x y z : ℕ) → IsTight f x y → z ≡ x + y → at f.value x +ℤ at f.value y ≡ at f.value z
+corner : (f : FunctionData) (x y z : ℕ) → IsTight f x y → z ≡ x + y →
+    at f.value x +ℤ at f.value y ≡ at f.value z
 corner f x y z tight e = tight ∙ ap (at f.value) (sym e)
 
-pub tight_in_face : (f : FunctionData) (m : ℕ) (kind : FaceKind) (a b i j : ℕ) → IsContinuous f → 0 < m →
+pub tight_in_face : (f : FunctionData) (m : ℕ) (kind : FaceKind) (a b i j : ℕ) → IsContinuous f →
+    0 < m →
     IsAdditive (IsTight f) kind a b → IsInFace m kind a b i j → IsTightOnGrid f m i j
 tight_in_face f m Vertex a b i j continuous some h inside =
     let first = inside.0 in
@@ -131,8 +146,10 @@ tight_in_face f m Diagonal a b i j continuous some h inside =
     let whole : r + s ≡ m = omega arith in
     sum_by (value_at_place f m i a s r continuous some first (omega arith))
     (value_at_place f m j b r s continuous some second whole)
-    (place_value f m (i + j) (a + b + 1) some sum ∙ ap (λ n. pos n *ℤ at f.value (a + b + 1)) (sym whole))
-    (diagonal_z r s _ _ _ _ _ (corner f (a + 1) b (a + b + 1) (h 0 (0, 0) (omega arith)) (omega arith))
+    (place_value f m (i + j) (a + b + 1) some sum
+    ∙ ap (λ n. pos n *ℤ at f.value (a + b + 1)) (sym whole))
+    (diagonal_z r s _ _ _ _ _
+    (corner f (a + 1) b (a + b + 1) (h 0 (0, 0) (omega arith)) (omega arith))
     (corner f a (b + 1) (a + b + 1) (h 1 (0, 0) (omega arith)) (omega arith)))
 tight_in_face f m Lower a b i j continuous some h inside =
     let low = inside.0 in
@@ -163,7 +180,8 @@ tight_in_face f m Upper a b i j continuous some h inside =
     sum_by (value_at_place f m i a u (v + w) continuous some first (omega arith))
     (value_at_place f m j b v (u + w) continuous some second (omega arith))
     (value_at_place f m (i + j) (a + b + 1) (u + v) w continuous some (omega arith) whole)
-    (upper_z u v w _ _ _ _ _ _ (corner f (a + 1) b (a + b + 1) (h 0 (0, 0) (omega arith)) (omega arith))
+    (upper_z u v w _ _ _ _ _ _
+    (corner f (a + 1) b (a + b + 1) (h 0 (0, 0) (omega arith)) (omega arith))
     (corner f a (b + 1) (a + b + 1) (h 1 (0, 0) (omega arith)) (omega arith))
     (corner f (a + 1) (b + 1) (a + b + 1 + 1) (h 2 (0, 0) (omega arith)) (omega arith)))
 
@@ -172,7 +190,8 @@ tight_in_face f m Upper a b i j continuous some h inside =
 sum_remainder : (x y i j n : ℕ) → x % n ≡ i % n → y % n ≡ j % n → (x + y) % n ≡ (i + j) % n
 sum_remainder x y i j n e g = add-mod x y n ∙ ap₂ (λ u v. (u + v) % n) e g ∙ sym (add-mod i j n)
 
-pub tight_on_grid : (f : FunctionData) (m : ℕ) (kind : FaceKind) (a b i j : ℕ) → IsWithinBounds f → IsContinuous f →
+pub tight_on_grid : (f : FunctionData) (m : ℕ) (kind : FaceKind) (a b i j : ℕ) → IsWithinBounds f →
+    IsContinuous f →
     0 < m → IsAdditive (IsTight f) kind a b → IsInClosure f m kind a b i j → IsTightOnGrid f m i j
 tight_on_grid f m kind a b i j l continuous some h inside =
     let x = inside.0 in

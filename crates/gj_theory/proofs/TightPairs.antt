@@ -32,21 +32,26 @@ zero_terms (w ∷ ws) (x ∷ xs) some long h e =
     let first = mul_nonnegative_z (pos w) x (omega (arith, ints)) (All-head P x xs h) in
     let rest = sum_nonnegative ws xs (All-tail P x xs h) in
     All-cons (λ y. y ≡ pos 0) x xs (zero_factor_z w x w_some (omega (arith, ints)))
-    (zero_terms ws xs (All-tail (λ v. 0 < v) w ws some) (omega arith) (All-tail P x xs h) (omega (arith, ints)))
+    (zero_terms ws xs (All-tail (λ v. 0 < v) w ws some) (omega arith) (All-tail P x xs h)
+    (omega (arith, ints)))
 
 -- ---- the corners of a face
 
 -- what holds of the image of each element
-all_images : {X : Type 0} (P : ℤ → Type 0) (g : X → ℤ) (xs : List X) → All P (map g xs) → All (λ x. P (g x)) xs
+all_images : {X : Type 0} (P : ℤ → Type 0) (g : X → ℤ) (xs : List X) → All P (map g xs) →
+    All (λ x. P (g x)) xs
 all_images P g [] h = All-nil (λ x. P (g x))
 all_images P g (x ∷ xs) h =
-    All-cons (λ y. P (g y)) x xs (All-head P (g x) (map g xs) h) (all_images P g xs (All-tail P (g x) (map g xs) h))
+    All-cons (λ y. P (g y)) x xs (All-head P (g x) (map g xs) h)
+    (all_images P g xs (All-tail P (g x) (map g xs) h))
 
-tight_from_slack : (f : FunctionData) (corner : ℕ × ℕ) → slack_at f corner ≡ pos 0 → IsTight f corner.0 corner.1
+tight_from_slack : (f : FunctionData) (corner : ℕ × ℕ) → slack_at f corner ≡ pos 0 →
+    IsTight f corner.0 corner.1
 tight_from_slack f corner e = omega (arith, ints)
 
 -- the slack at each corner is not negative
-slacks_nonnegative : (f : FunctionData) → IsContinuous f → IsMinimal f → (kind : FaceKind) (a b : ℕ) →
+slacks_nonnegative : (f : FunctionData) → IsContinuous f → IsMinimal f →
+    (kind : FaceKind) (a b : ℕ) →
     All (λ x. pos 0 ≤ℤ x) (limits_of f kind a b)
 slacks_nonnegative f c h kind a b =
     subst (All (λ x. pos 0 ≤ℤ x)) (sym (limits_are_slacks f kind a b c))
@@ -55,7 +60,8 @@ slacks_nonnegative f c h kind a b =
 
 -- if the slack at a point of a face is 0, and the point has a weight above 0 at each corner, the
 -- face is additive
-additive_from_weights : (f : FunctionData) → IsContinuous f → IsMinimal f → (kind : FaceKind) (a b : ℕ) (ws : List ℕ) →
+additive_from_weights : (f : FunctionData) → IsContinuous f → IsMinimal f →
+    (kind : FaceKind) (a b : ℕ) (ws : List ℕ) →
     All (λ w. 0 < w) ws → length (corners_of kind a b) ≤ length ws → (x y : ℤ) →
     x ≡ y +ℤ weighted ws (limits_of f kind a b) →
     x ≡ y → IsAdditive (IsTight f) kind a b
@@ -63,7 +69,8 @@ additive_from_weights f c h kind a b ws some long x y slack tight =
     let count = limit_count f kind a b in
     let zero_sum : weighted ws (limits_of f kind a b) ≡ pos 0 = omega (arith, ints) in
     let zeros =
-    zero_terms ws (limits_of f kind a b) some (omega arith) (slacks_nonnegative f c h kind a b) zero_sum in
+    zero_terms ws (limits_of f kind a b) some (omega arith)
+    (slacks_nonnegative f c h kind a b) zero_sum in
     let at_corners =
     all_images (λ x. x ≡ pos 0) (slack_at f) (corners_of kind a b)
     (subst (All (λ x. x ≡ pos 0)) (limits_are_slacks f kind a b c) zeros) in
@@ -74,26 +81,30 @@ additive_from_weights f c h kind a b ws some long x y slack tight =
 -- the pair lies in the closure of an additive face
 abbrev pub LiesInAdditiveFace : FunctionData → ℕ → ℕ → ℕ → Type 0
 LiesInAdditiveFace f m i j =
-    (kind : FaceKind) × (a : ℕ) × (b : ℕ) × IsInClosure f m kind a b i j × IsAdditive (IsTight f) kind a b
+    (kind : FaceKind) × (a : ℕ) × (b : ℕ) × IsInClosure f m kind a b i j
+    × IsAdditive (IsTight f) kind a b
 
 lies_in : (f : FunctionData) (m i j : ℕ) (kind : FaceKind) (a b : ℕ) → IsInFace m kind a b i j →
     IsAdditive (IsTight f) kind a b → LiesInAdditiveFace f m i j
 lies_in f m i j kind a b closed additive = (kind, a, b, (i, j, refl, refl, closed), additive)
 
 -- inside a square
-tight_inside : (f : FunctionData) → IsContinuous f → IsMinimal f → (m i j a b r s : ℕ) → i ≡ a * m + r → j ≡ b * m + s →
+tight_inside : (f : FunctionData) → IsContinuous f → IsMinimal f → (m i j a b r s : ℕ) →
+    i ≡ a * m + r → j ≡ b * m + s →
     0 < r → r < m → 0 < s → s < m → IsTightOnGrid f m i j → LiesInAdditiveFace f m i j
 tight_inside f c h m i j a b r s e g r_some r_low s_some s_low tight =
     elim (cases_order (r + s) m) [
       | inl whole ↦
           lies_in f m i j Diagonal a b (omega arith, omega arith, omega arith)
-          (additive_from_weights f c h Diagonal a b (r ∷ s ∷ []) (two_weights r s r_some s_some) (omega arith) _ _
+          (additive_from_weights f c h Diagonal a b (r ∷ s ∷ []) (two_weights r s r_some s_some)
+          (omega arith) _ _
           (slack_on_diagonal f m i j a b r s e g whole r_some s_some) tight)
       | inr other ↦ elim other [
         | inl low ↦
             let w = m - (r + s) in
             lies_in f m i j Lower a b (omega arith, omega arith, omega arith)
-            (additive_from_weights f c h Lower a b (w ∷ r ∷ s ∷ []) (three_weights w r s (omega arith) r_some s_some)
+            (additive_from_weights f c h Lower a b (w ∷ r ∷ s ∷ [])
+            (three_weights w r s (omega arith) r_some s_some)
             (omega arith) _ _
             (slack_on_lower f m i j a b w r s e g (omega arith) (omega arith) r_some s_some) tight)
         | inr high ↦
@@ -103,7 +114,8 @@ tight_inside f c h m i j a b r s e g r_some r_low s_some s_low tight =
             lies_in f m i j Upper a b (omega arith, omega arith, omega arith)
             (additive_from_weights f c h Upper a b (u ∷ v ∷ w ∷ [])
             (three_weights u v w (omega arith) (omega arith) (omega arith)) (omega arith) _ _
-            (slack_on_upper f m i j a b u v w (omega arith) (omega arith) (omega arith) (omega arith) (omega arith)
+            (slack_on_upper f m i j a b u v w (omega arith) (omega arith) (omega arith)
+            (omega arith) (omega arith)
             (omega arith)) tight)
       ]
     ]
@@ -116,23 +128,28 @@ tight_in_square f c h m i j a b some (at_multiple e) (at_multiple g) tight =
     (slack_on_vertex f m i j a b e g some) tight)
 tight_in_square f c h m i j a b some (inside r u e whole u_some r_some) (at_multiple g) tight =
     lies_in f m i j Horizontal a b (omega arith, omega arith, g)
-    (additive_from_weights f c h Horizontal a b (u ∷ r ∷ []) (two_weights u r u_some r_some) (omega arith) _ _
+    (additive_from_weights f c h Horizontal a b (u ∷ r ∷ []) (two_weights u r u_some r_some)
+    (omega arith) _ _
     (slack_on_horizontal f m i j a b u r e g whole u_some r_some) tight)
 tight_in_square f c h m i j a b some (at_multiple e) (inside s v g whole v_some s_some) tight =
     lies_in f m i j Vertical a b (e, omega arith, omega arith)
-    (additive_from_weights f c h Vertical a b (v ∷ s ∷ []) (two_weights v s v_some s_some) (omega arith) _ _
+    (additive_from_weights f c h Vertical a b (v ∷ s ∷ []) (two_weights v s v_some s_some)
+    (omega arith) _ _
     (slack_on_vertical f m i j a b v s e g whole v_some s_some) tight)
-tight_in_square f c h m i j a b some (inside r u e whole u_some low) (inside s v g sum v_some more) tight =
+tight_in_square f c h m i j a b some (inside r u e whole u_some low)
+    (inside s v g sum v_some more) tight =
     tight_inside f c h m i j a b r s e g low (omega arith) more (omega arith) tight
 
-pub tight_pair_in_face : (f : FunctionData) (m i j : ℕ) → IsWithinBounds f → IsContinuous f → IsMinimal f → 0 < m →
+pub tight_pair_in_face : (f : FunctionData) (m i j : ℕ) → IsWithinBounds f → IsContinuous f →
+    IsMinimal f → 0 < m →
     IsTightOnGrid f m i j → LiesInAdditiveFace f m i j
 tight_pair_in_face f m i j l c h some tight =
     tight_in_square f c h m i j (i / m) (j / m) some (place_of m i some) (place_of m j some) tight
 
 -- what has the period of the grid and is additive on the closures of all additive faces is additive
 -- at each tight pair
-pub additive_from_faces : (f : FunctionData) (m : ℕ) (p : ℕ → ℤ) → IsWithinBounds f → IsContinuous f → IsMinimal f →
+pub additive_from_faces : (f : FunctionData) (m : ℕ) (p : ℕ → ℤ) → IsWithinBounds f →
+    IsContinuous f → IsMinimal f →
     0 < m → ((i : ℕ) → p (i + f.order * m) ≡ p i) →
     ((kind : FaceKind) (a b x y : ℕ) → IsAdditive (IsTight f) kind a b → IsInFace m kind a b x y →
     p x +ℤ p y ≡ p (x + y)) →
@@ -148,6 +165,8 @@ additive_from_faces f m p l c h some period on_faces = record {
     on_face : (i j : ℕ) → LiesInAdditiveFace f m i j → p i +ℤ p j ≡ p (i + j)
     on_face i j (kind, a, b, (x, y, e, g, closed), additive) =
         let same = same_at_remainder p n period in
-        let sum : (x + y) % n ≡ (i + j) % n = add-mod x y n ∙ ap₂ (λ r s. (r + s) % n) e g ∙ sym (add-mod i j n) in
-        ap₂ (λ v w. v +ℤ w) (sym (same x i e)) (sym (same y j g)) ∙ on_faces kind a b x y additive closed
+        let sum : (x + y) % n ≡ (i + j) % n = add-mod x y n ∙ ap₂ (λ r s. (r + s) % n) e g
+        ∙ sym (add-mod i j n) in
+        ap₂ (λ v w. v +ℤ w) (sym (same x i e)) (sym (same y j g))
+        ∙ on_faces kind a b x y additive closed
         ∙ same (x + y) (i + j) sum

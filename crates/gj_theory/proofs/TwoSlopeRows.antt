@@ -26,17 +26,21 @@ use Rattle.gj_theory.proofs.TwoSlopes.{minimal_values, value_at_place, value_at_
 use Rattle.gj_theory.proofs.TwoSlopeCovers.{leads_alike}
 use Rattle.gj_theory.proofs.TwoSlopesAreExtreme.{both_zero}
 
-pub two_rows : (f : FunctionData) (lines : List CoverLine) (component : ℕ → ℕ) (n : ℕ) (slopes : List ℤ) →
+pub two_rows : (f : FunctionData) (lines : List CoverLine) (component : ℕ → ℕ) (n : ℕ)
+    (slopes : List ℤ) →
     IsWithinBounds f → IsMinimal f → HasTwoSlopes f → AreCoverLines f.order (IsTight f) lines →
-    ((i : ℕ) → i < f.order → HasComponent lines (component i) i) → n ≡ components_in lines → length slopes ≡ n →
+    ((i : ℕ) → i < f.order → HasComponent lines (component i) i) → n ≡ components_in lines →
+    length slopes ≡ n →
     sum_of_products (row_of component n f.order f.place Period) slopes ≡ pos 0 →
-    sum_of_products (row_of component n f.order f.place F) slopes ≡ pos 0 → All (λ x. x ≡ pos 0) slopes
+    sum_of_products (row_of component n f.order f.place F) slopes ≡ pos 0 →
+    All (λ x. x ≡ pos 0) slopes
 two_rows f lines component n slopes l minimal two cover has counted long period place =
     All-from_get_or (λ x. x ≡ pos 0) slopes (pos 0)
     (λ k low.
     let found = interval_of_component q (IsTight f) lines k cover (omega arith) in
     let number : component found.0 ≡ k =
-    one_component q (IsTight f) lines found.0 (component found.0) k (lines_meet_rules q (IsTight f) lines cover) (has found.0 found.1)
+    one_component q (IsTight f) lines found.0 (component found.0) k
+    (lines_meet_rules q (IsTight f) lines cover) (has found.0 found.1)
     found.2 in
     ap (at_column slopes) (sym number) ∙ zero_at found.0 found.1)
   where
@@ -62,7 +66,8 @@ two_rows f lines component n slopes l minimal two cover has counted long period 
     alike : (a b : ℕ) → a < f.order → b < f.order → rise f a ≡ rise f b → slope a ≡ slope b
     alike a b a_low b_low same =
         ap (at_column slopes)
-        (one_number q (IsTight f) lines (component a) (component b) a b cover (has a a_low) (has b b_low)
+        (one_number q (IsTight f) lines (component a) (component b) a b cover (has a a_low)
+        (has b b_low)
         (leads_alike f a b some h goes same))
 
     below : (a : ℕ) → a < f.order → component a < n
@@ -71,7 +76,8 @@ two_rows f lines component n slopes l minimal two cover has counted long period 
     both : (slope 0 ≡ pos 0) × (slope last ≡ pos 0)
     both =
         let s = at_column slopes in
-        let same = λ (name : RowName). ap (sum_of_products (row_of component n f.order f.place name)) (listed slopes n long) in
+        let same = λ (name : RowName). ap
+        (sum_of_products (row_of component n f.order f.place name)) (listed slopes n long) in
         let k_low : f.place ≤ f.order = omega (arith, l.place_high) in
         let one_value = value_at_place f h in
         let zero_value = h.zero_at_zero in
@@ -82,7 +88,8 @@ two_rows f lines component n slopes l minimal two cover has counted long period 
           | inl e ↦ inl (e, alike a 0 low some e)
           | inr e ↦ inr (e, alike a last low (omega arith) e)
         ])
-        some k_low (omega (arith, ints)) (value_at_order f h ∙ sym h.zero_at_zero) (omega (arith, ints, l.scale_low))
+        some k_low (omega (arith, ints)) (value_at_order f h ∙ sym h.zero_at_zero)
+        (omega (arith, ints, l.scale_low))
         (sym (period_row component s n f.order f.place below) ∙ sym (same Period) ∙ period)
         (sym (place_row component s n f.order f.place below k_low) ∙ sym (same F) ∙ place)
 

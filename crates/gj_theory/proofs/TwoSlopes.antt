@@ -15,13 +15,15 @@ minimal_values f minimal = own_values f (minimal 1 (omega arith))
 -- the value at f is 1
 pub value_at_place : (f : FunctionData) → HasMinimalValues f → at f.value f.place ≡ pos f.scale
 value_at_place f h =
-    let opposite = h.symmetric f.place 0 (ap (λ i. i % f.order) (let e : f.place + 0 ≡ f.place = omega arith in e)) in
+    let opposite = h.symmetric f.place 0
+    (ap (λ i. i % f.order) (let e : f.place + 0 ≡ f.place = omega arith in e)) in
     let start = h.zero_at_zero in
     omega (arith, ints)
 
 -- the value at 1 is that at 0
 pub value_at_order : (f : FunctionData) → HasMinimalValues f → at f.value f.order ≡ pos 0
-value_at_order f h = ap (at f.value) (let e : f.order ≡ 0 + f.order = omega arith in e) ∙ h.has_period 0 ∙ h.zero_at_zero
+value_at_order f h = ap (at f.value) (let e : f.order ≡ 0 + f.order = omega arith in e)
+    ∙ h.has_period 0 ∙ h.zero_at_zero
 
 -- ---- tables that go one way
 
@@ -46,44 +48,61 @@ never_falls v up k (suc n) =
 -- a step that does not fall and one that does not rise, of two slopes of which one falls and one
 -- rises
 by_signs : (x y first last r : ℤ) → (x <ℤ pos 0) ⊎ (y <ℤ pos 0) → (pos 0 <ℤ x) ⊎ (pos 0 <ℤ y) →
-    pos 0 ≤ℤ first → last ≤ℤ pos 0 → (first ≡ x) ⊎ (first ≡ y) → (last ≡ x) ⊎ (last ≡ y) → (r ≡ x) ⊎ (r ≡ y) →
+    pos 0 ≤ℤ first → last ≤ℤ pos 0 → (first ≡ x) ⊎ (first ≡ y) → (last ≡ x) ⊎ (last ≡ y) →
+    (r ≡ x) ⊎ (r ≡ y) →
     (pos 0 <ℤ first) × (last <ℤ pos 0) × ((r ≡ first) ⊎ (r ≡ last))
 by_signs x y first last r below above up down (inl e) (inl g) h = elim below [
   | inl b ↦ absurd (omega (arith, ints))
-  | inr b ↦ elim above [ inl c ↦ absurd (omega (arith, ints)) | inr c ↦ absurd (omega (arith, ints)) ]
+  | inr b ↦ elim above
+      [ inl c ↦ absurd (omega (arith, ints)) | inr c ↦ absurd (omega (arith, ints)) ]
 ]
 by_signs x y first last r below above up down (inl e) (inr g) h =
     let falls : y <ℤ pos 0 = elim below [ inl b ↦ absurd (omega (arith, ints)) | inr b ↦ b ] in
-    let rises : pos 0 <ℤ x = elim above [ inl c ↦ c | inr c ↦ absurd (omega (arith, ints)) ] in
-    (omega (arith, ints), omega (arith, ints), elim h [ inl a ↦ inl (a ∙ sym e) | inr a ↦ inr (a ∙ sym g) ])
+    let rises : pos 0 <ℤ x = elim above [ inl c ↦ c | inr c ↦ absurd (omega (arith, ints)) ] in (
+      omega (arith, ints),
+      omega (arith, ints),
+      elim h
+          [ inl a ↦ inl (a ∙ sym e) | inr a ↦ inr (a ∙ sym g) ],
+    )
 by_signs x y first last r below above up down (inr e) (inl g) h =
     let falls : x <ℤ pos 0 = elim below [ inl b ↦ b | inr b ↦ absurd (omega (arith, ints)) ] in
-    let rises : pos 0 <ℤ y = elim above [ inl c ↦ absurd (omega (arith, ints)) | inr c ↦ c ] in
-    (omega (arith, ints), omega (arith, ints), elim h [ inl a ↦ inr (a ∙ sym g) | inr a ↦ inl (a ∙ sym e) ])
+    let rises : pos 0 <ℤ y = elim above [ inl c ↦ absurd (omega (arith, ints)) | inr c ↦ c ] in (
+      omega (arith, ints),
+      omega (arith, ints),
+      elim h
+          [ inl a ↦ inr (a ∙ sym g) | inr a ↦ inl (a ∙ sym e) ],
+    )
 by_signs x y first last r below above up down (inr e) (inr g) h = elim below [
-  | inl b ↦ elim above [ inl c ↦ absurd (omega (arith, ints)) | inr c ↦ absurd (omega (arith, ints)) ]
+  | inl b ↦ elim above
+      [ inl c ↦ absurd (omega (arith, ints)) | inr c ↦ absurd (omega (arith, ints)) ]
   | inr b ↦ absurd (omega (arith, ints))
 ]
 
 -- one of the two slopes falls
-one_falls : (v : ℕ → ℤ) (x y : ℤ) (k n : ℕ) → ((a : ℕ) → (v (a + 1) -ℤ v a ≡ x) ⊎ (v (a + 1) -ℤ v a ≡ y)) →
+one_falls : (v : ℕ → ℤ) (x y : ℤ) (k n : ℕ) →
+    ((a : ℕ) → (v (a + 1) -ℤ v a ≡ x) ⊎ (v (a + 1) -ℤ v a ≡ y)) →
     v (k + n) <ℤ v k → (x <ℤ pos 0) ⊎ (y <ℤ pos 0)
 one_falls v x y k n each lower =
     by_lt_z x (pos 0) inl
     (λ x_up. by_lt_z y (pos 0) inr
-    (λ y_up. let up = never_falls v (λ a. elim (each a) [ inl e ↦ omega (arith, ints) | inr e ↦ omega (arith, ints) ]) k n in
+    (λ y_up. let up = never_falls v
+    (λ a. elim (each a) [ inl e ↦ omega (arith, ints) | inr e ↦ omega (arith, ints) ]) k n in
     absurd (omega (arith, ints))))
 
 -- one of the two slopes rises
-one_rises : (v : ℕ → ℤ) (x y : ℤ) (n : ℕ) → ((a : ℕ) → (v (a + 1) -ℤ v a ≡ x) ⊎ (v (a + 1) -ℤ v a ≡ y)) →
+one_rises : (v : ℕ → ℤ) (x y : ℤ) (n : ℕ) →
+    ((a : ℕ) → (v (a + 1) -ℤ v a ≡ x) ⊎ (v (a + 1) -ℤ v a ≡ y)) →
     v 0 <ℤ v n → (pos 0 <ℤ x) ⊎ (pos 0 <ℤ y)
 one_rises v x y n each higher =
     by_lt_z (pos 0) x inl
     (λ x_down. by_lt_z (pos 0) y inr
-    (λ y_down. let down = never_rises v (λ a. elim (each a) [ inl e ↦ omega (arith, ints) | inr e ↦ omega (arith, ints) ]) n in
+    (λ y_down. let down =
+    never_rises v (λ a. elim (each a)
+    [ inl e ↦ omega (arith, ints) | inr e ↦ omega (arith, ints) ]) n in
     absurd (omega (arith, ints))))
 
-pub rises_and_falls : (f : FunctionData) → IsWithinBounds f → IsMinimal f → HasTwoSlopes f → RisesOrFalls f
+pub rises_and_falls : (f : FunctionData) → IsWithinBounds f → IsMinimal f → HasTwoSlopes f →
+    RisesOrFalls f
 rises_and_falls f l minimal two = record {
   first_rises = (parts 0).0;
   last_falls = (parts 0).1;
@@ -97,15 +116,18 @@ rises_and_falls f l minimal two = record {
     below =
         let place = value_at_place f h in
         let last : at f.value (f.place + (f.order - f.place)) ≡ pos 0 =
-        ap (at f.value) (let e : f.place + (f.order - f.place) ≡ f.order = omega (arith, l.place_high) in e) ∙ value_at_order f h in
-        one_falls (at f.value) (rise f two.one) (rise f two.other) f.place (f.order - f.place) two.each
+        ap (at f.value) (let e : f.place + (f.order - f.place) ≡ f.order =
+        omega (arith, l.place_high) in e) ∙ value_at_order f h in
+        one_falls (at f.value) (rise f two.one) (rise f two.other) f.place
+        (f.order - f.place) two.each
         (omega (arith, ints, l.scale_low))
 
     above : (pos 0 <ℤ rise f two.one) ⊎ (pos 0 <ℤ rise f two.other)
     above =
         let place = value_at_place f h in
         let start = h.zero_at_zero in
-        one_rises (at f.value) (rise f two.one) (rise f two.other) f.place two.each (omega (arith, ints, l.scale_low))
+        one_rises (at f.value) (rise f two.one) (rise f two.other) f.place two.each
+        (omega (arith, ints, l.scale_low))
 
     up : pos 0 ≤ℤ rise f 0
     up = let start = h.zero_at_zero in let first = h.nonnegative (0 + 1) in omega (arith, ints)
@@ -113,12 +135,14 @@ rises_and_falls f l minimal two = record {
     down : rise f (f.order - 1) ≤ℤ pos 0
     down =
         let end : at f.value (f.order - 1 + 1) ≡ pos 0 =
-        ap (at f.value) (let e : f.order - 1 + 1 ≡ f.order = omega (arith, l.order_low) in e) ∙ value_at_order f h in
+        ap (at f.value) (let e : f.order - 1 + 1 ≡ f.order = omega (arith, l.order_low) in e)
+        ∙ value_at_order f h in
         let last = h.nonnegative (f.order - 1) in
         omega (arith, ints)
 
     parts : (a : ℕ) → (pos 0 <ℤ rise f 0) × (rise f (f.order - 1) <ℤ pos 0)
         × ((rise f a ≡ rise f 0) ⊎ (rise f a ≡ rise f (f.order - 1)))
     parts a =
-        by_signs (rise f two.one) (rise f two.other) (rise f 0) (rise f (f.order - 1)) (rise f a) below above up down
+        by_signs (rise f two.one) (rise f two.other) (rise f 0) (rise f (f.order - 1))
+        (rise f a) below above up down
         (two.each 0) (two.each (f.order - 1)) (two.each a)

@@ -34,10 +34,13 @@ dented_tells w n a v i =
 pub dented_here : (w : ℕ → ℤ) (n a : ℕ) (v : ℤ) → dented w n a v a ≡ v
 dented_here w n a v = ⊎_elim (λ at. at.1) (λ off. absurd (off.0 refl)) (dented_tells w n a v a)
 
-pub dented_period : (w : ℕ → ℤ) (n a : ℕ) (v : ℤ) → ((i : ℕ) → w (i + n) ≡ w i) → (i : ℕ) → dented w n a v (i + n) ≡ dented w n a v i
-dented_period w n a v period i = ap₂ (λ r x. cond (eqb r (a % n)) v x) (add-mod_right i n) (period i)
+pub dented_period : (w : ℕ → ℤ) (n a : ℕ) (v : ℤ) → ((i : ℕ) → w (i + n) ≡ w i) → (i : ℕ) →
+    dented w n a v (i + n) ≡ dented w n a v i
+dented_period w n a v period i = ap₂ (λ r x. cond (eqb r (a % n)) v x) (add-mod_right i n)
+    (period i)
 
-pub dented_le : (w : ℕ → ℤ) (n a : ℕ) (v : ℤ) → ((i : ℕ) → w (i + n) ≡ w i) → v ≤ℤ w a → (i : ℕ) → dented w n a v i ≤ℤ w i
+pub dented_le : (w : ℕ → ℤ) (n a : ℕ) (v : ℤ) → ((i : ℕ) → w (i + n) ≡ w i) → v ≤ℤ w a → (i : ℕ) →
+    dented w n a v i ≤ℤ w i
 dented_le w n a v period least i =
     ⊎_elim
     (λ at.
@@ -49,7 +52,8 @@ dented_le w n a v period least i =
 
 -- ---- a place for which lighter places stand
 
-pub valid_by_places : (t u : ℕ → ℤ) (n k s : ℕ) → IsValidTable t n k s → ((i : ℕ) → u (i + n) ≡ u i) →
+pub valid_by_places : (t u : ℕ → ℤ) (n k s : ℕ) → IsValidTable t n k s →
+    ((i : ℕ) → u (i + n) ≡ u i) →
     ((i : ℕ) → StandFor t n i (u i)) → IsValidTable u n k s
 valid_by_places t u n k s valid period each = record {
   has_period = period;
@@ -70,23 +74,31 @@ pub record Lighter (t : ℕ → ℤ) (n k s : ℕ) : Type 0 where
   pub below : u place <ℤ t place
 
 -- places that add up to a and weigh less than a
-pub lighter : (t : ℕ → ℤ) (n k s a : ℕ) (places : List ℕ) → IsValidTable t n k s → sum places % n ≡ a % n → weight t places <ℤ t a →
+pub lighter : (t : ℕ → ℤ) (n k s a : ℕ) (places : List ℕ) → IsValidTable t n k s →
+    sum places % n ≡ a % n → weight t places <ℤ t a →
     Lighter t n k s
 lighter t n k s a places valid place less =
     let v = weight t places in
     record {
       u = dented t n a v;
       place = a;
-      valid = valid_by_places t (dented t n a v) n k s valid (dented_period t n a v valid.has_period)
+      valid = valid_by_places t (dented t n a v) n k s valid
+          (dented_period t n a v valid.has_period)
           (λ i. ⊎_elim
           (λ at. (places, place ∙ sym at.0, sym at.1))
-          (λ off. (i ∷ [], ap (λ j. j % n) (sum_cons i []) ∙ ap (λ j. j % n) (omega arith), omega (arith, ints, off.1)))
+          (λ off. (
+            i ∷ [],
+            ap (λ j. j % n) (sum_cons i [])
+                ∙ ap (λ j. j % n) (omega arith),
+            omega (arith, ints, off.1),
+          ))
           (dented_tells t n a v i));
       at_most = dented_le t n a v valid.has_period (omega (arith, ints));
       below = let here = dented_here t n a v in omega (arith, ints);
     }
 
-pub lighter_places : (t : ℕ → ℤ) (n k s a : ℕ) (places : List ℕ) → IsValidTable t n k s → sum places % n ≡ a % n →
+pub lighter_places : (t : ℕ → ℤ) (n k s a : ℕ) (places : List ℕ) → IsValidTable t n k s →
+    sum places % n ≡ a % n →
     weight t places <ℤ t a → IsDominated t n k s
 lighter_places t n k s a places valid place less =
     let l = lighter t n k s a places valid place less in (
@@ -101,13 +113,15 @@ lighter_places t n k s a places valid place less =
       let below = l.below in omega (arith, ints),
     )
 
-pub zero_dominated : (t : ℕ → ℤ) (n k s : ℕ) → IsValidTable t n k s → t 0 ≢ pos 0 → IsDominated t n k s
+pub zero_dominated : (t : ℕ → ℤ) (n k s : ℕ) → IsValidTable t n k s → t 0 ≢ pos 0 →
+    IsDominated t n k s
 zero_dominated t n k s valid differs =
     let low = valid.nonnegative 0 in
     lighter_places t n k s 0 [] valid refl
     (by_lt_z (pos 0) (t 0) (λ l. l) (λ l. absurd (differs (omega (arith, ints)))))
 
-pub pair_dominated : (t : ℕ → ℤ) (n k s i j : ℕ) → IsValidTable t n k s → (t i +ℤ t j) <ℤ t (i + j) → IsDominated t n k s
+pub pair_dominated : (t : ℕ → ℤ) (n k s i j : ℕ) → IsValidTable t n k s →
+    (t i +ℤ t j) <ℤ t (i + j) → IsDominated t n k s
 pair_dominated t n k s i j valid below =
     lighter_places t n k s (i + j) (i ∷ j ∷ []) valid
     (ap (λ l. l % n) (sum_cons i (j ∷ []) ∙ ap (λ l. i + l) (sum_cons j []) ∙ omega arith))
@@ -126,8 +140,10 @@ record Uses (t u : ℕ → ℤ) (n c s a : ℕ) (xs : List ℕ) : Type 0 where
 abbrev lowered : (ℕ → ℤ) → ℕ → ℕ → ℕ → ℕ → ℤ
 lowered t n c a = dented (λ i. pos c *ℤ t i) n a (pos c *ℤ t a -ℤ pos 1)
 
-one_more : (t : ℕ → ℤ) (n c s a x : ℕ) (xs : List ℕ) → t 0 ≡ pos 0 → ((i j : ℕ) → t (i + j) ≤ℤ (t i +ℤ t j)) →
-    t x ≡ t a → pos s ≤ℤ (pos c *ℤ t a -ℤ pos 1) → x % n ≡ a % n → lowered t n c a x ≡ pos c *ℤ t a -ℤ pos 1 →
+one_more : (t : ℕ → ℤ) (n c s a x : ℕ) (xs : List ℕ) → t 0 ≡ pos 0 →
+    ((i j : ℕ) → t (i + j) ≤ℤ (t i +ℤ t j)) →
+    t x ≡ t a → pos s ≤ℤ (pos c *ℤ t a -ℤ pos 1) → x % n ≡ a % n →
+    lowered t n c a x ≡ pos c *ℤ t a -ℤ pos 1 →
     Uses t (lowered t n c a) n c s a xs → Uses t (lowered t n c a) n c s a (x ∷ xs)
 one_more t n c s a x xs none below same enough rest here r =
     let split = mul_add_z (pos c) (t x) (weight t xs) in
@@ -146,8 +162,10 @@ one_more t n c s a x xs none below same enough rest here r =
       );
     }
 
-no_more : (t : ℕ → ℤ) (n c s a x : ℕ) (xs : List ℕ) → ((i j : ℕ) → t (i + j) ≤ℤ (t i +ℤ t j)) → ((i : ℕ) → pos 0 ≤ℤ t i) →
-    lowered t n c a x ≡ pos c *ℤ t x → Uses t (lowered t n c a) n c s a xs → Uses t (lowered t n c a) n c s a (x ∷ xs)
+no_more : (t : ℕ → ℤ) (n c s a x : ℕ) (xs : List ℕ) → ((i j : ℕ) → t (i + j) ≤ℤ (t i +ℤ t j)) →
+    ((i : ℕ) → pos 0 ≤ℤ t i) →
+    lowered t n c a x ≡ pos c *ℤ t x → Uses t (lowered t n c a) n c s a xs →
+    Uses t (lowered t n c a) n c s a (x ∷ xs)
 no_more t n c s a x xs below low here r =
     let split = mul_add_z (pos c) (t x) (weight t xs) in
     let least = mul_nonnegative_z (pos c) (t x) (omega (arith, ints)) (low x) in
@@ -163,14 +181,17 @@ no_more t n c s a x xs below low here r =
           let step = below y x in
           inr (
             y + x,
-            ap (λ i. i % n) (omega arith) ∙ same_sums x x (a + y) (sum xs) n refl place ∙ ap (λ i. i % n) (sym (sum_cons x xs)),
+            ap (λ i. i % n) (omega arith) ∙ same_sums x x (a + y) (sum xs) n refl place
+                ∙ ap (λ i. i % n) (sym (sum_cons x xs)),
             omega (arith, ints),
           ))
           r.taken;
     }
 
-uses : (t : ℕ → ℤ) (n c s a : ℕ) (xs : List ℕ) → ((i : ℕ) → t (i + n) ≡ t i) → t 0 ≡ pos 0 → ((i j : ℕ) → t (i + j) ≤ℤ (t i +ℤ t j)) →
-    ((i : ℕ) → pos 0 ≤ℤ t i) → pos s ≤ℤ (pos c *ℤ t a -ℤ pos 1) → Uses t (lowered t n c a) n c s a xs
+uses : (t : ℕ → ℤ) (n c s a : ℕ) (xs : List ℕ) → ((i : ℕ) → t (i + n) ≡ t i) → t 0 ≡ pos 0 →
+    ((i j : ℕ) → t (i + j) ≤ℤ (t i +ℤ t j)) →
+    ((i : ℕ) → pos 0 ≤ℤ t i) → pos s ≤ℤ (pos c *ℤ t a -ℤ pos 1) →
+    Uses t (lowered t n c a) n c s a xs
 uses t n c s a [] period none below low enough = record {
   m = 0;
   whole = omega (arith, ints);
@@ -180,7 +201,8 @@ uses t n c s a [] period none below low enough = record {
 uses t n c s a (x ∷ xs) period none below low enough =
     let r = uses t n c s a xs period none below low enough in
     ⊎_elim
-    (λ at. one_more t n c s a x xs none below (same_at_remainder t n period x a at.0) enough at.0 at.1 r)
+    (λ at. one_more t n c s a x xs none below (same_at_remainder t n period x a at.0) enough at.0
+    at.1 r)
     (λ off. no_more t n c s a x xs below low off.1 r)
     (dented_tells (λ i. pos c *ℤ t i) n a (pos c *ℤ t a -ℤ pos 1) x)
 
@@ -199,14 +221,18 @@ enough_for m s u w whole heavy least (inr more) =
     (λ many. let all = mul-le-mul_right s many in omega (arith, ints))
     (cases_lt m (suc s))
 
-lowered_valid : (t : ℕ → ℤ) (n k s a b : ℕ) → IsValidTable t n k s → t 0 ≡ pos 0 → ((i j : ℕ) → t (i + j) ≤ℤ (t i +ℤ t j)) →
-    (a + b) % n ≡ k % n → pos s <ℤ (t a +ℤ t b) → pos 0 <ℤ t a → IsValidTable (lowered t n (suc s) a) n k (suc s * s)
+lowered_valid : (t : ℕ → ℤ) (n k s a b : ℕ) → IsValidTable t n k s → t 0 ≡ pos 0 →
+    ((i j : ℕ) → t (i + j) ≤ℤ (t i +ℤ t j)) →
+    (a + b) % n ≡ k % n → pos s <ℤ (t a +ℤ t b) → pos 0 <ℤ t a →
+    IsValidTable (lowered t n (suc s) a) n k (suc s * s)
 lowered_valid t n k s a b valid none below opposite more some =
     let c = suc s in
-    let most = mul_le_mul_left_z (pos 1) (t a) (pos c) (omega (arith, ints)) (omega (arith, ints)) in
+    let most = mul_le_mul_left_z (pos 1) (t a) (pos c) (omega (arith, ints))
+    (omega (arith, ints)) in
     let enough : pos s ≤ℤ (pos c *ℤ t a -ℤ pos 1) = omega (arith, ints) in
     record {
-      has_period = dented_period (λ i. pos c *ℤ t i) n a (pos c *ℤ t a -ℤ pos 1) (λ i. ap (λ z. pos c *ℤ z) (valid.has_period i));
+      has_period = dented_period (λ i. pos c *ℤ t i) n a (pos c *ℤ t a -ℤ pos 1)
+          (λ i. ap (λ z. pos c *ℤ z) (valid.has_period i));
       nonnegative = λ i.
           ⊎_elim (λ at. let here = at.1 in omega (arith, ints))
           (λ off.
@@ -216,7 +242,8 @@ lowered_valid t n k s a b valid none below opposite more some =
           (dented_tells (λ i. pos c *ℤ t i) n a (pos c *ℤ t a -ℤ pos 1) i);
       at_solutions = λ xs solution.
           let r = uses t n c s a xs valid.has_period none below valid.nonnegative enough in
-          enough_for r.m s (weight (lowered t n c a) xs) (weight t xs) r.whole r.heavy (valid.at_solutions xs solution)
+          enough_for r.m s (weight (lowered t n c a) xs) (weight t xs) r.whole r.heavy
+          (valid.at_solutions xs solution)
           (⊎_elim (λ e. inl e)
           (λ others.
           let (y, place, heavy) = others in
@@ -226,7 +253,8 @@ lowered_valid t n k s a b valid none below opposite more some =
           r.taken);
     }
 
-lowered_dominates : (t : ℕ → ℤ) (n k s a b : ℕ) → IsValidTable t n k s → t 0 ≡ pos 0 → ((i j : ℕ) → t (i + j) ≤ℤ (t i +ℤ t j)) →
+lowered_dominates : (t : ℕ → ℤ) (n k s a b : ℕ) → IsValidTable t n k s → t 0 ≡ pos 0 →
+    ((i j : ℕ) → t (i + j) ≤ℤ (t i +ℤ t j)) →
     (a + b) % n ≡ k % n → pos s <ℤ (t a +ℤ t b) → pos 0 <ℤ t a → IsDominated t n k s
 lowered_dominates t n k s a b valid none below opposite more some =
     let c = suc s in (
@@ -239,7 +267,8 @@ lowered_dominates t n k s a b valid none below opposite more some =
         at_most = λ i. ⊎_elim
             (λ at.
             let here = at.1 in
-            let same : pos c *ℤ t i ≡ pos c *ℤ t a = ap (λ z. pos c *ℤ z) (same_at_remainder t n valid.has_period i a at.0) in
+            let same : pos c *ℤ t i ≡ pos c *ℤ t a =
+            ap (λ z. pos c *ℤ z) (same_at_remainder t n valid.has_period i a at.0) in
             omega (arith, ints))
             (λ off. let here = off.1 in omega (arith, ints))
             (dented_tells (λ i. pos c *ℤ t i) n a (pos c *ℤ t a -ℤ pos 1) i);
@@ -248,24 +277,30 @@ lowered_dominates t n k s a b valid none below opposite more some =
     )
 
 pub opposite_dominated : (t : ℕ → ℤ) (n k s i j : ℕ) → IsValidTable t n k s → t 0 ≡ pos 0 →
-    ((i j : ℕ) → t (i + j) ≤ℤ (t i +ℤ t j)) → (i + j) % n ≡ k % n → t i +ℤ t j ≢ pos s → IsDominated t n k s
+    ((i j : ℕ) → t (i + j) ≤ℤ (t i +ℤ t j)) → (i + j) % n ≡ k % n → t i +ℤ t j ≢ pos s →
+    IsDominated t n k s
 opposite_dominated t n k s i j valid none below opposite differs =
     let least = valid.at_solutions (i ∷ j ∷ [])
-    (ap (λ l. l % n) (sum_cons i (j ∷ []) ∙ ap (λ l. i + l) (sum_cons j []) ∙ omega arith) ∙ opposite) in
-    let more : pos s <ℤ (t i +ℤ t j) = by_lt_z (pos s) (t i +ℤ t j) (λ l. l) (λ l. absurd (differs (omega (arith, ints)))) in
+    (ap (λ l. l % n) (sum_cons i (j ∷ []) ∙ ap (λ l. i + l) (sum_cons j []) ∙ omega arith)
+    ∙ opposite) in
+    let more : pos s <ℤ (t i +ℤ t j) =
+    by_lt_z (pos s) (t i +ℤ t j) (λ l. l) (λ l. absurd (differs (omega (arith, ints)))) in
     let turned : (j + i) % n ≡ k % n = ap (λ l. l % n) (omega arith) ∙ opposite in
     by_lt_z (pos 0) (t i) (λ l. lowered_dominates t n k s i j valid none below opposite more l)
-    (λ l. lowered_dominates t n k s j i valid none below turned (omega (arith, ints)) (omega (arith, ints)))
+    (λ l. lowered_dominates t n k s j i valid none below turned (omega (arith, ints))
+    (omega (arith, ints)))
 
 -- ---- each valid table is minimal or dominated
 
 -- the first of two properties holds below n, or the second somewhere below n
-pub all_or_some : (P Q : ℕ → Type 0) → ((i : ℕ) → P i ⊎ Q i) → (n : ℕ) → ((i : ℕ) → i < n → P i) ⊎ ((i : ℕ) × (i < n) × Q i)
+pub all_or_some : (P Q : ℕ → Type 0) → ((i : ℕ) → P i ⊎ Q i) → (n : ℕ) →
+    ((i : ℕ) → i < n → P i) ⊎ ((i : ℕ) × (i < n) × Q i)
 all_or_some P Q decide zero = inl (λ i below. absurd (omega arith))
 all_or_some P Q decide (suc n) =
     ⊎_elim
     (λ all. ⊎_elim
-    (λ here. inl (λ i below. ⊎_elim (λ less. all i less) (λ same. subst P (let e : n ≡ i = omega arith in e) here) (cases_lt i n)))
+    (λ here. inl (λ i below. ⊎_elim (λ less. all i less)
+    (λ same. subst P (let e : n ≡ i = omega arith in e) here) (cases_lt i n)))
     (λ fails. inr (n, omega arith, fails))
     (decide n))
     (λ found. let (i, below, fails) = found in inr (i, omega arith, fails))
@@ -307,17 +342,20 @@ symmetric_or_dominated t n k s some valid none below =
     let here = all (i % n) (mod-lt i some) in
     let first = same_at_remainder t n valid.has_period (i % n) i (mod-mod i n) in
     let sum : (i % n + opposite_of n k (i % n)) % n ≡ (i % n + j) % n =
-    opposite_is n k (i % n) some ∙ sym opposite ∙ same_sums i (i % n) j j n (sym (mod-mod i n)) refl in
+    opposite_is n k (i % n) some ∙ sym opposite
+    ∙ same_sums i (i % n) j j n (sym (mod-mod i n)) refl in
     let second = same_at_remainder t n valid.has_period (opposite_of n k (i % n)) j
     (cancel_same (i % n) (opposite_of n k (i % n)) j n sum) in
     ap₂ (λ x y. x +ℤ y) (sym first) (sym second) ∙ here))
     (λ found. inr found.2)
     (all_or_some (λ i. t i +ℤ t (opposite_of n k i) ≡ pos s) (λ i. IsDominated t n k s)
     (λ i. ⊎_elim (λ e. inl e)
-    (λ differs. inr (opposite_dominated t n k s i (opposite_of n k i) valid none below (opposite_is n k i some) differs))
+    (λ differs. inr (opposite_dominated t n k s i (opposite_of n k i) valid none below
+    (opposite_is n k i some) differs))
     (same_or_apart_z (t i +ℤ t (opposite_of n k i)) (pos s))) n)
 
-pub minimal_or_dominated : (t : ℕ → ℤ) (n k s : ℕ) → 0 < n → IsValidTable t n k s → IsMinimalTable t n k s ⊎ IsDominated t n k s
+pub minimal_or_dominated : (t : ℕ → ℤ) (n k s : ℕ) → 0 < n → IsValidTable t n k s →
+    IsMinimalTable t n k s ⊎ IsDominated t n k s
 minimal_or_dominated t n k s some valid =
     ⊎_elim
     (λ none. ⊎_elim
@@ -336,15 +374,18 @@ minimal_or_dominated t n k s some valid =
     (λ differs. inr (zero_dominated t n k s valid differs))
     (same_or_apart_z (t 0) (pos 0))
 
-pub asymmetry_dominated : (t : ℕ → ℤ) (n k s i j : ℕ) → 0 < n → IsValidTable t n k s → (i + j) % n ≡ k % n →
+pub asymmetry_dominated : (t : ℕ → ℤ) (n k s i j : ℕ) → 0 < n → IsValidTable t n k s →
+    (i + j) % n ≡ k % n →
     t i +ℤ t j ≢ pos s → IsDominated t n k s
 asymmetry_dominated t n k s i j some valid opposite differs =
-    ⊎_elim (λ minimal. absurd (differs (minimal.symmetric i j opposite))) (λ d. d) (minimal_or_dominated t n k s some valid)
+    ⊎_elim (λ minimal. absurd (differs (minimal.symmetric i j opposite))) (λ d. d)
+    (minimal_or_dominated t n k s some valid)
 
 -- ---- minimal tables
 
 -- a subadditive table with 0 at 0 and at least s at the place k is valid
-pub subadditive_is_valid : (t : ℕ → ℤ) (n k s : ℕ) → ((i : ℕ) → t (i + n) ≡ t i) → ((i : ℕ) → pos 0 ≤ℤ t i) → t 0 ≡ pos 0 →
+pub subadditive_is_valid : (t : ℕ → ℤ) (n k s : ℕ) → ((i : ℕ) → t (i + n) ≡ t i) →
+    ((i : ℕ) → pos 0 ≤ℤ t i) → t 0 ≡ pos 0 →
     ((i j : ℕ) → t (i + j) ≤ℤ (t i +ℤ t j)) → pos s ≤ℤ t k → IsValidTable t n k s
 subadditive_is_valid t n k s period low none below top = record {
   has_period = period;
@@ -358,17 +399,21 @@ subadditive_is_valid t n k s period low none below top = record {
 pub minimal_is_valid : (t : ℕ → ℤ) (n k s : ℕ) → IsMinimalTable t n k s → IsValidTable t n k s
 minimal_is_valid t n k s h =
     subadditive_is_valid t n k s h.has_period h.nonnegative h.zero_at_zero h.subadditive
-    (let top = h.symmetric k 0 (ap (λ i. i % n) (omega arith)) in let none = h.zero_at_zero in omega (arith, ints))
+    (let top = h.symmetric k 0 (ap (λ i. i % n) (omega arith)) in let none = h.zero_at_zero in
+    omega (arith, ints))
 
-pub minimal_among : (t : ℕ → ℤ) (n k s : ℕ) → 0 < n → IsMinimalTable t n k s → IsMinimalAmongValid t n k s
+pub minimal_among : (t : ℕ → ℤ) (n k s : ℕ) → 0 < n → IsMinimalTable t n k s →
+    IsMinimalAmongValid t n k s
 minimal_among t n k s some h = record {
   valid = minimal_is_valid t n k s h;
   none_below = λ c u under i.
       let j = opposite_of n k i in
       let place = opposite_is n k i some in
       let least = under.valid.at_solutions (i ∷ j ∷ [])
-      (ap (λ l. l % n) (sum_cons i (j ∷ []) ∙ ap (λ l. i + l) (sum_cons j []) ∙ omega arith) ∙ place) in
-      let whole : pos c *ℤ (t i +ℤ t j) ≡ pos c *ℤ pos s = ap (λ z. pos c *ℤ z) (h.symmetric i j place) in
+      (ap (λ l. l % n) (sum_cons i (j ∷ []) ∙ ap (λ l. i + l) (sum_cons j []) ∙ omega arith)
+      ∙ place) in
+      let whole : pos c *ℤ (t i +ℤ t j) ≡ pos c *ℤ pos s =
+      ap (λ z. pos c *ℤ z) (h.symmetric i j place) in
       let split = mul_add_z (pos c) (t i) (t j) in
       let first = under.at_most i in
       let second = under.at_most j in
@@ -384,10 +429,12 @@ not_dominated t n k s h d =
 pub only_minimal : (t : ℕ → ℤ) (n k s : ℕ) → IsMinimalAmongValid t n k s → IsMinimalTable t n k s
 only_minimal t n k s h =
     let valid = h.valid in
-    let none = ⊎_elim (λ e. e) (λ differs. absurd (not_dominated t n k s h (zero_dominated t n k s valid differs)))
+    let none = ⊎_elim (λ e. e)
+    (λ differs. absurd (not_dominated t n k s h (zero_dominated t n k s valid differs)))
     (same_or_apart_z (t 0) (pos 0)) in
     let below : (i j : ℕ) → t (i + j) ≤ℤ (t i +ℤ t j) =
-    λ i j. by_lt_z (t i +ℤ t j) (t (i + j)) (λ l. absurd (not_dominated t n k s h (pair_dominated t n k s i j valid l))) (λ l. l) in
+    λ i j. by_lt_z (t i +ℤ t j) (t (i + j))
+    (λ l. absurd (not_dominated t n k s h (pair_dominated t n k s i j valid l))) (λ l. l) in
     record {
       has_period = valid.has_period;
       zero_at_zero = none;
@@ -395,7 +442,8 @@ only_minimal t n k s h =
       subadditive = below;
       symmetric = λ i j opposite.
           ⊎_elim (λ e. e)
-          (λ differs. absurd (not_dominated t n k s h (opposite_dominated t n k s i j valid none below opposite differs)))
+          (λ differs. absurd (not_dominated t n k s h
+          (opposite_dominated t n k s i j valid none below opposite differs)))
           (same_or_apart_z (t i +ℤ t j) (pos s));
     }
 
@@ -408,7 +456,8 @@ neither t n k s some h d = not_dominated t n k s (minimal_among t n k s some h) 
 sum_valid : (a b w : ℕ → ℤ) (n k s r e d q : ℕ) → IsValidTable a n k s → IsValidTable b n k r →
     ((i : ℕ) → w i ≡ pos e *ℤ a i +ℤ pos d *ℤ b i) → q ≡ e * s + d * r → IsValidTable w n k q
 sum_valid a b w n k s r e d q first second is scale = record {
-  has_period = λ i. is (i + n) ∙ ap₂ (λ x y. pos e *ℤ x +ℤ pos d *ℤ y) (first.has_period i) (second.has_period i) ∙ sym (is i);
+  has_period = λ i. is (i + n) ∙ ap₂ (λ x y. pos e *ℤ x +ℤ pos d *ℤ y) (first.has_period i)
+      (second.has_period i) ∙ sym (is i);
   nonnegative = λ i.
       let here = is i in
       let left = mul_nonnegative_z (pos e) (a i) (omega (arith, ints)) (first.nonnegative i) in
@@ -416,19 +465,23 @@ sum_valid a b w n k s r e d q first second is scale = record {
       omega (arith, ints);
   at_solutions = λ xs solution.
       let whole = weight_of_sum a b w (pos e) (pos d) xs is in
-      let left = mul_le_mul_left_z (pos s) (weight a xs) (pos e) (omega (arith, ints)) (first.at_solutions xs solution) in
-      let right = mul_le_mul_left_z (pos r) (weight b xs) (pos d) (omega (arith, ints)) (second.at_solutions xs solution) in
+      let left = mul_le_mul_left_z (pos s) (weight a xs) (pos e) (omega (arith, ints))
+      (first.at_solutions xs solution) in
+      let right = mul_le_mul_left_z (pos r) (weight b xs) (pos d) (omega (arith, ints))
+      (second.at_solutions xs solution) in
       omega (arith, ints);
 }
 
 -- one of two valid tables that average to a minimal one is minimal
-half_minimal : (t a b : ℕ → ℤ) (n k s c : ℕ) → IsMinimalAmongValid t n k s → 0 < c → IsValidTable a n k (c * s) →
+half_minimal : (t a b : ℕ → ℤ) (n k s c : ℕ) → IsMinimalAmongValid t n k s → 0 < c →
+    IsValidTable a n k (c * s) →
     IsValidTable b n k (c * s) → AverageTo c a b t → IsMinimalAmongValid a n k (c * s)
 half_minimal t a b n k s c h some first second average = record {
   valid = first;
   none_below = λ e u under i.
       let both = λ (j : ℕ). u j +ℤ pos e *ℤ b j in
-      let both_valid = sum_valid u b both n k (e * (c * s)) (c * s) 1 e ((2 * e * c) * s) under.valid second
+      let both_valid = sum_valid u b both n k (e * (c * s)) (c * s) 1 e
+      ((2 * e * c) * s) under.valid second
       (λ j. omega (arith, ints)) (omega arith) in
       let whole = λ (j : ℕ).
       weighted e c (a j) (b j) (t j) (average j) in
@@ -441,7 +494,8 @@ half_minimal t a b n k s c h some first second average = record {
       omega (arith, ints);
 }
   where
-    weighted : (e c : ℕ) (x y z : ℤ) → x +ℤ y ≡ pos (2 * c) *ℤ z → pos e *ℤ x +ℤ pos e *ℤ y ≡ pos (2 * e * c) *ℤ z
+    weighted : (e c : ℕ) (x y z : ℤ) → x +ℤ y ≡ pos (2 * c) *ℤ z →
+        pos e *ℤ x +ℤ pos e *ℤ y ≡ pos (2 * e * c) *ℤ z
     weighted e c x y z e_is =
         sym (mul_add_z (pos e) x y) ∙ ap (λ w. pos e *ℤ w) e_is
         ∙ sym (mul_assoc_z (pos e) (pos (2 * c)) z)
@@ -450,25 +504,31 @@ half_minimal t a b n k s c h some first second average = record {
 average_turned : (c : ℕ) (a b t : ℕ → ℤ) → AverageTo c a b t → AverageTo c b a t
 average_turned c a b t h i = let here = h i in omega (arith, ints)
 
-pub extreme_among : (t : ℕ → ℤ) (n k s : ℕ) → 0 < n → IsExtremeTable t n k s → IsExtremeAmongValid t n k s
+pub extreme_among : (t : ℕ → ℤ) (n k s : ℕ) → 0 < n → IsExtremeTable t n k s →
+    IsExtremeAmongValid t n k s
 extreme_among t n k s some h =
     let minimal = minimal_among t n k s some h.minimal in
     record {
       valid = minimal.valid;
       no_average = λ c a b c_some first second average.
           h.no_average c a b c_some
-          (only_minimal a n k (c * s) (half_minimal t a b n k s c minimal c_some first second average))
-          (only_minimal b n k (c * s) (half_minimal t b a n k s c minimal c_some second first (average_turned c a b t average)))
+          (only_minimal a n k (c * s)
+          (half_minimal t a b n k s c minimal c_some first second average))
+          (only_minimal b n k (c * s)
+          (half_minimal t b a n k s c minimal c_some second first
+          (average_turned c a b t average)))
           average;
     }
 
 -- what a valid table below leaves of twice the table is valid
-rest_valid : (t u : ℕ → ℤ) (n k s c : ℕ) → IsValidTable t n k s → IsValidTable u n k (c * s) → ((i : ℕ) → u i ≤ℤ (pos c *ℤ t i)) →
+rest_valid : (t u : ℕ → ℤ) (n k s c : ℕ) → IsValidTable t n k s → IsValidTable u n k (c * s) →
+    ((i : ℕ) → u i ≤ℤ (pos c *ℤ t i)) →
     IsValidTable (λ i. pos (2 * c) *ℤ t i -ℤ u i) n k (c * s)
 rest_valid t u n k s c valid lower below =
     let above = λ (i : ℕ). twice c (t i) (u i) (below i) in
     record {
-      has_period = λ i. ap₂ (λ x y. pos (2 * c) *ℤ x -ℤ y) (valid.has_period i) (lower.has_period i);
+      has_period = λ i. ap₂ (λ x y. pos (2 * c) *ℤ x -ℤ y) (valid.has_period i)
+          (lower.has_period i);
       nonnegative = λ i.
           let here = above i in
           let least = mul_nonnegative_z (pos c) (t i) (omega (arith, ints)) (valid.nonnegative i) in
@@ -476,14 +536,17 @@ rest_valid t u n k s c valid lower below =
       at_solutions = λ xs solution.
           let whole = weight_le (λ i. pos c *ℤ t i) (λ i. pos (2 * c) *ℤ t i -ℤ u i) xs above in
           let multiple = weight_of_multiple t (pos c) xs in
-          let least = mul_le_mul_left_z (pos s) (weight t xs) (pos c) (omega (arith, ints)) (valid.at_solutions xs solution) in
+          let least = mul_le_mul_left_z (pos s) (weight t xs) (pos c) (omega (arith, ints))
+          (valid.at_solutions xs solution) in
           omega (arith, ints);
     }
   where
     twice : (c : ℕ) (x y : ℤ) → y ≤ℤ (pos c *ℤ x) → (pos c *ℤ x) ≤ℤ (pos (2 * c) *ℤ x -ℤ y)
-    twice c x y l = let double : pos (2 * c) *ℤ x ≡ pos c *ℤ x +ℤ pos c *ℤ x = omega (arith, ints) in omega (arith, ints)
+    twice c x y l = let double : pos (2 * c) *ℤ x ≡ pos c *ℤ x +ℤ pos c *ℤ x =
+        omega (arith, ints) in omega (arith, ints)
 
-extreme_minimal : (t : ℕ → ℤ) (n k s : ℕ) → IsExtremeAmongValid t n k s → IsMinimalAmongValid t n k s
+extreme_minimal : (t : ℕ → ℤ) (n k s : ℕ) → IsExtremeAmongValid t n k s →
+    IsMinimalAmongValid t n k s
 extreme_minimal t n k s h = record {
   valid = h.valid;
   none_below = λ c u under i.
@@ -498,7 +561,8 @@ pub only_extreme : (t : ℕ → ℤ) (n k s : ℕ) → IsExtremeAmongValid t n k
 only_extreme t n k s h = record {
   minimal = only_minimal t n k s (extreme_minimal t n k s h);
   no_average = λ c a b some first second average.
-      h.no_average c a b some (minimal_is_valid a n k (c * s) first) (minimal_is_valid b n k (c * s) second) average;
+      h.no_average c a b some (minimal_is_valid a n k (c * s) first)
+      (minimal_is_valid b n k (c * s) second) average;
 }
 
 -- ---- functions
@@ -508,23 +572,31 @@ grid_some f m l some = mul-pos (let low = l.order_low in omega arith) some
 
 pub function_minimal : (f : FunctionData) → IsWithinBounds f → IsMinimal f →
     (m : ℕ) → 0 < m → IsMinimalAmongValid (table f m) (f.order * m) (f.place * m) (f.scale * m)
-function_minimal f l h m some = minimal_among (table f m) (f.order * m) (f.place * m) (f.scale * m) (grid_some f m l some) (h m some)
+function_minimal f l h m some = minimal_among (table f m) (f.order * m) (f.place * m) (f.scale * m)
+    (grid_some f m l some) (h m some)
 
 pub function_only_minimal : (f : FunctionData) →
-    ((m : ℕ) → 0 < m → IsMinimalAmongValid (table f m) (f.order * m) (f.place * m) (f.scale * m)) → IsMinimal f
-function_only_minimal f h m some = only_minimal (table f m) (f.order * m) (f.place * m) (f.scale * m) (h m some)
+    ((m : ℕ) → 0 < m → IsMinimalAmongValid (table f m) (f.order * m) (f.place * m) (f.scale * m)) →
+    IsMinimal f
+function_only_minimal f h m some = only_minimal (table f m) (f.order * m) (f.place * m)
+    (f.scale * m) (h m some)
 
 pub function_extreme : (f : FunctionData) → IsWithinBounds f → IsExtreme f →
     (m : ℕ) → 0 < m → IsExtremeAmongValid (table f m) (f.order * m) (f.place * m) (f.scale * m)
-function_extreme f l h m some = extreme_among (table f m) (f.order * m) (f.place * m) (f.scale * m) (grid_some f m l some) (h m some)
+function_extreme f l h m some = extreme_among (table f m) (f.order * m) (f.place * m) (f.scale * m)
+    (grid_some f m l some) (h m some)
 
 pub function_only_extreme : (f : FunctionData) →
-    ((m : ℕ) → 0 < m → IsExtremeAmongValid (table f m) (f.order * m) (f.place * m) (f.scale * m)) → IsExtreme f
-function_only_extreme f h m some = only_extreme (table f m) (f.order * m) (f.place * m) (f.scale * m) (h m some)
+    ((m : ℕ) → 0 < m → IsExtremeAmongValid (table f m) (f.order * m) (f.place * m) (f.scale * m)) →
+    IsExtreme f
+function_only_extreme f h m some = only_extreme (table f m) (f.order * m) (f.place * m)
+    (f.scale * m) (h m some)
 
-pub violation_dominated : (f : FunctionData) (v : Violation) (m : ℕ) → IsWithinBounds f → ShowsViolation f v → 0 < m →
+pub violation_dominated : (f : FunctionData) (v : Violation) (m : ℕ) → IsWithinBounds f →
+    ShowsViolation f v → 0 < m →
     HoldsPoints f m v → IsValidTable (table f m) (f.order * m) (f.place * m) (f.scale * m) →
     IsDominated (table f m) (f.order * m) (f.place * m) (f.scale * m)
 violation_dominated f v m l shown some held valid =
     ⊎_elim (λ minimal. absurd (violation_denies_tables f v m l shown some held minimal)) (λ d. d)
-    (minimal_or_dominated (table f m) (f.order * m) (f.place * m) (f.scale * m) (grid_some f m l some) valid)
+    (minimal_or_dominated (table f m) (f.order * m) (f.place * m) (f.scale * m)
+    (grid_some f m l some) valid)

@@ -47,7 +47,8 @@ weight_le t u (x ∷ xs) h =
     omega (arith, ints)
 
 -- a sum of multiples of two tables
-pub weight_of_sum : (a b w : ℕ → ℤ) (c d : ℤ) (xs : List ℕ) → ((i : ℕ) → w i ≡ c *ℤ a i +ℤ d *ℤ b i) →
+pub weight_of_sum : (a b w : ℕ → ℤ) (c d : ℤ) (xs : List ℕ) →
+    ((i : ℕ) → w i ≡ c *ℤ a i +ℤ d *ℤ b i) →
     weight w xs ≡ c *ℤ weight a xs +ℤ d *ℤ weight b xs
 weight_of_sum a b w c d [] h = omega (arith, ints)
 weight_of_sum a b w c d (x ∷ xs) h =
@@ -58,7 +59,8 @@ weight_of_sum a b w c d (x ∷ xs) h =
     omega (arith, ints)
 
 -- a multiple of a table
-pub weight_of_multiple : (t : ℕ → ℤ) (c : ℤ) (xs : List ℕ) → weight (λ i. c *ℤ t i) xs ≡ c *ℤ weight t xs
+pub weight_of_multiple : (t : ℕ → ℤ) (c : ℤ) (xs : List ℕ) →
+    weight (λ i. c *ℤ t i) xs ≡ c *ℤ weight t xs
 weight_of_multiple t c [] = omega (arith, ints)
 weight_of_multiple t c (x ∷ xs) =
     let rest = weight_of_multiple t c xs in
@@ -68,7 +70,8 @@ weight_of_multiple t c (x ∷ xs) =
 -- ---- subadditive tables
 
 -- summed over a list
-pub below_weight : (t : ℕ → ℤ) (xs : List ℕ) → t 0 ≡ pos 0 → ((i j : ℕ) → t (i + j) ≤ℤ (t i +ℤ t j)) → t (sum xs) ≤ℤ weight t xs
+pub below_weight : (t : ℕ → ℤ) (xs : List ℕ) → t 0 ≡ pos 0 →
+    ((i j : ℕ) → t (i + j) ≤ℤ (t i +ℤ t j)) → t (sum xs) ≤ℤ weight t xs
 below_weight t [] none below = omega (arith, ints, none)
 below_weight t (x ∷ xs) none below =
     let step = below x (sum xs) in
@@ -82,13 +85,15 @@ below_weight t (x ∷ xs) none below =
 abbrev pub StandFor : (ℕ → ℤ) → ℕ → ℕ → ℤ → Type 0
 StandFor t n i w = (places : List ℕ) × (sum places % n ≡ i % n) × (weight t places ≡ w)
 
-pub stand_for_all : (t u : ℕ → ℤ) (n : ℕ) (xs : List ℕ) → ((i : ℕ) → StandFor t n i (u i)) → StandFor t n (sum xs) (weight u xs)
+pub stand_for_all : (t u : ℕ → ℤ) (n : ℕ) (xs : List ℕ) → ((i : ℕ) → StandFor t n i (u i)) →
+    StandFor t n (sum xs) (weight u xs)
 stand_for_all t u n [] each = ([], refl, refl)
 stand_for_all t u n (x ∷ xs) each =
     let (first, first_sum, first_weight) = each x in
     let (rest, rest_sum, rest_weight) = stand_for_all t u n xs each in (
       first ++ rest,
-      ap (λ i. i % n) (sum_append first rest) ∙ same_sums (sum first) x (sum rest) (sum xs) n first_sum rest_sum
+      ap (λ i. i % n) (sum_append first rest)
+          ∙ same_sums (sum first) x (sum rest) (sum xs) n first_sum rest_sum
           ∙ ap (λ i. i % n) (sym (sum_cons x xs)),
       weight_append t first rest ∙ ap₂ (λ v w. v +ℤ w) first_weight rest_weight,
     )
@@ -100,7 +105,8 @@ abbrev pub HasList : (ℕ → ℤ) → ℕ → ℤ → Type 0
 HasList t s w = (places : List ℕ) × (sum places ≡ s) × (weight t places ≡ w)
 
 -- with m more uses of a
-pub with_copies : (t : ℕ → ℤ) (a m s : ℕ) (w : ℤ) → HasList t s w → HasList t (a * m + s) (t a *ℤ pos m +ℤ w)
+pub with_copies : (t : ℕ → ℤ) (a m s : ℕ) (w : ℤ) → HasList t s w →
+    HasList t (a * m + s) (t a *ℤ pos m +ℤ w)
 with_copies t a zero s w (places, place, is) = (places, omega arith, omega (arith, ints))
 with_copies t a (suc m) s w h =
     let (places, place, is) = with_copies t a m s w h in

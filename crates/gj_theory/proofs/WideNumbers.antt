@@ -21,14 +21,16 @@ pub record IsDivisor (m n : ℤ) (g : ℕ) : Type 0 where
   pub small : g < 2 ^ 127
   pub positive : 0 < g
 
-pub divisor_of : (m n : ℤ) (a b g : ℕ) → Fits n → n ≢ pos 0 → a ≡ unsigned_abs m → b ≡ unsigned_abs n → IsGcd a b g →
+pub divisor_of : (m n : ℤ) (a b g : ℕ) → Fits n → n ≢ pos 0 → a ≡ unsigned_abs m →
+    b ≡ unsigned_abs n → IsGcd a b g →
     IsDivisor m n g
 divisor_of m n a b g fits some a_is b_is h =
     let apart : unsigned_abs n ≢ 0 = λ e. some (abs_zero_z n e) in
     let above : 0 < b = omega arith in
     let positive : 0 < g = gcd_positive a b g h (inr above) in
     let at_most : g ≤ b = le_of_dvd above h.1 in record {
-      is = gcd_is_gcd_of (unsigned_abs m) (unsigned_abs n) g (subst₂ (λ x y. IsGcd x y g) a_is b_is h);
+      is = gcd_is_gcd_of (unsigned_abs m) (unsigned_abs n) g
+          (subst₂ (λ x y. IsGcd x y g) a_is b_is h);
       small = omega arith;
       positive = positive;
     }

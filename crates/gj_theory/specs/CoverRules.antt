@@ -7,7 +7,8 @@ use Rattle.gj_shape.specs.declared.extremality.CoverLine.{CoverLine}
 -- the line behind those before it: its face is additive, its interval has no line yet, and the face
 -- is a triangle that projects on the interval if the line opens a component, or else joins the
 -- interval to one that has a line
-pub record MeetsCoverRule (q : ℕ) (Tight : ℕ → ℕ → Type 0) (before : List CoverLine) (l : CoverLine) : Type 0 where
+pub record MeetsCoverRule (q : ℕ) (Tight : ℕ → ℕ → Type 0) (before : List CoverLine)
+    (l : CoverLine) : Type 0 where
   pub additive : IsAdditive Tight l.face.kind l.face.a l.face.b
   pub new : HasCoverLine before l.interval → ⊥
   pub opening : l.from ≡ l.interval → Covers q Tight l.face.kind l.face.a l.face.b l.interval
@@ -17,5 +18,6 @@ pub record MeetsCoverRule (q : ℕ) (Tight : ℕ → ℕ → Type 0) (before : L
 -- each line meets the rule behind those before it
 abbrev pub MeetsCoverRules : ℕ → (ℕ → ℕ → Type 0) → List CoverLine → Type 0
 MeetsCoverRules q Tight lines =
-    (before : List CoverLine) (l : CoverLine) (after : List CoverLine) → lines ≡ before ++ l ∷ after →
+    (before : List CoverLine) (l : CoverLine) (after : List CoverLine) →
+    lines ≡ before ++ l ∷ after →
     MeetsCoverRule q Tight before l

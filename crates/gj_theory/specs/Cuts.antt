@@ -30,4 +30,5 @@ pub record IsGmicValue (f x y : Frac) : Type 0 where
   pub rises : (w : ℤ) → IsFloor x w → (LessValue (fraction_of f) (rest_above x w) → ⊥) →
       SameValue (fraction_of y) (quotient_of (rest_above x w) (fraction_of f))
   pub falls : (w : ℤ) → IsFloor x w → LessValue (fraction_of f) (rest_above x w) →
-      SameValue (fraction_of y) (quotient_of (one_minus (rest_above x w)) (one_minus (fraction_of f)))
+      SameValue (fraction_of y)
+      (quotient_of (one_minus (rest_above x w)) (one_minus (fraction_of f)))

@@ -55,9 +55,11 @@ PassesKindsBefore f a b Vertex = Unit {0}
 PassesKindsBefore f a b Horizontal = Unit {0}
 PassesKindsBefore f a b Vertical = PassesFace f Horizontal a b
 PassesKindsBefore f a b Diagonal = PassesFace f Horizontal a b × PassesFace f Vertical a b
-PassesKindsBefore f a b Lower = PassesFace f Horizontal a b × PassesFace f Vertical a b × PassesFace f Diagonal a b
+PassesKindsBefore f a b Lower = PassesFace f Horizontal a b × PassesFace f Vertical a b
+    × PassesFace f Diagonal a b
 PassesKindsBefore f a b Upper =
-    PassesFace f Horizontal a b × PassesFace f Vertical a b × PassesFace f Diagonal a b × PassesFace f Lower a b
+    PassesFace f Horizontal a b × PassesFace f Vertical a b × PassesFace f Diagonal a b
+    × PassesFace f Lower a b
 
 -- the squares before (a, b) in walk order have the property: all of an earlier row, and in row a
 -- those before b
@@ -75,14 +77,18 @@ pub record PassesFacesBefore (f : FunctionData) (kind : FaceKind) (a b c : ℕ) 
 -- all tests that come before the test pass
 abbrev pub PassesBefore : FunctionData → Test → Type 0
 PassesBefore f zero_at_zero = Unit {0}
-PassesBefore f (nonnegative_at i) = Passes f zero_at_zero × ((j : ℕ) → j < i → Passes f (nonnegative_at j))
+PassesBefore f (nonnegative_at i) = Passes f zero_at_zero
+    × ((j : ℕ) → j < i → Passes f (nonnegative_at j))
 PassesBefore f (nonnegative_after i) =
-    PassesValues f × ((j : ℕ) → j < i → Passes f (nonnegative_after j) × Passes f (nonnegative_before j))
+    PassesValues f × ((j : ℕ) → j < i →
+    Passes f (nonnegative_after j) × Passes f (nonnegative_before j))
 PassesBefore f (nonnegative_before i) =
-    PassesValues f × ((j : ℕ) → j < i → Passes f (nonnegative_after j) × Passes f (nonnegative_before j))
+    PassesValues f × ((j : ℕ) → j < i →
+    Passes f (nonnegative_after j) × Passes f (nonnegative_before j))
     × Passes f (nonnegative_after i)
 PassesBefore f (symmetric_at i) = PassesSigns f × ((j : ℕ) → j < i → Passes f (symmetric_at j))
-PassesBefore f (symmetric_between i) = PassesMirrors f × ((j : ℕ) → j < i → Passes f (symmetric_between j))
+PassesBefore f (symmetric_between i) = PassesMirrors f
+    × ((j : ℕ) → j < i → Passes f (symmetric_between j))
 PassesBefore f (subadditive_at Vertex a b c) =
     PassesSymmetry f × HoldsBefore f (λ i j. Passes f (subadditive_at Vertex i j 0)) a b
 PassesBefore f (subadditive_at kind a b c) = PassesFacesBefore f kind a b c
@@ -96,4 +102,5 @@ IsTestOf f (nonnegative_after i) = i < f.order
 IsTestOf f (nonnegative_before i) = i < f.order
 IsTestOf f (symmetric_at i) = i < f.order
 IsTestOf f (symmetric_between i) = i < f.order
-IsTestOf f (subadditive_at kind a b c) = (a < f.order) × (b < f.order) × (c < length (corners_of kind a b))
+IsTestOf f (subadditive_at kind a b c) = (a < f.order) × (b < f.order)
+    × (c < length (corners_of kind a b))

@@ -4,7 +4,8 @@ use Rattle.gj_shape.specs.Elimination.{at_column}
 
 -- n rows with n different pivots below n: each row is 0, in this sense, before its pivot, and of
 -- this kind at it
-pub record HavePivotsBy (is_zero is_pivot : ℤ → Type 0) (n : ℕ) (row : ℕ → List ℤ) (pivot : ℕ → ℕ) : Type 0 where
+pub record HavePivotsBy (is_zero is_pivot : ℤ → Type 0) (n : ℕ) (row : ℕ → List ℤ) (pivot : ℕ → ℕ) :
+    Type 0 where
   pub within : (g : ℕ) → g < n → pivot g < n
   pub different : (g h : ℕ) → g < h → h < n → pivot g ≢ pivot h
   pub zero_before : (g c : ℕ) → g < n → c < pivot g → is_zero (at_column (row g) c)

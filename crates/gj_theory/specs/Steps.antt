@@ -19,7 +19,8 @@ IsAdditiveOnLower p a b m = (i j : ℕ) → i + j ≤ m → p (a + i) +ℤ p (b 
 -- the table is additive on the closed upper triangle of the square with the corner (a, b) and sides
 -- of length m
 abbrev pub IsAdditiveOnUpper : (ℕ → ℤ) → ℕ → ℕ → ℕ → Type 0
-IsAdditiveOnUpper p a b m = (i j : ℕ) → i ≤ m → j ≤ m → m ≤ i + j → p (a + i) +ℤ p (b + j) ≡ p (a + b + i + j)
+IsAdditiveOnUpper p a b m = (i j : ℕ) → i ≤ m → j ≤ m → m ≤ i + j →
+    p (a + i) +ℤ p (b + j) ≡ p (a + b + i + j)
 
 -- the table p has the period n, and is additive at each pair that is tight for the table t
 pub record IsAdditiveAtTight (t : ℕ → ℤ) (n : ℕ) (p : ℕ → ℤ) : Type 0 where

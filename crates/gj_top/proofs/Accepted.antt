@@ -42,7 +42,8 @@ pub record IsGoodProof (text : List ℕ) : Type 0 where
   pub proof : SpellsCheckable text about
   pub rules : MeetsAll about
 
-good_proof : (f : FunctionData) (input text : List ℕ) → IsFunctionInput input f → IsVerdict f text → IsGoodProof text
+good_proof : (f : FunctionData) (input text : List ℕ) → IsFunctionInput input f → IsVerdict f text →
+    IsGoodProof text
 good_proof f input text form (inl v) = record {
   about = of_claim (claim.Minimal f);
   proof = minimal_proof f text (function_is_bounded input f form) v.2;
@@ -55,34 +56,43 @@ good_proof f input text form (inr v) = record {
 }
 
 -- a verdict is short
-verdict_is_short : (f : FunctionData) (input text : List ℕ) → IsFunctionInput input f → IsVerdict f text → length text ≤ 1000000
+verdict_is_short : (f : FunctionData) (input text : List ℕ) → IsFunctionInput input f →
+    IsVerdict f text → length text ≤ 1000000
 verdict_is_short f input text form (inl v) =
-    proof_text_is_short text (claim.Minimal f) tt (minimal_proof f text (function_is_bounded input f form) v.2)
+    proof_text_is_short text (claim.Minimal f) tt
+    (minimal_proof f text (function_is_bounded input f form) v.2)
 verdict_is_short f input text form (inr v) =
-    proof_text_is_short text (claim.NotMinimal f v.0) tt (not_minimal_proof f v.0 text (function_is_bounded input f form) v.4)
+    proof_text_is_short text (claim.NotMinimal f v.0) tt
+    (not_minimal_proof f v.0 text (function_is_bounded input f form) v.4)
 
 -- the checker's reply to such a claim ends with Done
-good_end : (thing : Checkable) (e : End) (answer : List ℕ) → MeetsAll thing → IsCheckReply thing e answer → e ≡ end.Done
+good_end : (thing : Checkable) (e : End) (answer : List ℕ) → MeetsAll thing →
+    IsCheckReply thing e answer → e ≡ end.Done
 good_end (of_claim c) end.Done answer rules j = refl
-good_end (of_claim c) end.Rejected answer rules j = absurd (no_failure c j.at_line j.rule j.first rules)
+good_end (of_claim c) end.Rejected answer rules j =
+    absurd (no_failure c j.at_line j.rule j.first rules)
 good_end (of_claim c) e answer rules j = absurd j
 good_end (of_limit_claim c) end.Done answer rules j = refl
-good_end (of_limit_claim c) end.Rejected answer rules j = absurd (no_limit_failure c j.at_line j.rule j.first rules)
+good_end (of_limit_claim c) end.Rejected answer rules j =
+    absurd (no_limit_failure c j.at_line j.rule j.first rules)
 good_end (of_limit_claim c) e answer rules j = absurd j
 good_end (of_steps t) e answer rules j = absurd rules
 
 -- so the reply to such a text ends with Done
-pub accepted_reply : (text answer : List ℕ) (e : End) → IsGoodProof text → IsReply check text e answer → e ≡ end.Done
+pub accepted_reply : (text answer : List ℕ) (e : End) → IsGoodProof text →
+    IsReply check text e answer → e ≡ end.Done
 accepted_reply text answer e g r =
     let same : g.about ≡ r.thing = one_checkable text g.about r.thing g.proof r.spelled in
     good_end r.thing e answer (subst MeetsAll same g.rules) r.replied
 
 -- and within the limit of length it is answered so
-pub accepted : (text answer : List ℕ) (s : Status) → length text ≤ input_limit → IsGoodProof text → IsAnswerTo check text s answer → s ≡ Done
+pub accepted : (text answer : List ℕ) (s : Status) → length text ≤ input_limit → IsGoodProof text →
+    IsAnswerTo check text s answer → s ≡ Done
 accepted text answer s short g (too_long a) =
     let long = a.long in
     absurd (omega arith)
-accepted text answer s short g (refused a) = absurd (check_sound.form text answer g.about g.proof a.refused)
+accepted text answer s short g (refused a) =
+    absurd (check_sound.form text answer g.about g.proof a.refused)
 accepted text answer s short g (replied a) =
     let ended : a.end ≡ end.Done = accepted_reply text answer a.end g a.reply in
     let is = a.status_is in
@@ -90,22 +100,27 @@ accepted text answer s short g (replied a) =
 
 -- ---- what the commands write
 
-good_verdict : (input text : List ℕ) → IsReply (minimal false) input end.Done text → IsGoodProof text
+good_verdict : (input text : List ℕ) → IsReply (minimal false) input end.Done text →
+    IsGoodProof text
 good_verdict input text r = good_proof r.thing input text r.spelled r.replied
 
-good_decision : (input text : List ℕ) → IsReply (extreme false) input end.Done text → IsGoodProof text
+good_decision : (input text : List ℕ) → IsReply (extreme false) input end.Done text →
+    IsGoodProof text
 good_decision input text r = record {
   about = of_claim r.replied.claim;
   proof = record {
-    bounded = decided_is_bounded r.thing r.replied.claim (function_is_bounded input r.thing r.spelled) r.replied.decided;
+    bounded = decided_is_bounded r.thing r.replied.claim
+        (function_is_bounded input r.thing r.spelled) r.replied.decided;
     spelled = r.replied.spelled;
   };
   rules = r.replied.rules;
 }
 
 -- the decision with `--jumps`, and its length
-good_jumps : (f : FunctionData) (input text : List ℕ) → IsFunctionInput input f → IsJumpsExtremality false f end.Done text → IsGoodProof text
-good_jumps f input text form (inl d) = good_decision input text (record { thing = f; spelled = form; replied = d })
+good_jumps : (f : FunctionData) (input text : List ℕ) → IsFunctionInput input f →
+    IsJumpsExtremality false f end.Done text → IsGoodProof text
+good_jumps f input text form (inl d) =
+    good_decision input text (record { thing = f; spelled = form; replied = d })
 good_jumps f input text form (inr d) = record {
   about = of_limit_claim d.claim;
   proof = record {
@@ -115,16 +130,19 @@ good_jumps f input text form (inr d) = record {
   rules = d.rules;
 }
 
-jumps_are_short : (f : FunctionData) (input text : List ℕ) → IsFunctionInput input f → IsJumpsExtremality false f end.Done text →
+jumps_are_short : (f : FunctionData) (input text : List ℕ) → IsFunctionInput input f →
+    IsJumpsExtremality false f end.Done text →
     length text ≤ longest_extreme_text
-jumps_are_short f input text form (inl d) = decided_text_is_short f d.claim text (function_is_bounded input f form) d.decided d.spelled
+jumps_are_short f input text form (inl d) =
+    decided_text_is_short f d.claim text (function_is_bounded input f form) d.decided d.spelled
 jumps_are_short f input text form (inr d) = d.short
 
 good_cuts : (input text : List ℕ) → IsReply cut input end.Done text → IsGoodProof text
 good_cuts input text r = record {
   about = of_claim (claim.Cut r.thing.rule r.replied.1.cuts.lines);
   proof = record {
-    bounded = lines_are_bounded input r.thing r.replied.1.cuts.lines r.spelled r.replied.1.cuts.lines_are;
+    bounded = lines_are_bounded input r.thing r.replied.1.cuts.lines r.spelled
+        r.replied.1.cuts.lines_are;
     spelled = r.replied.1.cuts.spelled;
   };
   rules = r.replied.1.rules;
@@ -139,15 +157,18 @@ pub written_is_good : (input text : List ℕ) → IsWrittenProof input text → 
 written_is_good input text (inl r) = verdict_is_good input text r
 written_is_good input text (inr r) = good_cuts input text r
 
-pub written_is_short : (input text : List ℕ) → IsWrittenVerdict input text → length text ≤ input_limit
+pub written_is_short : (input text : List ℕ) → IsWrittenVerdict input text →
+    length text ≤ input_limit
 written_is_short input text (inl r) =
     let short : length text ≤ 1000000 = verdict_is_short r.thing input text r.spelled r.replied in
     omega arith
 written_is_short input text (inr (inl r)) =
     let d = r.replied in
     let short : length text ≤ longest_extreme_text =
-    decided_text_is_short r.thing d.claim text (function_is_bounded input r.thing r.spelled) d.decided d.spelled in
+    decided_text_is_short r.thing d.claim text (function_is_bounded input r.thing r.spelled)
+    d.decided d.spelled in
     omega arith
 written_is_short input text (inr (inr r)) =
-    let short : length text ≤ longest_extreme_text = jumps_are_short r.thing input text r.spelled r.replied in
+    let short : length text ≤ longest_extreme_text =
+    jumps_are_short r.thing input text r.spelled r.replied in
     omega arith

@@ -23,7 +23,8 @@ use Rattle.gj_top.proofs.OneReport.{told_exactly}
 use Rattle.gj_top.proofs.TextLaws.{spelled_is_bounded, one_spelled}
 
 -- a reply
-pub by_order_4q : (json : Bool) (f : FunctionData) (input text : List ℕ) → SpellsFunction json input f →
+pub by_order_4q : (json : Bool) (f : FunctionData) (input text : List ℕ) →
+    SpellsFunction json input f →
     IsReply (extreme json) input end.Done text → (CallsExtreme json f text ↔ IsExtremeByOrder4q f)
 by_order_4q json f input text spelled r =
     let same : r.thing ≡ f = one_spelled json input r.thing f r.spelled spelled in
@@ -32,17 +33,23 @@ by_order_4q json f input text spelled r =
     (subst (λ (g : FunctionData). Tells json (IsDecisionText g) text) same r.replied)
 
 -- a run
-decisive : (json : Bool) (words : List (String Global)) (input before : List ℕ) (written : Option (List ℕ)) (f : FunctionData) →
-    AskIfExtreme json words input f → IsDoneRun words input before written → IsDecisive json f before written
+decisive : (json : Bool) (words : List (String Global)) (input before : List ℕ)
+    (written : Option (List ℕ)) (f : FunctionData) →
+    AskIfExtreme json words input f → IsDoneRun words input before written →
+    IsDecisive json f before written
 decisive json words input before written f asked d = record {
   text = d.text;
   gain = d.gain;
   called = by_order_4q json f input d.text asked.spelled
-      (subst (λ (r : Request). IsReply (task_for r) input end.Done d.text) (one_named words d.request _ d.named asked.named) d.reply);
+      (subst (λ (r : Request). IsReply (task_for r) input end.Done d.text)
+      (one_named words d.request _ d.named asked.named) d.reply);
 }
 
-pub order_4q_clause : (run : Run) → IsOutcome run → run.status ≡ Done → (input : List ℕ) (json : Bool) (f : FunctionData) → IsGiven run input →
+pub order_4q_clause : (run : Run) → IsOutcome run → run.status ≡ Done →
+    (input : List ℕ) (json : Bool) (f : FunctionData) → IsGiven run input →
     AskIfExtreme json run.words input f → OfWritten run (IsDecisive json f)
 order_4q_clause run o done input json f given asked =
-    weaker run.written (λ before. IsDoneRun run.words input before run.written_after) (λ before. IsDecisive json f before run.written_after)
-    (λ before. decisive json run.words input before run.written_after f asked) (reply_clause run o done input given)
+    weaker run.written (λ before. IsDoneRun run.words input before run.written_after)
+    (λ before. IsDecisive json f before run.written_after)
+    (λ before. decisive json run.words input before run.written_after f asked)
+    (reply_clause run o done input given)

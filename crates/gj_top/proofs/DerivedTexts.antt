@@ -20,7 +20,8 @@ use Rattle.gj_top.specs.Derive.{IsDerived, IsFilledIn, constraint_names, step_na
 pub rest_is : {A : Type 0} (n : ℕ) (xs : List A) → take (length xs - n) (drop n xs) ≡ drop n xs
 rest_is n xs = take_all (length xs - n) (drop n xs) (omega (arith, length-drop n xs))
 
-module _ (a : DraftInput) (xs : List Shown) (readable : AreReadable a.function a.drafts) (all : IsDerived a (derived.All xs)) where
+module _ (a : DraftInput) (xs : List Shown) (readable : AreReadable a.function a.drafts)
+    (all : IsDerived a (derived.All xs)) where
   enough : length a.drafts.task.problem.constraints ≤ length a.drafts.lines
   enough = omega (arith, readable.steps.count)
 
@@ -29,7 +30,12 @@ module _ (a : DraftInput) (xs : List Shown) (readable : AreReadable a.function a
 
   pub names_counted : length (step_names a.drafts) ≡ length xs
   names_counted =
-      omega (arith, length-drop (length a.drafts.task.problem.constraints) a.drafts.lines, readable.steps.count, counted)
+      omega (
+        arith,
+        length-drop (length a.drafts.task.problem.constraints) a.drafts.lines,
+        readable.steps.count,
+        counted,
+      )
 
   -- what is derived, as it is told again
   abbrev derivation : DerivationInput
@@ -42,7 +48,8 @@ module _ (a : DraftInput) (xs : List Shown) (readable : AreReadable a.function a
     left = [];
   }
 
-  lines_counted : length (shown_names a.drafts xs) ≡ length a.drafts.task.problem.constraints + length (map as_draft (steps_of xs))
+  lines_counted : length (shown_names a.drafts xs) ≡ length a.drafts.task.problem.constraints
+      + length (map as_draft (steps_of xs))
   lines_counted =
       omega (
         arith,
@@ -55,8 +62,11 @@ module _ (a : DraftInput) (xs : List Shown) (readable : AreReadable a.function a
   few : length (map as_draft (steps_of xs)) ≤ most_steps
   few = omega (arith, length-map (steps_of xs) as_draft, steps_few xs, counted, readable.steps.few)
 
-  pub filled_in : (text front : List ℕ) → IsFront a.function a.drafts.task.names (constraint_names a.drafts) a.drafts.task.problem front →
-      text ≡ front ++ steps_text a.drafts.task.names (constraint_names a.drafts) (step_names a.drafts) xs → IsFilledIn a xs text
+  pub filled_in : (text front : List ℕ) →
+      IsFront a.function a.drafts.task.names (constraint_names a.drafts) a.drafts.task.problem
+      front →
+      text ≡ front ++ steps_text a.drafts.task.names (constraint_names a.drafts)
+      (step_names a.drafts) xs → IsFilledIn a xs text
   filled_in text front is spelled = record {
     derivation = derivation;
     function = refl;
@@ -67,10 +77,13 @@ module _ (a : DraftInput) (xs : List Shown) (readable : AreReadable a.function a
       problem = readable.problem;
       steps = record {
         names = kept_are_names (constraint_names a.drafts) (step_names a.drafts) xs
-            (subst AreNames (sym (take-append-drop (length a.drafts.task.problem.constraints) a.drafts.lines)) readable.steps.names);
+            (subst AreNames (sym
+            (take-append-drop (length a.drafts.task.problem.constraints) a.drafts.lines))
+            readable.steps.names);
         count = lines_counted;
         few = few;
-        readable = derived_readable a.function a.drafts.task.grid a.drafts.task.problem (length a.drafts.task.names) _ a.drafts.steps xs
+        readable = derived_readable a.function a.drafts.task.grid a.drafts.task.problem
+            (length a.drafts.task.names) _ a.drafts.steps xs
             readable.problem.column_count all readable.steps.readable;
       };
     };
@@ -78,7 +91,8 @@ module _ (a : DraftInput) (xs : List Shown) (readable : AreReadable a.function a
       steps = refl;
       lines = refl;
       count = names_counted;
-      are = All-drop IsName (length a.drafts.task.problem.constraints) a.drafts.lines readable.steps.names.are;
+      are = All-drop IsName (length a.drafts.task.problem.constraints) a.drafts.lines
+          readable.steps.names.are;
       front = front;
       front_is = is;
       text_is = spelled;

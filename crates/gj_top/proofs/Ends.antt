@@ -68,13 +68,15 @@ end_answers end.NotSubadditive = refl
 end_answers end.OrderLimit = refl
 end_answers end.BadOrder = refl
 
-pub answered : (task : Task) (input : List ℕ) (s : Status) (text : List ℕ) → IsAnswerTo task input s text → is_answered s ≡ true
+pub answered : (task : Task) (input : List ℕ) (s : Status) (text : List ℕ) →
+    IsAnswerTo task input s text → is_answered s ≡ true
 answered task input s text (too_long a) = ap is_answered a.status_is
 answered task input s text (refused a) = ap is_answered a.status_is
 answered task input s text (replied a) = ap is_answered a.status_is ∙ end_answers a.end
 
 -- another status is not
-pub not_answered : (task : Task) (input : List ℕ) (s r : Status) (text : List ℕ) → s ≡ r → is_answered r ≡ false → IsAnswerTo task input s text → ⊥
+pub not_answered : (task : Task) (input : List ℕ) (s r : Status) (text : List ℕ) → s ≡ r →
+    is_answered r ≡ false → IsAnswerTo task input s text → ⊥
 not_answered task input s r text is off a =
     let yes : is_answered s ≡ true = answered task input s text a in
     let same : is_answered s ≡ is_answered r = ap is_answered is in

@@ -10,7 +10,8 @@ use Rattle.gj_top.proofs.Clauses as clauses
 use Rattle.gj_top.proofs.NeverWide.{narrow_clause}
 use Rattle.gj_top.proofs.TwoSlopeAnswers.{two_slopes_clause, called_extreme_clause}
 
-pub is_run : (run : Run) → IsOutcome run → (run.status ≡ WriteFault → SinkFailed run) → run.read_faults ≤ run.read_faults_after →
+pub is_run : (run : Run) → IsOutcome run → (run.status ≡ WriteFault → SinkFailed run) →
+    run.read_faults ≤ run.read_faults_after →
     run.write_faults ≤ run.write_faults_after → IsRun run
 is_run run o failed reads writes = record {
   reply = clauses.reply_clause run o;

@@ -15,12 +15,19 @@ use Rattle.gj_top.specs.Cut.{HasLinesOfRule, BeginsWithRule}
 
 -- ---- function texts
 
-pub whole_of_input : (input : List ℕ) (f : FunctionData) → IsFunctionInput input f → IsWholeFunctionText input f
-whole_of_input input f (rest, lines, nothing) = (rest, (f, rest, lines_are_text input f rest lines, (refl, refl, nothing)))
+pub whole_of_input : (input : List ℕ) (f : FunctionData) → IsFunctionInput input f →
+    IsWholeFunctionText input f
+whole_of_input input f (rest, lines, nothing) =
+    (rest, (f, rest, lines_are_text input f rest lines, (refl, refl, nothing)))
 
-pub input_of_whole : (input : List ℕ) (f : FunctionData) → IsWholeFunctionText input f → IsFunctionInput input f
-input_of_whole input f (end, (g, rest, read, (same, at, nothing))) =
-    (rest, subst (λ (h : FunctionData). BeginsWithFunction input h rest) (sym same) (text_has_lines input g rest read), nothing)
+pub input_of_whole : (input : List ℕ) (f : FunctionData) → IsWholeFunctionText input f →
+    IsFunctionInput input f
+input_of_whole input f (end, (g, rest, read, (same, at, nothing))) = (
+  rest,
+  subst (λ (h : FunctionData). BeginsWithFunction input h rest) (sym same)
+      (text_has_lines input g rest read),
+  nothing,
+)
 
 -- ---- the lines of a function begin with no line of a rule
 
@@ -31,21 +38,27 @@ breaks_title_is_other : (more : List (List ℕ)) → breaks_title_words ≡ code
 breaks_title_is_other more e = cc
 
 no_rule_before : (text rest : List ℕ) (first : List (List ℕ)) (more : List (List (List ℕ))) →
-    HasLines Lenient text (first ∷ more) rest → ((words : List (List ℕ)) → first ≡ codes "gj-rule" ∷ words → ⊥) →
+    HasLines Lenient text (first ∷ more) rest →
+    ((words : List (List ℕ)) → first ≡ codes "gj-rule" ∷ words → ⊥) →
     BeginsAsRule text → ⊥
 no_rule_before text rest first more (start, next, line, behind) other begins =
     other_word Lenient text start first (codes "gj-rule") next line other begins
 
-no_rule : (text : List ℕ) (f : FunctionData) (rest : List ℕ) → BeginsWithFunction text f rest → BeginsAsRule text → ⊥
+no_rule : (text : List ℕ) (f : FunctionData) (rest : List ℕ) → BeginsWithFunction text f rest →
+    BeginsAsRule text → ⊥
 no_rule text f rest (inl h) =
-    no_rule_before text rest title_words (h.order ∷ h.place ∷ h.point_lines ++ end_words ∷ []) h.has_lines title_is_other
-no_rule text f rest (inr (inl h)) = no_rule_before text rest title_words (h.words ∷ end_words ∷ []) h.has_lines title_is_other
+    no_rule_before text rest title_words (h.order ∷ h.place ∷ h.point_lines ++ end_words ∷ [])
+    h.has_lines title_is_other
+no_rule text f rest (inr (inl h)) =
+    no_rule_before text rest title_words (h.words ∷ end_words ∷ []) h.has_lines title_is_other
 no_rule text f rest (inr (inr h)) =
-    no_rule_before text rest breaks_title_words (h.place ∷ h.points ++ end_words ∷ []) h.has_lines breaks_title_is_other
+    no_rule_before text rest breaks_title_words (h.place ∷ h.points ++ end_words ∷ []) h.has_lines
+    breaks_title_is_other
 
 -- ---- rules
 
-pub rule_of_lines : (text : List ℕ) (r : CutRule) (rest : List ℕ) → HasLinesOfRule text r rest → BeginsWithRule text r rest
+pub rule_of_lines : (text : List ℕ) (r : CutRule) (rest : List ℕ) → HasLinesOfRule text r rest →
+    BeginsWithRule text r rest
 rule_of_lines text Gmic rest (s, m, title, (t, n, name, (u, end, last, at))) = (
   (codes "1" ∷ [], (s, m, title)),
   (
@@ -57,10 +70,16 @@ rule_of_lines text Gmic rest (s, m, title, (t, n, name, (u, end, last, at))) = (
 )
 rule_of_lines text (Table f) rest h = (no_rule text f rest h, lines_are_text text f rest h)
 
-pub lines_of_rule : (text : List ℕ) (r : CutRule) (rest : List ℕ) → BeginsWithRule text r rest → HasLinesOfRule text r rest
+pub lines_of_rule : (text : List ℕ) (r : CutRule) (rest : List ℕ) → BeginsWithRule text r rest →
+    HasLinesOfRule text r rest
 lines_of_rule text Gmic rest (
   begins,
-  (a, m, (s, vs, title, title_is), (b, n, (t, ws, name, name_is), (c, end, (u, xs, last, last_is), (same, at)))),
+  (
+    a,
+    m,
+    (s, vs, title, title_is),
+    (b, n, (t, ws, name, name_is), (c, end, (u, xs, last, last_is), (same, at))),
+  ),
 ) = (
   s,
   m,

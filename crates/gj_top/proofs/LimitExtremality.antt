@@ -25,15 +25,23 @@ use Rattle.gj_top.proofs.OneReport.{also_reported, told, told_by, told_exactly_b
 -- ---- what is promised
 
 -- a function that two halves average to is not extreme
-pub halves_deny : (f : FunctionData) (h : LimitHalves) → ShowLimitHalves f h → IsExtremeFunction f → ⊥
+pub halves_deny : (f : FunctionData) (h : LimitHalves) → ShowLimitHalves f h → IsExtremeFunction f →
+    ⊥
 halves_deny f h (m, c, scale, parts) extreme = extreme.no_average m c _ _ parts
 
-by_claim : (f : FunctionData) (c : LimitClaim) (text : List ℕ) → Jumps f → IsLimitDecided f c → LimitClaimHolds c → IsLimitProofText c text →
+by_claim : (f : FunctionData) (c : LimitClaim) (text : List ℕ) → Jumps f → IsLimitDecided f c →
+    LimitClaimHolds c → IsLimitProofText c text →
     IsTrueLimitExtremality f text
 by_claim f (Extreme numbers g lines rows) text jumps d extreme p =
     let e : g ≡ f = d.0 in
     inl (
-      (numbers, lines, rows, subst (λ (k : FunctionData). IsLimitProofText (Extreme numbers k lines rows) text) e p),
+      (
+        numbers,
+        lines,
+        rows,
+        subst
+            (λ (k : FunctionData). IsLimitProofText (Extreme numbers k lines rows) text) e p,
+      ),
       jumps,
       subst IsExtremeFunction e extreme,
     )
@@ -49,42 +57,57 @@ by_claim f (NotExtreme g h) text jumps d (minimal, shown) p =
       halves_deny f h here,
     )
 
-pub limit_extremality_true : (f : FunctionData) (text : List ℕ) → IsLimitDecisionText f text → IsTrueLimitExtremality f text
+pub limit_extremality_true : (f : FunctionData) (text : List ℕ) → IsLimitDecisionText f text →
+    IsTrueLimitExtremality f text
 limit_extremality_true f text d = by_claim f d.claim text d.jumps d.decided d.holds d.spelled
 
-pub jumps_extremality_true : (json : Bool) (f : FunctionData) (text : List ℕ) → IsWithinBounds f → IsJumpsExtremality json f end.Done text →
+pub jumps_extremality_true : (json : Bool) (f : FunctionData) (text : List ℕ) → IsWithinBounds f →
+    IsJumpsExtremality json f end.Done text →
     IsTrueJumpsExtremality json f text
 jumps_extremality_true json f text l (inl h) =
-    inl (told json (IsDecisionText f) (IsTrueExtremality f) (λ proof. extremality_true f proof l) text h)
+    inl (told json (IsDecisionText f) (IsTrueExtremality f)
+    (λ proof. extremality_true f proof l) text h)
 jumps_extremality_true json f text l (inr h) =
-    inr (told_by limit_claims json (IsLimitDecisionText f) (IsTrueLimitExtremality f) (limit_extremality_true f) text h)
+    inr (told_by limit_claims json (IsLimitDecisionText f) (IsTrueLimitExtremality f)
+    (limit_extremality_true f) text h)
 
 -- ---- both ways
 
-to_extreme : (f : FunctionData) (text : List ℕ) → IsWithinBounds f → IsLimitDecisionText f text → IsLimitExtremeText f text → IsExtremeFunction f
+to_extreme : (f : FunctionData) (text : List ℕ) → IsWithinBounds f → IsLimitDecisionText f text →
+    IsLimitExtremeText f text → IsExtremeFunction f
 to_extreme f text l d (numbers, lines, rows, p) =
     let same : d.claim ≡ Extreme numbers f lines rows =
-    one_claim d.claim (Extreme numbers f lines rows) text (limit_decided_bounded f d.claim l d.decided) l d.spelled p in
+    one_claim d.claim (Extreme numbers f lines rows) text
+    (limit_decided_bounded f d.claim l d.decided) l d.spelled p in
     subst LimitClaimHolds same d.holds
 
-from_extreme : (f : FunctionData) (text : List ℕ) → IsTrueLimitExtremality f text → IsExtremeFunction f → IsLimitExtremeText f text
+from_extreme : (f : FunctionData) (text : List ℕ) → IsTrueLimitExtremality f text →
+    IsExtremeFunction f → IsLimitExtremeText f text
 from_extreme f text (inl e) extreme = e.0
-from_extreme f text (inr (h, spelled, jumps, minimal, shown, denied)) extreme = absurd (denied extreme)
+from_extreme f text (inr (h, spelled, jumps, minimal, shown, denied)) extreme =
+    absurd (denied extreme)
 
 -- a proof text that is not about functions that jump does not call f extreme by limits
-never_called : (json : Bool) (f : FunctionData) (text : List ℕ) → Tells json (IsDecisionText f) text → CallsExtremeByLimits json f text → ⊥
-never_called false f text d (numbers, lines, rows, p) = texts_differ d.claim (Extreme numbers f lines rows) text d.spelled p
+never_called : (json : Bool) (f : FunctionData) (text : List ℕ) →
+    Tells json (IsDecisionText f) text → CallsExtremeByLimits json f text → ⊥
+never_called false f text d (numbers, lines, rows, p) =
+    texts_differ d.claim (Extreme numbers f lines rows) text d.spelled p
 never_called true f text r s =
     texts_differ r.claim s.claim r.proof r.spelled
-    (subst (λ (t : List ℕ). IsLimitProofText s.claim t) (also_reported claims limit_claims (IsDecisionText f) (IsLimitExtremeText f) text r s) s.spelled)
+    (subst (λ (t : List ℕ). IsLimitProofText s.claim t)
+    (also_reported claims limit_claims (IsDecisionText f) (IsLimitExtremeText f) text r s)
+    s.spelled)
 
 -- of a function that jumps
-pub called_by_limits : (json : Bool) (f : FunctionData) (text : List ℕ) → IsWithinBounds f → Jumps f → IsJumpsExtremality json f end.Done text →
+pub called_by_limits : (json : Bool) (f : FunctionData) (text : List ℕ) → IsWithinBounds f →
+    Jumps f → IsJumpsExtremality json f end.Done text →
     (CallsExtremeByLimits json f text ↔ IsExtremeFunction f)
 called_by_limits json f text l jumps (inl h) = (
   λ called. absurd (never_called json f text h called),
   λ extreme. absurd (jumps (unjumping json f end.Done text l h (λ is. cc) extreme.minimal)),
 )
 called_by_limits json f text l jumps (inr h) =
-    told_exactly_by limit_claims json (IsLimitDecisionText f) (IsLimitExtremeText f) (IsExtremeFunction f)
-    (λ proof d. (to_extreme f proof l d, from_extreme f proof (limit_extremality_true f proof d))) text h
+    told_exactly_by limit_claims json (IsLimitDecisionText f) (IsLimitExtremeText f)
+    (IsExtremeFunction f)
+    (λ proof d. (to_extreme f proof l d, from_extreme f proof (limit_extremality_true f proof d)))
+    text h

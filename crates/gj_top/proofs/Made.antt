@@ -11,26 +11,44 @@ use Rattle.gj_top.specs.declared.reply.End.TheVariants as end
 use Rattle.gj_top.specs.Continuity.{IsContinuousReply}
 use Rattle.gj_top.specs.Transform.{IsMadeReply, IsTimesReply, IsRestrictionReply}
 
-pub times_made : (n j : ℕ) (f : FunctionData) (made : Result FunctionData TransformFault) (e : End) (text : List ℕ) →
-    IfOk made (IsTimesOf f n j) → IfOk made IsWithinBounds → IfOk made (λ g. IsMinimal f ↔ IsMinimal g) →
+pub times_made : (n j : ℕ) (f : FunctionData) (made : Result FunctionData TransformFault) (e : End)
+    (text : List ℕ) →
+    IfOk made (IsTimesOf f n j) → IfOk made IsWithinBounds →
+    IfOk made (λ g. IsMinimal f ↔ IsMinimal g) →
     ((made ≡ Err fault.OrderLimit) ↔ (greatest_order < f.order * n)) → made ≢ Err fault.BadOrder →
     IsMadeReply made e text → IsTimesReply n j f e text
 times_made n j f (Ok g) end.Done text is within minimal limit never h =
     record { function = g; is_times = is; within = within; minimal = minimal; spelled = h }
-times_made n j f (Err fault.OrderLimit) end.OrderLimit text is within minimal limit never h = (limit.0 refl, h)
+times_made n j f (Err fault.OrderLimit) end.OrderLimit text is within minimal limit never h =
+    (limit.0 refl, h)
 times_made n j f (Err fault.BadOrder) e text is within minimal limit never h = absurd (never refl)
 times_made n j f (Ok g) e text is within minimal limit never h = absurd h
 times_made n j f (Err fault.OrderLimit) e text is within minimal limit never h = absurd h
 times_made n j f (Err (fault.Memory a)) e text is within minimal limit never h = absurd h
 
-pub restriction_made : (d : ℕ) (f : FunctionData) (made : Result FunctionData TransformFault) (e : End) (text : List ℕ) → IsContinuous f →
-    IfOk made (IsRestrictionOf f d) → IfOk made IsWithinBounds → IfOk made (λ g. IsMinimal f → IsMinimal g) →
+pub restriction_made : (d : ℕ) (f : FunctionData) (made : Result FunctionData TransformFault)
+    (e : End) (text : List ℕ) → IsContinuous f →
+    IfOk made (IsRestrictionOf f d) → IfOk made IsWithinBounds →
+    IfOk made (λ g. IsMinimal f → IsMinimal g) →
     ((made ≡ Err fault.BadOrder) ↔ HasNoRestriction f d) → made ≢ Err fault.OrderLimit →
     IsMadeReply made e text → IsContinuousReply (IsRestrictionReply d) f e text
-restriction_made d f (Ok g) end.Done text continuous is within minimal bad never h =
-    (continuous, record { continuous = continuous; function = g; is_restriction = is; within = within; minimal = minimal; spelled = h })
-restriction_made d f (Err fault.BadOrder) end.BadOrder text continuous is within minimal bad never h = (continuous, (bad.0 refl, h))
-restriction_made d f (Err fault.OrderLimit) e text continuous is within minimal bad never h = absurd (never refl)
+restriction_made d f (Ok g) end.Done text continuous is within minimal bad never h = (
+  continuous,
+  record {
+    continuous = continuous;
+    function = g;
+    is_restriction = is;
+    within =
+        within;
+    minimal = minimal;
+    spelled = h;
+  },
+)
+restriction_made d f (Err fault.BadOrder) end.BadOrder text continuous is within minimal bad never
+    h = (continuous, (bad.0 refl, h))
+restriction_made d f (Err fault.OrderLimit) e text continuous is within minimal bad never h =
+    absurd (never refl)
 restriction_made d f (Ok g) e text continuous is within minimal bad never h = absurd h
 restriction_made d f (Err fault.BadOrder) e text continuous is within minimal bad never h = absurd h
-restriction_made d f (Err (fault.Memory a)) e text continuous is within minimal bad never h = absurd h
+restriction_made d f (Err (fault.Memory a)) e text continuous is within minimal bad never h =
+    absurd h

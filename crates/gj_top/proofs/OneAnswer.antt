@@ -35,27 +35,37 @@ use Rattle.gj_top.proofs.OneTable.{one_group_reply}
 use Rattle.gj_top.proofs.OneVerdict.{of_functions, one_continuous, one_verdict, one_extremality}
 use Rattle.gj_top.proofs.Sound.{sound}
 
-of_proofs : (json : Bool) (headline : FunctionData → List ℕ → Type 0) (replies : FunctionData → End → List ℕ → Type 0) →
+of_proofs : (json : Bool) (headline : FunctionData → List ℕ → Type 0) (replies : FunctionData →
+    End → List ℕ → Type 0) →
     AnswersOne replies → IsDetermined (proof_task json headline replies)
 of_proofs json headline replies one =
-    of_functions json (λ f. Tells json (headline f)) (IsToldReply json replies) (one_told_reply json replies one)
+    of_functions json (λ f. Tells json (headline f)) (IsToldReply json replies)
+    (one_told_reply json replies one)
 
-of_continuous : (headline : FunctionData → List ℕ → Type 0) (replies : FunctionData → End → List ℕ → Type 0) →
+of_continuous : (headline : FunctionData → List ℕ → Type 0) (replies : FunctionData → End → List ℕ →
+    Type 0) →
     AnswersOne replies → IsDetermined (function_task false headline (IsContinuousReply replies))
-of_continuous headline replies one = of_functions false headline (IsContinuousReply replies) (one_continuous replies one)
+of_continuous headline replies one = of_functions false headline (IsContinuousReply replies)
+    (one_continuous replies one)
 
 is_determined : (c : Command) (json jumps : Bool) → IsDetermined (task_with c json jumps)
 is_determined Minimal json jumps =
-    of_proofs json IsTrueVerdict (EndsDone IsVerdict) (λ f l. one_done IsVerdict f (λ x y. one_verdict f x y l))
+    of_proofs json IsTrueVerdict (EndsDone IsVerdict)
+    (λ f l. one_done IsVerdict f (λ x y. one_verdict f x y l))
 is_determined Extreme json false = of_proofs json IsTrueExtremality IsExtremality one_extremality
-is_determined Extreme json true = of_functions json (IsTrueJumpsExtremality json) (IsJumpsExtremality json) (one_jumps_extremality json)
+is_determined Extreme json true =
+    of_functions json (IsTrueJumpsExtremality json) (IsJumpsExtremality json)
+    (one_jumps_extremality json)
 is_determined Show json jumps =
-    of_functions json (IsShownText json) (EndsDone (IsShownText json)) (λ f l. one_done (IsShownText json) f (λ x y. one_shown json f x y l))
+    of_functions json (IsShownText json) (EndsDone (IsShownText json))
+    (λ f l. one_done (IsShownText json) f (λ x y. one_shown json f x y l))
 is_determined Check json jumps = check_is_determined
 is_determined Faces json false =
-    of_continuous (λ f text. IsContinuous f) (EndsDone IsFacesText) (λ f l. one_done IsFacesText f (one_faces_text f))
+    of_continuous (λ f text. IsContinuous f) (EndsDone IsFacesText)
+    (λ f l. one_done IsFacesText f (one_faces_text f))
 is_determined Faces json true =
-    of_functions false IsJumpsFacesText (EndsDone IsJumpsFacesText) (λ f l. one_done IsJumpsFacesText f (one_jumps_faces f))
+    of_functions false IsJumpsFacesText (EndsDone IsJumpsFacesText)
+    (λ f l. one_done IsJumpsFacesText f (one_jumps_faces f))
 is_determined Cut json jumps = cut_is_determined
 is_determined (Demo n) json jumps = demo_is_determined n
 is_determined Mixed json jumps = mixed_is_determined
@@ -63,14 +73,19 @@ is_determined Problem json jumps = problem_is_determined
 is_determined Derive json jumps = derive_is_determined
 is_determined Fill json jumps = of_continuous IsFillText IsFillReply one_fill_reply
 is_determined Group json jumps = of_continuous IsTrueGroupText IsGroupReply one_group_reply
-is_determined (Times n j) json jumps = of_functions false (IsTimesText n j) (IsTimesReply n j) (one_times_reply n j)
+is_determined (Times n j) json jumps = of_functions false (IsTimesText n j) (IsTimesReply n j)
+    (one_times_reply n j)
 is_determined Mirror json jumps =
-    of_functions false IsMirrorText (EndsDone IsMirrorText) (λ f l. one_done IsMirrorText f (λ x y. one_mirror_text f x y l))
-is_determined (Restrict d) json jumps = of_continuous (IsRestrictionText d) (IsRestrictionReply d) (one_restriction_reply d)
+    of_functions false IsMirrorText (EndsDone IsMirrorText)
+    (λ f l. one_done IsMirrorText f (λ x y. one_mirror_text f x y l))
+is_determined (Restrict d) json jumps = of_continuous (IsRestrictionText d) (IsRestrictionReply d)
+    (one_restriction_reply d)
 
 module _ (r : Request) (input : List ℕ) (s t : Status) (x y : List ℕ) where
-  pub one_answer : IsAnswerTo (task_for r) input s x → IsAnswerTo (task_for r) input t y → (s ≡ t) × (x ≡ y)
-  one_answer = one_answer_of (task_for r) input s t x y (sound r) (is_determined r.command r.json r.jumps)
+  pub one_answer : IsAnswerTo (task_for r) input s x → IsAnswerTo (task_for r) input t y →
+      (s ≡ t) × (x ≡ y)
+  one_answer = one_answer_of (task_for r) input s t x y (sound r)
+      (is_determined r.command r.json r.jumps)
 
   pub one_status : IsAnswerTo (task_for r) input s x → IsAnswerTo (task_for r) input t y → s ≡ t
   one_status a b = (one_answer a b).0

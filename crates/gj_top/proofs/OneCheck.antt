@@ -17,27 +17,36 @@ use Rattle.gj_top.proofs.TextLaws.{one_proof}
 
 pub one_checkable : SpellsOne check_form
 one_checkable input (of_claim c) (of_claim d) h k = ap of_claim (one_proof input c d h k)
-one_checkable input (of_claim c) (of_limit_claim d) h k = absurd (texts_differ c d input h.spelled k.spelled)
-one_checkable input (of_claim c) (of_steps t) h k = absurd (proof_begins_otherwise c input h.spelled (derivation_begins input t.told k.1))
-one_checkable input (of_limit_claim c) (of_claim d) h k = absurd (texts_differ d c input k.spelled h.spelled)
-one_checkable input (of_limit_claim c) (of_limit_claim d) h k = ap of_limit_claim (one_limit_proof input c d h k)
+one_checkable input (of_claim c) (of_limit_claim d) h k =
+    absurd (texts_differ c d input h.spelled k.spelled)
+one_checkable input (of_claim c) (of_steps t) h k =
+    absurd (proof_begins_otherwise c input h.spelled (derivation_begins input t.told k.1))
+one_checkable input (of_limit_claim c) (of_claim d) h k =
+    absurd (texts_differ d c input k.spelled h.spelled)
+one_checkable input (of_limit_claim c) (of_limit_claim d) h k =
+    ap of_limit_claim (one_limit_proof input c d h k)
 one_checkable input (of_limit_claim c) (of_steps t) h k =
     absurd (limit_begins_otherwise c input h.spelled (derivation_begins input t.told k.1))
-one_checkable input (of_steps t) (of_claim c) h k = absurd (proof_begins_otherwise c input k.spelled (derivation_begins input t.told h.1))
+one_checkable input (of_steps t) (of_claim c) h k =
+    absurd (proof_begins_otherwise c input k.spelled (derivation_begins input t.told h.1))
 one_checkable input (of_steps t) (of_limit_claim c) h k =
     absurd (limit_begins_otherwise c input k.spelled (derivation_begins input t.told h.1))
-one_checkable input (of_steps t) (of_steps u) h k = ap of_steps (one_told IsDerivationText one_derivation input t u h k)
+one_checkable input (of_steps t) (of_steps u) h k =
+    ap of_steps (one_told IsDerivationText one_derivation input t u h k)
 
 one_refusal : RefusesOne RefusesCheckable
-one_refusal input x y (inl (begins, h)) (inl (begins', k)) = one_named_fault _ (λ n m e d. one_derivation_fault input n m e d) x y h k
+one_refusal input x y (inl (begins, h)) (inl (begins', k)) =
+    one_named_fault _ (λ n m e d. one_derivation_fault input n m e d) x y h k
 one_refusal input x y (inl (begins, h)) (inr (inl (not, limits, k))) = absurd (not begins)
 one_refusal input x y (inl (begins, h)) (inr (inr (not, none, k))) = absurd (not begins)
 one_refusal input x y (inr (inl (not, limits, h))) (inl (begins, k)) = absurd (not begins)
 one_refusal input x y (inr (inl (not, limits, h))) (inr (inl (not', limits', k))) =
     one_named_fault _ (λ n m e d. one_limit_fault input n m e d) x y h k
-one_refusal input x y (inr (inl (not, limits, h))) (inr (inr (not', none, k))) = absurd (none limits)
+one_refusal input x y (inr (inl (not, limits, h))) (inr (inr (not', none, k))) =
+    absurd (none limits)
 one_refusal input x y (inr (inr (not, none, h))) (inl (begins, k)) = absurd (not begins)
-one_refusal input x y (inr (inr (not, none, h))) (inr (inl (not', limits, k))) = absurd (none limits)
+one_refusal input x y (inr (inr (not, none, h))) (inr (inl (not', limits, k))) =
+    absurd (none limits)
 one_refusal input x y (inr (inr (not, none, h))) (inr (inr (not', none', k))) =
     one_named_fault _ (λ n m e d. one_proof_fault input n m e d) x y h k
 
@@ -54,5 +63,6 @@ pub derive_is_determined : IsDetermined derive
 derive_is_determined = record {
   spells = one_told IsDraftText one_drafts;
   refuses = λ input x y h k. one_named_fault _ (λ n m e d. one_draft_fault input n m e d) x y h k;
-  replies = λ input t spelled. one_derive_reply t (drafts_are_readable input t.told spelled.1).function;
+  replies = λ input t spelled. one_derive_reply t
+      (drafts_are_readable input t.told spelled.1).function;
 }

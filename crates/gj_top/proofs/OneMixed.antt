@@ -44,97 +44,134 @@ use Rattle.gj_top.proofs.OneObjection.{no_objection, one_objection}
 same_term : (t u : Term) → t.column ≡ u.column → t.entry ≡ u.entry → t.cut ≡ u.cut → t ≡ u
 same_term t u a b c = λ i. record { column = a i; entry = b i; cut = c i }
 
-one_weight_term : (up down : Frac) (e : Entry) (t u : Term) → IsWeightTerm up down e t → IsWeightTerm up down e u → t ≡ u
+one_weight_term : (up down : Frac) (e : Entry) (t u : Term) → IsWeightTerm up down e t →
+    IsWeightTerm up down e u → t ≡ u
 one_weight_term up down e t u h k =
-    same_term t u (h.column_is ∙ sym k.column_is) (h.entry_is ∙ sym k.entry_is) (one_weight up down e.value t.cut u.cut h.weight_is k.weight_is)
+    same_term t u (h.column_is ∙ sym k.column_is) (h.entry_is ∙ sym k.entry_is)
+    (one_weight up down e.value t.cut u.cut h.weight_is k.weight_is)
 
-one_table_term : (f : FunctionData) (e : Entry) (t u : Term) → IsWithinBounds f → IsTermOfKind (kind.Table f) e t →
+one_table_term : (f : FunctionData) (e : Entry) (t u : Term) → IsWithinBounds f →
+    IsTermOfKind (kind.Table f) e t →
     IsTermOfKind (kind.Table f) e u → t ≡ u
 one_table_term f e t u l h k =
     same_term t u (h.column_is ∙ sym k.column_is) (h.entry_is ∙ sym k.entry_is)
-    (one_value f (numerator e.value *ℤ pos f.order) (unsigned_abs (denominator e.value)) t.cut u.cut l (denominator_some e.value) h.value_is k.value_is)
+    (one_value f (numerator e.value *ℤ pos f.order) (unsigned_abs (denominator e.value)) t.cut u.cut
+    l (denominator_some e.value) h.value_is k.value_is)
 
-one_gmic_term : (f : Frac) (e : Entry) (t u : Term) → IsInside f → IsTermOfKind (kind.Gmic f) e t → IsTermOfKind (kind.Gmic f) e u → t ≡ u
+one_gmic_term : (f : Frac) (e : Entry) (t u : Term) → IsInside f → IsTermOfKind (kind.Gmic f) e t →
+    IsTermOfKind (kind.Gmic f) e u → t ≡ u
 one_gmic_term f e t u inside h k =
-    same_term t u (h.column_is ∙ sym k.column_is) (h.entry_is ∙ sym k.entry_is) (one_gmic_value f e.value t.cut u.cut inside h.value_is k.value_is)
+    same_term t u (h.column_is ∙ sym k.column_is) (h.entry_is ∙ sym k.entry_is)
+    (one_gmic_value f e.value t.cut u.cut inside h.value_is k.value_is)
 
 -- ---- mixed cuts
 
 -- by a function and slopes
-one_cut_by_table : (f : FunctionData) (up down : Frac) (continuous : List Bool) (row : Row) (a b : MixedCut) → IsWithinBounds f →
-    IsMixedCutOfKind (kind.Table f) up down continuous row a → IsMixedCutOfKind (kind.Table f) up down continuous row b → a ≡ b
+one_cut_by_table : (f : FunctionData) (up down : Frac) (continuous : List Bool) (row : Row)
+    (a b : MixedCut) → IsWithinBounds f →
+    IsMixedCutOfKind (kind.Table f) up down continuous row a →
+    IsMixedCutOfKind (kind.Table f) up down continuous row b → a ≡ b
 one_cut_by_table f up down continuous row (mixed_cut.Cut ts ws) (mixed_cut.Cut us vs) l h k =
-    let terms = one_each (IsTermOfKind (kind.Table f)) (λ e t u. one_table_term f e t u l) (whole_entries continuous row.entries) ts us h.2 k.2 in
-    let weights = one_each (IsWeightTerm up down) (one_weight_term up down) (continuous_entries continuous row.entries) ws vs h.3 k.3 in
+    let terms = one_each (IsTermOfKind (kind.Table f)) (λ e t u. one_table_term f e t u l)
+    (whole_entries continuous row.entries) ts us h.2 k.2 in
+    let weights = one_each (IsWeightTerm up down) (one_weight_term up down)
+    (continuous_entries continuous row.entries) ws vs h.3 k.3 in
     λ i. mixed_cut.Cut (terms i) (weights i)
-one_cut_by_table f up down continuous row (mixed_cut.Cut ts ws) mixed_cut.Integral l h k = absurd (h.0 k)
-one_cut_by_table f up down continuous row (mixed_cut.Cut ts ws) mixed_cut.OtherFraction l h k = absurd (k.1 h.1)
-one_cut_by_table f up down continuous row mixed_cut.Integral (mixed_cut.Cut us vs) l h k = absurd (k.0 h)
+one_cut_by_table f up down continuous row (mixed_cut.Cut ts ws) mixed_cut.Integral l h k =
+    absurd (h.0 k)
+one_cut_by_table f up down continuous row (mixed_cut.Cut ts ws) mixed_cut.OtherFraction l h k =
+    absurd (k.1 h.1)
+one_cut_by_table f up down continuous row mixed_cut.Integral (mixed_cut.Cut us vs) l h k =
+    absurd (k.0 h)
 one_cut_by_table f up down continuous row mixed_cut.Integral mixed_cut.Integral l h k = refl
-one_cut_by_table f up down continuous row mixed_cut.Integral mixed_cut.OtherFraction l h k = absurd (k.0 h)
-one_cut_by_table f up down continuous row mixed_cut.OtherFraction (mixed_cut.Cut us vs) l h k = absurd (h.1 k.1)
-one_cut_by_table f up down continuous row mixed_cut.OtherFraction mixed_cut.Integral l h k = absurd (h.0 k)
-one_cut_by_table f up down continuous row mixed_cut.OtherFraction mixed_cut.OtherFraction l h k = refl
+one_cut_by_table f up down continuous row mixed_cut.Integral mixed_cut.OtherFraction l h k =
+    absurd (k.0 h)
+one_cut_by_table f up down continuous row mixed_cut.OtherFraction (mixed_cut.Cut us vs) l h k =
+    absurd (h.1 k.1)
+one_cut_by_table f up down continuous row mixed_cut.OtherFraction mixed_cut.Integral l h k =
+    absurd (h.0 k)
+one_cut_by_table f up down continuous row mixed_cut.OtherFraction mixed_cut.OtherFraction l h k =
+    refl
 
 -- the mixed-integer cut, by the fractional part of a right side that is not whole
 one_gmic_terms : (f up down : Frac) (continuous : List Bool) (row : Row) (ts ws us vs : List Term) →
     IsMixedCutOfKind (kind.Gmic f) up down continuous row (mixed_cut.Cut ts ws) →
-    IsMixedCutOfKind (kind.Gmic f) up down continuous row (mixed_cut.Cut us vs) → (ts ≡ us) × (ws ≡ vs)
+    IsMixedCutOfKind (kind.Gmic f) up down continuous row (mixed_cut.Cut us vs) →
+    (ts ≡ us) × (ws ≡ vs)
 one_gmic_terms f up down continuous row ts ws us vs h k =
     let inside = part_inside row.rhs f h.0 h.1 in (
-      one_each (IsTermOfKind (kind.Gmic f)) (λ e t u. one_gmic_term f e t u inside) (whole_entries continuous row.entries) ts us h.2 k.2,
-      one_each (IsWeightTerm up down) (one_weight_term up down) (continuous_entries continuous row.entries) ws vs h.3 k.3,
+      one_each (IsTermOfKind (kind.Gmic f)) (λ e t u. one_gmic_term f e t u inside)
+          (whole_entries continuous row.entries) ts us h.2 k.2,
+      one_each (IsWeightTerm up down) (one_weight_term up down)
+          (continuous_entries continuous row.entries) ws vs h.3 k.3,
     )
 
-one_gmic_cut : (continuous : List Bool) (row : Row) (ts ws us vs : List Term) → IsGmicMixedCutOf continuous row (mixed_cut.Cut ts ws) →
+one_gmic_cut : (continuous : List Bool) (row : Row) (ts ws us vs : List Term) →
+    IsGmicMixedCutOf continuous row (mixed_cut.Cut ts ws) →
     IsGmicMixedCutOf continuous row (mixed_cut.Cut us vs) → (ts ≡ us) × (ws ≡ vs)
 one_gmic_cut continuous row ts ws us vs (f, up, down, slopes, h) (g, other, below, slopes', k) =
     let same : g ≡ f = one_part row.rhs g f k.1 h.1 in
     let inside = part_inside row.rhs f h.0 h.1 in
-    let there : AreGmicSlopes f other below = subst (λ (x : Frac). AreGmicSlopes x other below) same slopes' in
+    let there : AreGmicSlopes f other below =
+    subst (λ (x : Frac). AreGmicSlopes x other below) same slopes' in
     let ups : other ≡ up = one_up f other up below down inside there slopes in
     let downs : below ≡ down = one_down f other up below down inside there slopes in
-    let by_f = subst (λ (x : Frac). IsMixedCutOfKind (kind.Gmic x) other below continuous row (mixed_cut.Cut us vs)) same k in
-    let by_up = subst (λ (x : Frac). IsMixedCutOfKind (kind.Gmic f) x below continuous row (mixed_cut.Cut us vs)) ups by_f in
+    let by_f = subst (λ (x : Frac). IsMixedCutOfKind (kind.Gmic x) other below continuous row
+    (mixed_cut.Cut us vs)) same k in
+    let by_up = subst (λ (x : Frac). IsMixedCutOfKind (kind.Gmic f) x below continuous row
+    (mixed_cut.Cut us vs)) ups by_f in
     one_gmic_terms f up down continuous row ts ws us vs h
-    (subst (λ (x : Frac). IsMixedCutOfKind (kind.Gmic f) up x continuous row (mixed_cut.Cut us vs)) downs by_up)
+    (subst (λ (x : Frac). IsMixedCutOfKind (kind.Gmic f) up x continuous row (mixed_cut.Cut us vs))
+    downs by_up)
 
-one_cut_by_gmic : (continuous : List Bool) (row : Row) (a b : MixedCut) → IsGmicMixedCutOf continuous row a → IsGmicMixedCutOf continuous row b → a ≡ b
+one_cut_by_gmic : (continuous : List Bool) (row : Row) (a b : MixedCut) →
+    IsGmicMixedCutOf continuous row a → IsGmicMixedCutOf continuous row b → a ≡ b
 one_cut_by_gmic continuous row (mixed_cut.Cut ts ws) (mixed_cut.Cut us vs) h k =
     let same = one_gmic_cut continuous row ts ws us vs h k in
     λ i. mixed_cut.Cut (same.0 i) (same.1 i)
-one_cut_by_gmic continuous row (mixed_cut.Cut ts ws) mixed_cut.Integral (f, up, down, slopes, h) k = absurd (h.0 k)
+one_cut_by_gmic continuous row (mixed_cut.Cut ts ws) mixed_cut.Integral (f, up, down, slopes, h) k =
+    absurd (h.0 k)
 one_cut_by_gmic continuous row (mixed_cut.Cut ts ws) mixed_cut.OtherFraction h k = absurd k
-one_cut_by_gmic continuous row mixed_cut.Integral (mixed_cut.Cut us vs) h (f, up, down, slopes, k) = absurd (k.0 h)
+one_cut_by_gmic continuous row mixed_cut.Integral (mixed_cut.Cut us vs) h (f, up, down, slopes, k) =
+    absurd (k.0 h)
 one_cut_by_gmic continuous row mixed_cut.Integral mixed_cut.Integral h k = refl
 one_cut_by_gmic continuous row mixed_cut.Integral mixed_cut.OtherFraction h k = absurd k
 one_cut_by_gmic continuous row mixed_cut.OtherFraction b h k = absurd h
 
-one_mixed_cut : (r : CutRule) (columns : List (List ℕ)) (row : Row) (a b : MixedCut) → IsBoundedRule r → IsMixedCutBy r columns row a →
+one_mixed_cut : (r : CutRule) (columns : List (List ℕ)) (row : Row) (a b : MixedCut) →
+    IsBoundedRule r → IsMixedCutBy r columns row a →
     IsMixedCutBy r columns row b → a ≡ b
 one_mixed_cut Gmic columns row a b l h k = one_cut_by_gmic (continuous_columns columns) row a b h k
 one_mixed_cut (Table f) columns row a b l (up, down, slopes, h) (other, below, slopes', k) =
     let ups : other ≡ up = one_up_at_zero f other up below down l slopes' slopes in
     let downs : below ≡ down = one_down_at_zero f other up below down l slopes' slopes in
-    let by_up = subst (λ (x : Frac). IsMixedCutOfKind (kind.Table f) x below (continuous_columns columns) row b) ups k in
+    let by_up = subst (λ (x : Frac). IsMixedCutOfKind (kind.Table f) x below
+    (continuous_columns columns) row b) ups k in
     one_cut_by_table f up down (continuous_columns columns) row a b l h
-    (subst (λ (x : Frac). IsMixedCutOfKind (kind.Table f) up x (continuous_columns columns) row b) downs by_up)
+    (subst (λ (x : Frac). IsMixedCutOfKind (kind.Table f) up x (continuous_columns columns) row b)
+    downs by_up)
 
 -- ---- lines of mixed cuts
 
-one_named : (columns : List (List ℕ)) (t : Term) (a b : CutTerm) → IsNamedTerm columns t a → IsNamedTerm columns t b → a ≡ b
-one_named columns t a b h k = same_cut_term a b (h.name ∙ sym k.name) (h.entry ∙ sym k.entry) (h.cut ∙ sym k.cut)
+one_named : (columns : List (List ℕ)) (t : Term) (a b : CutTerm) → IsNamedTerm columns t a →
+    IsNamedTerm columns t b → a ≡ b
+one_named columns t a b h k = same_cut_term a b (h.name ∙ sym k.name) (h.entry ∙ sym k.entry)
+    (h.cut ∙ sym k.cut)
 
 same_line : (a b : MixedLine) → a.line ≡ b.line → a.weights ≡ b.weights → a ≡ b
 same_line a b l w = λ i. record { line = l i; weights = w i }
 
-one_naming : (columns : List (List ℕ)) (row : Row) (cut : MixedCut) (a b : CutLine) (us vs : List CutTerm) → NamesMixedCut columns row cut a us →
+one_naming : (columns : List (List ℕ)) (row : Row) (cut : MixedCut) (a b : CutLine)
+    (us vs : List CutTerm) → NamesMixedCut columns row cut a us →
     NamesMixedCut columns row cut b vs → (a ≡ b) × (us ≡ vs)
 one_naming columns row (mixed_cut.Cut ts ws) (Cut n x ns) (Cut m y ms) us vs h k =
     let name : n ≡ m = h.0 ∙ sym k.0 in
     let right : x ≡ y = h.1 ∙ sym k.1 in
-    let terms = one_each (IsNamedTerm columns) (one_named columns) ts ns ms h.2 k.2 in
-    (λ i. Cut (name i) (right i) (terms i), one_each (IsNamedTerm columns) (one_named columns) ws us vs h.3 k.3)
+    let terms = one_each (IsNamedTerm columns) (one_named columns) ts ns ms h.2 k.2 in (
+      λ i. Cut (name i) (right i) (terms i),
+      one_each (IsNamedTerm columns)
+          (one_named columns) ws us vs h.3 k.3,
+    )
 one_naming columns row mixed_cut.Integral (Skip n x Integral) (Skip m y Integral) us vs h k =
     let name : n ≡ m = h.0 ∙ sym k.0 in
     let right : x ≡ y = h.1 ∙ sym k.1 in
@@ -148,7 +185,8 @@ one_naming columns row mixed_cut.Integral (Skip n x Integral) b us vs h k = absu
 one_naming columns row mixed_cut.OtherFraction (Skip n x Other) b us vs h k = absurd k
 one_naming columns row cut a b us vs h k = absurd h
 
-one_mixed_line : (r : CutRule) (columns : List (List ℕ)) (row : Row) (a b : MixedLine) → IsBoundedRule r → IsMixedLineFor r columns row a →
+one_mixed_line : (r : CutRule) (columns : List (List ℕ)) (row : Row) (a b : MixedLine) →
+    IsBoundedRule r → IsMixedLineFor r columns row a →
     IsMixedLineFor r columns row b → a ≡ b
 one_mixed_line r columns row a b l h k =
     let cuts : k.cut ≡ h.cut = one_mixed_cut r columns row k.cut h.cut l k.is_cut h.is_cut in
@@ -157,19 +195,27 @@ one_mixed_line r columns row a b l h k =
     (subst (λ (c : MixedCut). NamesMixedCut columns row c b.line b.weights) cuts k.names) in
     same_line a b same.0 same.1
 
-one_mixed_text : (r : CutRule) (t : Tableau) (x y : List ℕ) → IsBoundedRule r → AreMixedCutsOf r t x → AreMixedCutsOf r t y → x ≡ y
+one_mixed_text : (r : CutRule) (t : Tableau) (x y : List ℕ) → IsBoundedRule r →
+    AreMixedCutsOf r t x → AreMixedCutsOf r t y → x ≡ y
 one_mixed_text r t x y l h k =
-    let lines = one_each (IsMixedLineFor r t.columns) (λ row a b. one_mixed_line r t.columns row a b l) t.rows h.lines k.lines h.lines_are k.lines_are in
+    let lines = one_each (IsMixedLineFor r t.columns)
+    (λ row a b. one_mixed_line r t.columns row a b l) t.rows h.lines k.lines h.lines_are
+    k.lines_are in
     let subject = one_rule_text r h.subject k.subject l h.subject_is k.subject_is in
-    h.spelled ∙ ap₂ (λ s ls. line (codes "gj-mixed 1") ++ s ++ flat_map mixed_row_text ls ++ line (codes "end")) subject lines ∙ sym k.spelled
+    h.spelled ∙ ap₂ (λ s ls. line (codes "gj-mixed 1") ++ s ++ flat_map mixed_row_text ls ++ line
+    (codes "end")) subject lines ∙ sym k.spelled
 
 -- ---- replies
 
-one_mixed_reply : (input : List ℕ) (thing : CutInput) → SpellsCutInput input thing → IsBoundedRule thing.rule → (e d : End) (x y : List ℕ) →
+one_mixed_reply : (input : List ℕ) (thing : CutInput) → SpellsCutInput input thing →
+    IsBoundedRule thing.rule → (e d : End) (x y : List ℕ) →
     IsMixedReply thing e x → IsMixedReply thing d y → (e ≡ d) × (x ≡ y)
-one_mixed_reply input thing spelled l end.Done end.Done x y h k = (refl, one_mixed_text thing.rule thing.tableau x y l h.1 k.1)
-one_mixed_reply input thing spelled l end.Done d x y h k = absurd (no_objection thing.rule d y l h.0 k)
-one_mixed_reply input thing spelled l e end.Done x y h k = absurd (no_objection thing.rule e x l k.0 h)
+one_mixed_reply input thing spelled l end.Done end.Done x y h k =
+    (refl, one_mixed_text thing.rule thing.tableau x y l h.1 k.1)
+one_mixed_reply input thing spelled l end.Done d x y h k =
+    absurd (no_objection thing.rule d y l h.0 k)
+one_mixed_reply input thing spelled l e end.Done x y h k =
+    absurd (no_objection thing.rule e x l k.0 h)
 one_mixed_reply input thing spelled l e d x y h k = one_objection thing.rule e d x y l h k
 
 pub mixed_is_determined : IsDetermined mixed

@@ -7,8 +7,10 @@ use Rattle.gj_top.specs.declared.reply.Unanswered.TheVariants.{Refused, Memory}
 use Rattle.gj_top.specs.Forms.{NamesFault}
 use Rattle.gj_top.specs.Task.{IsTaskRefusal, IsRefusedWith}
 
-pub refused_at : (IsFirst : ℕ → Reason → Type 0) (refuses : List ℕ → List ℕ → Type 0) (input : List ℕ) (n : ℕ) (e : Reason) (u : Unanswered) →
-    IsFirst n e → ((text : List ℕ) → NamesFault IsFirst text → refuses input text) → IsRefusedWith (refused_line n e) u →
+pub refused_at : (IsFirst : ℕ → Reason → Type 0) (refuses : List ℕ → List ℕ → Type 0)
+    (input : List ℕ) (n : ℕ) (e : Reason) (u : Unanswered) →
+    IsFirst n e → ((text : List ℕ) → NamesFault IsFirst text → refuses input text) →
+    IsRefusedWith (refused_line n e) u →
     IsTaskRefusal refuses input u
 refused_at IsFirst refuses input n e (Refused text) first leads is =
     leads text.items (record { at_line = n; reason = e; first = first; spelled = is })

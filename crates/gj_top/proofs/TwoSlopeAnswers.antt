@@ -29,7 +29,8 @@ use Rattle.gj_top.proofs.Commands.{one_named}
 use Rattle.gj_top.proofs.OneReport.{told}
 use Rattle.gj_top.proofs.TextLaws.{spelled_is_bounded, one_spelled}
 
-called_extreme : (f : FunctionData) (e : End) (text : List ℕ) → IsWithinBounds f → IsMinimal f → HasTwoSlopes f →
+called_extreme : (f : FunctionData) (e : End) (text : List ℕ) → IsWithinBounds f → IsMinimal f →
+    HasTwoSlopes f →
     IsExtremality f e text → (e ≡ end.Done) × IsExtremeText f text
 called_extreme f end.Done text l minimal two d =
     let (lines, rows, same) = two_slopes_decided f d.claim l minimal two d.decided in
@@ -40,16 +41,21 @@ called_extreme f end.Wide text l minimal two h = absurd (two_slopes_not_wide f l
 called_extreme f e text l minimal two h = absurd h
 
 -- so does the proof text of a report
-told_extreme : (json : Bool) (f : FunctionData) (e : End) (text : List ℕ) → IsWithinBounds f → IsMinimal f → HasTwoSlopes f →
+told_extreme : (json : Bool) (f : FunctionData) (e : End) (text : List ℕ) → IsWithinBounds f →
+    IsMinimal f → HasTwoSlopes f →
     IsToldReply json IsExtremality f e text → (e ≡ end.Done) × CallsExtreme json f text
-told_extreme json f end.Done text l minimal two h =
-    (refl, told json (IsExtremality f end.Done) (IsExtremeText f) (λ proof d. (called_extreme f end.Done proof l minimal two d).1) text h)
+told_extreme json f end.Done text l minimal two h = (
+  refl,
+  told json (IsExtremality f end.Done) (IsExtremeText f)
+      (λ proof d. (called_extreme f end.Done proof l minimal two d).1) text h,
+)
 told_extreme json f e text l minimal two h =
     let ended = (called_extreme f e text l minimal two h).0 in
     absurd (cc)
 
 -- a reply
-pub two_slope_reply : (json : Bool) (f : FunctionData) (input text : List ℕ) (e : End) → SpellsFunction json input f →
+pub two_slope_reply : (json : Bool) (f : FunctionData) (input text : List ℕ) (e : End) →
+    SpellsFunction json input f →
     IsMinimal f → HasTwoSlopes f → IsReply (extreme json) input e text →
     (e ≡ end.Done) × CallsExtreme json f text
 two_slope_reply json f input text e spelled minimal two r =
@@ -59,7 +65,8 @@ two_slope_reply json f input text e spelled minimal two r =
 
 -- ---- runs
 
-module _ (words : List (String Global)) (input : List ℕ) (json : Bool) (f : FunctionData) (asked : AskIfExtreme json words input f)
+module _ (words : List (String Global)) (input : List ℕ) (json : Bool) (f : FunctionData)
+    (asked : AskIfExtreme json words input f)
     (minimal : IsMinimal f) (two : HasTwoSlopes f) where
   -- a run whose status is that of an end ended with Done
   ended : (s : Status) (e : End) → s ≡ status_of e → IsCause words input s → e ≡ end.Done
@@ -73,21 +80,29 @@ module _ (words : List (String Global)) (input : List ℕ) (json : Bool) (f : Fu
     λ is. let done = ended s end.NotContinuous is cause in cc,
   )
 
-  pub called : (before : List ℕ) (written : Option (List ℕ)) → IsDoneRun words input before written → IsCalledExtreme json f before written
+  pub called : (before : List ℕ) (written : Option (List ℕ)) →
+      IsDoneRun words input before written → IsCalledExtreme json f before written
   called before written d = record {
     text = d.text;
     gain = d.gain;
     called = (two_slope_reply json f input d.text end.Done asked.spelled minimal two
-        (subst (λ (q : Request). IsReply (task_for q) input end.Done d.text) (one_named words d.request _ d.named asked.named) d.reply)).1;
+        (subst (λ (q : Request). IsReply (task_for q) input end.Done d.text)
+        (one_named words d.request _ d.named asked.named) d.reply)).1;
   }
 
-pub two_slopes_clause : (run : Run) → IsOutcome run → (input : List ℕ) (json : Bool) (f : FunctionData) → IsGiven run input →
-    AskIfExtreme json run.words input f → IsMinimal f → HasTwoSlopes f → (run.status ≢ Wide) × (run.status ≢ NotContinuous)
+pub two_slopes_clause : (run : Run) → IsOutcome run →
+    (input : List ℕ) (json : Bool) (f : FunctionData) → IsGiven run input →
+    AskIfExtreme json run.words input f → IsMinimal f → HasTwoSlopes f →
+    (run.status ≢ Wide) × (run.status ≢ NotContinuous)
 two_slopes_clause run o input json f given asked minimal two =
     caused run.words input json f asked minimal two run.status (cause_clause run o input given)
 
-pub called_extreme_clause : (run : Run) → IsOutcome run → run.status ≡ Done → (input : List ℕ) (json : Bool) (f : FunctionData) →
-    IsGiven run input → AskIfExtreme json run.words input f → IsMinimal f → HasTwoSlopes f → OfWritten run (IsCalledExtreme json f)
+pub called_extreme_clause : (run : Run) → IsOutcome run → run.status ≡ Done →
+    (input : List ℕ) (json : Bool) (f : FunctionData) →
+    IsGiven run input → AskIfExtreme json run.words input f → IsMinimal f → HasTwoSlopes f →
+    OfWritten run (IsCalledExtreme json f)
 called_extreme_clause run o done input json f given asked minimal two =
-    weaker run.written (λ before. IsDoneRun run.words input before run.written_after) (λ before. IsCalledExtreme json f before run.written_after)
-    (λ before. called run.words input json f asked minimal two before run.written_after) (reply_clause run o done input given)
+    weaker run.written (λ before. IsDoneRun run.words input before run.written_after)
+    (λ before. IsCalledExtreme json f before run.written_after)
+    (λ before. called run.words input json f asked minimal two before run.written_after)
+    (reply_clause run o done input given)

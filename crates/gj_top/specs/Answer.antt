@@ -49,14 +49,16 @@ pub data IsAnswerTo (task : Task) (input : List ℕ) (status : Status) (text : L
 -- ---- the answer to words, and what the source, if it tells its bytes, has left
 
 -- the words name no request: the source is as it was
-pub record IsWordsAnswer (words : List (String Global)) (left after : Option (List ℕ)) (status : Status) (text : List ℕ) : Type 0 where
+pub record IsWordsAnswer (words : List (String Global)) (left after : Option (List ℕ))
+    (status : Status) (text : List ℕ) : Type 0 where
   pub unnamed : NameNone words
   pub unread : after ≡ left
   pub status_is : status ≡ Words
   pub spelled : text ≡ words_line
 
 -- the words name a request, and the source failed: at most the limit was read
-pub record IsFaultAnswer (words : List (String Global)) (Fault : Type 0) (left after : Option (List ℕ)) (status : Status) (text : List ℕ) :
+pub record IsFaultAnswer (words : List (String Global)) (Fault : Type 0)
+    (left after : Option (List ℕ)) (status : Status) (text : List ℕ) :
     Type 0 where
   pub request : Request
   pub named : IsNamed words request
@@ -67,7 +69,8 @@ pub record IsFaultAnswer (words : List (String Global)) (Fault : Type 0) (left a
   pub spelled : text ≡ fault_line
 
 -- the words name a request, and this is the answer to it over the input
-pub record IsRequestAnswer (words : List (String Global)) (left after : Option (List ℕ)) (status : Status) (text : List ℕ) : Type 0 where
+pub record IsRequestAnswer (words : List (String Global)) (left after : Option (List ℕ))
+    (status : Status) (text : List ℕ) : Type 0 where
   pub request : Request
   pub named : IsNamed words request
   pub input : List ℕ
@@ -75,10 +78,14 @@ pub record IsRequestAnswer (words : List (String Global)) (left after : Option (
   pub answer : IsAnswerTo (task_for request) input status text
 
 -- the status and the text are the answer to the words, if `Fault` says that the source failed
-pub data IsAnswer (words : List (String Global)) (Fault : Type 0) (left after : Option (List ℕ)) (status : Status) (text : List ℕ) : Type 0 where
-  no_request : IsWordsAnswer words left after status text → IsAnswer words Fault left after status text
-  read_fault : IsFaultAnswer words Fault left after status text → IsAnswer words Fault left after status text
-  of_request : IsRequestAnswer words left after status text → IsAnswer words Fault left after status text
+pub data IsAnswer (words : List (String Global)) (Fault : Type 0) (left after : Option (List ℕ))
+    (status : Status) (text : List ℕ) : Type 0 where
+  no_request : IsWordsAnswer words left after status text →
+      IsAnswer words Fault left after status text
+  read_fault : IsFaultAnswer words Fault left after status text →
+      IsAnswer words Fault left after status text
+  of_request : IsRequestAnswer words left after status text →
+      IsAnswer words Fault left after status text
 
 -- the words name a request that reads an input, and at most the limit was read of it
 pub record IsReadSoFar (words : List (String Global)) (left after : Option (List ℕ)) : Type 0 where

@@ -8,7 +8,8 @@ use Rattle.gj_top.specs.Forms.{SpellsFunction}
 
 -- the words ask for `extreme`, with `--jumps` or without and with `--json` or without, and the input
 -- spells f
-pub record AskIfExtremeBy (jumps json : Bool) (words : List (String Global)) (input : List ℕ) (f : FunctionData) : Type 0 where
+pub record AskIfExtremeBy (jumps json : Bool) (words : List (String Global)) (input : List ℕ)
+    (f : FunctionData) : Type 0 where
   pub named : IsNamed words (record { command = Extreme; json = json; jumps = jumps })
   pub spelled : SpellsFunction json input f
 

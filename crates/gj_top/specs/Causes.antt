@@ -15,11 +15,13 @@ use Rattle.gj_top.specs.Answer.{IsAnswerTo, IsWithinLimit}
 
 -- the input of a run: the source told it, if the words name a request that reads one
 abbrev pub IsInput : List (String Global) → Option (List ℕ) → List ℕ → Type 0
-IsInput words left input = (r : Request) → IsNamed words r → IsTrue (reads (promise_for r).form) → left ≡ Some input
+IsInput words left input = (r : Request) → IsNamed words r → IsTrue (reads (promise_for r).form) →
+    left ≡ Some input
 
 -- the headline: the words name a request, the input is in its form, and what was written keeps what
 -- the request promises
-pub record IsTrueRun (words : List (String Global)) (input before : List ℕ) (written : Option (List ℕ)) : Type 0 where
+pub record IsTrueRun (words : List (String Global)) (input before : List ℕ)
+    (written : Option (List ℕ)) : Type 0 where
   pub request : Request
   pub named : IsNamed words request
   pub text : List ℕ
@@ -28,7 +30,8 @@ pub record IsTrueRun (words : List (String Global)) (input before : List ℕ) (w
 
 -- the words name a request, and what was written is the reply to what the input spells, as the
 -- request's task has it
-pub record IsDoneRun (words : List (String Global)) (input before : List ℕ) (written : Option (List ℕ)) : Type 0 where
+pub record IsDoneRun (words : List (String Global)) (input before : List ℕ)
+    (written : Option (List ℕ)) : Type 0 where
   pub request : Request
   pub named : IsNamed words request
   pub text : List ℕ
@@ -37,7 +40,8 @@ pub record IsDoneRun (words : List (String Global)) (input before : List ℕ) (w
 
 -- the words name no request, or one that reads nothing
 abbrev pub ReadNothing : List (String Global) → Type 0
-ReadNothing words = NameNone words ⊎ ((r : Request) × IsNamed words r × (reads (promise_for r).form ≡ false))
+ReadNothing words = NameNone words
+    ⊎ ((r : Request) × IsNamed words r × (reads (promise_for r).form ≡ false))
 
 -- the statuses of a task: want of memory and a failing sink come with each, a failing source and a
 -- refused input with those that read, and else an end of its replies
@@ -73,4 +77,5 @@ pub record IsBadInput (task : Task) (left : Option (List ℕ)) (input : List ℕ
 
 -- the input spells a thing, and the status is that of its reply
 abbrev pub IsStatusOfReply : Task → List ℕ → Status → Type 0
-IsStatusOfReply task input s = (end : End) × (s ≡ status_of end) × (text : List ℕ) × IsReply task input end text
+IsStatusOfReply task input s = (end : End) × (s ≡ status_of end) × (text : List ℕ)
+    × IsReply task input end text

@@ -115,7 +115,8 @@ abbrev pub RefusesCheckable : List ℕ → List ℕ → Type 0
 RefusesCheckable input text =
     (BeginsAsDerivation input × RefusesDerivation input text)
     ⊎ ((BeginsAsDerivation input → ⊥) × BeginsAsLimitProof input × RefusesLimitProofText input text)
-    ⊎ ((BeginsAsDerivation input → ⊥) × (BeginsAsLimitProof input → ⊥) × RefusesProofText input text)
+    ⊎ ((BeginsAsDerivation input → ⊥) × (BeginsAsLimitProof input → ⊥)
+    × RefusesProofText input text)
 
 abbrev pub IsCheckReply : Checkable → End → List ℕ → Type 0
 IsCheckReply (of_claim c) end text = IsJudgement c end text

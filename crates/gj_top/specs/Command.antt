@@ -46,7 +46,8 @@ abbrev pub promise_for : Request → Promise
 promise_for request = promise_with request.command request.json request.jumps
 
 -- and how it answers
-abbrev pub work_with : (command : Command) (json jumps : Bool) → Work (promise_with command json jumps)
+abbrev pub work_with : (command : Command) (json jumps : Bool) →
+    Work (promise_with command json jumps)
 work_with Minimal json jumps = (minimal json).work
 work_with Extreme json false = (extreme json).work
 work_with Extreme json true = (extreme_with_jumps json).work

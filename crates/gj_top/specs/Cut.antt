@@ -35,7 +35,8 @@ use Rattle.gj_top.specs.Forms.{BeginsWithFunction, NamesFault}
 -- the text begins with the lines `gj-rule 1`, `gmic` and `end`, or with those of a function, and
 -- the rest follows
 abbrev pub HasLinesOfRule : List ℕ → CutRule → List ℕ → Type 0
-HasLinesOfRule text Gmic rest = HasLines Lenient text (rule_title_words ∷ rule_name_words ∷ end_words ∷ []) rest
+HasLinesOfRule text Gmic rest =
+    HasLines Lenient text (rule_title_words ∷ rule_name_words ∷ end_words ∷ []) rest
 HasLinesOfRule text (Table f) rest = BeginsWithFunction text f rest
 
 -- and the rest is a tableau
@@ -56,7 +57,8 @@ BeginsWithRule text (Table f) rest = (BeginsAsRule text → ⊥) × IsFunctionTe
 
 -- the line that refuses an input for the n-th record of its tableau
 abbrev pub refused_record_line : ℕ → RowReason → List ℕ
-refused_record_line n reason = line (codes "refused record " ++ decimal n ++ codes " " ++ reason_word reason)
+refused_record_line n reason =
+    line (codes "refused record " ++ decimal n ++ codes " " ++ reason_word reason)
 
 -- the text names the record that is the first at fault in what follows a rule, and the reason
 pub record NamesRefusedRecord (input text : List ℕ) : Type 0 where
@@ -70,8 +72,10 @@ pub record NamesRefusedRecord (input text : List ℕ) : Type 0 where
 
 -- why an input is refused: its rule text, its function text, or its tableau is at fault
 pub data RefusesCutInput (input text : List ℕ) : Type 0 where
-  of_rule : BeginsAsRule input → NamesFault (IsFirstFaultOfRule input) text → RefusesCutInput input text
-  of_function : (BeginsAsRule input → ⊥) → NamesFault (IsFirstFaultOfFunction input) text → RefusesCutInput input text
+  of_rule : BeginsAsRule input → NamesFault (IsFirstFaultOfRule input) text →
+      RefusesCutInput input text
+  of_function : (BeginsAsRule input → ⊥) → NamesFault (IsFirstFaultOfFunction input) text →
+      RefusesCutInput input text
   of_tableau : NamesRefusedRecord input text → RefusesCutInput input text
 
 -- ---- the cuts

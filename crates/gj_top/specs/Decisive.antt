@@ -13,7 +13,8 @@ abbrev pub CallsExtreme : Bool → FunctionData → List ℕ → Type 0
 CallsExtreme json f text = Tells json (IsExtremeText f) text
 
 -- what was written calls f extreme
-pub record IsCalledExtreme (json : Bool) (f : FunctionData) (before : List ℕ) (written : Option (List ℕ)) : Type 0 where
+pub record IsCalledExtreme (json : Bool) (f : FunctionData) (before : List ℕ)
+    (written : Option (List ℕ)) : Type 0 where
   pub text : List ℕ
   pub gain : written ≡ Some (before ++ text)
   pub called : CallsExtreme json f text
@@ -23,7 +24,8 @@ abbrev pub IsExtremeByOrder4q : FunctionData → Type 0
 IsExtremeByOrder4q f = IsContinuous f × IsExtremeOnGrid4 f
 
 -- what was written calls f extreme exactly if it is so
-pub record IsDecisive (json : Bool) (f : FunctionData) (before : List ℕ) (written : Option (List ℕ)) : Type 0 where
+pub record IsDecisive (json : Bool) (f : FunctionData) (before : List ℕ)
+    (written : Option (List ℕ)) : Type 0 where
   pub text : List ℕ
   pub gain : written ≡ Some (before ++ text)
   pub called : CallsExtreme json f text ↔ IsExtremeByOrder4q f
@@ -37,7 +39,8 @@ CallsExtremeByLimits json f text = TellsBy limit_claims json (IsLimitExtremeText
 
 -- what was written calls f extreme exactly if it is so: minimal, and no average of two different
 -- minimal functions
-pub record IsLimitDecisive (json : Bool) (f : FunctionData) (before : List ℕ) (written : Option (List ℕ)) : Type 0 where
+pub record IsLimitDecisive (json : Bool) (f : FunctionData) (before : List ℕ)
+    (written : Option (List ℕ)) : Type 0 where
   pub text : List ℕ
   pub gain : written ≡ Some (before ++ text)
   pub called : CallsExtremeByLimits json f text ↔ IsExtremeFunction f

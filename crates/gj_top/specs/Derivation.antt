@@ -27,7 +27,8 @@ use Rattle.gj_top.specs.Told.{Told, IsTold}
 
 -- the first line that is not skipped begins with the word `gj-derivation` or `gj-function`
 abbrev pub BeginsAsDerivation : List ℕ → Type 0
-BeginsAsDerivation input = BeginsWithWord Lenient (codes "gj-derivation") input ⊎ BeginsAsFunction input
+BeginsAsDerivation input = BeginsWithWord Lenient (codes "gj-derivation") input
+    ⊎ BeginsAsFunction input
 
 -- the input tells the derivation, with the function in front of it, if there is one
 abbrev pub SpellsDerivation : List ℕ → Told DerivationInput → Type 0
@@ -76,7 +77,8 @@ IsDerivationReply t end text = IsObjection (rule_in_front t.told.function) end t
 -- the headline: each claim holds at all feasible points of the problem, and the text says that the
 -- derivation is accepted
 abbrev pub IsTrueDerivation : Told DerivationInput → List ℕ → Type 0
-IsTrueDerivation t text = All (λ s. Holds t.told.problem s.claim) t.told.steps × (text ≡ accepted_line)
+IsTrueDerivation t text = All (λ s. Holds t.told.problem s.claim) t.told.steps
+    × (text ≡ accepted_line)
 
 -- the answer is `rejected line N wide`: a number of the step in the N-th line does not fit
 abbrev pub IsWideAnswer : List ℕ → Type 0

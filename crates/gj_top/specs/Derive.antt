@@ -65,7 +65,8 @@ pub record IsFilledIn (a : DraftInput) (shown : List Shown) (text : List ℕ) : 
   pub columns : derivation.columns ≡ a.drafts.task.names
   pub problem : derivation.problem ≡ a.drafts.task.problem
   pub readable : IsReadableDerivation derivation
-  pub text_is : IsDerivedText derivation (constraint_names a.drafts) (step_names a.drafts) shown text
+  pub text_is : IsDerivedText derivation (constraint_names a.drafts)
+      (step_names a.drafts) shown text
 
 -- the headline: the text is the printed one of steps over the problem that is told; they are a
 -- derivation, and each claim holds at all feasible points of the problem
@@ -103,7 +104,8 @@ pub record IsFailedReply (t : Told DraftInput) (text : List ℕ) : Type 0 where
   pub derived : IsDerived t.told (derived.Failed failure shown)
   pub at_line : ℕ
   pub begins : IsLineOfStep t.text t.told.drafts.left failure.step at_line
-  pub spelled : text ≡ rejected_line t.told.drafts.task.names (shown_names t.told.drafts shown) at_line failure.verdict
+  pub spelled : text ≡ rejected_line t.told.drafts.task.names
+      (shown_names t.told.drafts shown) at_line failure.verdict
 
 -- the line is that of a draft that shows nothing; so many lines are constraints
 abbrev pub IsLeftOut : ℕ → List Shown → ℕ → Type 0
@@ -112,10 +114,13 @@ IsLeftOut constraints shown line =
 
 -- the first of these lines that is left out, if there is one
 abbrev pub IsFirstLeftOut : ℕ → List Shown → List Multiplier → Option ℕ → Type 0
-IsFirstLeftOut constraints shown multipliers None = All (λ (m : Multiplier). IsLeftOut constraints shown m.line → ⊥) multipliers
+IsFirstLeftOut constraints shown multipliers None =
+    All (λ (m : Multiplier). IsLeftOut constraints shown m.line → ⊥) multipliers
 IsFirstLeftOut constraints shown multipliers (Some i) =
-    (before : List Multiplier) × (m : Multiplier) × (after : List Multiplier) × (multipliers ≡ before ++ m ∷ after)
-    × All (λ (n : Multiplier). IsLeftOut constraints shown n.line → ⊥) before × IsLeftOut constraints shown m.line × (i ≡ m.line)
+    (before : List Multiplier) × (m : Multiplier) × (after : List Multiplier)
+    × (multipliers ≡ before ++ m ∷ after)
+    × All (λ (n : Multiplier). IsLeftOut constraints shown n.line → ⊥) before
+    × IsLeftOut constraints shown m.line × (i ≡ m.line)
 
 -- `lost NAME`, with the name of the line
 abbrev pub lost_fields : List (List ℕ) → Option ℕ → List Field
@@ -124,14 +129,17 @@ lost_fields lines (Some i) = word (codes "lost") ∷ word (name_at lines i) ∷ 
 
 -- `rejected line N lost NAME`, where the draft begins in the N-th line
 abbrev pub lost_line : List (List ℕ) → ℕ → Option ℕ → List ℕ
-lost_line lines n i = bytes_of (word (codes "rejected") ∷ word (codes "line") ∷ count n ∷ lost_fields lines i)
+lost_line lines n i =
+    bytes_of (word (codes "rejected") ∷ word (codes "line") ∷ count n ∷ lost_fields lines i)
 
 -- the text names the line of the draft, and the first line of those that it names that is left out
-pub record NamesLost (input : List ℕ) (s : Drafts) (step : ℕ) (shown : List Shown) (text : List ℕ) : Type 0 where
+pub record NamesLost (input : List ℕ) (s : Drafts) (step : ℕ) (shown : List Shown) (text : List ℕ) :
+    Type 0 where
   pub draft : Draft
   pub draft_is : slice_get s.steps step ≡ Some draft
   pub lost : Option ℕ
-  pub lost_is : IsFirstLeftOut (length s.task.problem.constraints) shown draft.combination.multipliers lost
+  pub lost_is : IsFirstLeftOut (length s.task.problem.constraints) shown
+      draft.combination.multipliers lost
   pub at_line : ℕ
   pub begins : IsLineOfStep input s.left step at_line
   pub spelled : text ≡ lost_line s.lines at_line lost

@@ -56,7 +56,8 @@ IsExtremality f end text = ⊥
 -- the text claims that f is extreme, by cover lines and rows, of whole numbers or over residues
 abbrev pub IsExtremeText : FunctionData → List ℕ → Type 0
 IsExtremeText f text =
-    (numbers : Numbers) × (lines : List CoverLine) × (rows : List PivotRow) × IsProofText (extreme_claim numbers f lines rows) text
+    (numbers : Numbers) × (lines : List CoverLine) × (rows : List PivotRow)
+    × IsProofText (extreme_claim numbers f lines rows) text
 
 -- the text claims that f is not extreme, and gives the halves
 abbrev pub IsNotExtremeText : FunctionData → Halves → List ℕ → Type 0
@@ -68,7 +69,8 @@ IsNotExtremeText f h text = IsProofText (NotExtreme f h) text
 abbrev pub IsTrueExtremality : FunctionData → List ℕ → Type 0
 IsTrueExtremality f text =
     (IsExtremeText f text × IsContinuous f × IsExtreme f)
-    ⊎ ((h : Halves) × IsNotExtremeText f h text × IsContinuous f × IsMinimal f × ShowHalves f h × (IsExtreme f → ⊥))
+    ⊎ ((h : Halves) × IsNotExtremeText f h text × IsContinuous f × IsMinimal f × ShowHalves f h
+    × (IsExtreme f → ⊥))
     ⊎ ((v : Violation) × IsNotMinimalText f v text × ShowsViolation f v × (IsMinimal f → ⊥))
 
 abbrev pub extreme_promise : Bool → Promise

@@ -21,7 +21,8 @@ faces = function_task false (λ f text. IsContinuous f) (IsContinuousReply (Ends
 
 -- the text lists the faces and intervals of f; if it jumps, by limits
 abbrev pub IsJumpsFacesText : FunctionData → List ℕ → Type 0
-IsJumpsFacesText f text = (IsContinuous f × IsFacesText f text) ⊎ (Jumps f × IsLimitFacesText f text)
+IsJumpsFacesText f text = (IsContinuous f × IsFacesText f text)
+    ⊎ (Jumps f × IsLimitFacesText f text)
 
 -- the headline is all of that
 abbrev pub faces_with_jumps_promise : Promise

@@ -36,7 +36,8 @@ pub record NamesFirstPair (f : FunctionData) (text : List ℕ) : Type 0 where
   pub y : Frac
   pub x_is : IsRatio x (pos a) (pos f.order)
   pub y_is : IsRatio y (pos b) (pos f.order)
-  pub spelled : text ≡ line (codes "not subadditive " ++ fraction_text x ++ codes " " ++ fraction_text y)
+  pub spelled : text ≡ line
+      (codes "not subadditive " ++ fraction_text x ++ codes " " ++ fraction_text y)
 
 -- of a continuous function that is not subadditive at the multiples of 1/order the first two of
 -- these are named

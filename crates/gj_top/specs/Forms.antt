@@ -27,11 +27,13 @@ use Rattle.gj_top.specs.Task.{Task}
 -- the text begins with the lines of the function f, by its points, as one of a family or by its
 -- breakpoints, and the rest follows
 abbrev pub BeginsWithFunction : List ℕ → FunctionData → List ℕ → Type 0
-BeginsWithFunction text f rest = HasLinesOfFunction text f rest ⊎ HasLinesOfFamily text f rest ⊎ HasLinesOfBreaks text f rest
+BeginsWithFunction text f rest = HasLinesOfFunction text f rest ⊎ HasLinesOfFamily text f rest
+    ⊎ HasLinesOfBreaks text f rest
 
 -- and only lines that are skipped follow
 abbrev pub IsFunctionInput : List ℕ → FunctionData → Type 0
-IsFunctionInput input f = (rest : List ℕ) × BeginsWithFunction input f rest × HasNothing Lenient rest
+IsFunctionInput input f = (rest : List ℕ) × BeginsWithFunction input f rest
+    × HasNothing Lenient rest
 
 -- the input is a function text that spells f, or with `--json` a function in JSON
 abbrev pub SpellsFunction : Bool → List ℕ → FunctionData → Type 0

@@ -44,7 +44,8 @@ pub record IsGroupTooWide (f : FunctionData) (text : List ℕ) : Type 0 where
 abbrev pub IsGroupReply : FunctionData → End → List ℕ → Type 0
 IsGroupReply f Done text = IsGroupVerdict f text
 IsGroupReply f Wide text = IsGroupTooWide f text
-IsGroupReply f OrderLimit text = (greatest_group_order < f.order) × (text ≡ line (codes "order limit"))
+IsGroupReply f OrderLimit text = (greatest_group_order < f.order)
+    × (text ≡ line (codes "order limit"))
 IsGroupReply f end text = ⊥
 
 abbrev pub group_promise : Promise

@@ -9,7 +9,8 @@ input_limit = 16777216
 -- the input is all that the source had, of which it has left what stands behind the limit and one
 -- byte more; or the source is as it was, if nothing is read
 abbrev pub IsReadWhole : Bool → List ℕ → Option (List ℕ) → Option (List ℕ) → Type 0
-IsReadWhole true input left after = IfSome left (λ told. (told ≡ input) × (after ≡ Some (drop (input_limit + 1) input)))
+IsReadWhole true input left after =
+    IfSome left (λ told. (told ≡ input) × (after ≡ Some (drop (input_limit + 1) input)))
 IsReadWhole false input left after = after ≡ left
 
 -- at most the limit was read

@@ -63,7 +63,8 @@ IsLimitExtremality f end text = ⊥
 -- the text claims that f is extreme, by cover lines and rows of limits
 abbrev pub IsLimitExtremeText : FunctionData → List ℕ → Type 0
 IsLimitExtremeText f text =
-    (numbers : Numbers) × (lines : List CoverLine) × (rows : List LimitPivotRow) × IsLimitProofText (Extreme numbers f lines rows) text
+    (numbers : Numbers) × (lines : List CoverLine) × (rows : List LimitPivotRow)
+    × IsLimitProofText (Extreme numbers f lines rows) text
 
 -- the text claims that f is not extreme, and gives the halves
 abbrev pub IsLimitNotExtremeText : FunctionData → LimitHalves → List ℕ → Type 0
@@ -75,7 +76,8 @@ IsLimitNotExtremeText f h text = IsLimitProofText (NotExtreme f h) text
 abbrev pub IsTrueLimitExtremality : FunctionData → List ℕ → Type 0
 IsTrueLimitExtremality f text =
     (IsLimitExtremeText f text × Jumps f × IsExtremeFunction f)
-    ⊎ ((h : LimitHalves) × IsLimitNotExtremeText f h text × Jumps f × IsMinimal f × ShowLimitHalves f h × (IsExtremeFunction f → ⊥))
+    ⊎ ((h : LimitHalves) × IsLimitNotExtremeText f h text × Jumps f × IsMinimal f
+    × ShowLimitHalves f h × (IsExtremeFunction f → ⊥))
 
 -- ---- the command
 
@@ -83,12 +85,14 @@ IsTrueLimitExtremality f text =
 abbrev pub IsJumpsExtremality : Bool → FunctionData → End → List ℕ → Type 0
 IsJumpsExtremality json f NotContinuous text = ⊥
 IsJumpsExtremality json f end text =
-    IsToldReply json IsExtremality f end text ⊎ IsToldBy limit_claims json IsLimitExtremality f end text
+    IsToldReply json IsExtremality f end text
+    ⊎ IsToldBy limit_claims json IsLimitExtremality f end text
 
 -- the headline: that of `extreme`, or the same by limits
 abbrev pub IsTrueJumpsExtremality : Bool → FunctionData → List ℕ → Type 0
 IsTrueJumpsExtremality json f text =
-    Tells json (IsTrueExtremality f) text ⊎ TellsBy limit_claims json (IsTrueLimitExtremality f) text
+    Tells json (IsTrueExtremality f) text
+    ⊎ TellsBy limit_claims json (IsTrueLimitExtremality f) text
 
 abbrev pub extreme_with_jumps_promise : Bool → Promise
 extreme_with_jumps_promise json = function_promise json (IsTrueJumpsExtremality json)

@@ -26,13 +26,15 @@ IsNotMinimalText f v text = IsProofText (NotMinimal f v) text
 abbrev pub IsVerdict : FunctionData → List ℕ → Type 0
 IsVerdict f text =
     (IsMinimal f × MeetsRules (Minimal f) × IsMinimalText f text)
-    ⊎ ((v : Violation) × IsFirstViolation f v × ShowsViolation f v × MeetsRules (NotMinimal f v) × IsNotMinimalText f v text)
+    ⊎ ((v : Violation) × IsFirstViolation f v × ShowsViolation f v × MeetsRules (NotMinimal f v)
+    × IsNotMinimalText f v text)
 
 -- the headline: the text calls f minimal, and then its table on every grid of order a multiple of
 -- its own is minimal; or it calls f not minimal, with a violation that shows it, and it is not
 abbrev pub IsTrueVerdict : FunctionData → List ℕ → Type 0
 IsTrueVerdict f text =
-    (IsMinimalText f text × IsMinimal f) ⊎ ((v : Violation) × IsNotMinimalText f v text × ShowsViolation f v × (IsMinimal f → ⊥))
+    (IsMinimalText f text × IsMinimal f)
+    ⊎ ((v : Violation) × IsNotMinimalText f v text × ShowsViolation f v × (IsMinimal f → ⊥))
 
 abbrev pub minimal_promise : Bool → Promise
 minimal_promise json = proof_promise json IsTrueVerdict

@@ -13,7 +13,8 @@ use Rattle.gj_top.specs.Cut.{CutInput, cut_input, RefusesCutInput}
 
 -- the mixed cuts of the rows, if the rule makes such cuts, and else why it does not
 abbrev pub IsMixedReply : CutInput → End → List ℕ → Type 0
-IsMixedReply input Done text = MakesContinuousCuts input.rule × AreMixedCutsOf input.rule input.tableau text
+IsMixedReply input Done text = MakesContinuousCuts input.rule
+    × AreMixedCutsOf input.rule input.tableau text
 IsMixedReply input end text = IsObjection input.rule end text
 
 -- the headline: the rows that are written are those of the tableau, and each cut holds at every

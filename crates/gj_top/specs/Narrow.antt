@@ -11,4 +11,5 @@ HasUncoveredInterval f = (i : ℕ) × (i < f.order) × (IsCovered f.order (IsTig
 
 -- the covered intervals of f lie in at most n components
 abbrev pub HasAtMostComponents : ℕ → FunctionData → Type 0
-HasAtMostComponents n f = (lines : List CoverLine) × AreCoverLines f.order (IsTight f) lines × (components_in lines ≤ n)
+HasAtMostComponents n f = (lines : List CoverLine) × AreCoverLines f.order (IsTight f) lines
+    × (components_in lines ≤ n)

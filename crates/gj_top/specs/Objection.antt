@@ -13,7 +13,8 @@ use Rattle.gj_top.specs.Continuity.{NamesFirstJump}
 -- the text names the first violation of a function that is not minimal
 abbrev pub NamesViolation : CutRule → List ℕ → Type 0
 NamesViolation Gmic text = ⊥
-NamesViolation (Table f) text = (v : Violation) × IsFirstViolation f v × (text ≡ codes "no function " ++ violation_line v)
+NamesViolation (Table f) text = (v : Violation) × IsFirstViolation f v
+    × (text ≡ codes "no function " ++ violation_line v)
 
 -- the text names the first jump of a minimal function
 abbrev pub NamesJump : CutRule → List ℕ → Type 0

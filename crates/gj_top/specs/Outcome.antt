@@ -36,4 +36,5 @@ pub data IsOutcome (run : Run) : Type 0 where
 
 -- the sink was not sure of the whole text of an answer that the run can have had
 abbrev pub IsUnsure : Run → Type 0
-IsUnsure run = (status : Status) × (text : List ℕ) × IsAnswerOf run status text × (run.sure < length text)
+IsUnsure run = (status : Status) × (text : List ℕ) × IsAnswerOf run status text
+    × (run.sure < length text)

@@ -43,11 +43,13 @@ pub record AreProblemCuts (asked : SafeInput) (text : List ℕ) : Type 0 where
   pub hold : All (SafeCutHolds asked.task.problem) cuts
   pub rule_lines : List ℕ
   pub rule_lines_are : AreSubjectLines (subject_of_rule asked.rule) rule_lines
-  pub text_is : text ≡ line (codes "gj-safe 1") ++ rule_lines ++ flat_map (cut_lines asked.task.names) cuts ++ line (codes "end")
+  pub text_is : text ≡ line (codes "gj-safe 1") ++ rule_lines ++ flat_map
+      (cut_lines asked.task.names) cuts ++ line (codes "end")
 
 -- the cuts of the rows by their multipliers, if the rule makes such cuts, and else why it does not
 abbrev pub IsProblemReply : SafeInput → End → List ℕ → Type 0
-IsProblemReply asked Done text = MakesContinuousCuts asked.rule × IsCutsTextBy asked.rule asked.task text
+IsProblemReply asked Done text = MakesContinuousCuts asked.rule
+    × IsCutsTextBy asked.rule asked.task text
 IsProblemReply asked end text = IsObjection asked.rule end text
 
 abbrev pub problem_promise : Promise

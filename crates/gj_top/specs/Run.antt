@@ -43,4 +43,5 @@ OfWritten run P = IfSome run.written (λ before. P before run.written_after)
 -- the status and the text are the answer to the words
 abbrev pub IsAnswerOf : Run → Status → List ℕ → Type 0
 IsAnswerOf run status text =
-    IsAnswer run.words (IsSourceFault run.steady run.read_faults run.read_faults_after) run.left run.left_after status text
+    IsAnswer run.words (IsSourceFault run.steady run.read_faults run.read_faults_after) run.left
+    run.left_after status text

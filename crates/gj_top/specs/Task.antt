@@ -43,7 +43,8 @@ IsRefusedWith line (Refused text) = text.items ≡ line
 IsRefusedWith line (Memory e) = Unit {0}
 
 -- what came of reading an input that spells a thing or is refused
-abbrev pub IsReadingOf : {Thing : Type 0} → (List ℕ → Thing → Type 0) → (List ℕ → List ℕ → Type 0) → List ℕ →
+abbrev pub IsReadingOf : {Thing : Type 0} → (List ℕ → Thing → Type 0) → (List ℕ → List ℕ → Type 0) →
+    List ℕ →
     Result Thing Unanswered → Type 0
 IsReadingOf spells refuses input (Ok thing) = spells input thing
 IsReadingOf spells refuses input (Err e) = IsTaskRefusal refuses input e

@@ -38,7 +38,8 @@ pub record IsTimesText (n j : ℕ) (f : FunctionData) (text : List ℕ) : Type 0
 -- its order is at most 1,000; and else that is said
 abbrev pub IsTimesReply : ℕ → ℕ → FunctionData → End → List ℕ → Type 0
 IsTimesReply n j f Done text = IsTimesText n j f text
-IsTimesReply n j f OrderLimit text = (greatest_order < f.order * n) × (text ≡ line (codes "order limit"))
+IsTimesReply n j f OrderLimit text = (greatest_order < f.order * n)
+    × (text ≡ line (codes "order limit"))
 IsTimesReply n j f end text = ⊥
 
 abbrev pub times_promise : ℕ → ℕ → Promise

@@ -10,7 +10,8 @@ use Rattle.gj_top.specs.Cut.{cut}
 -- the text is what `minimal` or `extreme` replies to the input with Done, with `--jumps` or without
 abbrev pub IsWrittenVerdict : List ℕ → List ℕ → Type 0
 IsWrittenVerdict input text =
-    IsReply (minimal false) input Done text ⊎ IsReply (extreme false) input Done text ⊎ IsReply (extreme_with_jumps false) input Done text
+    IsReply (minimal false) input Done text ⊎ IsReply (extreme false) input Done text
+    ⊎ IsReply (extreme_with_jumps false) input Done text
 
 -- or what `cut` replies
 abbrev pub IsWrittenProof : List ℕ → List ℕ → Type 0

@@ -38,7 +38,8 @@ exchanged_within f h = record {
       let front = All-front P (f.right ++ f.value) f.left all in
       h.lowest d divides
       (All-append P (f.left ++ f.value) f.right
-      (All-append P f.left f.value (All-back P (f.right ++ f.value) f.left all) (All-back P f.right f.value front))
+      (All-append P f.left f.value (All-back P (f.right ++ f.value) f.left all)
+      (All-back P f.right f.value front))
       (All-front P f.right f.value front));
 }
 
@@ -52,7 +53,8 @@ same_opposites i j l n e g =
     same_remainder j l ((i + l) / n) ((i + j) / n) n (omega arith)
 
 -- r steps of m behind a/order
-opposite_between : (q c m a r : ℕ) → c + 1 ≡ q → r ≤ m → (a * m + r + ((a + 1) * c * m + (m - r))) % (q * m) ≡ 0
+opposite_between : (q c m a r : ℕ) → c + 1 ≡ q → r ≤ m →
+    (a * m + r + ((a + 1) * c * m + (m - r))) % (q * m) ≡ 0
 opposite_between q c m a r e below =
     let scaled : (a + 1) * (c + 1) * m ≡ (a + 1) * q * m = ap (λ x. (a + 1) * x * m) e in
     let whole : a * m + r + ((a + 1) * c * m + (m - r)) ≡ (a + 1) * (q * m) = omega arith in
@@ -72,14 +74,16 @@ record AreBackwards (f g : FunctionData) (c : ℕ) : Type 0 where
   value_is : (i : ℕ) → at g.value i ≡ at f.value (i * c)
   right_is : (i : ℕ) → at g.right i ≡ at f.left (i * c)
 
-backwards_at : (f g : FunctionData) (c m a j : ℕ) → IsWithinBounds f → c + 1 ≡ f.order → 0 < m → AreBackwards f g c →
+backwards_at : (f g : FunctionData) (c m a j : ℕ) → IsWithinBounds f → c + 1 ≡ f.order → 0 < m →
+    AreBackwards f g c →
     (a * m + j) % (f.order * m) ≡ 0 → table g m (a * m) ≡ table f m j
 backwards_at f g c m a j h e some are opposite =
     table_at g m a some ∙ ap (λ z. pos m *ℤ z) (are.value_is a) ∙ sym (table_at f m (a * c) some)
     ∙ same_at_remainder (table f m) (f.order * m) (λ i. table_period f m i some h) (a * c * m) j
     (same_opposites (a * m) (a * c * m) j (f.order * m) (opposite_at f.order c m a e) opposite)
 
-backwards_between : (f g : FunctionData) (c m a r j : ℕ) → IsWithinBounds f → c + 1 ≡ f.order → 0 < m → 0 < r → r < m →
+backwards_between : (f g : FunctionData) (c m a r j : ℕ) → IsWithinBounds f → c + 1 ≡ f.order →
+    0 < m → 0 < r → r < m →
     AreBackwards f g c → (a * m + r + j) % (f.order * m) ≡ 0 → table g m (a * m + r) ≡ table f m j
 backwards_between f g c m a r j h e m_some r_some below are opposite =
     let b = (a + 1) * c in
@@ -91,23 +95,30 @@ backwards_between f g c m a r j h e m_some r_some below are opposite =
     ∙ ap₂ (λ n x. pos n *ℤ at f.right b +ℤ pos (m - r) *ℤ x) (sym rest)
     (sym (ap (at f.left) next ∙ at_plus_order f.left (a * c) f.order h.left_length))
     ∙ sym (table_between f m b (m - r) (omega arith) (omega arith))
-    ∙ same_at_remainder (table f m) (f.order * m) (λ i. table_period f m i m_some h) (b * m + (m - r)) j
-    (same_opposites (a * m + r) (b * m + (m - r)) j (f.order * m) (opposite_between f.order c m a r e (omega arith)) opposite)
+    ∙ same_at_remainder (table f m) (f.order * m) (λ i. table_period f m i m_some h)
+    (b * m + (m - r)) j
+    (same_opposites (a * m + r) (b * m + (m - r)) j (f.order * m)
+    (opposite_between f.order c m a r e (omega arith)) opposite)
 
-backwards_table : (f g : FunctionData) (c m i j : ℕ) → IsWithinBounds f → c + 1 ≡ f.order → 0 < m → AreBackwards f g c →
+backwards_table : (f g : FunctionData) (c m i j : ℕ) → IsWithinBounds f → c + 1 ≡ f.order → 0 < m →
+    AreBackwards f g c →
     (i + j) % (f.order * m) ≡ 0 → table g m i ≡ table f m j
 backwards_table f g c m i j h e some are opposite =
     let P : ℕ → Type 0 = λ x. (x + j) % (f.order * m) ≡ 0 → table g m x ≡ table f m j in
     let split = div-add-mod' i m in
     ⊎_elim
-    (λ none. subst P (let whole : i / m * m ≡ i = omega arith in whole) (backwards_at f g c m (i / m) j h e some are) opposite)
-    (λ more. subst P split (backwards_between f g c m (i / m) (i % m) j h e some (omega arith) (mod-lt i some) are) opposite)
+    (λ none. subst P (let whole : i / m * m ≡ i = omega arith in whole)
+    (backwards_at f g c m (i / m) j h e some are) opposite)
+    (λ more. subst P split
+    (backwards_between f g c m (i / m) (i % m) j h e some (omega arith) (mod-lt i some) are)
+    opposite)
     (cases_eq (i % m) 0)
 
 -- ---- the mirror
 
 pub mirror_made : (f : FunctionData) (c : ℕ) (l v r : List ℤ) → IsWithinBounds f → c + 1 ≡ f.order →
-    AreTaken (exchanged f) f.order c l v r → IsMirrorOf f (function_over f.order (f.order - f.place) f.scale l v r)
+    AreTaken (exchanged f) f.order c l v r →
+    IsMirrorOf f (function_over f.order (f.order - f.place) f.scale l v r)
 mirror_made f c l v r h e are =
     let low = h.order_low in
     let high = h.place_high in
@@ -123,17 +134,21 @@ mirror_made f c l v r h e are =
     record {
       order = refl;
       place = omega arith;
-      same_values = λ m i j m_some opposite. ap (λ z. z *ℤ pos (f.scale * m)) (backwards_table f g c m i j h e m_some backwards opposite);
+      same_values = λ m i j m_some opposite. ap (λ z. z *ℤ pos (f.scale * m))
+          (backwards_table f g c m i j h e m_some backwards opposite);
     }
 
-pub mirror_within : (f : FunctionData) (c : ℕ) (l v r : List ℤ) → IsWithinBounds f → c + 1 ≡ f.order →
-    AreTaken (exchanged f) f.order c l v r → IsWithinBounds (function_over f.order (f.order - f.place) f.scale l v r)
+pub mirror_within : (f : FunctionData) (c : ℕ) (l v r : List ℤ) → IsWithinBounds f →
+    c + 1 ≡ f.order →
+    AreTaken (exchanged f) f.order c l v r →
+    IsWithinBounds (function_over f.order (f.order - f.place) f.scale l v r)
 mirror_within f c l v r h e are =
     let low = h.place_low in
     let high = h.place_high in
     let q = f.order in
     let some : 0 < q = omega arith in
-    taken_within (exchanged f) q (q - f.place) c l v r (exchanged_within f h) (h.order_low, h.order_high) (omega arith, omega arith) are
+    taken_within (exchanged f) q (q - f.place) c l v r (exchanged_within f h)
+    (h.order_low, h.order_high) (omega arith, omega arith) are
     (λ a. ((a * c) % q, mod-lt (a * c) some, twice q c a e))
   where
     -- a place turned twice is itself

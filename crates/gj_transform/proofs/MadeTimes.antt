@@ -11,7 +11,8 @@ use Rattle.gj_transform.proofs.MadeFunctions.{AreTaken, taken_everywhere, taken_
 times_z : (t : ℤ) (s n m : ℕ) → t *ℤ pos (s * (n * m)) ≡ (pos n *ℤ t) *ℤ pos (s * m)
 times_z t s n m = by_ring (t ∷ pos s ∷ pos n ∷ pos m ∷ []) (search ring depth 20) refl
 
-pub times_made : (f : FunctionData) (n j : ℕ) (l v r : List ℤ) → IsWithinBounds f → 0 < n → AreTaken f (f.order * n) 1 l v r →
+pub times_made : (f : FunctionData) (n j : ℕ) (l v r : List ℤ) → IsWithinBounds f → 0 < n →
+    AreTaken f (f.order * n) 1 l v r →
     IsTimesOf f n j (function_over (f.order * n) (f.place + j * f.order) f.scale l v r)
 times_made f n j l v r h some are =
     let low = h.order_low in
@@ -20,9 +21,12 @@ times_made f n j l v r h some are =
     let N_some : 0 < N = mul-pos (omega arith) some in
     let period : N * 1 ≡ n * f.order = omega arith in
     let one : (a : ℕ) → a * 1 ≡ a = λ a. omega arith in
-    let left = λ (a : ℕ). taken_everywhere f.left l f.order N 1 n h.left_length N_some period are.left_is a ∙ ap (at f.left) (one a) in
-    let value = λ (a : ℕ). taken_everywhere f.value v f.order N 1 n h.value_length N_some period are.value_is a ∙ ap (at f.value) (one a) in
-    let right = λ (a : ℕ). taken_everywhere f.right r f.order N 1 n h.right_length N_some period are.right_is a ∙ ap (at f.right) (one a) in
+    let left = λ (a : ℕ). taken_everywhere f.left l f.order N 1 n h.left_length N_some period
+    are.left_is a ∙ ap (at f.left) (one a) in
+    let value = λ (a : ℕ). taken_everywhere f.value v f.order N 1 n h.value_length N_some period
+    are.value_is a ∙ ap (at f.value) (one a) in
+    let right = λ (a : ℕ). taken_everywhere f.right r f.order N 1 n h.right_length N_some period
+    are.right_is a ∙ ap (at f.right) (one a) in
     record {
       order = refl;
       place = refl;
@@ -42,8 +46,10 @@ places_fit q k n j low high below =
     below' : j + 1 ≤ n
     below' = omega arith
 
-pub times_within : (f : FunctionData) (n j : ℕ) (l v r : List ℤ) → IsWithinBounds f → j < n → f.order * n ≤ 1000 →
-    AreTaken f (f.order * n) 1 l v r → IsWithinBounds (function_over (f.order * n) (f.place + j * f.order) f.scale l v r)
+pub times_within : (f : FunctionData) (n j : ℕ) (l v r : List ℤ) → IsWithinBounds f → j < n →
+    f.order * n ≤ 1000 →
+    AreTaken f (f.order * n) 1 l v r →
+    IsWithinBounds (function_over (f.order * n) (f.place + j * f.order) f.scale l v r)
 times_within f n j l v r h below few are =
     let low = h.order_low in
     let some : 1 ≤ n = omega arith in

@@ -6,7 +6,8 @@ use Rattle.gj_shape.specs.Table.{IsMinimalTable}
 
 -- the entries of a minimal table at the multiples of c, if N multiples make whole periods and the
 -- K-th leads to the place k
-pub minimal_at_multiples : (t : ℕ → ℤ) (n k s c w N K : ℕ) → N * c ≡ w * n → (K * c) % n ≡ k % n → IsMinimalTable t n k s →
+pub minimal_at_multiples : (t : ℕ → ℤ) (n k s c w N K : ℕ) → N * c ≡ w * n → (K * c) % n ≡ k % n →
+    IsMinimalTable t n k s →
     IsMinimalTable (λ i. t (i * c)) N K s
 minimal_at_multiples t n k s c w N K period place h = record {
   has_period = λ i.
@@ -31,14 +32,17 @@ minimal_at_multiples t n k s c w N K period place h = record {
 }
 
 -- the same of extreme tables, if c is its own inverse
-pub extreme_at_multiples : (t : ℕ → ℤ) (n k K s c w : ℕ) → c * c ≡ w * n + 1 → (K * c) % n ≡ k % n → (k * c) % n ≡ K % n →
+pub extreme_at_multiples : (t : ℕ → ℤ) (n k K s c w : ℕ) → c * c ≡ w * n + 1 → (K * c) % n ≡ k % n →
+    (k * c) % n ≡ K % n →
     IsExtremeTable t n k s → IsExtremeTable (λ i. t (i * c)) n K s
 extreme_at_multiples t n k K s c w inverse there back h = record {
   minimal = minimal_at_multiples t n k s c c n K (omega arith) there h.minimal;
   no_average = λ factor a b some first second average i.
       sym (twice a ((first).has_period) i)
-      ∙ h.no_average factor (λ j. a (j * c)) (λ j. b (j * c)) some (turned a (factor * s) first) (turned b (factor * s) second)
-      (λ j. average (j * c) ∙ ap (λ z. pos (2 * factor) *ℤ z) (twice t h.minimal.has_period j)) (i * c)
+      ∙ h.no_average factor (λ j. a (j * c)) (λ j. b (j * c)) some (turned a (factor * s) first)
+      (turned b (factor * s) second)
+      (λ j. average (j * c) ∙ ap (λ z. pos (2 * factor) *ℤ z) (twice t h.minimal.has_period j))
+      (i * c)
       ∙ twice b ((second).has_period) i;
 }
   where
@@ -67,7 +71,9 @@ minimal_of_longer t q k j s w period h = record {
       let b = (i + l) / q in
       let c = j + a + b * w in
       let whole : i + l + a * q ≡ k + b * q = from_same_remainder (i + l) k q opposite in
-      let further : i + (l + c * q) + 0 * (q * (w + 1)) ≡ k + j * q + b * (q * (w + 1)) = omega arith in
+      let further : i + (l + c * q) + 0 * (q * (w + 1)) ≡ k + j * q + b * (q * (w + 1)) =
+      omega arith in
       ap (λ x. t i +ℤ x) (sym (periods t q period l c))
-      ∙ h.symmetric i (l + c * q) (same_remainder (i + (l + c * q)) (k + j * q) 0 b (q * (w + 1)) further);
+      ∙ h.symmetric i (l + c * q)
+      (same_remainder (i + (l + c * q)) (k + j * q) 0 b (q * (w + 1)) further);
 }

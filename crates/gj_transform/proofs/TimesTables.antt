@@ -19,7 +19,8 @@ times_entries f g n j m i n_some m_some r =
     let finer : table f (n * m) (n * i) ≡ pos n *ℤ table f m i =
     ap₂ (table f) (mul_comm n m) (mul_comm n i) ∙ table_finer f m n i m_some n_some in
     mul_cancel_right_z (table g m i *ℤ pos (f.scale * m)) (table f m i *ℤ pos (g.scale * m)) (pos n)
-    (left_z (table g m i) ∙ r.same_values m i m_some ∙ ap (λ z. z *ℤ pos (g.scale * m)) finer ∙ right_z (table f m i) (g.scale * m))
+    (left_z (table g m i) ∙ r.same_values m i m_some ∙ ap (λ z. z *ℤ pos (g.scale * m)) finer
+    ∙ right_z (table f m i) (g.scale * m))
     (omega arith)
   where
     left_z : (x : ℤ) → x *ℤ pos (f.scale * m) *ℤ pos n ≡ x *ℤ pos (f.scale * (n * m))
@@ -32,10 +33,12 @@ times_entries f g n j m i n_some m_some r =
 period_is : (f g : FunctionData) (n j m : ℕ) → IsTimesOf f n j g → g.order * m ≡ f.order * m * n
 period_is f g n j m r = ap (λ q. q * m) r.order ∙ omega arith
 
-place_is : (f g : FunctionData) (n j m : ℕ) → IsTimesOf f n j g → g.place * m ≡ f.place * m + j * (f.order * m)
+place_is : (f g : FunctionData) (n j m : ℕ) → IsTimesOf f n j g →
+    g.place * m ≡ f.place * m + j * (f.order * m)
 place_is f g n j m r = ap (λ k. k * m) r.place ∙ omega arith
 
-pub times_minimal : (f g : FunctionData) (n j : ℕ) → IsWithinBounds f → 0 < n → IsTimesOf f n j g → IsMinimal f → IsMinimal g
+pub times_minimal : (f g : FunctionData) (n j : ℕ) → IsWithinBounds f → 0 < n → IsTimesOf f n j g →
+    IsMinimal f → IsMinimal g
 times_minimal f g n j l n_some r minimal m some =
     let low = l.scale_low in
     let q = f.order * m in
@@ -43,14 +46,18 @@ times_minimal f g n j l n_some r minimal m some =
     let N = q * n in
     let K = k + j * q in
     let place : (K * 1) % q ≡ k % q = same_remainder (K * 1) k 0 j q (omega arith) in
-    let table_is : (i : ℕ) → table g m i *ℤ pos (f.scale * m) ≡ table f m (i * 1) *ℤ pos (g.scale * m) =
+    let table_is : (i : ℕ) →
+    table g m i *ℤ pos (f.scale * m) ≡ table f m (i * 1) *ℤ pos (g.scale * m) =
     λ i. let one : i ≡ i * 1 = omega arith in
     times_entries f g n j m i n_some some r ∙ ap (λ x. table f m x *ℤ pos (g.scale * m)) one in
     rw (period_is f g n j m r, place_is f g n j m r)
-    (minimal_over (λ i. table f m (i * 1)) (table g m) N K (f.scale * m) (g.scale * m) (mul-pos (omega arith) some) table_is
-    (minimal_at_multiples (table f m) q k (f.scale * m) 1 n N K (omega arith) place (minimal m some)))
+    (minimal_over (λ i. table f m (i * 1)) (table g m) N K (f.scale * m) (g.scale * m)
+    (mul-pos (omega arith) some) table_is
+    (minimal_at_multiples (table f m) q k (f.scale * m) 1 n N K (omega arith) place
+    (minimal m some)))
 
-pub minimal_of_times : (f g : FunctionData) (n j : ℕ) → IsWithinBounds f → IsWithinBounds g → 0 < n → IsTimesOf f n j g →
+pub minimal_of_times : (f g : FunctionData) (n j : ℕ) → IsWithinBounds f → IsWithinBounds g →
+    0 < n → IsTimesOf f n j g →
     IsMinimal g → IsMinimal f
 minimal_of_times f g n j l h n_some r minimal m some =
     let low = h.scale_low in
@@ -62,5 +69,6 @@ minimal_of_times f g n j l h n_some r minimal m some =
     let whole : IsMinimalTable (table g m) (q * (w + 1)) (k + j * q) (g.scale * m) =
     rw (← period, ← place_is f g n j m r) (minimal m some) in
     minimal_of_longer (table f m) q k j (f.scale * m) w (λ i. table_period f m i some l)
-    (minimal_over (table g m) (table f m) (q * (w + 1)) (k + j * q) (g.scale * m) (f.scale * m) (mul-pos (omega arith) some)
+    (minimal_over (table g m) (table f m) (q * (w + 1)) (k + j * q) (g.scale * m) (f.scale * m)
+    (mul-pos (omega arith) some)
     (λ i. sym (times_entries f g n j m i n_some some r)) whole)

@@ -40,7 +40,8 @@ HasValuesAtMultiples f n g = (d : ℕ) (u : ℤ) (x : Frac) → 0 < d →
 
 -- at each multiple of 1/d, g has the value of f
 abbrev pub AgreeAtMultiples : FunctionData → ℕ → FunctionData → Type 0
-AgreeAtMultiples f d g = (u : ℤ) (x : Frac) → IsValueAt g (u *ℤ pos g.order) d x ↔ IsValueAt f (u *ℤ pos f.order) d x
+AgreeAtMultiples f d g = (u : ℤ) (x : Frac) → IsValueAt g (u *ℤ pos g.order) d x
+    ↔ IsValueAt f (u *ℤ pos f.order) d x
 
 -- 1/d is the step-th multiple of 1/order, and the place a multiple of 1/d
 pub record IsRestrictionStep (f : FunctionData) (d step : ℕ) : Type 0 where

@@ -15,13 +15,16 @@ use Rattle.gj_valid.proofs.FunctionTables.{sum_scaled}
 use Rattle.gj_valid.proofs.SamePoints.{parts_are}
 
 -- the values at n/d and at (n e)/(d e)
-values_scaled : (v : ℕ → ℕ → Fraction) (d e : ℕ) (tops : List ℕ) → 0 < d → 0 < e → IsPartFunction v →
+values_scaled : (v : ℕ → ℕ → Fraction) (d e : ℕ) (tops : List ℕ) → 0 < d → 0 < e →
+    IsPartFunction v →
     SameValue (sum_of_values v (e * d) (map (λ n. n * e) tops)) (sum_of_values v d tops)
 values_scaled v d e [] d_some e_some h = refl
 values_scaled v d e (n ∷ tops) d_some e_some h =
-    same_sums_of (v (n * e) (e * d)) (sum_of_values v (e * d) (map (λ n. n * e) tops)) (v n d) (sum_of_values v d tops)
+    same_sums_of (v (n * e) (e * d)) (sum_of_values v (e * d) (map (λ n. n * e) tops)) (v n d)
+    (sum_of_values v d tops)
     (h.positive n d d_some) (values_positive v d tops (λ n. h.positive n d d_some))
-    (h.at_points (n * e) (e * d) n d (mul-pos e_some d_some) d_some (ap₂ (λ i j. i % j) (omega arith) (omega arith)))
+    (h.at_points (n * e) (e * d) n d (mul-pos e_some d_some) d_some
+    (ap₂ (λ i j. i % j) (omega arith) (omega arith)))
     (values_scaled v d e tops d_some e_some h)
 
 -- the same points, and the values at them, over one bottom
@@ -34,28 +37,37 @@ pub record HasOneBottom (v : Fraction → Fraction) (points : List Fraction) : T
   pub positive : pos 0 <ℤ (total_of (map v points)).bottom
   pub same : SameValue (total_of (map v points)) (sum_of_values (at_parts v) d tops)
 
-next_point : (v : Fraction → Fraction) (n e : ℕ) (points : List Fraction) → IsPartFunction (at_parts v) → 0 < e → HasOneBottom v points →
+next_point : (v : Fraction → Fraction) (n e : ℕ) (points : List Fraction) →
+    IsPartFunction (at_parts v) → 0 < e → HasOneBottom v points →
     HasOneBottom v (over n e ∷ points)
 next_point v n e points h e_some r =
     let d_some : 0 < e * r.d = mul-pos e_some r.some in
     let scaled = map (λ n. n * e) r.tops in
     let here = h.positive n e e_some in
     let there = values_positive (at_parts v) r.d r.tops (λ n. h.positive n r.d r.some) in
-    let finer = values_positive (at_parts v) (e * r.d) scaled (λ n. h.positive n (e * r.d) d_some) in
+    let finer = values_positive (at_parts v) (e * r.d) scaled
+    (λ n. h.positive n (e * r.d) d_some) in
     record {
       d = e * r.d;
       tops = n * r.d ∷ scaled;
       some = d_some;
-      bottom_some = mul_positive_z (pos e) (total_of points).bottom (omega (arith, ints)) r.bottom_some;
+      bottom_some = mul_positive_z (pos e) (total_of points).bottom
+          (omega (arith, ints)) r.bottom_some;
       whole = subst (λ (z : ℤ). Is (sum_of (over n e) (total_of points)) z (e * r.d))
-          (numbers n r.d e (sum r.tops) (sum (n * r.d ∷ scaled)) (sum_cons (n * r.d) scaled ∙ ap (λ l. n * r.d + l) (sum_scaled e r.tops)))
-          (sum_is (over n e) (total_of points) (pos (n * r.d)) (pos e *ℤ pos (sum r.tops)) (e * r.d) (first n e r.d)
+          (numbers n r.d e (sum r.tops) (sum (n * r.d ∷ scaled))
+          (sum_cons (n * r.d) scaled ∙ ap (λ l. n * r.d + l) (sum_scaled e r.tops)))
+          (sum_is (over n e) (total_of points) (pos (n * r.d)) (pos e *ℤ pos (sum r.tops)) (e * r.d)
+          (first n e r.d)
           (is_over (total_of points) (pos (sum r.tops)) r.d e (e * r.d) r.whole refl));
-      positive = mul_positive_z (v (over n e)).bottom (total_of (map v points)).bottom here r.positive;
-      same = same_sums_of (v (over n e)) (total_of (map v points)) (v (over (n * r.d) (e * r.d))) (sum_of_values (at_parts v) (e * r.d) scaled)
+      positive = mul_positive_z (v (over n e)).bottom
+          (total_of (map v points)).bottom here r.positive;
+      same = same_sums_of (v (over n e)) (total_of (map v points)) (v (over (n * r.d) (e * r.d)))
+          (sum_of_values (at_parts v) (e * r.d) scaled)
           (h.positive (n * r.d) (e * r.d) d_some) finer
-          (h.at_points n e (n * r.d) (e * r.d) e_some d_some (ap (λ i. i % (e * (e * r.d))) (omega arith)))
-          (same_trans (total_of (map v points)) (sum_of_values (at_parts v) r.d r.tops) (sum_of_values (at_parts v) (e * r.d) scaled) there finer
+          (h.at_points n e (n * r.d) (e * r.d) e_some d_some
+          (ap (λ i. i % (e * (e * r.d))) (omega arith)))
+          (same_trans (total_of (map v points)) (sum_of_values (at_parts v) r.d r.tops)
+          (sum_of_values (at_parts v) (e * r.d) scaled) there finer
           r.same (sym (values_scaled (at_parts v) r.d e r.tops r.some e_some h)));
     }
   where
@@ -65,7 +77,8 @@ next_point v n e points h e_some r =
     numbers : (n d e l w : ℕ) → w ≡ n * d + l * e → pos (n * d) +ℤ pos e *ℤ pos l ≡ pos w
     numbers n d e l w is = let whole : n * d + e * l ≡ w = omega arith in ap pos whole
 
-pub over_one_bottom : (v : Fraction → Fraction) (points : List Fraction) → IsPartFunction (at_parts v) → All IsNonnegative points →
+pub over_one_bottom : (v : Fraction → Fraction) (points : List Fraction) →
+    IsPartFunction (at_parts v) → All IsNonnegative points →
     HasOneBottom v points
 over_one_bottom v [] h all = record {
   d = 1;
@@ -79,5 +92,6 @@ over_one_bottom v [] h all = record {
 over_one_bottom v (x ∷ points) h all =
     let low = All-head IsNonnegative x points all in
     subst (λ (y : Fraction). HasOneBottom v (y ∷ points)) (parts_are x low)
-    (next_point v (unsigned_abs x.top) (unsigned_abs x.bottom) points h (abs_positive_z x.bottom low.1)
+    (next_point v (unsigned_abs x.top) (unsigned_abs x.bottom) points h
+    (abs_positive_z x.bottom low.1)
     (over_one_bottom v points h (All-tail IsNonnegative x points all)))

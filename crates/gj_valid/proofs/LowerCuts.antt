@@ -14,13 +14,15 @@ use Rattle.gj_theory.specs.Cuts.{IsEntryAt}
 use Rattle.gj_valid.proofs.MinimalBelow.{minimal_below}
 
 -- the place of a fraction is the same in each table of one period
-same_index : (t u : ℕ → ℤ) (n s r : ℕ) (x y z : Frac) (first : IsEntryAt t n s x y) (second : IsEntryAt u n r x z) →
+same_index : (t u : ℕ → ℤ) (n s r : ℕ) (x y z : Frac) (first : IsEntryAt t n s x y)
+    (second : IsEntryAt u n r x z) →
     first.index % n ≡ second.index % n
 same_index t u n s r x y z first second =
     let k = first.index_is.0 in
     let l = second.index_is.0 in
     let place : first.place ≡ second.place =
-    mul_cancel_right_z first.place second.place (denominator x) (sym first.place_is ∙ second.place_is)
+    mul_cancel_right_z first.place second.place (denominator x)
+    (sym first.place_is ∙ second.place_is)
     (positive_some_z (denominator x) x.lowest.positive) in
     let one = first.index_is.1 in
     let two = second.index_is.1 in
@@ -46,16 +48,20 @@ not_above a b p q u t c s lower higher below b_some q_some s_some above =
     swap_last_z a q (c *ℤ s) ∙ ap (λ z. z *ℤ q) lower ∙ mul_assoc_z u b q in
     omega (arith, ints)
 
-lower_coefficient : (t u : ℕ → ℤ) (n s c : ℕ) (x lower higher : Frac) → 0 < s → 0 < c → ((i : ℕ) → u (i + n) ≡ u i) →
+lower_coefficient : (t u : ℕ → ℤ) (n s c : ℕ) (x lower higher : Frac) → 0 < s → 0 < c →
+    ((i : ℕ) → u (i + n) ≡ u i) →
     ((i : ℕ) → u i ≤ℤ (pos c *ℤ t i)) → IsEntryAt u n (c * s) x lower → IsEntryAt t n s x higher →
     LessValue (fraction_of higher) (fraction_of lower) → ⊥
 lower_coefficient t u n s c x lower higher s_some c_some period below first second above =
-    let same = same_at_remainder u n period first.index second.index (same_index u t n (c * s) s x lower higher first second) in
+    let same = same_at_remainder u n period first.index second.index
+    (same_index u t n (c * s) s x lower higher first second) in
     let here = below second.index in
     let scale : pos (c * s) ≡ pos c *ℤ pos s = omega (arith, ints) in
     let some = mul-pos c_some s_some in
-    not_above lower.num lower.den higher.num higher.den (u first.index) (t second.index) (pos c) (pos s)
-    (ap (λ z. lower.num *ℤ z) (sym scale) ∙ first.entry_is) second.entry_is (omega (arith, ints)) lower.lowest.positive
+    not_above lower.num lower.den higher.num higher.den (u first.index) (t second.index) (pos c)
+    (pos s)
+    (ap (λ z. lower.num *ℤ z) (sym scale) ∙ first.entry_is) second.entry_is
+    (omega (arith, ints)) lower.lowest.positive
     higher.lowest.positive (omega (arith, ints)) above
 
 pub lower_cuts : (t : ℕ → ℤ) (n k s : ℕ) → 0 < n → 0 < s → IsValidTable t n k s →
@@ -63,5 +69,11 @@ pub lower_cuts : (t : ℕ → ℤ) (n k s : ℕ) → 0 < n → 0 < s → IsValid
     ((x lower higher : Frac) → IsEntryAt u n (c * s) x lower → IsEntryAt t n s x higher →
     LessValue (fraction_of higher) (fraction_of lower) → ⊥)
 lower_cuts t n k s n_some s_some valid =
-    let (c, u, c_some, minimal, below) = minimal_below t n k s n_some valid in
-    (c, u, c_some, minimal, λ x lower higher. lower_coefficient t u n s c x lower higher s_some c_some minimal.has_period below)
+    let (c, u, c_some, minimal, below) = minimal_below t n k s n_some valid in (
+      c,
+      u,
+      c_some,
+      minimal,
+      λ x lower higher. lower_coefficient t u n s c x lower higher s_some
+          c_some minimal.has_period below,
+    )

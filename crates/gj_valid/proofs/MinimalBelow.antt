@@ -25,7 +25,8 @@ total_le t u (suc n) h =
     let rest = total_le t u n h in
     omega (arith, ints)
 
-total_lt : (t u : ℕ → ℤ) (n a : ℕ) → ((i : ℕ) → u i ≤ℤ t i) → a < n → u a <ℤ t a → total_below u n <ℤ total_below t n
+total_lt : (t u : ℕ → ℤ) (n a : ℕ) → ((i : ℕ) → u i ≤ℤ t i) → a < n → u a <ℤ t a →
+    total_below u n <ℤ total_below t n
 total_lt t u zero a h small below = absurd (omega arith)
 total_lt t u (suc n) a h small below =
     ⊎_elim
@@ -53,7 +54,8 @@ record IsSubadditive (t : ℕ → ℤ) : Type 0 where
   none : t 0 ≡ pos 0
   step : (i j : ℕ) → t (i + j) ≤ℤ (t i +ℤ t j)
 
-subadditive_or_lighter : (t : ℕ → ℤ) (n k s : ℕ) → 0 < n → IsValidTable t n k s → IsSubadditive t ⊎ Lighter t n k s
+subadditive_or_lighter : (t : ℕ → ℤ) (n k s : ℕ) → 0 < n → IsValidTable t n k s →
+    IsSubadditive t ⊎ Lighter t n k s
 subadditive_or_lighter t n k s some valid =
     ⊎_elim
     (λ none. ⊎_elim
@@ -79,7 +81,8 @@ subadditive_or_lighter t n k s some valid =
     (λ j. by_lt_z (t i +ℤ t j) (t (i + j)) (λ l. inr l) (λ l. inl l)) n)) n))
     (λ differs.
     let low = valid.nonnegative 0 in
-    inr (lighter t n k s 0 [] valid refl (by_lt_z (pos 0) (t 0) (λ l. l) (λ l. absurd (differs (omega (arith, ints)))))))
+    inr (lighter t n k s 0 [] valid refl
+    (by_lt_z (pos 0) (t 0) (λ l. l) (λ l. absurd (differs (omega (arith, ints)))))))
     (same_or_apart_z (t 0) (pos 0))
 
 -- a subadditive valid table that is nowhere above t
@@ -89,9 +92,11 @@ record SubadditiveBelow (t : ℕ → ℤ) (n k s : ℕ) : Type 0 where
   subadditive : IsSubadditive u
   at_most : (i : ℕ) → u i ≤ℤ t i
 
-subadditive_below : (fuel : ℕ) (t : ℕ → ℤ) (n k s : ℕ) → 0 < n → IsValidTable t n k s → total_below t n <ℤ pos fuel →
+subadditive_below : (fuel : ℕ) (t : ℕ → ℤ) (n k s : ℕ) → 0 < n → IsValidTable t n k s →
+    total_below t n <ℤ pos fuel →
     SubadditiveBelow t n k s
-subadditive_below zero t n k s some valid fits = absurd (let low = total_nonnegative t n valid.nonnegative in omega (arith, ints))
+subadditive_below zero t n k s some valid fits =
+    absurd (let low = total_nonnegative t n valid.nonnegative in omega (arith, ints))
 subadditive_below (suc fuel) t n k s some valid fits =
     ⊎_elim
     (λ h. record {
@@ -121,9 +126,11 @@ subadditive_below (suc fuel) t n k s some valid fits =
 -- ---- places opposite to others
 
 -- m uses of a and one of y
-copies_weigh : (t : ℕ → ℤ) (n k s a m y : ℕ) → IsValidTable t n k s → (a * m + y) % n ≡ k % n → pos s ≤ℤ (pos m *ℤ t a +ℤ t y)
+copies_weigh : (t : ℕ → ℤ) (n k s a m y : ℕ) → IsValidTable t n k s → (a * m + y) % n ≡ k % n →
+    pos s ≤ℤ (pos m *ℤ t a +ℤ t y)
 copies_weigh t n k s a m y valid place =
-    let (places, sum_is, weight_is) = with_copies t a m y (t y +ℤ pos 0) (y ∷ [], sum_cons y [] ∙ omega arith, refl) in
+    let (places, sum_is, weight_is) =
+    with_copies t a m y (t y +ℤ pos 0) (y ∷ [], sum_cons y [] ∙ omega arith, refl) in
     let least = valid.at_solutions places (ap (λ i. i % n) sum_is ∙ place) in
     omega (arith, ints)
 
@@ -146,12 +153,14 @@ record Uses (t u : ℕ → ℤ) (n c a v : ℕ) (xs : List ℕ) : Type 0 where
   place : (a * m + y) % n ≡ sum xs % n
   most : (pos (m * v) +ℤ pos c *ℤ t y) ≤ℤ weight u xs
 
-uses : (t : ℕ → ℤ) (n c a v : ℕ) (xs : List ℕ) → IsSubadditive t → Uses t (lowered t n c a v) n c a v xs
+uses : (t : ℕ → ℤ) (n c a v : ℕ) (xs : List ℕ) → IsSubadditive t →
+    Uses t (lowered t n c a v) n c a v xs
 uses t n c a v [] below = record {
   m = 0;
   y = 0;
   place = ap (λ i. i % n) (omega arith);
-  most = let e : pos c *ℤ t 0 ≡ pos c *ℤ pos 0 = ap (λ z. pos c *ℤ z) below.none in omega (arith, ints);
+  most = let e : pos c *ℤ t 0 ≡ pos c *ℤ pos 0 = ap (λ z. pos c *ℤ z) below.none in
+      omega (arith, ints);
 }
 uses t n c a v (x ∷ xs) below =
     let r = uses t n c a v xs below in
@@ -164,18 +173,21 @@ uses t n c a v (x ∷ xs) below =
       m = suc r.m;
       y = r.y;
       place = ap (λ i. i % n) (let e : a * suc r.m + r.y ≡ a + (a * r.m + r.y) = omega arith in e)
-          ∙ same_sums a x (a * r.m + r.y) (sum xs) n (sym at.0) r.place ∙ ap (λ i. i % n) (sym (sum_cons x xs));
+          ∙ same_sums a x (a * r.m + r.y) (sum xs) n (sym at.0) r.place
+          ∙ ap (λ i. i % n) (sym (sum_cons x xs));
       most = omega (arith, ints);
     })
     (λ off.
     let here = off.1 in
-    let step = mul_le_mul_left_z (t (r.y + x)) (t r.y +ℤ t x) (pos c) (omega (arith, ints)) (below.step r.y x) in
+    let step = mul_le_mul_left_z (t (r.y + x)) (t r.y +ℤ t x) (pos c) (omega (arith, ints))
+    (below.step r.y x) in
     let split = mul_add_z (pos c) (t r.y) (t x) in
     record {
       m = r.m;
       y = r.y + x;
       place = ap (λ i. i % n) (let e : a * r.m + (r.y + x) ≡ x + (a * r.m + r.y) = omega arith in e)
-          ∙ same_sums x x (a * r.m + r.y) (sum xs) n refl r.place ∙ ap (λ i. i % n) (sym (sum_cons x xs));
+          ∙ same_sums x x (a * r.m + r.y) (sum xs) n refl r.place
+          ∙ ap (λ i. i % n) (sym (sum_cons x xs));
       most = omega (arith, ints);
     })
     (dented_tells (λ i. pos c *ℤ t i) n a (pos v) x)
@@ -196,30 +208,37 @@ AlwaysEnough t n k s c a v = (m : ℕ) → m < n → IsEnough t n k s c a v m
 abbrev SometimesTooLow : (ℕ → ℤ) → ℕ → ℕ → ℕ → ℕ → ℕ → ℕ → Type 0
 SometimesTooLow t n k s c a v = (m : ℕ) × (m < n) × IsTooLow t n k s c a v m
 
-enough_or_too_low : (t : ℕ → ℤ) (n k s c a v : ℕ) → AlwaysEnough t n k s c a v ⊎ SometimesTooLow t n k s c a v
+enough_or_too_low : (t : ℕ → ℤ) (n k s c a v : ℕ) →
+    AlwaysEnough t n k s c a v ⊎ SometimesTooLow t n k s c a v
 enough_or_too_low t n k s c a v =
     all_or_some (IsEnough t n k s c a v) (IsTooLow t n k s c a v)
-    (λ m. by_lt_z (pos (m * v) +ℤ pos c *ℤ t (opposite_of n k (a * m))) (pos (c * s)) (λ l. inr l) (λ l. inl l)) n
+    (λ m. by_lt_z (pos (m * v) +ℤ pos c *ℤ t (opposite_of n k (a * m))) (pos (c * s)) (λ l. inr l)
+    (λ l. inl l)) n
 
-enough_for_uses : (t : ℕ → ℤ) (n k s c a v m y : ℕ) → 0 < n → ((i : ℕ) → t (i + n) ≡ t i) → AlwaysEnough t n k s c a v →
+enough_for_uses : (t : ℕ → ℤ) (n k s c a v m y : ℕ) → 0 < n → ((i : ℕ) → t (i + n) ≡ t i) →
+    AlwaysEnough t n k s c a v →
     (a * m + y) % n ≡ k % n → pos (c * s) ≤ℤ (pos (m * v) +ℤ pos c *ℤ t y)
 enough_for_uses t n k s c a v m y some period all place =
     let r = m % n in
     let here = all r (mod-lt m some) in
     let arrives : (a * r + opposite_of n k (a * r)) % n ≡ (a * r + y) % n =
-    opposite_is n k (a * r) some ∙ sym place ∙ same_sums (a * m) (a * r) y y n (sym (fewer_uses a m n)) refl in
+    opposite_is n k (a * r) some ∙ sym place
+    ∙ same_sums (a * m) (a * r) y y n (sym (fewer_uses a m n)) refl in
     let same : pos c *ℤ t (opposite_of n k (a * r)) ≡ pos c *ℤ t y =
     ap (λ z. pos c *ℤ z)
-    (same_at_remainder t n period (opposite_of n k (a * r)) y (cancel_same (a * r) (opposite_of n k (a * r)) y n arrives)) in
+    (same_at_remainder t n period (opposite_of n k (a * r)) y
+    (cancel_same (a * r) (opposite_of n k (a * r)) y n arrives)) in
     let split = div-add-mod' m n in
     let fewer : r ≤ m = omega arith in
     let less = mul-le-mul_right v fewer in
     omega (arith, ints)
 
-lowered_valid : (t : ℕ → ℤ) (n k s c a v : ℕ) → 0 < n → IsValidTable t n k s → IsSubadditive t → AlwaysEnough t n k s c a v →
+lowered_valid : (t : ℕ → ℤ) (n k s c a v : ℕ) → 0 < n → IsValidTable t n k s → IsSubadditive t →
+    AlwaysEnough t n k s c a v →
     IsValidTable (lowered t n c a v) n k (c * s)
 lowered_valid t n k s c a v some valid below all = record {
-  has_period = dented_period (λ i. pos c *ℤ t i) n a (pos v) (λ i. ap (λ z. pos c *ℤ z) (valid.has_period i));
+  has_period = dented_period (λ i. pos c *ℤ t i) n a (pos v)
+      (λ i. ap (λ z. pos c *ℤ z) (valid.has_period i));
   nonnegative = λ i.
       ⊎_elim (λ at. let here = at.1 in omega (arith, ints))
       (λ off.
@@ -230,17 +249,20 @@ lowered_valid t n k s c a v some valid below all = record {
   at_solutions = λ xs solution.
       let r = uses t n c a v xs below in
       let most = r.most in
-      let enough = enough_for_uses t n k s c a v r.m r.y some valid.has_period all (r.place ∙ solution) in
+      let enough = enough_for_uses t n k s c a v r.m r.y some valid.has_period all
+      (r.place ∙ solution) in
       omega (arith, ints);
 }
 
-lowered_le : (t : ℕ → ℤ) (n k s c a v : ℕ) → IsValidTable t n k s → pos v ≤ℤ (pos c *ℤ t a) → (i : ℕ) →
+lowered_le : (t : ℕ → ℤ) (n k s c a v : ℕ) → IsValidTable t n k s → pos v ≤ℤ (pos c *ℤ t a) →
+    (i : ℕ) →
     lowered t n c a v i ≤ℤ (pos c *ℤ t i)
 lowered_le t n k s c a v valid least =
     dented_le (λ i. pos c *ℤ t i) n a (pos v) (λ i. ap (λ z. pos c *ℤ z) (valid.has_period i)) least
 
 -- c times the entry at a is enough
-own_entry_enough : (t : ℕ → ℤ) (n k s c a v : ℕ) → 0 < n → IsValidTable t n k s → pos v ≡ pos c *ℤ t a → AlwaysEnough t n k s c a v
+own_entry_enough : (t : ℕ → ℤ) (n k s c a v : ℕ) → 0 < n → IsValidTable t n k s →
+    pos v ≡ pos c *ℤ t a → AlwaysEnough t n k s c a v
 own_entry_enough t n k s c a v some valid same m small =
     let y = opposite_of n k (a * m) in
     let least = mul_le_mul_left_z (pos s) (pos m *ℤ t a +ℤ t y) (pos c) (omega (arith, ints))
@@ -264,7 +286,8 @@ record Tight (t : ℕ → ℤ) (n k s a : ℕ) : Type 0 where
 abbrev IsSettled : (ℕ → ℤ) → ℕ → ℕ → ℕ → ℕ → Type 0
 IsSettled t n k s a = (t a ≡ pos 0) ⊎ Tight t n k s a
 
-settled_stays : (t u : ℕ → ℤ) (n k s c a : ℕ) → IsValidTable u n k (c * s) → ((i : ℕ) → u i ≤ℤ (pos c *ℤ t i)) →
+settled_stays : (t u : ℕ → ℤ) (n k s c a : ℕ) → IsValidTable u n k (c * s) →
+    ((i : ℕ) → u i ≤ℤ (pos c *ℤ t i)) →
     IsSettled t n k s a → IsSettled u n k (c * s) a
 settled_stays t u n k s c a valid below (inl none) =
     let here = below a in
@@ -275,7 +298,8 @@ settled_stays t u n k s c a valid below (inr r) =
     let first = mul_le_mul_left_z (u a) (pos c *ℤ t a) (pos r.m) (omega (arith, ints)) (below a) in
     let second = below r.y in
     let swapped = mul_left_comm_z (pos c) (pos r.m) (t a) in
-    let whole = mul_le_mul_left_z (pos r.m *ℤ t a +ℤ t r.y) (pos s) (pos c) (omega (arith, ints)) r.most in
+    let whole = mul_le_mul_left_z (pos r.m *ℤ t a +ℤ t r.y) (pos s) (pos c)
+    (omega (arith, ints)) r.most in
     let split = mul_add_z (pos c) (pos r.m *ℤ t a) (t r.y) in
     inr (record {
       m = r.m;
@@ -285,7 +309,8 @@ settled_stays t u n k s c a valid below (inr r) =
       most = omega (arith, ints);
     })
 
-settled_is_least : (t u : ℕ → ℤ) (n k s c a : ℕ) → IsValidTable u n k (c * s) → ((i : ℕ) → u i ≤ℤ (pos c *ℤ t i)) →
+settled_is_least : (t u : ℕ → ℤ) (n k s c a : ℕ) → IsValidTable u n k (c * s) →
+    ((i : ℕ) → u i ≤ℤ (pos c *ℤ t i)) →
     IsSettled t n k s a → u a ≡ pos c *ℤ t a
 settled_is_least t u n k s c a valid below (inl none) =
     let here = below a in
@@ -297,20 +322,24 @@ settled_is_least t u n k s c a valid below (inr r) =
     let second = below r.y in
     let some = r.some in
     let swapped = mul_left_comm_z (pos c) (pos r.m) (t a) in
-    let whole = mul_le_mul_left_z (pos r.m *ℤ t a +ℤ t r.y) (pos s) (pos c) (omega (arith, ints)) r.most in
+    let whole = mul_le_mul_left_z (pos r.m *ℤ t a +ℤ t r.y) (pos s) (pos c)
+    (omega (arith, ints)) r.most in
     let split = mul_add_z (pos c) (pos r.m *ℤ t a) (t r.y) in
     let least = copies_weigh u n k (c * s) a r.m r.y valid r.place in
-    let cancelled = mul_le_cancel_right_z (pos c *ℤ t a) (u a) (pos r.m) (omega (arith, ints)) (omega (arith, ints)) in
+    let cancelled = mul_le_cancel_right_z (pos c *ℤ t a) (u a) (pos r.m) (omega (arith, ints))
+    (omega (arith, ints)) in
     omega (arith, ints)
 
 -- ---- the least entry at a place
 
 -- the least number with the first of two properties
-least : (P Q : ℕ → Type 0) → ((v : ℕ) → P v ⊎ Q v) → (top : ℕ) → P top → P 0 ⊎ ((v : ℕ) × (v < top) × Q v × P (suc v))
+least : (P Q : ℕ → Type 0) → ((v : ℕ) → P v ⊎ Q v) → (top : ℕ) → P top →
+    P 0 ⊎ ((v : ℕ) × (v < top) × Q v × P (suc v))
 least P Q decide zero h = inl h
 least P Q decide (suc top) h =
     ⊎_elim
-    (λ holds. ⊎_elim (λ all. inl all) (λ found. let (v, small, fails, above) = found in inr (v, omega arith, fails, above))
+    (λ holds. ⊎_elim (λ all. inl all) (λ found. let (v, small, fails, above) = found in
+    inr (v, omega arith, fails, above))
     (least P Q decide top holds))
     (λ fails. inr (top, omega arith, fails, h))
     (decide top)
@@ -336,15 +365,18 @@ multiple_of_all (suc n) =
     )
 
 -- if v is too low for a weight that m divides, the next number makes it no more than it must be
-next_is_tight : (m d v s : ℕ) (x : ℤ) → 0 < m → (pos (m * v) +ℤ pos (m * d) *ℤ x) <ℤ pos (m * d * s) →
+next_is_tight : (m d v s : ℕ) (x : ℤ) → 0 < m →
+    (pos (m * v) +ℤ pos (m * d) *ℤ x) <ℤ pos (m * d * s) →
     (pos m *ℤ pos (suc v) +ℤ pos (m * d) *ℤ x) ≤ℤ pos (m * d * s)
 next_is_tight m d v s x some low =
     let w = pos v +ℤ pos d *ℤ x in
     let split = mul_add_z (pos m) (pos v) (pos d *ℤ x) in
     let product : pos m *ℤ (pos d *ℤ x) ≡ pos (m * d) *ℤ x = sym (mul_assoc_z (pos m) (pos d) x) in
     let top : m * (d * s) ≡ m * d * s = omega arith in
-    let less = mul_lt_cancel_left_z w (pos (d * s)) (pos m) (omega (arith, ints)) (omega (arith, ints)) in
-    let more = mul_le_mul_left_z (w +ℤ pos 1) (pos (d * s)) (pos m) (omega (arith, ints)) (omega (arith, ints)) in
+    let less = mul_lt_cancel_left_z w (pos (d * s)) (pos m) (omega (arith, ints))
+    (omega (arith, ints)) in
+    let more = mul_le_mul_left_z (w +ℤ pos 1) (pos (d * s)) (pos m) (omega (arith, ints))
+    (omega (arith, ints)) in
     let last = mul_add_z (pos m) w (pos 1) in
     let next : m * suc v ≡ m * v + m = omega arith in
     omega (arith, ints)
@@ -360,20 +392,24 @@ record SomeBelow (t : ℕ → ℤ) (n k s : ℕ) (Has : (ℕ → ℤ) → ℕ �
   at_most : (i : ℕ) → u i ≤ℤ (pos c *ℤ t i)
   has : Has u (c * s)
 
-settled_by_next : (t : ℕ → ℤ) (n k s c a v m : ℕ) → 0 < n → IsValidTable t n k s → pos (suc v) ≤ℤ (pos c *ℤ t a) →
+settled_by_next : (t : ℕ → ℤ) (n k s c a v m : ℕ) → 0 < n → IsValidTable t n k s →
+    pos (suc v) ≤ℤ (pos c *ℤ t a) →
     ((m : ℕ) → 0 < m → m ≤ n → (d : ℕ) × (c ≡ m * d)) → m < n → IsTooLow t n k s c a v m →
     Tight (lowered t n c a (suc v)) n k (c * s) a
 settled_by_next t n k s c a v zero n_some valid least divides small low =
     let place = opposite_is n k (a * 0) n_some in
-    let enough = mul_le_mul_left_z (pos s) (pos 0 *ℤ t a +ℤ t (opposite_of n k (a * 0))) (pos c) (omega (arith, ints))
+    let enough = mul_le_mul_left_z (pos s) (pos 0 *ℤ t a +ℤ t (opposite_of n k (a * 0))) (pos c)
+    (omega (arith, ints))
     (copies_weigh t n k s a 0 (opposite_of n k (a * 0)) valid place) in
-    let e : pos c *ℤ (pos 0 *ℤ t a +ℤ t (opposite_of n k (a * 0))) ≡ pos c *ℤ t (opposite_of n k (a * 0)) =
+    let e : pos c *ℤ (pos 0 *ℤ t a +ℤ t (opposite_of n k (a * 0)))
+    ≡ pos c *ℤ t (opposite_of n k (a * 0)) =
     ap (λ z. pos c *ℤ z) (omega (arith, ints)) in
     absurd (omega (arith, ints))
 settled_by_next t n k s c a v (suc m) n_some valid least divides small low =
     let y = opposite_of n k (a * suc m) in
     let (d, e) = divides (suc m) (omega arith) (omega arith) in
-    let tight = subst (λ (z : ℕ). (pos (suc m) *ℤ pos (suc v) +ℤ pos z *ℤ t y) ≤ℤ pos (z * s)) (sym e)
+    let tight = subst (λ (z : ℕ). (pos (suc m) *ℤ pos (suc v) +ℤ pos z *ℤ t y) ≤ℤ pos (z * s))
+    (sym e)
     (next_is_tight (suc m) d v s (t y) (omega arith)
     (subst (λ (z : ℕ). (pos (suc m * v) +ℤ pos z *ℤ t y) <ℤ pos (z * s)) e low)) in
     let here : pos (suc m) *ℤ lowered t n c a (suc v) a ≡ pos (suc m) *ℤ pos (suc v) =
@@ -388,7 +424,8 @@ settled_by_next t n k s c a v (suc m) n_some valid least divides small low =
     }
 
 settle_over : (t : ℕ → ℤ) (n k s c a : ℕ) → 0 < n → IsValidTable t n k s → IsSubadditive t → 0 < c →
-    ((m : ℕ) → 0 < m → m ≤ n → (d : ℕ) × (c ≡ m * d)) → SomeBelow t n k s (λ u r. IsSettled u n k r a)
+    ((m : ℕ) → 0 < m → m ≤ n → (d : ℕ) × (c ≡ m * d)) →
+    SomeBelow t n k s (λ u r. IsSettled u n k r a)
 settle_over t n k s c a n_some valid below some divides =
     let low = mul_nonnegative_z (pos c) (t a) (omega (arith, ints)) (valid.nonnegative a) in
     let top = unsigned_abs (pos c *ℤ t a) in
@@ -414,14 +451,17 @@ settle_over t n k s c a n_some valid below some divides =
       at_most = lowered_le t n k s c a (suc v) valid most;
       has = inr (settled_by_next t n k s c a v m n_some valid most divides m_small too_low);
     })
-    (least (AlwaysEnough t n k s c a) (SometimesTooLow t n k s c a) (enough_or_too_low t n k s c a) top
+    (least (AlwaysEnough t n k s c a) (SometimesTooLow t n k s c a)
+    (enough_or_too_low t n k s c a) top
     (own_entry_enough t n k s c a top n_some valid top_is))
 
-settle : (t : ℕ → ℤ) (n k s a : ℕ) → 0 < n → IsValidTable t n k s → SomeBelow t n k s (λ u r. IsSettled u n k r a)
+settle : (t : ℕ → ℤ) (n k s a : ℕ) → 0 < n → IsValidTable t n k s →
+    SomeBelow t n k s (λ u r. IsSettled u n k r a)
 settle t n k s a some valid =
     let (c, c_some, divides) = multiple_of_all n in
     let total = total_nonnegative t n valid.nonnegative in
-    let b = subadditive_below (suc (unsigned_abs (total_below t n))) t n k s some valid (omega (arith, ints)) in
+    let b = subadditive_below (suc (unsigned_abs (total_below t n))) t n k s some valid
+    (omega (arith, ints)) in
     let r = settle_over b.u n k s c a some b.valid b.subadditive c_some divides in
     record {
       c = r.c;
@@ -430,12 +470,14 @@ settle t n k s a some valid =
       valid = r.valid;
       at_most = λ i.
           let first = r.at_most i in
-          let second = mul_le_mul_left_z (b.u i) (t i) (pos r.c) (omega (arith, ints)) (b.at_most i) in
+          let second = mul_le_mul_left_z (b.u i) (t i) (pos r.c) (omega (arith, ints))
+          (b.at_most i) in
           omega (arith, ints);
       has = r.has;
     }
 
-settle_all : (t : ℕ → ℤ) (n k s j : ℕ) → 0 < n → IsValidTable t n k s → SomeBelow t n k s (λ u r. (i : ℕ) → i < j → IsSettled u n k r i)
+settle_all : (t : ℕ → ℤ) (n k s j : ℕ) → 0 < n → IsValidTable t n k s →
+    SomeBelow t n k s (λ u r. (i : ℕ) → i < j → IsSettled u n k r i)
 settle_all t n k s zero some valid = record {
   c = 1;
   u = t;
@@ -455,29 +497,36 @@ settle_all t n k s (suc j) some valid =
       valid = subst (λ (q : ℕ). IsValidTable r.u n k q) scale r.valid;
       at_most = λ i.
           let first = r.at_most i in
-          let second = mul_le_mul_left_z (b.u i) (pos b.c *ℤ t i) (pos r.c) (omega (arith, ints)) (b.at_most i) in
-          let product : pos r.c *ℤ (pos b.c *ℤ t i) ≡ pos (r.c * b.c) *ℤ t i = sym (mul_assoc_z (pos r.c) (pos b.c) (t i)) in
+          let second = mul_le_mul_left_z (b.u i) (pos b.c *ℤ t i) (pos r.c) (omega (arith, ints))
+          (b.at_most i) in
+          let product : pos r.c *ℤ (pos b.c *ℤ t i) ≡ pos (r.c * b.c) *ℤ t i =
+          sym (mul_assoc_z (pos r.c) (pos b.c) (t i)) in
           omega (arith, ints);
       has = λ i small. subst (λ (q : ℕ). IsSettled r.u n k q i) scale
-          (⊎_elim (λ less. settled_stays b.u r.u n k (b.c * s) r.c i r.valid r.at_most (b.has i less))
-          (λ last. subst (λ (p : ℕ). IsSettled r.u n k (r.c * (b.c * s)) p) (let e : j ≡ i = omega arith in e) r.has)
+          (⊎_elim (λ less. settled_stays b.u r.u n k (b.c * s) r.c i r.valid r.at_most
+          (b.has i less))
+          (λ last. subst (λ (p : ℕ). IsSettled r.u n k (r.c * (b.c * s)) p)
+          (let e : j ≡ i = omega arith in e) r.has)
           (cases_lt i j));
     }
 
 -- a valid table whose places are all settled is minimal
-settled_is_minimal : (t : ℕ → ℤ) (n k s : ℕ) → 0 < n → IsValidTable t n k s → ((i : ℕ) → i < n → IsSettled t n k s i) →
+settled_is_minimal : (t : ℕ → ℤ) (n k s : ℕ) → 0 < n → IsValidTable t n k s →
+    ((i : ℕ) → i < n → IsSettled t n k s i) →
     IsMinimalTable t n k s
 settled_is_minimal t n k s some valid settled = only_minimal t n k s (record {
   valid = valid;
   none_below = λ c u under i.
-      let here = settled_is_least t u n k s c (i % n) under.valid under.at_most (settled (i % n) (mod-lt i some)) in
+      let here = settled_is_least t u n k s c (i % n) under.valid under.at_most
+      (settled (i % n) (mod-lt i some)) in
       let first = same_at_remainder u n under.valid.has_period (i % n) i (mod-mod i n) in
       let second = same_at_remainder t n valid.has_period (i % n) i (mod-mod i n) in
       sym first ∙ here ∙ ap (λ z. pos c *ℤ z) second;
 })
 
 pub minimal_below : (t : ℕ → ℤ) (n k s : ℕ) → 0 < n → IsValidTable t n k s →
-    (c : ℕ) × (u : ℕ → ℤ) × (0 < c) × IsMinimalTable u n k (c * s) × ((i : ℕ) → u i ≤ℤ (pos c *ℤ t i))
+    (c : ℕ) × (u : ℕ → ℤ) × (0 < c) × IsMinimalTable u n k (c * s)
+    × ((i : ℕ) → u i ≤ℤ (pos c *ℤ t i))
 minimal_below t n k s some valid =
     let r = settle_all t n k s n some valid in
     (r.c, r.u, r.some, settled_is_minimal r.u n k (r.c * s) some r.valid r.has, r.at_most)

@@ -17,32 +17,45 @@ use Rattle.gj_valid.proofs.OnFractions.{function_from_parts, valid_by_bottoms, m
 order_some : (f : FunctionData) → IsWithinBounds f → 0 < f.order
 order_some f l = let low = l.order_low in omega arith
 
-data_function : (f : FunctionData) → IsValidPart (part_of f) f.place f.order → IsFunction (function_of f)
+data_function : (f : FunctionData) → IsValidPart (part_of f) f.place f.order →
+    IsFunction (function_of f)
 data_function f h = function_from_parts (part_of f) h.function h.nonnegative
 
-pub model_minimal : (f : FunctionData) → IsWithinBounds f → IsMinimal f → IsMinimalAmongFunctions (function_of f) (over f.place f.order)
+pub model_minimal : (f : FunctionData) → IsWithinBounds f → IsMinimal f →
+    IsMinimalAmongFunctions (function_of f) (over f.place f.order)
 model_minimal f l h =
     let minimal = minimal_among_functions f l h in
-    minimal_from_parts (function_of f) f.place f.order (order_some f l) (data_function f minimal.valid) minimal
+    minimal_from_parts (function_of f) f.place f.order (order_some f l)
+    (data_function f minimal.valid) minimal
 
-pub model_only_minimal : (f : FunctionData) → IsWithinBounds f → IsMinimalAmongFunctions (function_of f) (over f.place f.order) → IsMinimal f
-model_only_minimal f l h = only_minimal f l (minimal_at_parts (function_of f) f.place f.order (order_some f l) h)
+pub model_only_minimal : (f : FunctionData) → IsWithinBounds f →
+    IsMinimalAmongFunctions (function_of f) (over f.place f.order) → IsMinimal f
+model_only_minimal f l h =
+    only_minimal f l (minimal_at_parts (function_of f) f.place f.order (order_some f l) h)
 
-pub model_extreme : (f : FunctionData) → IsWithinBounds f → IsExtreme f → IsExtremeAmongFunctions (function_of f) (over f.place f.order)
+pub model_extreme : (f : FunctionData) → IsWithinBounds f → IsExtreme f →
+    IsExtremeAmongFunctions (function_of f) (over f.place f.order)
 model_extreme f l h =
     let extreme = extreme_among_functions f l h in
-    extreme_from_parts (function_of f) f.place f.order (order_some f l) (data_function f extreme.valid) extreme
+    extreme_from_parts (function_of f) f.place f.order (order_some f l)
+    (data_function f extreme.valid) extreme
 
 pub model_only_extreme : (f : FunctionData) → IsWithinBounds f → IsContinuous f →
     IsExtremeAmongFunctions (function_of f) (over f.place f.order) → IsExtreme f
-model_only_extreme f l continuous h = only_extreme f l continuous (extreme_at_parts (function_of f) f.place f.order (order_some f l) h)
+model_only_extreme f l continuous h =
+    only_extreme f l continuous
+    (extreme_at_parts (function_of f) f.place f.order (order_some f l) h)
 
-pub valid_over_one_bottom : (v : Fraction → Fraction) (f : Fraction) → IsNonnegative f → IsFunction v →
-    ((d : ℕ) (tops : List ℕ) → 0 < d → IsSamePoint (over (sum tops) d) f → AtMostValue (over 1 1) (total_of (map (λ n. v (over n d)) tops))) →
+pub valid_over_one_bottom : (v : Fraction → Fraction) (f : Fraction) → IsNonnegative f →
+    IsFunction v →
+    ((d : ℕ) (tops : List ℕ) → 0 < d → IsSamePoint (over (sum tops) d) f →
+    AtMostValue (over 1 1) (total_of (map (λ n. v (over n d)) tops))) →
     IsValidFunction v f
 valid_over_one_bottom v f low h each =
     let k = unsigned_abs f.top in
     let q = unsigned_abs f.bottom in
     subst (IsValidFunction v) (parts_are f low)
     (valid_by_bottoms v k q (abs_positive_z f.bottom low.1) h
-    (λ d tops some place. each d tops some (subst (IsSamePoint (over (sum tops) d)) (parts_are f low) (same_point (sum tops) d k q place))))
+    (λ d tops some place. each d tops some
+    (subst (IsSamePoint (over (sum tops) d)) (parts_are f low)
+    (same_point (sum tops) d k q place))))

@@ -8,7 +8,8 @@ use Rattle.gj_valid.proofs.PartFunctions.{IsMinimalPart, part_of}
 use Rattle.gj_valid.proofs.FunctionTables.{entries_valid, function_on_grid}
 use Rattle.gj_valid.proofs.ChangedOnGrid.{tables_are_minimal}
 
-pub only_minimal : (f : FunctionData) → IsWithinBounds f → IsMinimalPart (part_of f) f.place f.order → IsMinimal f
+pub only_minimal : (f : FunctionData) → IsWithinBounds f →
+    IsMinimalPart (part_of f) f.place f.order → IsMinimal f
 only_minimal f l h m some =
     let order : 0 < f.order = let low = l.order_low in omega arith in
     let scale : 0 < f.scale = let low = l.scale_low in omega arith in
@@ -17,6 +18,7 @@ only_minimal f l h m some =
       t = table f m;
       some = mul-pos scale some;
       is = λ i. function_on_grid f i m order some;
-      valid = entries_valid (part_of f) f.place f.order m (f.scale * m) (table f m) order some (mul-pos scale some) h.valid
+      valid = entries_valid (part_of f) f.place f.order m (f.scale * m) (table f m) order some
+          (mul-pos scale some) h.valid
           (λ i. table_period f m i some l) (λ i. function_on_grid f i m order some);
     })

@@ -17,43 +17,56 @@ Is x n c = x.top *ℤ pos c ≡ n *ℤ x.bottom
 
 pub is_scaled : (x : Fraction) (n : ℤ) (c e : ℕ) → Is x n c → Is x (pos e *ℤ n) (e * c)
 is_scaled x n c e is =
-    by_ring (x.top ∷ pos e ∷ pos c ∷ []) (search ring depth 20) refl ∙ ap (λ z. pos e *ℤ z) is ∙ sym (mul_assoc_z (pos e) n x.bottom)
+    by_ring (x.top ∷ pos e ∷ pos c ∷ []) (search ring depth 20) refl ∙ ap (λ z. pos e *ℤ z) is
+    ∙ sym (mul_assoc_z (pos e) n x.bottom)
 
 some_bottom : (c : ℕ) → 0 < c → unsigned_abs (pos c) ≢ 0
 some_bottom c some = positive_some_z (pos c) (omega (arith, ints))
 
 -- what is n/c has the value of what is n/c
 pub same_over : (x y : Fraction) (n : ℤ) (c : ℕ) → 0 < c → Is x n c → Is y n c → SameValue x y
-same_over x y n c some is is' = ratio_along x.top x.bottom n (pos c) y.top y.bottom (some_bottom c some) is (sym is')
+same_over x y n c some is is' = ratio_along x.top x.bottom n (pos c) y.top y.bottom
+    (some_bottom c some) is (sym is')
 
-pub is_along : (x y : Fraction) (n : ℤ) (c : ℕ) → pos 0 <ℤ y.bottom → SameValue x y → Is y n c → Is x n c
-is_along x y n c some same is = ratio_along x.top x.bottom y.top y.bottom n (pos c) (positive_some_z y.bottom some) same is
+pub is_along : (x y : Fraction) (n : ℤ) (c : ℕ) → pos 0 <ℤ y.bottom → SameValue x y → Is y n c →
+    Is x n c
+is_along x y n c some same is = ratio_along x.top x.bottom y.top y.bottom n (pos c)
+    (positive_some_z y.bottom some) same is
 
 pub one_number : (x : Fraction) (n m : ℤ) (c : ℕ) → pos 0 <ℤ x.bottom → Is x n c → Is x m c → n ≡ m
-one_number x n m c some is is' = mul_cancel_right_z n m x.bottom (sym is ∙ is') (positive_some_z x.bottom some)
+one_number x n m c some is is' =
+    mul_cancel_right_z n m x.bottom (sym is ∙ is') (positive_some_z x.bottom some)
 
-pub same_numbers : (x y : Fraction) (n m : ℤ) (c : ℕ) → pos 0 <ℤ x.bottom → pos 0 <ℤ y.bottom → SameValue x y → Is x n c → Is y m c →
+pub same_numbers : (x y : Fraction) (n m : ℤ) (c : ℕ) → pos 0 <ℤ x.bottom → pos 0 <ℤ y.bottom →
+    SameValue x y → Is x n c → Is y m c →
     n ≡ m
-same_numbers x y n m c x_some y_some same is is' = one_number x n m c x_some is (is_along x y m c y_some same is')
+same_numbers x y n m c x_some y_some same is is' =
+    one_number x n m c x_some is (is_along x y m c y_some same is')
 
 pub sum_is : (x y : Fraction) (n m : ℤ) (c : ℕ) → Is x n c → Is y m c → Is (sum_of x y) (n +ℤ m) c
 sum_is x y n m c is is' = ratio_sum x.top x.bottom y.top y.bottom n m (pos c) is is'
 
 -- ---- order
 
-pub most_to_numbers : (x y : Fraction) (n m : ℤ) (c : ℕ) → pos 0 <ℤ x.bottom → pos 0 <ℤ y.bottom → 0 < c → Is x n c → Is y m c →
+pub most_to_numbers : (x y : Fraction) (n m : ℤ) (c : ℕ) → pos 0 <ℤ x.bottom → pos 0 <ℤ y.bottom →
+    0 < c → Is x n c → Is y m c →
     AtMostValue x y → n ≤ℤ m
 most_to_numbers x y n m c x_some y_some some is is' most =
     by_lt_z m n
-    (λ l. absurd (let less = (ratio_less y.top y.bottom x.top x.bottom m n (pos c) y_some x_some (omega (arith, ints)) is' is).1 l in
+    (λ l. absurd (let less =
+    (ratio_less y.top y.bottom x.top x.bottom m n (pos c) y_some x_some
+    (omega (arith, ints)) is' is).1 l in
     omega (arith, ints)))
     (λ l. l)
 
-pub most_from_numbers : (x y : Fraction) (n m : ℤ) (c : ℕ) → pos 0 <ℤ x.bottom → pos 0 <ℤ y.bottom → 0 < c → Is x n c → Is y m c →
+pub most_from_numbers : (x y : Fraction) (n m : ℤ) (c : ℕ) → pos 0 <ℤ x.bottom → pos 0 <ℤ y.bottom →
+    0 < c → Is x n c → Is y m c →
     n ≤ℤ m → AtMostValue x y
 most_from_numbers x y n m c x_some y_some some is is' most =
     by_lt_z (y.top *ℤ x.bottom) (x.top *ℤ y.bottom)
-    (λ l. absurd (let less = (ratio_less y.top y.bottom x.top x.bottom m n (pos c) y_some x_some (omega (arith, ints)) is' is).0 l in
+    (λ l. absurd (let less =
+    (ratio_less y.top y.bottom x.top x.bottom m n (pos c) y_some x_some
+    (omega (arith, ints)) is' is).0 l in
     omega (arith, ints)))
     (λ l. l)
 
@@ -65,17 +78,21 @@ one_is c = omega (arith, ints)
 
 -- ---- sums of values
 
-pub values_positive : (v : ℕ → ℕ → Fraction) (d : ℕ) (tops : List ℕ) → ((n : ℕ) → pos 0 <ℤ (v n d).bottom) →
+pub values_positive : (v : ℕ → ℕ → Fraction) (d : ℕ) (tops : List ℕ) →
+    ((n : ℕ) → pos 0 <ℤ (v n d).bottom) →
     pos 0 <ℤ (sum_of_values v d tops).bottom
 values_positive v d [] some = omega (arith, ints)
 values_positive v d (n ∷ tops) some =
-    mul_positive_z (v n d).bottom (sum_of_values v d tops).bottom (some n) (values_positive v d tops some)
+    mul_positive_z (v n d).bottom (sum_of_values v d tops).bottom (some n)
+    (values_positive v d tops some)
 
-pub values_are : (v : ℕ → ℕ → Fraction) (t : ℕ → ℤ) (d c : ℕ) (tops : List ℕ) → ((n : ℕ) → Is (v n d) (t n) c) →
+pub values_are : (v : ℕ → ℕ → Fraction) (t : ℕ → ℤ) (d c : ℕ) (tops : List ℕ) →
+    ((n : ℕ) → Is (v n d) (t n) c) →
     Is (sum_of_values v d tops) (weight t tops) c
 values_are v t d c [] is = nothing_is c
 values_are v t d c (n ∷ tops) is =
-    sum_is (v n d) (sum_of_values v d tops) (t n) (weight t tops) c (is n) (values_are v t d c tops is)
+    sum_is (v n d) (sum_of_values v d tops) (t n) (weight t tops) c (is n)
+    (values_are v t d c tops is)
 
 -- ---- a common bottom
 
@@ -86,13 +103,15 @@ pub record HaveBottom (x : ℕ → Fraction) (n : ℕ) : Type 0 where
   pub some : 0 < c
   pub is : (i : ℕ) → i < n → Is (x i) (t i) c
 
-over_next : (x : Fraction) (c : ℕ) → pos 0 <ℤ x.bottom → Is x (pos c *ℤ x.top) (unsigned_abs x.bottom * c)
+over_next : (x : Fraction) (c : ℕ) → pos 0 <ℤ x.bottom →
+    Is x (pos c *ℤ x.top) (unsigned_abs x.bottom * c)
 over_next x c some =
     by_ring (x.top ∷ pos (unsigned_abs x.bottom) ∷ pos c ∷ []) (search ring depth 20) refl
     ∙ ap (λ z. (pos c *ℤ x.top) *ℤ z) (pos_abs_z x.bottom (omega (arith, ints)))
 
 pub have_bottom : (x : ℕ → Fraction) (n : ℕ) → ((i : ℕ) → pos 0 <ℤ (x i).bottom) → HaveBottom x n
-have_bottom x zero some = record { c = 1; t = λ i. pos 0; some = omega arith; is = λ i below. absurd (omega arith) }
+have_bottom x zero some =
+    record { c = 1; t = λ i. pos 0; some = omega arith; is = λ i below. absurd (omega arith) }
 have_bottom x (suc n) some =
     let h = have_bottom x n some in
     let b = unsigned_abs (x n).bottom in
@@ -102,23 +121,29 @@ have_bottom x (suc n) some =
       t = λ i. cond (eqb i n) here (pos b *ℤ h.t i);
       some = mul-pos (abs_positive_z (x n).bottom (some n)) h.some;
       is = λ i below. ⊎_elim
-          (λ at. subst (λ (z : ℤ). Is (x i) z (b * h.c)) (sym (cond-true (eqb i n) here (pos b *ℤ h.t i) at.0))
+          (λ at. subst (λ (z : ℤ). Is (x i) z (b * h.c))
+          (sym (cond-true (eqb i n) here (pos b *ℤ h.t i) at.0))
           (subst (λ (j : ℕ). Is (x j) here (b * h.c)) (sym at.1) (over_next (x n) h.c (some n))))
-          (λ off. subst (λ (z : ℤ). Is (x i) z (b * h.c)) (sym (cond-false (eqb i n) here (pos b *ℤ h.t i) off.0))
+          (λ off. subst (λ (z : ℤ). Is (x i) z (b * h.c))
+          (sym (cond-false (eqb i n) here (pos b *ℤ h.t i) off.0))
           (is_scaled (x i) (h.t i) h.c b (h.is i (not_last i n below off.1))))
           (eqb_tells i n);
     }
   where
     not_last : (i n : ℕ) → i < suc n → i ≢ n → i < n
-    not_last i n below differs = ⊎_elim (λ l. l) (λ l. absurd (differs (omega arith))) (cases_lt i n)
+    not_last i n below differs = ⊎_elim (λ l. l) (λ l. absurd (differs (omega arith)))
+        (cases_lt i n)
 
-pub less_from_numbers : (x y : Fraction) (n m : ℤ) (c : ℕ) → pos 0 <ℤ x.bottom → pos 0 <ℤ y.bottom → 0 < c → Is x n c → Is y m c →
+pub less_from_numbers : (x y : Fraction) (n m : ℤ) (c : ℕ) → pos 0 <ℤ x.bottom → pos 0 <ℤ y.bottom →
+    0 < c → Is x n c → Is y m c →
     n <ℤ m → LessValue x y
 less_from_numbers x y n m c x_some y_some some is is' less =
-    (ratio_less x.top x.bottom y.top y.bottom n m (pos c) x_some y_some (omega (arith, ints)) is is').1 less
+    (ratio_less x.top x.bottom y.top y.bottom n m (pos c) x_some y_some
+    (omega (arith, ints)) is is').1 less
 
 pub is_over : (x : Fraction) (n : ℤ) (c e r : ℕ) → Is x n c → r ≡ e * c → Is x (pos e *ℤ n) r
-is_over x n c e r is scale = subst (λ (b : ℕ). Is x (pos e *ℤ n) b) (sym scale) (is_scaled x n c e is)
+is_over x n c e r is scale =
+    subst (λ (b : ℕ). Is x (pos e *ℤ n) b) (sym scale) (is_scaled x n c e is)
 
 -- two fractions over one bottom
 pub record OverOne (x y : Fraction) : Type 0 where
@@ -138,26 +163,34 @@ over_one x y x_some y_some =
       n = pos b *ℤ x.top;
       m = pos a *ℤ y.top;
       some = mul-pos (abs_positive_z x.bottom x_some) (abs_positive_z y.bottom y_some);
-      x_is = is_over x x.top a b (a * b) (ap (λ z. x.top *ℤ z) (pos_abs_z x.bottom (omega (arith, ints)))) (mul_comm a b);
-      y_is = is_over y y.top b a (a * b) (ap (λ z. y.top *ℤ z) (pos_abs_z y.bottom (omega (arith, ints)))) refl;
+      x_is = is_over x x.top a b (a * b)
+          (ap (λ z. x.top *ℤ z) (pos_abs_z x.bottom (omega (arith, ints)))) (mul_comm a b);
+      y_is = is_over y y.top b a (a * b)
+          (ap (λ z. y.top *ℤ z) (pos_abs_z y.bottom (omega (arith, ints)))) refl;
     }
 
 -- sums of fractions with the same values
-pub same_sums_of : (x y x' y' : Fraction) → pos 0 <ℤ x'.bottom → pos 0 <ℤ y'.bottom → SameValue x x' → SameValue y y' →
+pub same_sums_of : (x y x' y' : Fraction) → pos 0 <ℤ x'.bottom → pos 0 <ℤ y'.bottom →
+    SameValue x x' → SameValue y y' →
     SameValue (sum_of x y) (sum_of x' y')
 same_sums_of x y x' y' x_some y_some same same' =
     let o = over_one x' y' x_some y_some in
     same_over (sum_of x y) (sum_of x' y') (o.n +ℤ o.m) o.c o.some
-    (sum_is x y o.n o.m o.c (is_along x x' o.n o.c x_some same o.x_is) (is_along y y' o.m o.c y_some same' o.y_is))
+    (sum_is x y o.n o.m o.c (is_along x x' o.n o.c x_some same o.x_is)
+    (is_along y y' o.m o.c y_some same' o.y_is))
     (sum_is x' y' o.n o.m o.c o.x_is o.y_is)
 
-pub same_trans : (x y z : Fraction) → pos 0 <ℤ y.bottom → pos 0 <ℤ z.bottom → SameValue x y → SameValue y z → SameValue x z
+pub same_trans : (x y z : Fraction) → pos 0 <ℤ y.bottom → pos 0 <ℤ z.bottom → SameValue x y →
+    SameValue y z → SameValue x z
 same_trans x y z y_some z_some first second =
     let o = over_one y z y_some z_some in
-    same_over x z o.m o.c o.some (is_along x y o.m o.c y_some first (is_along y z o.m o.c z_some second o.y_is)) o.y_is
+    same_over x z o.m o.c o.some
+    (is_along x y o.m o.c y_some first (is_along y z o.m o.c z_some second o.y_is)) o.y_is
 
-pub most_along : (x y z : Fraction) → pos 0 <ℤ x.bottom → pos 0 <ℤ y.bottom → pos 0 <ℤ z.bottom → AtMostValue x y → SameValue z y → AtMostValue x z
+pub most_along : (x y z : Fraction) → pos 0 <ℤ x.bottom → pos 0 <ℤ y.bottom → pos 0 <ℤ z.bottom →
+    AtMostValue x y → SameValue z y → AtMostValue x z
 most_along x y z x_some y_some z_some most same =
     let o = over_one x y x_some y_some in
-    most_from_numbers x z o.n o.m o.c x_some z_some o.some o.x_is (is_along z y o.m o.c y_some same o.y_is)
+    most_from_numbers x z o.n o.m o.c x_some z_some o.some o.x_is
+    (is_along z y o.m o.c y_some same o.y_is)
     (most_to_numbers x y o.n o.m o.c x_some y_some o.some o.x_is o.y_is most)

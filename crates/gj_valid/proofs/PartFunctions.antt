@@ -28,11 +28,13 @@ pub record IsPartFunction (v : ℕ → ℕ → Fraction) : Type 0 where
 pub record IsValidPart (v : ℕ → ℕ → Fraction) (k q : ℕ) : Type 0 where
   pub function : IsPartFunction v
   pub nonnegative : (n d : ℕ) → 0 < d → AtMostValue nothing (v n d)
-  pub at_solutions : (d : ℕ) (tops : List ℕ) → 0 < d → SamePlace (sum tops) d k q → AtMostValue one (sum_of_values v d tops)
+  pub at_solutions : (d : ℕ) (tops : List ℕ) → 0 < d → SamePlace (sum tops) d k q →
+      AtMostValue one (sum_of_values v d tops)
 
 pub record IsMinimalPart (v : ℕ → ℕ → Fraction) (k q : ℕ) : Type 0 where
   pub valid : IsValidPart v k q
-  pub none_below : (u : ℕ → ℕ → Fraction) → IsValidPart u k q → ((n d : ℕ) → 0 < d → AtMostValue (u n d) (v n d)) →
+  pub none_below : (u : ℕ → ℕ → Fraction) → IsValidPart u k q →
+      ((n d : ℕ) → 0 < d → AtMostValue (u n d) (v n d)) →
       (n d : ℕ) → 0 < d → SameValue (u n d) (v n d)
 
 pub record IsExtremePart (v : ℕ → ℕ → Fraction) (k q : ℕ) : Type 0 where
@@ -47,7 +49,8 @@ pub record HasRules (v : ℕ → ℕ → Fraction) (k q : ℕ) : Type 0 where
   pub zero_at_zero : SameValue (v 0 1) nothing
   pub nonnegative : (n d : ℕ) → 0 < d → AtMostValue nothing (v n d)
   pub subadditive : (n m d : ℕ) → 0 < d → AtMostValue (v (n + m) d) (sum_of (v n d) (v m d))
-  pub symmetric : (n m d : ℕ) → 0 < d → SamePlace (n + m) d k q → SameValue (sum_of (v n d) (v m d)) one
+  pub symmetric : (n m d : ℕ) → 0 < d → SamePlace (n + m) d k q →
+      SameValue (sum_of (v n d) (v m d)) one
 
 -- the function that the data tell, by parts
 abbrev pub part_of : FunctionData → ℕ → ℕ → Fraction

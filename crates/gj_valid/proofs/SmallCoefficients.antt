@@ -24,7 +24,8 @@ use Rattle.gj_valid.specs.Coefficients.{IsSmallCoefficient}
 -- ---- fractions over a small bottom
 
 -- in lowest terms a denominator is at most the bottom of each fraction of the same value
-denominator_at_most : (x : Frac) (a b : ℤ) → pos 0 <ℤ b → IsRatio x a b → unsigned_abs (denominator x) ≤ unsigned_abs b
+denominator_at_most : (x : Frac) (a b : ℤ) → pos 0 <ℤ b → IsRatio x a b →
+    unsigned_abs (denominator x) ≤ unsigned_abs b
 denominator_at_most x a b some is =
     let bottom : pos (unsigned_abs b) ≡ b = pos_abs_z b (omega (arith, ints)) in
     let positive = x.lowest.positive in
@@ -34,7 +35,8 @@ denominator_at_most x a b some is =
     (ap (λ z. z *ℤ x.num) bottom ∙ mul_comm_z b x.num ∙ is ∙ ap (λ z. a *ℤ z) (sym den)))
 
 -- a fraction a/b that is from 0 to 1
-small_over : (x : Frac) (a b : ℤ) → pos 0 ≤ℤ a → a ≤ℤ b → pos 0 <ℤ b → unsigned_abs b ≤ 2 ^ 62 → IsRatio x a b → IsSmallCoefficient x
+small_over : (x : Frac) (a b : ℤ) → pos 0 ≤ℤ a → a ≤ℤ b → pos 0 <ℤ b → unsigned_abs b ≤ 2 ^ 62 →
+    IsRatio x a b → IsSmallCoefficient x
 small_over x a b low high some small is =
     let positive = x.lowest.positive in
     let den : pos 0 ≤ℤ x.den = omega (arith, ints) in
@@ -53,7 +55,8 @@ small_over x a b low high some small is =
 
 -- ---- values of minimal functions
 
-pub value_small : (f : FunctionData) (x y : Frac) → IsWithinBounds f → IsMinimal f → unsigned_abs (denominator x) < 2 ^ 31 →
+pub value_small : (f : FunctionData) (x y : Frac) → IsWithinBounds f → IsMinimal f →
+    unsigned_abs (denominator x) < 2 ^ 31 →
     IsValueOf f x y → IsSmallCoefficient y
 value_small f x y l h fine value =
     let d = unsigned_abs (denominator x) in
@@ -65,17 +68,22 @@ value_small f x y l h fine value =
     let (i, place) = natural_index (numerator x *ℤ pos f.order) (f.order * d) grid in
     let minimal = h d some in
     small_over y (table f d i) (pos (f.scale * d)) (minimal.nonnegative i)
-    (at_most_scale (table f d) (f.order * d) (f.place * d) (f.scale * d) i grid minimal) (omega (arith, ints))
+    (at_most_scale (table f d) (f.order * d) (f.place * d) (f.scale * d) i grid minimal)
+    (omega (arith, ints))
     (scales_below f.scale d l.scale_high fine) (value i place)
 
 -- ---- values of mixed-integer cuts
 
 -- what a floor leaves is from 0 to below the denominator
-rest_bounds : (n d w : ℤ) → (w *ℤ d) ≤ℤ n → n <ℤ ((w +ℤ pos 1) *ℤ d) → (pos 0 ≤ℤ (n -ℤ w *ℤ d)) × ((n -ℤ w *ℤ d) <ℤ d)
-rest_bounds n d w low high = let split = add_mul_z w (pos 1) d in (omega (arith, ints), omega (arith, ints))
+rest_bounds : (n d w : ℤ) → (w *ℤ d) ≤ℤ n → n <ℤ ((w +ℤ pos 1) *ℤ d) →
+    (pos 0 ≤ℤ (n -ℤ w *ℤ d)) × ((n -ℤ w *ℤ d) <ℤ d)
+rest_bounds n d w low high = let split = add_mul_z w (pos 1) d in
+    (omega (arith, ints), omega (arith, ints))
 
-product_small : (x y : ℤ) → unsigned_abs x < 2 ^ 31 → unsigned_abs y < 2 ^ 31 → unsigned_abs (x *ℤ y) ≤ 2 ^ 62
-product_small x y h k = subst (λ (n : ℕ). n ≤ 2 ^ 62) (sym (unsigned_abs-mul x y)) (scales_below (unsigned_abs x) (unsigned_abs y) h k)
+product_small : (x y : ℤ) → unsigned_abs x < 2 ^ 31 → unsigned_abs y < 2 ^ 31 →
+    unsigned_abs (x *ℤ y) ≤ 2 ^ 62
+product_small x y h k = subst (λ (n : ℕ). n ≤ 2 ^ 62) (sym (unsigned_abs-mul x y))
+    (scales_below (unsigned_abs x) (unsigned_abs y) h k)
 
 falling_top : (p d q : ℤ) → (pos 1 *ℤ d -ℤ p *ℤ pos 1) *ℤ (pos 1 *ℤ q) ≡ (d -ℤ p) *ℤ q
 falling_top p d q = by_ring (p ∷ d ∷ q ∷ []) (search ring depth 40) refl
@@ -95,9 +103,11 @@ falling_at_most p d n q less =
 less_or_not : (x y : ℤ) → pos 0 ≤ℤ x → pos 0 ≤ℤ y → (x <ℤ y) ⊎ (y ≤ℤ x)
 less_or_not x y h k =
     ⊎_elim (λ (less : unsigned_abs x < unsigned_abs y). inl (omega (arith, ints)))
-    (λ (not : unsigned_abs y ≤ unsigned_abs x). inr (omega (arith, ints))) (cases_lt (unsigned_abs x) (unsigned_abs y))
+    (λ (not : unsigned_abs y ≤ unsigned_abs x). inr (omega (arith, ints)))
+    (cases_lt (unsigned_abs x) (unsigned_abs y))
 
-pub gmic_small : (f x y : Frac) → IsInside f → unsigned_abs (denominator f) < 2 ^ 31 → unsigned_abs (denominator x) < 2 ^ 31 →
+pub gmic_small : (f x y : Frac) → IsInside f → unsigned_abs (denominator f) < 2 ^ 31 →
+    unsigned_abs (denominator x) < 2 ^ 31 →
     IsGmicValue f x y → IsSmallCoefficient y
 gmic_small f x y inside f_fine x_fine value =
     let w = int_div_euclid x.num x.den in
@@ -116,10 +126,12 @@ gmic_small f x y inside f_fine x_fine value =
     (falling_at_most p x.den f.num f.den high)
     (mul_positive_z x.den (f.den -ℤ f.num) x_some (omega (arith, ints)))
     (product_small x.den (f.den -ℤ f.num) x_fine (omega (arith, ints)))
-    (subst₂ (IsRatio y) (falling_top p x.den f.den) (falling_bottom x.den f.num f.den) (value.falls w floor high)))
+    (subst₂ (IsRatio y) (falling_top p x.den f.den) (falling_bottom x.den f.num f.den)
+    (value.falls w floor high)))
     (λ (low : (p *ℤ f.den) ≤ℤ (f.num *ℤ x.den)).
     let swapped = mul_comm_z f.num x.den in
     small_over y (p *ℤ f.den) (x.den *ℤ f.num) right (omega (arith, ints))
-    (mul_positive_z x.den f.num x_some f_low) (product_small x.den f.num x_fine (omega (arith, ints)))
+    (mul_positive_z x.den f.num x_some f_low)
+    (product_small x.den f.num x_fine (omega (arith, ints)))
     (value.rises w floor (λ less. omega (arith, ints))))
     (less_or_not (f.num *ℤ x.den) (p *ℤ f.den) left right)

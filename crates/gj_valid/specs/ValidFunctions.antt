@@ -25,18 +25,21 @@ total_of (x ∷ xs) = sum_of x (total_of xs)
 -- a function of period 1 that takes fractions of at least 0 to fractions of at least 0
 pub record IsFunction (v : Fraction → Fraction) : Type 0 where
   pub nonnegative : (x : Fraction) → IsNonnegative x → IsNonnegative (v x)
-  pub has_period : (x y : Fraction) → IsNonnegative x → IsNonnegative y → IsSamePoint x y → SameValue (v x) (v y)
+  pub has_period : (x y : Fraction) → IsNonnegative x → IsNonnegative y → IsSamePoint x y →
+      SameValue (v x) (v y)
 
 -- a valid function for f: if points, each as often as it is used, add up to f modulo 1, its values
 -- at them add up to 1 or more
 pub record IsValidFunction (v : Fraction → Fraction) (f : Fraction) : Type 0 where
   pub function : IsFunction v
-  pub at_solutions : (points : List Fraction) → All IsNonnegative points → IsSamePoint (total_of points) f → AtMostValue (over 1 1) (total_of (map v points))
+  pub at_solutions : (points : List Fraction) → All IsNonnegative points →
+      IsSamePoint (total_of points) f → AtMostValue (over 1 1) (total_of (map v points))
 
 -- a valid function such that each valid function that is nowhere above it equals it
 pub record IsMinimalAmongFunctions (v : Fraction → Fraction) (f : Fraction) : Type 0 where
   pub valid : IsValidFunction v f
-  pub none_below : (u : Fraction → Fraction) → IsValidFunction u f → ((x : Fraction) → IsNonnegative x → AtMostValue (u x) (v x)) →
+  pub none_below : (u : Fraction → Fraction) → IsValidFunction u f →
+      ((x : Fraction) → IsNonnegative x → AtMostValue (u x) (v x)) →
       (x : Fraction) → IsNonnegative x → SameValue (u x) (v x)
 
 -- a valid function that is not half the sum of two different valid functions
@@ -49,4 +52,8 @@ pub record IsExtremeAmongFunctions (v : Fraction → Fraction) (f : Fraction) : 
 -- the function that the data tell: at n/d its value is that of the table on the grid that holds the
 -- point
 abbrev pub function_of : FunctionData → Fraction → Fraction
-function_of f x = record { top = value_of f (unsigned_abs x.top) (unsigned_abs x.bottom); bottom = pos (f.scale * unsigned_abs x.bottom) }
+function_of f x = record {
+  top = value_of f (unsigned_abs x.top) (unsigned_abs x.bottom);
+  bottom =
+      pos (f.scale * unsigned_abs x.bottom);
+}

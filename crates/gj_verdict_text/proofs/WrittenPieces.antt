@@ -18,18 +18,31 @@ front_written a k n text new within some =
     let rest = new ++ post_of a k text in
     let e : length front ≡ a = length-take-le a text within in
     subst (λ m. take (m + n) (front ++ rest) ≡ front ++ take n new) e
-    (take-append-add front rest n ∙ ap (λ xs. front ++ xs) (take-append-le n new (post_of a k text) some))
+    (take-append-add front rest n
+    ∙ ap (λ xs. front ++ xs) (take-append-le n new (post_of a k text) some))
 
 -- what stands in a text that was made longer, written over behind the old one, and cut off again
-pub lines_behind : (before end len k : ℕ) (old zeros whole text rest final lines : List ℕ) → before ≡ length old → whole ≡ old ++ zeros →
-    end ≤ length text → before + length text ≤ len → final ≡ take (before + end) (take len (put_mid before k whole text ++ rest)) →
+pub lines_behind : (before end len k : ℕ) (old zeros whole text rest final lines : List ℕ) →
+    before ≡ length old → whole ≡ old ++ zeros →
+    end ≤ length text → before + length text ≤ len →
+    final ≡ take (before + end) (take len (put_mid before k whole text ++ rest)) →
     take end text ≡ lines → final ≡ old ++ lines
 lines_behind before end len k old zeros whole text rest final lines at is some room cut written =
     let put = put_mid before k whole text in
     let within : before ≤ length whole = omega (arith, at, ap length is, length-append old zeros) in
     let front : length (take before whole) ≡ before = length-take-le before whole within in
     let fits : before + end ≤ length put =
-    omega (arith, front, some, length-append (take before whole) (text ++ post_of before k whole), length-append text (post_of before k whole)) in
-    cut ∙ take-take (before + end) len (put ++ rest) (omega (arith, some, room)) ∙ take-append-le (before + end) put rest fits
+    omega (
+      arith,
+      front,
+      some,
+      length-append (take before whole)
+          (text ++ post_of before k whole),
+      length-append text (post_of before k whole),
+    ) in
+    cut ∙ take-take (before + end) len (put ++ rest) (omega (arith, some, room))
+    ∙ take-append-le (before + end) put rest fits
     ∙ front_written before k end whole text within some
-    ∙ ap (λ xs. take before xs ++ take end text) is ∙ ap (λ xs. xs ++ take end text) (take_at old zeros before (sym at)) ∙ ap (λ xs. old ++ xs) written
+    ∙ ap (λ xs. take before xs ++ take end text) is
+    ∙ ap (λ xs. xs ++ take end text) (take_at old zeros before (sym at))
+    ∙ ap (λ xs. old ++ xs) written

@@ -16,11 +16,13 @@ text_of piece = take piece.length piece.bytes
 pub record AreStarts (starts : Starts) : Type 0 where
   pub count : length starts.pieces ≡ 6
   pub texts : (kind : FaceKind) (none : Piece) →
-      text_of (get_or starts.pieces (position_of_kind kind) none) ≡ face_word kind ++ codes " " ++ decimal starts.row
+      text_of (get_or starts.pieces (position_of_kind kind) none) ≡ face_word kind ++ codes " "
+      ++ decimal starts.row
 
 -- the lines of the faces of each column end with its piece
 abbrev pub AreEnds : List Piece → Type 0
-AreEnds ends = (b : ℕ) (none : Piece) → b < length ends → text_of (get_or ends b none) ≡ line (codes " " ++ decimal b)
+AreEnds ends = (b : ℕ) (none : Piece) → b < length ends →
+    text_of (get_or ends b none) ≡ line (codes " " ++ decimal b)
 
 -- the face is of the row, and of a column with a piece
 abbrev pub HasPieces : Starts → List Piece → Face → Type 0

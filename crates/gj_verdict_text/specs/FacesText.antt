@@ -28,7 +28,8 @@ pub record ArePushed (component : List (Option ℕ)) (n : ℕ) (old new : List �
 -- walk order
 pub record AreRowsPushed (f : FunctionData) (n : ℕ) (old new : List ℕ) : Type 0 where
   pub faces : List Face
-  pub picked : ArePicked (IsMaximalIn f) (flat_map (faces_of_row f.order) (range_with_len 0 n)) faces
+  pub picked : ArePicked (IsMaximalIn f) (flat_map (faces_of_row f.order) (range_with_len 0 n))
+      faces
   pub pushed : new ≡ old ++ flat_map (λ face. line (face_text face)) faces
 
 -- the text lists the maximal additive faces in walk order, the cover lines, and the uncovered
@@ -39,7 +40,8 @@ pub record IsFacesText (f : FunctionData) (text : List ℕ) : Type 0 where
   pub lines : List CoverLine
   pub cover : AreCoverLines f.order (IsTight f) lines
   pub intervals : List ℕ
-  pub uncovered : ArePicked (λ i. IsCovered f.order (IsTight f) i → ⊥) (range_with_len 0 f.order) intervals
+  pub uncovered : ArePicked (λ i. IsCovered f.order (IsTight f) i → ⊥)
+      (range_with_len 0 f.order) intervals
   pub spelled : text ≡ line (codes "gj-faces 1") ++ order_line f.order
       ++ flat_map (λ face. line (face_text face)) listed
       ++ flat_map cover_line lines

@@ -19,4 +19,5 @@ verdict_lines (NotExtreme h) = line (codes "verdict not-extreme") ++ halves_text
 pub record IsGroupText (f : FunctionData) (answer : GroupAnswer) (text : List ℕ) : Type 0 where
   pub place : Frac
   pub place_is : IsRatio place (pos f.place) (pos f.order)
-  pub spelled : text ≡ line (codes "gj-group 1") ++ order_line f.order ++ place_line place ++ verdict_lines answer ++ line (codes "end")
+  pub spelled : text ≡ line (codes "gj-group 1") ++ order_line f.order ++ place_line place
+      ++ verdict_lines answer ++ line (codes "end")

@@ -12,5 +12,6 @@ use Rattle.gj_proof.specs.Rules.{MeetsRules}
 -- with the first violation; every rule of the checker holds of it
 abbrev pub IsMinimalityClaim : FunctionData → Claim → Type 0
 IsMinimalityClaim f (Minimal g) = (g ≡ f) × IsMinimal f × MeetsRules (Minimal f)
-IsMinimalityClaim f (NotMinimal g v) = (g ≡ f) × IsFirstViolation f v × ShowsViolation f v × MeetsRules (NotMinimal f v)
+IsMinimalityClaim f (NotMinimal g v) = (g ≡ f) × IsFirstViolation f v × ShowsViolation f v
+    × MeetsRules (NotMinimal f v)
 IsMinimalityClaim f c = ⊥

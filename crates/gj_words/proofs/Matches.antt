@@ -29,7 +29,8 @@ pub record Holds (words : List Text) (m : ArgMatches) : Type 0 where
   pub second_is : first_value (found_of m) (codes "second") ≡ second_in behind
   pub words_are : words ≡ name ∷ behind
 
-pub holds : (app : App) (words : List Text) (m : ArgMatches) → app ≡ our_app → are_hyphenless words ≡ true
+pub holds : (app : App) (words : List Text) (m : ArgMatches) → app ≡ our_app →
+    are_hyphenless words ≡ true
     → fault_of app words ≡ [] → rows_of (found_of m) ≡ matches_of app words → Holds words m
 holds app words m same plain none rows = go (parsed_words words plain)
   where
@@ -41,28 +42,34 @@ holds app words m same plain none rows = go (parsed_words words plain)
       name = name;
       behind = behind;
       few = few;
-      name_is = first_value-rows (found_of m) (codes "command") ∙ ap (first_of (codes "command")) rows_are ∙ ap (λ (f : Found). f.1) e;
-      first_is = first_value-rows (found_of m) (codes "first") ∙ ap (first_of (codes "first")) rows_are ∙ ap (λ (f : Found). f.2) e;
-      second_is = first_value-rows (found_of m) (codes "second") ∙ ap (first_of (codes "second")) rows_are ∙ ap (λ (f : Found). f.3) e;
+      name_is = first_value-rows (found_of m) (codes "command")
+          ∙ ap (first_of (codes "command")) rows_are ∙ ap (λ (f : Found). f.1) e;
+      first_is = first_value-rows (found_of m) (codes "first")
+          ∙ ap (first_of (codes "first")) rows_are ∙ ap (λ (f : Found). f.2) e;
+      second_is = first_value-rows (found_of m) (codes "second")
+          ∙ ap (first_of (codes "second")) rows_are ∙ ap (λ (f : Found). f.3) e;
       words_are = words_are;
     }
     go (left fails unnamed) = absurd (fails (sym (ap (λ a. fault_of a words) same) ∙ none))
 
 -- if it refuses the words, they are not one, two or three
-pub refuses : (app : App) (words : List Text) (error : Error) → app ≡ our_app → are_hyphenless words ≡ true
+pub refuses : (app : App) (words : List Text) (error : Error) → app ≡ our_app →
+    are_hyphenless words ≡ true
     → HasKind (fault_of app words) error → kind_of error ≢ OutOfMemory
     → (name : Text) (rest : List Text) → length rest ≤ 2 → words ≢ name ∷ rest
 refuses app words error same plain kind some_memory = go (parsed_words words plain)
   where
     go : Parsed words → (name : Text) (rest : List Text) → length rest ≤ 2 → words ≢ name ∷ rest
     go (taken found behind some e words_are) name rest few is =
-        let none : fault_of app words ≡ [] = ap (λ a. fault_of a words) same ∙ ap (λ (f : Found). f.0) e in
+        let none : fault_of app words ≡ [] = ap (λ a. fault_of a words) same
+        ∙ ap (λ (f : Found). f.0) e in
         let memory : HasKind [] error = subst (λ kinds. HasKind kinds error) none kind in
         elim memory [ inl h ↦ some_memory h | inr h ↦ h ]
     go (left fails unnamed) name rest few is = unnamed name rest few is
 
 -- what the two look-ups give, put one behind the other
-pub both : (behind : List Text) → length behind ≤ 2 → option_to_list (first_in behind) ++ option_to_list (second_in behind) ≡ behind
+pub both : (behind : List Text) → length behind ≤ 2 →
+    option_to_list (first_in behind) ++ option_to_list (second_in behind) ≡ behind
 both [] few = refl
 both (a ∷ []) few = refl
 both (a ∷ b ∷ []) few = refl

@@ -31,7 +31,12 @@ is_bare (byte ∷ rest) h = go (nat_eq byte 45) refl h
   where
     go : (b : Bool) → nat_eq byte 45 ≡ b → not b ≡ true → IsBare (byte ∷ rest)
     go true is other = cc
-    go false is other = record { no_dashes = rw is refl; no_long = rw is refl; no_short = rw is refl }
+    go false is other = record {
+      no_dashes = rw is refl;
+      no_long = rw is refl;
+      no_short =
+          rw is refl;
+    }
 
 abbrev AreBare : List Text → Type 0
 AreBare [] = Unit {0}
@@ -70,8 +75,10 @@ second_in (a ∷ more) = first_in more
 -- it takes the words, of which these stand behind the command word, or does not and has to
 pub data Parsed (words : List Text) : Type 0 where
   taken : (name : Text) (behind : List Text) → length behind ≤ 2
-      → found_in words ≡ ([], Some name, first_in behind, second_in behind) → words ≡ name ∷ behind → Parsed words
-  left : (fault_of our_app words ≡ [] → ⊥) → ((name : Text) (rest : List Text) → length rest ≤ 2 → words ≢ name ∷ rest) → Parsed words
+      → found_in words ≡ ([], Some name, first_in behind, second_in behind) →
+      words ≡ name ∷ behind → Parsed words
+  left : (fault_of our_app words ≡ [] → ⊥) →
+      ((name : Text) (rest : List Text) → length rest ≤ 2 → words ≢ name ∷ rest) → Parsed words
 
 -- ---- the rows of its matches
 
@@ -96,18 +103,37 @@ second_row = row_from 2 (codes "second")
 
 -- the command word, the first and the second word behind it that rows have
 abbrev in_rows : List Row → Option Text × Option Text × Option Text
-in_rows rows = (first_of (codes "command") rows, first_of (codes "first") rows, first_of (codes "second") rows)
+in_rows rows = (
+  first_of (codes "command") rows,
+  first_of (codes "first") rows,
+  first_of
+      (codes "second") rows,
+)
 
 taken_by : (name : Text) (behind : List Text) (rows : List Row) → length behind ≤ 2 →
     fault_of our_app (name ∷ behind) ≡ [] → matches_of our_app (name ∷ behind) ≡ rows →
     in_rows rows ≡ (Some name, first_in behind, second_in behind) → Parsed (name ∷ behind)
 taken_by name behind rows few fault matches look =
-    let e : found_in (name ∷ behind) ≡ ([], first_of (codes "command") rows, first_of (codes "first") rows, first_of (codes "second") rows) =
-    (λ i. (fault i, first_of (codes "command") (matches i), first_of (codes "first") (matches i), first_of (codes "second") (matches i))) in
+    let e : found_in (name ∷ behind)
+    ≡ (
+      [],
+      first_of (codes "command") rows,
+      first_of (codes "first") rows,
+      first_of
+          (codes "second") rows,
+    ) =
+    (λ i. (
+      fault i,
+      first_of (codes "command") (matches i),
+      first_of (codes "first")
+          (matches i),
+      first_of (codes "second") (matches i),
+    )) in
     taken name behind few (e ∙ (λ i. ([], (look i).0, (look i).1, (look i).2))) refl
 
 -- it has to leave words that are four or more
-stray : (a b c d : Text) (more : List Text) → fault_of our_app (a ∷ b ∷ c ∷ d ∷ more) ≡ UnknownArgument ∷ [] → Parsed (a ∷ b ∷ c ∷ d ∷ more)
+stray : (a b c d : Text) (more : List Text) → fault_of our_app (a ∷ b ∷ c ∷ d ∷ more)
+    ≡ UnknownArgument ∷ [] → Parsed (a ∷ b ∷ c ∷ d ∷ more)
 stray a b c d more fault = left (λ none. cc) (λ name rest few e. omega (arith, ap length e))
 
 -- and those that are none
@@ -127,11 +153,16 @@ parsed (a ∷ b ∷ []) (h, (k, _)) =
     (rw (h.no_dashes, h.no_long, h.no_short) (rw (k.no_dashes, k.no_long, k.no_short) refl)) refl
 parsed (a ∷ b ∷ c ∷ []) (h, (k, (l, _))) =
     taken_by a (b ∷ c ∷ []) (command_row a ∷ first_row b ∷ second_row c ∷ []) (omega arith)
-    (rw (h.no_dashes, h.no_long, h.no_short) (rw (k.no_dashes, k.no_long, k.no_short) (rw (l.no_dashes, l.no_long, l.no_short) refl)))
-    (rw (h.no_dashes, h.no_long, h.no_short) (rw (k.no_dashes, k.no_long, k.no_short) (rw (l.no_dashes, l.no_long, l.no_short) refl))) refl
+    (rw (h.no_dashes, h.no_long, h.no_short)
+    (rw (k.no_dashes, k.no_long, k.no_short) (rw (l.no_dashes, l.no_long, l.no_short) refl)))
+    (rw (h.no_dashes, h.no_long, h.no_short)
+    (rw (k.no_dashes, k.no_long, k.no_short) (rw (l.no_dashes, l.no_long, l.no_short) refl)))
+    refl
 parsed (a ∷ b ∷ c ∷ d ∷ more) (h, (k, (l, (m, _)))) =
     stray a b c d more
-    (rw (h.no_dashes, h.no_long, h.no_short) (rw (k.no_dashes, k.no_long, k.no_short) (rw (l.no_dashes, l.no_long, l.no_short) (rw (m.no_dashes, m.no_long, m.no_short) refl))))
+    (rw (h.no_dashes, h.no_long, h.no_short)
+    (rw (k.no_dashes, k.no_long, k.no_short)
+    (rw (l.no_dashes, l.no_long, l.no_short) (rw (m.no_dashes, m.no_long, m.no_short) refl))))
 
 -- words that do not begin with `-` are taken, or are left where they have to be
 pub parsed_words : (words : List Text) → are_hyphenless words ≡ true → Parsed words

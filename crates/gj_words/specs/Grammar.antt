@@ -53,7 +53,8 @@ jumps_word = codes "--jumps"
 -- the words are these with the flag of this word once at any place, or if it is not given these
 -- alone
 abbrev pub HasFlag : List ℕ → Bool → List (List ℕ) → List (List ℕ) → Type 0
-HasFlag flag true bare words = (front : List (List ℕ)) × (back : List (List ℕ)) × (bare ≡ front ++ back) × (words ≡ front ++ flag ∷ back)
+HasFlag flag true bare words = (front : List (List ℕ)) × (back : List (List ℕ))
+    × (bare ≡ front ++ back) × (words ≡ front ++ flag ∷ back)
 HasFlag flag false bare words = words ≡ bare
 
 -- the words are those of the command with each flag that is given

@@ -21,7 +21,8 @@ words_of line = line.name.now ∷ words_behind line.operands
 -- the words are no line: they are none, or more than three, or one begins with `-`
 abbrev pub AreNoLine : List (List ℕ) → Type 0
 AreNoLine words =
-    (name : List ℕ) (rest : List (List ℕ)) → length rest ≤ 2 → are_hyphenless (name ∷ rest) ≡ true → words ≢ name ∷ rest
+    (name : List ℕ) (rest : List (List ℕ)) → length rest ≤ 2 → are_hyphenless (name ∷ rest) ≡ true →
+    words ≢ name ∷ rest
 
 -- this word, and these behind it, are the words of the command
 pub record IsCommandOf (name : List ℕ) (behind : List (List ℕ)) (command : Command) : Type 0 where
@@ -29,7 +30,8 @@ pub record IsCommandOf (name : List ℕ) (behind : List (List ℕ)) (command : C
   pub words : command_words command ≡ name ∷ behind
 
 -- these words without flags, and the flags that are given, are the request
-pub record IsRequestOf (words : List (List ℕ)) (json jumps : Bool) (request : Request) : Type 0 where
+pub record IsRequestOf (words : List (List ℕ)) (json jumps : Bool) (request : Request) :
+    Type 0 where
   pub in_bounds : IsInBounds request.command
   pub words_are : command_words request.command ≡ words
   pub json_is : request.json ≡ json

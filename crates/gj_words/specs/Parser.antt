@@ -16,7 +16,12 @@ second_rule = new_rule (codes "second")
 -- the words without a program's name, and no help and no version of `clap`'s own
 abbrev pub bare_app : App
 bare_app = let new = new_app (codes "gjcut") in record new {
-  top = record new.top { no_binary_name = true; disable_help_flag = true; disable_version_flag = true };
+  top = record new.top {
+    no_binary_name = true;
+    disable_help_flag = true;
+    disable_version_flag =
+        true;
+  };
 }
 
 -- the command line: three positionals

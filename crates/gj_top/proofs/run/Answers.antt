@@ -31,29 +31,39 @@ run g c status = record {
 }
 
 -- the answer that was written
-answer : (g : Over) (c : goal.Joined-answer g) → IsAnswerOf (run g c c.status.result) c.status.result (answer_text c.in-Ok.answer)
-answer g c = subst (λ (s : Status). IsAnswerOf (run g c c.status.result) s (answer_text c.in-Ok.answer)) (sym c.status.ensures) c.in-Ok.ensures.answer
+answer : (g : Over) (c : goal.Joined-answer g) →
+    IsAnswerOf (run g c c.status.result) c.status.result (answer_text c.in-Ok.answer)
+answer g c = subst (λ (s : Status). IsAnswerOf (run g c c.status.result) s
+    (answer_text c.in-Ok.answer)) (sym c.status.ensures) c.in-Ok.ensures.answer
 
 outcome : (g : Over) (c : goal.Joined-answer g) → IsOutcome (run g c c.status.result)
 outcome g c = told (record {
   text = answer_text c.in-Ok.answer;
   answer = answer g c;
-  gain = subst (Gains (g.K.Sink.written c.args.sink.now) (g.K.Sink.written c.write_all.new.sink)) c.text.ensures c.in-Ok-write_all.ensures.told;
+  gain = subst (Gains (g.K.Sink.written c.args.sink.now) (g.K.Sink.written c.write_all.new.sink))
+      c.text.ensures c.in-Ok-write_all.ensures.told;
 })
 
 pub returns-in-Ok-write_all-clause-headline : goal.returns-in-Ok-write_all-clause-headline
-returns-in-Ok-write_all-clause-headline g c = headline_clause (run g c c.status.result) (outcome g c)
+returns-in-Ok-write_all-clause-headline g c =
+    headline_clause (run g c c.status.result) (outcome g c)
 
 pub returns-in-Ok-write_all-clause-is_run : goal.returns-in-Ok-write_all-clause-is_run
 returns-in-Ok-write_all-clause-is_run g c =
-    is_run (run g c c.status.result) (outcome g c) (λ e. absurd (no_write_fault _ _ _ _ _ _ (answer g c) e)) c.in-Ok.ensures.count
+    is_run (run g c c.status.result) (outcome g c)
+    (λ e. absurd (no_write_fault _ _ _ _ _ _ (answer g c) e)) c.in-Ok.ensures.count
     c.in-Ok-write_all.ensures.count
 
 -- ---- without memory, and if the sink failed
 
 pub returns-in_default-clause-is_run : goal.returns-in_default-clause-is_run
 returns-in_default-clause-is_run g c =
-    is_run _ (silent (record { status_is = refl; unanswered = c.in_default.ensures.memory; unwritten = refl })) (λ e. absurd (cc))
+    is_run _ (silent (record {
+      status_is = refl;
+      unanswered =
+          c.in_default.ensures.memory;
+      unwritten = refl;
+    })) (λ e. absurd (cc))
     c.in_default.ensures.count (omega arith)
 
 -- a call that would not have failed if the sink was sure

@@ -6,7 +6,8 @@ use Rattle.gj_values.proofs.one_value.Goals as goal
 
 pub returns-clause-of_function : goal.returns-clause-of_function
 returns-clause-of_function c = λ f x y z l h k.
-    one_value f (numerator x *ℤ pos f.order) (unsigned_abs (denominator x)) y z l (denominator_some x) h k
+    one_value f (numerator x *ℤ pos f.order) (unsigned_abs (denominator x)) y z l
+    (denominator_some x) h k
 
 pub returns-clause-of_gmic : goal.returns-clause-of_gmic
 returns-clause-of_gmic c = one_gmic_value

@@ -13,7 +13,8 @@ returns-then-not-meets_rule c =
     let h = c.loop-index.invariant in
     let have = subst (HaveLines (take k lines)) (sym c.as_slice.ensures.value) h.have in
     first_broken c.args.shape.now lines k low h.meet
-    (λ meets. let yes = (c.meets_rule.ensures (take k lines) have).1 meets in let no = c.if-not-meets_rule.true in cc)
+    (λ meets. let yes = (c.meets_rule.ensures (take k lines) have).1 meets in
+    let no = c.if-not-meets_rule.true in cc)
 
 pub loop-index-preserved : goal.loop-index-preserved
 loop-index-preserved c =
@@ -32,15 +33,18 @@ loop-index-preserved c =
     AreNumbered c.args.shape.now lines (k + 1) (set has_line l.interval true) number count in
     elim c.if-line.branch [
       | then-line w ↦
-          let opening = numbered_opening c.args.shape.now lines k has_line numbers c.loop-index.count l h low is
+          let opening = numbered_opening c.args.shape.now lines k has_line numbers
+          c.loop-index.count l h low is
           within.interval meets w.if-line.true in
           subst₂ Next (sym (ap (λ v. v.items) w.number-is)) (sym w.count-is) opening
       | else-line w ↦
-          let joining = numbered_joining c.args.shape.now lines k has_line numbers c.loop-index.count l h low is
+          let joining = numbered_joining c.args.shape.now lines k has_line numbers
+          c.loop-index.count l h low is
           within.interval within.from meets w.if-line.false in
           let number_length = h.number_length in
           let from = within.from in
-          let read : w.index.result.now ≡ get_or numbers l.from 0 = w.index.ensures ∙ get_or_default numbers l.from _ 0 (omega arith) in
+          let read : w.index.result.now ≡ get_or numbers l.from 0 = w.index.ensures
+          ∙ get_or_default numbers l.from _ 0 (omega arith) in
           let written = ap (λ v. v.items) w.number-is ∙ ap (λ n. set numbers l.interval n) read in
           subst₂ Next (sym written) (sym w.count-is) joining
     ]
@@ -50,5 +54,7 @@ returns c =
     let h = c.loop-index.invariant in
     let past = c.loop-index-test.false in
     let end = c.loop-index.auto.index-end in
-    all_numbered c.args.shape.now c.args.lines.now c.loop-index.index (omega arith) c.loop-index.has_line.items
-    (record { number = c.loop-index.number; count = c.loop-index.count }) c.requires.count c.requires.lines h
+    all_numbered c.args.shape.now c.args.lines.now c.loop-index.index
+    (omega arith) c.loop-index.has_line.items
+    (record { number = c.loop-index.number; count = c.loop-index.count }) c.requires.count
+    c.requires.lines h

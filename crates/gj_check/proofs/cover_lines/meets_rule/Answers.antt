@@ -9,16 +9,24 @@ returns c before h =
     let lines = c.requires.lines in
     let i_low = c.requires.line.interval in
     let j_low = c.requires.line.from in
-    let all = links_of l.face.kind l.face.a l.face.b ++ triangle_projections l.face.kind l.face.a l.face.b in
-    let joins = subst (λ q. IsTrue c.joins.result ↔ (IsOneOf q all l.interval × IsOneOf q all l.from)) c.order-order.ensures.value
+    let all = links_of l.face.kind l.face.a l.face.b ++ triangle_projections l.face.kind l.face.a
+    l.face.b in
+    let joins = subst (λ q. IsTrue c.joins.result
+    ↔ (IsOneOf q all l.interval × IsOneOf q all l.from)) c.order-order.ensures.value
     c.joins.ensures in
     let additive = c.is_additive.ensures.0 c.if-not-is_additive.false in (
       λ t. record {
         additive = additive;
-        new = λ line. let has = (h l.interval (omega arith)).1 line in let no = c.if-has_line-line.false in absurd cc;
+        new = λ line. let has = (h l.interval (omega arith)).1 line in
+            let no = c.if-has_line-line.false in absurd cc;
         opening = λ same. absurd (c.if-line.false same);
         earlier = λ other. (h l.from (omega arith)).0 c.if-not-has_line-line.false;
-        joining = λ other. record { additive = additive; first = (joins.0 t).0; second = (joins.0 t).1 };
+        joining = λ other. record {
+          additive = additive;
+          first = (joins.0 t).0;
+          second =
+              (joins.0 t).1;
+        };
       },
       λ m. joins.1 ((m.joining c.if-line.false).first, (m.joining c.if-line.false).second),
     )

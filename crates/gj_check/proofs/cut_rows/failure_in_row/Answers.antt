@@ -15,12 +15,15 @@ failure_in_terms-requires-clause-common c = (c.in-Some.ensures.within [] none_ye
 pub returns-in-Some : goal.returns-in-Some
 returns-in-Some c =
     IfOk-weaker c.failure_in_terms.result _ _
-    (λ o h. row_outcome c.args.rule.now c.args.row.now c.in-Cut.basic c.in-Cut.right c.in-Cut.terms o c.in-Cut.is
+    (λ o h. row_outcome c.args.rule.now c.args.row.now c.in-Cut.basic c.in-Cut.right c.in-Cut.terms
+    o c.in-Cut.is
     (c.if-not-meets_fraction.ensures.0 refl) (c.in-Some.ensures.within [] none_yet).0
-    (subst (λ xs. IsTermsOutcome c.args.rule.now c.in-Cut.basic c.in-Cut.right xs o) c.as_slice.ensures h))
+    (subst (λ xs. IsTermsOutcome c.args.rule.now c.in-Cut.basic c.in-Cut.right xs o)
+    c.as_slice.ensures h))
     c.failure_in_terms.ensures
 
 pub returns-in-None : goal.returns-in-None
 returns-in-None c =
-    at_limit c.in-Cut.basic c.in-Cut.right c.in-Cut.terms c.in-Cut.is refl refl (c.if-not-meets_fraction.ensures.0 refl)
+    at_limit c.in-Cut.basic c.in-Cut.right c.in-Cut.terms c.in-Cut.is refl refl
+    (c.if-not-meets_fraction.ensures.0 refl)
     (λ h. c.in-None.ensures.beyond [] none_yet h)

@@ -10,5 +10,6 @@ returns c =
     let place = c.into.ensures ∙ c.place.ensures.value in
     let order = c.into-2.ensures ∙ c.order.ensures.value in
     in_other_words _ _ _
-    (subst₂ (λ k q. IsTrue c.is_ratio.result ↔ IsRatio c.fract.result (pos k) (pos q)) place order c.is_ratio.ensures)
+    (subst₂ (λ k q. IsTrue c.is_ratio.result ↔ IsRatio c.fract.result (pos k) (pos q)) place order
+    c.is_ratio.ensures)
     (part_is_fraction c.args.x c.fract.result (pos f.place) (pos f.order) c.fract.ensures.value)

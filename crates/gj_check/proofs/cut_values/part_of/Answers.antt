@@ -17,10 +17,12 @@ returns-clause-value c w floor =
     let num : to_z w64 (of_z w64 x.num) ≡ x.num = to_z-of_z w64 x.num (omega (arith, ints)) in
     let den : to_z w64 (of_z w64 x.den) ≡ x.den = to_z-of_z w64 x.den (omega (arith, ints)) in
     let rest = to_z-of_z w64 c.rem_euclid.result (search rules) in
-    let value : c.rem_euclid.result ≡ int_rem_euclid x.num x.den = simp (c.num.ensures, c.den.ensures, wide_num, wide_den, num, den) at
+    let value : c.rem_euclid.result ≡ int_rem_euclid x.num x.den =
+    simp (c.num.ensures, c.den.ensures, wide_num, wide_den, num, den) at
     c.rem_euclid.ensures.value in
     let above = c.rem_euclid.ensures.lower_bound in
-    let natural : pos (unsigned_abs c.rem_euclid.result) ≡ c.rem_euclid.result = omega (arith, ints) in
+    let natural : pos (unsigned_abs c.rem_euclid.result) ≡ c.rem_euclid.result =
+    omega (arith, ints) in
     ap (λ z. pos (unsigned_abs z)) rest ∙ natural ∙ value ∙ rest_from_floor x w floor
 
 pub returns-clause-below : goal.returns-clause-below
@@ -31,6 +33,7 @@ returns-clause-below c =
     let wide_den = read_part x.den x.lowest.den_fits in
     let den : to_z w64 (of_z w64 x.den) ≡ x.den = to_z-of_z w64 x.den (omega (arith, ints)) in
     let rest = to_z-of_z w64 c.rem_euclid.result (search rules) in
-    let below : unsigned_abs c.rem_euclid.result < unsigned_abs x.den = simp (c.den.ensures, wide_den, den) at
+    let below : unsigned_abs c.rem_euclid.result < unsigned_abs x.den =
+    simp (c.den.ensures, wide_den, den) at
     c.rem_euclid.ensures.upper_bound in
     subst (λ z. unsigned_abs z < unsigned_abs x.den) (sym rest) below

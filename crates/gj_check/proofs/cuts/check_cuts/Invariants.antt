@@ -5,5 +5,6 @@ use Rattle.gj_check.proofs.cuts.check_cuts.Given as goal
 
 abbrev pub invariant-loop-row : goal.invariant-loop-row
 invariant-loop-row l =
-    (l.line ≡ first_of l.rule + count_of (take l.row-index l.rows)) × All (MeetsCutRow l.rule) (take l.row-index l.rows)
+    (l.line ≡ first_of l.rule + count_of (take l.row-index l.rows))
+    × All (MeetsCutRow l.rule) (take l.row-index l.rows)
     × HaveDifferentNames l.known

@@ -13,7 +13,8 @@ returns-then-is_within_period-2 c =
           let both =
           two_read c.args.x c.args.y c.positive_denominator.result
           c.positive_denominator-then-is_within_period-2.result x_is y_is
-          c.positive_denominator.ensures.value c.positive_denominator-then-is_within_period-2.ensures.value in
+          c.positive_denominator.ensures.value
+          c.positive_denominator-then-is_within_period-2.ensures.value in
           let e = c.has_fine_multiple.ensures in
           (λ h. both.0 (e.0 h), λ h. e.1 (both.1 h))
       | else-is_within_period w ↦

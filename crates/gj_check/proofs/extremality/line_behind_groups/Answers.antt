@@ -11,7 +11,8 @@ loop-row-preserved c =
     let i = c.loop-row.row-index in
     let row = c.row-item.result in
     let so_far = c.loop-row.invariant in
-    let more = ap (λ rs. length (group_lines 0 rs)) (with_place rows i row c.loop-row-test.true c.row-item.is)
+    let more = ap (λ rs. length (group_lines 0 rs))
+    (with_place rows i row c.loop-row-test.true c.row-item.is)
     ∙ one_group_more 0 (take i rows) row in
     let one = length-group 0 row in
     let line = c.in_ok-line.ensures in

@@ -11,8 +11,10 @@ is_minimal_table-requires c =
     let r = c.args.refinement in
     let l = c.place.ensures.limits in
     let b = c.requires.halves in
-    subst₂ (λ p s. IsTableInRange c.args.values.now (p * r.times) s) (sym c.place.ensures.value) (sym (halves_scale_read c.args.halves.now b))
-    (half_in_range c.args.shape.now c.args.halves.now r c.args.values.now l b c.requires.refinement c.requires.length c.requires.range)
+    subst₂ (λ p s. IsTableInRange c.args.values.now (p * r.times) s) (sym c.place.ensures.value)
+    (sym (halves_scale_read c.args.halves.now b))
+    (half_in_range c.args.shape.now c.args.halves.now r c.args.values.now l b c.requires.refinement
+    c.requires.length c.requires.range)
 
 pub returns : goal.returns
 returns c =
@@ -21,6 +23,7 @@ returns c =
     let l = c.place.ensures.limits in
     let b = c.requires.halves in
     in_other_words_ok c.is_minimal_table.result _ _
-    (subst₂ (λ p s. IfOk c.is_minimal_table.result (λ t. IsTrue t ↔ IsMinimalTable (at values) (length values) (p * r.times) (unsigned_abs s)))
+    (subst₂ (λ p s. IfOk c.is_minimal_table.result
+    (λ t. IsTrue t ↔ IsMinimalTable (at values) (length values) (p * r.times) (unsigned_abs s)))
     c.place.ensures.value (halves_scale_read c.args.halves.now b) c.is_minimal_table.ensures)
     (half_by c.args.shape.now c.args.halves.now r values l c.requires.refinement c.requires.length)

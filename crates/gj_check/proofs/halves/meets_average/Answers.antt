@@ -10,8 +10,10 @@ overflow_add-sum c =
     let h = c.args.halves.now in
     let b = c.requires.halves in
     let m = c.requires.range in
-    let first = half_read h h.first _ c.args.index c.as_slice.ensures b.first_length b.first_fit c.requires.within in
-    let second = half_read h h.second _ c.args.index c.as_slice-2.ensures b.second_length b.second_fit c.requires.within in
+    let first = half_read h h.first _ c.args.index c.as_slice.ensures b.first_length b.first_fit
+    c.requires.within in
+    let second = half_read h h.second _ c.args.index c.as_slice-2.ensures b.second_length
+    b.second_fit c.requires.within in
     let high = b.scale_high in
     let first_low = m.first_low in
     let first_high = m.first_high in
@@ -25,10 +27,13 @@ returns c =
     let h = c.args.halves.now in
     let r = c.args.refinement in
     let b = c.requires.halves in
-    let first = half_read h h.first _ c.args.index c.as_slice.ensures b.first_length b.first_fit c.requires.within in
-    let second = half_read h h.second _ c.args.index c.as_slice-2.ensures b.second_length b.second_fit c.requires.within in
+    let first = half_read h h.first _ c.args.index c.as_slice.ensures b.first_length b.first_fit
+    c.requires.within in
+    let second = half_read h h.second _ c.args.index c.as_slice-2.ensures b.second_length
+    b.second_fit c.requires.within in
     let sum = sum_of_halves h c.args.index _ _ b c.requires.range first second in
     in_other_words _ _ _
-    (subst (λ z. IsTrue c.is_twice_the_value.result ↔ (z ≡ pos (2 * r.factor) *ℤ table f r.times c.args.index)) sum
+    (subst (λ z. IsTrue c.is_twice_the_value.result
+    ↔ (z ≡ pos (2 * r.factor) *ℤ table f r.times c.args.index)) sum
     c.is_twice_the_value.ensures)
     (average_by f h r c.args.index c.requires.limits b c.requires.refinement)

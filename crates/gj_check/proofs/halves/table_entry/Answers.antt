@@ -21,7 +21,9 @@ returns c =
     let len = l.value_length in
     let low : i / m < f.order = (div-lt_iff_lt-mul c.requires.some).1 c.requires.within in
     let here = c.from.ensures ∙ entry_read _ f.value (i / m) value (omega arith) (search rules) in
-    let next = c.from-2.ensures ∙ rest_read _ f.value (i / m + 1) _ _ value (ap length (sym value)) refl (search rules) in
-    sum_of_parts _ _ _ _ _ _ (m - i % m) (i % m) (value_below f (i / m) l) (value_below f (i / m + 1) l) here next
+    let next = c.from-2.ensures
+    ∙ rest_read _ f.value (i / m + 1) _ _ value (ap length (sym value)) refl (search rules) in
+    sum_of_parts _ _ _ _ _ _ (m - i % m) (i % m) (value_below f (i / m) l)
+    (value_below f (i / m + 1) l) here next
     c.times.ensures.value c.times-2.ensures.value c.times.ensures.fits c.times-2.ensures.fits
     ∙ table_by_values f m i c.requires.continuous

@@ -9,7 +9,8 @@ use Rattle.gj_check.proofs.names.first_seen.Goals as goal
 pub loop-index-init : goal.loop-index-init
 loop-index-init c = (
   subst (λ ks. HasNames ks c.args.basic.now []) (sym c.in_ok-insert.ensures.keys)
-      (subst (λ b. HasNames (insert_key same_bytes c.in_ok-seen.seen.keys c.bytes.result) b []) c.bytes.ensures.value
+      (subst (λ b. HasNames (insert_key same_bytes c.in_ok-seen.seen.keys c.bytes.result) b [])
+      c.bytes.ensures.value
       (basic_seen c.in_ok-seen.seen.keys c.bytes.result c.in_ok-seen.ensures.empty)),
   λ i below. absurd (omega arith),
 )
@@ -35,12 +36,15 @@ loop-index-preserved c =
     let below : n < length terms = c.loop-index-test.true in
     let among = c.loop-index.invariant.0 c.bytes-in-loop-index.result.now in
     let new = not_true _ (sym c.in_ok-insert-2.ensures.added ∙ c.if-not-branch.false) in (
-      subst (HasNames c.insert-in-loop-index.new.self.keys basic) (sym (with_place terms n t below c.index-terms-index.is))
-          (subst (λ ks. HasNames ks basic (take n terms ++ t ∷ [])) (sym c.in_ok-insert-2.ensures.keys)
+      subst (HasNames c.insert-in-loop-index.new.self.keys basic)
+          (sym (with_place terms n t below c.index-terms-index.is))
+          (subst (λ ks. HasNames ks basic (take n terms ++ t ∷ []))
+          (sym c.in_ok-insert-2.ensures.keys)
           (name_seen c.loop-index.seen.keys c.bytes-in-loop-index.result basic (take n terms) t
           c.loop-index.invariant.0 c.bytes-in-loop-index.ensures.value new)),
       below_more (λ i. AtIndex terms i (MeetsName basic)) n c.loop-index.invariant.1
           (at_place terms (MeetsName basic) n t below c.index-terms-index.is
           (is_new basic (take n terms) t
-          (sym (ap (λ q. is_among q basic (take n terms)) c.bytes-in-loop-index.ensures.value) ∙ sym among ∙ new))),
+          (sym (ap (λ q. is_among q basic (take n terms)) c.bytes-in-loop-index.ensures.value)
+          ∙ sym among ∙ new))),
     )

@@ -8,7 +8,8 @@ pub value_at-requires-clause-fine : goal.value_at-requires-clause-fine
 value_at-requires-clause-fine c = one_fine c.args.x c.requires.coordinates
 
 pub value_at-requires-clause-size : goal.value_at-requires-clause-size
-value_at-requires-clause-size c = coordinate_small c.args.x (one_within c.args.x c.requires.coordinates)
+value_at-requires-clause-size c =
+    coordinate_small c.args.x (one_within c.args.x c.requires.coordinates)
 
 pub value_scaled-requires : goal.value_scaled-requires
 value_scaled-requires c =
@@ -17,8 +18,10 @@ value_scaled-requires c =
 
 pub add-sum-requires : goal.add-sum-requires
 add-sum-requires c =
-    asymmetric_fits c.args.shape.now c.args.x c.scaled_opposite-opposite.result c.value_at.result c.value_scaled.result
-    c.requires.limits c.requires.coordinates c.scaled_opposite-opposite.ensures c.value_at.ensures.value
+    asymmetric_fits c.args.shape.now c.args.x c.scaled_opposite-opposite.result c.value_at.result
+    c.value_scaled.result
+    c.requires.limits c.requires.coordinates c.scaled_opposite-opposite.ensures
+    c.value_at.ensures.value
     c.value_scaled.ensures
 
 pub returns : goal.returns
@@ -26,5 +29,6 @@ returns c =
     in_other_words _ (numerator c.add-sum.result ≢ denominator c.add-sum.result) _ (search rules)
     (asymmetric_shown c.args.shape.now c.args.x c.scaled_opposite-opposite.result c.value_at.result
     c.value_scaled.result
-    c.add-sum.result c.requires.limits (one_within c.args.x c.requires.coordinates) c.scaled_opposite-opposite.ensures
+    c.add-sum.result c.requires.limits (one_within c.args.x c.requires.coordinates)
+    c.scaled_opposite-opposite.ensures
     c.value_at.ensures.value c.value_scaled.ensures c.add-sum.ensures)

@@ -8,7 +8,8 @@ returns-in-Zero c =
     let n = get_or c.value_numerators-values.result.now 0 (pos 0) in
     let fits : FitsSigned w64 n = search rules in
     in_other_words _ (n ≢ pos 0) _ (search rules)
-    (zero_read c.args.shape.now c.args.violation n c.value_numerators-values.ensures.limits c.in-Zero.is
+    (zero_read c.args.shape.now c.args.violation n c.value_numerators-values.ensures.limits
+    c.in-Zero.is
     (ap (λ xs. get_or xs 0 (pos 0)) c.value_numerators-values.ensures.value))
 
 pub returns-then-is_coordinate : goal.returns-then-is_coordinate
@@ -23,7 +24,8 @@ returns-else-is_coordinate c =
 
 pub returns-then-is_coordinate-2 : goal.returns-then-is_coordinate-2
 returns-then-is_coordinate-2 c =
-    first_passes _ _ _ _ _ c.if-is_coordinate-2.true c.is_coordinate-in-Asymmetric.ensures c.is_asymmetric_at.ensures
+    first_passes _ _ _ _ _ c.if-is_coordinate-2.true c.is_coordinate-in-Asymmetric.ensures
+    c.is_asymmetric_at.ensures
     (point_read c.args.shape.now c.args.violation _ c.in-Asymmetric.is)
 
 pub returns-else-is_coordinate-2 : goal.returns-else-is_coordinate-2
@@ -33,7 +35,8 @@ returns-else-is_coordinate-2 c =
 
 pub returns-then-are_coordinates : goal.returns-then-are_coordinates
 returns-then-are_coordinates c =
-    first_passes _ _ _ _ _ c.if-are_coordinates.true c.are_coordinates.ensures c.is_superadditive_at.ensures
+    first_passes _ _ _ _ _ c.if-are_coordinates.true c.are_coordinates.ensures
+    c.is_superadditive_at.ensures
     (point_read c.args.shape.now c.args.violation _ c.in-Superadditive.is)
 
 pub returns-else-are_coordinates : goal.returns-else-are_coordinates

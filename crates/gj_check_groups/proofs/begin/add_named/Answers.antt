@@ -6,28 +6,38 @@ use Rattle.gj_check_groups.proofs.begin.add_named.Goals as goal
 
 pub add_rises-requires-in-Pair-2-clause-small : goal.add_rises-requires-in-Pair-2-clause-small
 add_rises-requires-in-Pair-2-clause-small c =
-    all_moved_small (component_in c.args.component.now) 0 c.in-Pair.a 1 c.in-Pair.a (2 ^ 100) c.args.row.now c.add_rises-in-Pair.new.row
-    record { at = c.add_rises-in-Pair.ensures } c.add_rises-in-Pair.auto.row (zeros_small c.args.row.now 1 c.requires.zeros (omega arith))
+    all_moved_small (component_in c.args.component.now) 0 c.in-Pair.a 1 c.in-Pair.a
+    (2 ^ 100) c.args.row.now c.add_rises-in-Pair.new.row
+    record { at = c.add_rises-in-Pair.ensures } c.add_rises-in-Pair.auto.row
+    (zeros_small c.args.row.now 1 c.requires.zeros (omega arith))
     (omega arith) (omega arith) (omega arith)
 
 pub returns-in-Period : goal.returns-in-Period
 returns-in-Period c =
-    row_of_rises (component_in c.args.component.now) (length c.args.component.now) c.args.row.now c.add_rises.new.row
+    row_of_rises (component_in c.args.component.now) (length c.args.component.now) c.args.row.now
+    c.add_rises.new.row
     record { at = c.add_rises.ensures } c.add_rises.auto.row c.requires.zeros
-    ∙ ap (row_entries (component_in c.args.component.now) (length c.args.row.now) (length c.args.component.now) c.args.place) (sym c.in-Period.is)
+    ∙ ap (row_entries (component_in c.args.component.now) (length c.args.row.now)
+    (length c.args.component.now) c.args.place) (sym c.in-Period.is)
 
 pub returns-in-F : goal.returns-in-F
 returns-in-F c =
-    row_of_rises (component_in c.args.component.now) c.args.place c.args.row.now c.add_rises-in-F.new.row
+    row_of_rises (component_in c.args.component.now) c.args.place c.args.row.now
+    c.add_rises-in-F.new.row
     record { at = c.add_rises-in-F.ensures } c.add_rises-in-F.auto.row c.requires.zeros
-    ∙ ap (row_entries (component_in c.args.component.now) (length c.args.row.now) (length c.args.component.now) c.args.place) (sym c.in-F.is)
+    ∙ ap (row_entries (component_in c.args.component.now) (length c.args.row.now)
+    (length c.args.component.now) c.args.place) (sym c.in-F.is)
 
 pub returns-in-Pair : goal.returns-in-Pair
 returns-in-Pair c =
-    let sum = ap₂ (λ m n. (m + n) % length c.args.component.now) c.from.ensures c.from-in-Pair.ensures in
-    row_of_pair (component_in c.args.component.now) c.in-Pair.a c.in-Pair.b ((c.in-Pair.a + c.in-Pair.b) % length c.args.component.now)
+    let sum = ap₂ (λ m n. (m + n) % length c.args.component.now) c.from.ensures
+    c.from-in-Pair.ensures in
+    row_of_pair (component_in c.args.component.now) c.in-Pair.a c.in-Pair.b
+    ((c.in-Pair.a + c.in-Pair.b) % length c.args.component.now)
     c.args.row.now c.add_rises-in-Pair.new.row c.add_rises-in-Pair-2.new.row
     record { at = c.add_rises-in-Pair.ensures } c.add_rises-in-Pair.auto.row
-    (subst (λ (s : ℕ). HasMoved (component_in c.args.component.now) s c.in-Pair.b c.add_rises-in-Pair.new.row c.add_rises-in-Pair-2.new.row) sum
+    (subst (λ (s : ℕ). HasMoved (component_in c.args.component.now) s c.in-Pair.b
+    c.add_rises-in-Pair.new.row c.add_rises-in-Pair-2.new.row) sum
     record { at = c.add_rises-in-Pair-2.ensures }) c.add_rises-in-Pair-2.auto.row c.requires.zeros
-    ∙ ap (row_entries (component_in c.args.component.now) (length c.args.row.now) (length c.args.component.now) c.args.place) (sym c.in-Pair.is)
+    ∙ ap (row_entries (component_in c.args.component.now) (length c.args.row.now)
+    (length c.args.component.now) c.args.place) (sym c.in-Pair.is)

@@ -9,10 +9,14 @@ returns-in-None-clause-outcome c kept rows =
 
 pub returns-in-Ok-clause-outcome : goal.returns-in-Ok-clause-outcome
 returns-in-Ok-clause-outcome c kept rows =
-    step_meets c.args.numbers kept c.args.table.now c.args.row.now c.in-Some.kept.now c.reduce.new.row c.args.column rows c.in-Some.ensures.some
-    (some_from_bits (get_or c.args.row.now c.args.column (pos 0)) c.if-row-column-eq0.false) c.in-Ok.ensures.narrow c.in-Ok.ensures.value
+    step_meets c.args.numbers kept c.args.table.now c.args.row.now c.in-Some.kept.now
+    c.reduce.new.row c.args.column rows c.in-Some.ensures.some
+    (some_from_bits (get_or c.args.row.now c.args.column (pos 0)) c.if-row-column-eq0.false)
+    c.in-Ok.ensures.narrow c.in-Ok.ensures.value
 
 pub returns-in-Err-clause-outcome : goal.returns-in-Err-clause-outcome
 returns-in-Err-clause-outcome c kept rows =
-    step_too_wide c.args.numbers kept c.args.table.now c.args.row.now c.in-Some.kept.now c.args.column rows c.in-Some.ensures.some
-    (some_from_bits (get_or c.args.row.now c.args.column (pos 0)) c.if-row-column-eq0.false) c.in-Err.ensures.wide
+    step_too_wide c.args.numbers kept c.args.table.now c.args.row.now c.in-Some.kept.now
+    c.args.column rows c.in-Some.ensures.some
+    (some_from_bits (get_or c.args.row.now c.args.column (pos 0)) c.if-row-column-eq0.false)
+    c.in-Err.ensures.wide

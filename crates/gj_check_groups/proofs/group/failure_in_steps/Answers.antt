@@ -10,9 +10,13 @@ returns-in-Some-clause-outcome c kept rows =
     let r = c.loop-place.place in
     record {
       index = r;
-      below = let above = length-reductions 0 0 (take r columns) in let long = length-take-le r columns (omega arith) in let is = c.lines_with_steps.ensures in omega arith;
-      fails = stepped_fails c.args.numbers kept c.args.row.now columns r (get_or columns r 0) c.loop-place.row c.in-Some.rule
-          (c.loop-place.invariant.stepped kept rows) (omega arith) (get_or_default columns r 0 (get_or columns r 0) (omega arith))
+      below = let above = length-reductions 0 0 (take r columns) in
+          let long = length-take-le r columns (omega arith) in
+          let is = c.lines_with_steps.ensures in omega arith;
+      fails = stepped_fails c.args.numbers kept c.args.row.now columns r
+          (get_or columns r 0) c.loop-place.row c.in-Some.rule
+          (c.loop-place.invariant.stepped kept rows) (omega arith)
+          (get_or_default columns r 0 (get_or columns r 0) (omega arith))
           (c.in-Some.ensures.outcome kept rows);
     }
 
@@ -23,12 +27,15 @@ loop-place-preserved c =
     record {
       fits = c.in_default.ensures.fits;
       stepped = λ kept rows.
-          stepped_more c.args.numbers kept c.args.row.now columns r (get_or columns r 0) c.loop-place.row c.failure_in_step.new.row
-          (c.loop-place.invariant.stepped kept rows) (omega arith) (get_or_default columns r 0 (get_or columns r 0) (omega arith))
+          stepped_more c.args.numbers kept c.args.row.now columns r
+          (get_or columns r 0) c.loop-place.row c.failure_in_step.new.row
+          (c.loop-place.invariant.stepped kept rows) (omega arith)
+          (get_or_default columns r 0 (get_or columns r 0) (omega arith))
           (c.in_default.ensures.outcome kept rows);
     }
 
 pub returns-clause-outcome : goal.returns-clause-outcome
 returns-clause-outcome c kept rows =
-    stepped_all c.args.numbers kept c.args.row.now c.args.columns.now c.loop-place.place c.loop-place.row
+    stepped_all c.args.numbers kept c.args.row.now c.args.columns.now c.loop-place.place
+    c.loop-place.row
     (c.loop-place.invariant.stepped kept rows) (omega arith)

@@ -15,7 +15,9 @@ returns-in-Residues c kept rows =
     let row = c.args.row.now in
     let met = (c.if-not-meets_pivot.ensures.outcome kept rows).0 refl in
     let x = to_z-of_z w128 (get_or row c.args.column (pos 0)) (search rules) in
-    let some = some_inverse c.is_some.result c.inverse_modulo.result (at_column row c.args.column) (simp x at c.inverse_modulo.ensures)
+    let some = some_inverse c.is_some.result c.inverse_modulo.result (at_column row c.args.column)
+    (simp x at c.inverse_modulo.ensures)
     c.is_some.ensures in
-    subst (λ (m : Numbers). IsTrue c.is_some.result ↔ MeetsPivotBy m (length row) kept row c.args.column) (sym c.in-Residues.is)
+    subst (λ (m : Numbers). IsTrue c.is_some.result
+    ↔ MeetsPivotBy m (length row) kept row c.args.column) (sym c.in-Residues.is)
     (λ t. (met, some.0 t), λ h. some.1 h.1)

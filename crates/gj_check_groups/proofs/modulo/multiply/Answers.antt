@@ -15,22 +15,28 @@ IsSoFar old row i u = row ≡ map (λ x. residue modulus (u *ℤ x)) (take i old
 pub product-requires-clause-second : goal.product-requires-clause-second
 product-requires-clause-second c =
     let x = to_z-of_z w128 (get_or c.loop-x.row c.loop-x.x-index (pos 0)) (search rules) in
-    let so_far = subst (IsSoFar c.args.row.now c.loop-x.row c.loop-x.x-index) (to_z-of_z w128 c.args.factor c.ranges.factor) c.loop-x.invariant in
+    let so_far = subst (IsSoFar c.args.row.now c.loop-x.row c.loop-x.x-index)
+    (to_z-of_z w128 c.args.factor c.ranges.factor) c.loop-x.invariant in
     subst IsResidue (sym x)
-    (over_open (λ x. residue modulus (c.args.factor *ℤ x)) IsResidue c.args.row.now c.loop-x.row c.loop-x.x-index c.loop-x-test.true
+    (over_open (λ x. residue modulus (c.args.factor *ℤ x)) IsResidue c.args.row.now c.loop-x.row
+    c.loop-x.x-index c.loop-x-test.true
     c.loop-x.auto.row so_far c.requires.row)
 
 pub loop-x-preserved : goal.loop-x-preserved
 loop-x-preserved c =
     let u = to_z-of_z w128 c.args.factor c.ranges.factor in
     let x = to_z-of_z w128 (get_or c.loop-x.row c.loop-x.x-index (pos 0)) (search rules) in
-    let so_far = subst (IsSoFar c.args.row.now c.loop-x.row c.loop-x.x-index) u c.loop-x.invariant in
+    let so_far = subst (IsSoFar c.args.row.now c.loop-x.row c.loop-x.x-index) u
+    c.loop-x.invariant in
     subst (IsSoFar c.args.row.now _ _) (sym u)
-    (over_more (λ x. residue modulus (c.args.factor *ℤ x)) c.args.row.now c.loop-x.row c.loop-x.x-index _ (omega arith) c.loop-x.auto.row
+    (over_more (λ x. residue modulus (c.args.factor *ℤ x)) c.args.row.now c.loop-x.row
+    c.loop-x.x-index _ (omega arith) c.loop-x.auto.row
     so_far (to_z-of_z w128 c.product.result (search rules) ∙ simp (u, x) at c.product.ensures))
 
 pub returns : goal.returns
 returns c =
-    let so_far = subst (IsSoFar c.args.row.now c.loop-x.row c.loop-x.x-index) (to_z-of_z w128 c.args.factor c.ranges.factor) c.loop-x.invariant in
-    over_all (λ x. residue modulus (c.args.factor *ℤ x)) c.args.row.now c.loop-x.row c.loop-x.x-index (omega arith) c.loop-x.auto.row so_far
+    let so_far = subst (IsSoFar c.args.row.now c.loop-x.row c.loop-x.x-index)
+    (to_z-of_z w128 c.args.factor c.ranges.factor) c.loop-x.invariant in
+    over_all (λ x. residue modulus (c.args.factor *ℤ x)) c.args.row.now c.loop-x.row
+    c.loop-x.x-index (omega arith) c.loop-x.auto.row so_far
     ∙ sym (multiplied c.args.factor c.args.row.now)

@@ -5,4 +5,5 @@ use Rattle.gj_check_groups.proofs.modulo.multiply.Given as goal
 
 abbrev pub invariant-loop-x : goal.invariant-loop-x
 invariant-loop-x l =
-    l.row ≡ map (λ x. residue modulus (l.factor *ℤ x)) (take l.x-index l.initial.row) ++ drop l.x-index l.initial.row
+    l.row ≡ map (λ x. residue modulus (l.factor *ℤ x)) (take l.x-index l.initial.row)
+    ++ drop l.x-index l.initial.row

@@ -22,15 +22,19 @@ loop-i-preserved c =
     let x = to_z-of_z w128 (get_or c.loop-i.row c.loop-i.i (pos 0)) (search rules) in
     let u = to_z-of_z w128 (get_or c.args.row.now c.args.column (pos 0)) (search rules) in
     let e = to_z-of_z w128 (get_or c.args.kept.now c.loop-i.i (pos 0)) (search rules) in
-    done_more (reduced_entry c.args.kept.now c.args.row.now c.args.column) c.args.row.now c.loop-i.row c.loop-i.i
+    done_more (reduced_entry c.args.kept.now c.args.row.now c.args.column) c.args.row.now
+    c.loop-i.row c.loop-i.i
     _ c.loop-i.invariant (omega arith)
     (to_z-of_z w128 c.less_product.result (search rules) ∙ simp (x, u, e) at c.less_product.ensures
-    ∙ ap (λ y. residue modulus (y -ℤ at_column c.args.row.now c.args.column *ℤ at_column c.args.kept.now c.loop-i.i))
+    ∙ ap (λ y. residue modulus
+    (y -ℤ at_column c.args.row.now c.args.column *ℤ at_column c.args.kept.now c.loop-i.i))
     (c.loop-i.invariant.later c.loop-i.i (omega arith)))
 
 pub returns : goal.returns
 returns c =
-    done_all (reduced_entry c.args.kept.now c.args.row.now c.args.column) c.args.row.now c.loop-i.row c.loop-i.i _
+    done_all (reduced_entry c.args.kept.now c.args.row.now c.args.column) c.args.row.now
+    c.loop-i.row c.loop-i.i _
     c.loop-i.invariant (omega arith)
-    (length-reduced_modulo modulus c.args.kept.now c.args.row.now c.args.column c.requires.columns ∙ sym c.loop-i.auto.row)
+    (length-reduced_modulo modulus c.args.kept.now c.args.row.now c.args.column c.requires.columns
+    ∙ sym c.loop-i.auto.row)
     (λ k. reduced_at c.args.kept.now c.args.row.now c.args.column k c.requires.columns)

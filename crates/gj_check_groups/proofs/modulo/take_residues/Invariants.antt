@@ -4,4 +4,5 @@ use Rattle.gj_theory.specs.Modulus.{modulus}
 use Rattle.gj_check_groups.proofs.modulo.take_residues.Given as goal
 
 abbrev pub invariant-loop-x : goal.invariant-loop-x
-invariant-loop-x l = l.row ≡ map (residue modulus) (take l.x-index l.initial.row) ++ drop l.x-index l.initial.row
+invariant-loop-x l = l.row ≡ map (residue modulus) (take l.x-index l.initial.row)
+    ++ drop l.x-index l.initial.row

@@ -7,16 +7,23 @@ use Rattle.gj_check_groups.proofs.rises.subtract_between.Goals as goal
 pub overflow_sub-row : goal.overflow_sub-row
 overflow_sub-row c =
     let i = c.loop-i.i in
-    let inside = component_below c.args.component.now c.args.row.now i c.requires.components (omega arith) in
-    let small = moved_small (component_in c.args.component.now) i c.args.from _ (2 ^ 100) i c.args.row.now c.loop-i.row c.loop-i.invariant
+    let inside = component_below c.args.component.now c.args.row.now i c.requires.components
+    (omega arith) in
+    let small = moved_small (component_in c.args.component.now) i c.args.from _
+    (2 ^ 100) i c.args.row.now c.loop-i.row c.loop-i.invariant
     c.requires.small inside (omega arith) c.loop-i.auto.i in
-    one_less_fits (get_or c.loop-i.row (get_or c.args.component.now i 0) (pos 0)) i small (omega arith)
+    one_less_fits (get_or c.loop-i.row (get_or c.args.component.now i 0) (pos 0)) i small
+    (omega arith)
 
 pub loop-i-preserved : goal.loop-i-preserved
 loop-i-preserved c =
     let i = c.loop-i.i in
-    let inside = component_below c.args.component.now c.args.row.now i c.requires.components (omega arith) in
-    let small = moved_small (component_in c.args.component.now) i c.args.from _ (2 ^ 100) i c.args.row.now c.loop-i.row c.loop-i.invariant
+    let inside = component_below c.args.component.now c.args.row.now i c.requires.components
+    (omega arith) in
+    let small = moved_small (component_in c.args.component.now) i c.args.from _
+    (2 ^ 100) i c.args.row.now c.loop-i.row c.loop-i.invariant
     c.requires.small inside (omega arith) c.loop-i.auto.i in
-    one_more_subtracted (component_in c.args.component.now) c.args.from i c.args.row.now c.loop-i.row _ c.loop-i.invariant c.loop-i.auto.row inside
-    (read_one_less (get_or c.loop-i.row (get_or c.args.component.now i 0) (pos 0)) i small (omega arith))
+    one_more_subtracted (component_in c.args.component.now) c.args.from i c.args.row.now
+    c.loop-i.row _ c.loop-i.invariant c.loop-i.auto.row inside
+    (read_one_less (get_or c.loop-i.row (get_or c.args.component.now i 0) (pos 0)) i small
+    (omega arith))

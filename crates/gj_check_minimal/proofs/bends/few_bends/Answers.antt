@@ -13,8 +13,13 @@ loop-i-preserved g c =
     let most = c.min-most.ensures in
     let other = c.if-bends-most.false in
     let index = c.loop-i-test.true in
-    let more : Bends = record { indices = slice_set b.indices b.count (c.loop-i.i + 1); count = b.count + 1 } in
-    let pushed : IsPushed b more (c.loop-i.i + 1) = record { room = omega arith; count = refl; indices = refl } in (
+    let more : Bends = record {
+      indices = slice_set b.indices b.count (c.loop-i.i + 1);
+      count =
+          b.count + 1;
+    } in
+    let pushed : IsPushed b more (c.loop-i.i + 1) =
+    record { room = omega arith; count = refl; indices = refl } in (
       index_more c.args.count b more (c.loop-i.i + 1) (omega arith) pushed h.0,
       omega arith,
       λ values len periods. bend_more values b more c.loop-i.i pushed (h.2 values len periods),

@@ -13,7 +13,8 @@ returns-then-not-is_at_most g c = λ values len periods.
     let first = entry_read number _ values i _ periods (omega arith) c.index-entries-i.is in
     let second = entry_read number _ values j _ periods (omega arith) c.index-entries-j.is in
     let sum = entry_read number _ values (i + j) _ periods (omega arith) c.index-entries-i-2.is in
-    one_fails _ _ _ c.if-not-is_at_most.true (pair_test values i j _ _ _ _ _ first second sum c.max_rise.ensures c.is_at_most.ensures)
+    one_fails _ _ _ c.if-not-is_at_most.true
+    (pair_test values i j _ _ _ _ _ first second sum c.max_rise.ensures c.is_at_most.ensures)
     (λ both. both.0)
 
 pub returns : goal.returns
@@ -24,9 +25,12 @@ returns g c = λ values len periods.
     let first = entry_read number _ values i _ periods (omega arith) c.index-entries-i.is in
     let second = entry_read number _ values j _ periods (omega arith) c.index-entries-j.is in
     let sum = entry_read number _ values (i + j) _ periods (omega arith) c.index-entries-i-2.is in
-    let one = pair_test values i j _ _ _ _ _ first second sum c.max_rise.ensures c.is_at_most.ensures in
+    let one = pair_test values i j _ _ _ _ _ first second sum c.max_rise.ensures
+    c.is_at_most.ensures in
     let far : c.args.count + j - i ≡ length values + j - i = ap (λ n. n + j - i) (sym len) in
-    let rest = entry_read number _ values (c.args.count + j - i) _ periods (omega arith) c.index-entries-count.is ∙ ap (at values) far in
+    let rest = entry_read number _ values (c.args.count + j - i) _ periods
+    (omega arith) c.index-entries-count.is ∙ ap (at values) far in
     let last = sum_read values i j _ (omega arith) second in
-    let two = pair_test values i (length values + j - i) _ _ _ _ _ first rest last c.max_rise-2.ensures c.is_at_most-2.ensures in
+    let two = pair_test values i (length values + j - i) _ _ _ _ _ first rest last
+    c.max_rise-2.ensures c.is_at_most-2.ensures in
     (λ h. (one.0 c.if-not-is_at_most.false, two.0 h), λ both. two.1 both.1)

@@ -20,10 +20,12 @@ returns-then-not-is_symmetric c =
 pub is_subadditive-requires : goal.is_subadditive-requires
 is_subadditive-requires c =
     symmetry_passes c.args.shape.now (c.is_zero_at_zero.ensures.0 c.if-not-is_zero_at_zero.false)
-    (c.is_nonnegative.ensures.0 c.if-not-is_nonnegative.false) (c.is_symmetric.ensures.0 c.if-not-is_symmetric.false)
+    (c.is_nonnegative.ensures.0 c.if-not-is_nonnegative.false)
+    (c.is_symmetric.ensures.0 c.if-not-is_symmetric.false)
 
 pub returns : goal.returns
 returns c =
     in_other_words _ _ _ c.is_subadditive.ensures
     (squares_decide c.args.shape.now (c.is_zero_at_zero.ensures.0 c.if-not-is_zero_at_zero.false)
-    (c.is_nonnegative.ensures.0 c.if-not-is_nonnegative.false) (c.is_symmetric.ensures.0 c.if-not-is_symmetric.false))
+    (c.is_nonnegative.ensures.0 c.if-not-is_nonnegative.false)
+    (c.is_symmetric.ensures.0 c.if-not-is_symmetric.false))

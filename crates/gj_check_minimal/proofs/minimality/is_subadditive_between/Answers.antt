@@ -17,7 +17,8 @@ loop-a-preserved g c =
 
 pub returns : goal.returns
 returns g c = (
-  λ _. from_diagonals (IsSubadditiveAt c.args.shape.now) c.args.shape.now.order (mirrored_square c.args.shape.now)
+  λ _. from_diagonals (IsSubadditiveAt c.args.shape.now) c.args.shape.now.order
+      (mirrored_square c.args.shape.now)
       (λ a below. c.loop-a.invariant a (omega arith)),
   λ _. refl,
 )

@@ -15,7 +15,9 @@ pub returns : goal.returns
 returns g c =
     let f = c.args.shape.now in
     let l = c.order.ensures.limits in
-    let totals = subst (λ p. HasSubadditiveTotals f.value p ↔ IsSubadditiveList f.value) (sym c.place.ensures.value)
+    let totals = subst (λ p. HasSubadditiveTotals f.value p ↔ IsSubadditiveList f.value)
+    (sym c.place.ensures.value)
     (grid_totals f l c.requires.symmetric) in
-    let all = c.is_subadditive_by.ensures f.value (l.value_length ∙ sym c.order.ensures.value) c.write_two_periods.ensures totals in
+    let all = c.is_subadditive_by.ensures f.value (l.value_length ∙ sym c.order.ensures.value)
+    c.write_two_periods.ensures totals in
     in_other_words _ _ _ all (pairs_are_vertices f l)

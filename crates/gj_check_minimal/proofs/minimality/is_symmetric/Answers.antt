@@ -38,7 +38,8 @@ returns-then-not-are_opposite c =
     let l = c.place-place.ensures.limits in
     let total = scale_read _ f.scale c.common_denominator-total.ensures.value l.scale_high in
     let is = c.value_numerators-values.ensures.value in
-    let values = opposite_read _ _ _ _ _ f.value f.value f.place _ is is c.place-place.ensures.value total c.are_opposite.ensures in
+    let values = opposite_read _ _ _ _ _ f.value f.value f.place _ is is c.place-place.ensures.value
+    total c.are_opposite.ensures in
     one_fails _ _ _ c.if-not-are_opposite.true values (λ all. ((symmetry_of_lists f l).1 all).0)
 
 pub returns : goal.returns
@@ -48,8 +49,10 @@ returns c =
     let total = scale_read _ f.scale c.common_denominator-total.ensures.value l.scale_high in
     let is = c.value_numerators-values.ensures.value in
     let place = c.place-place.ensures.value in
-    let values = opposite_read _ _ _ _ _ f.value f.value f.place _ is is place total c.are_opposite.ensures in
-    let limits = opposite_read _ _ _ _ _ f.right f.left f.place _ c.right_numerators.ensures.value c.left_numerators.ensures.value place total
+    let values = opposite_read _ _ _ _ _ f.value f.value f.place _ is is place total
+    c.are_opposite.ensures in
+    let limits = opposite_read _ _ _ _ _ f.right f.left f.place _ c.right_numerators.ensures.value
+    c.left_numerators.ensures.value place total
     c.are_opposite-2.ensures in
     let lists = symmetry_of_lists f l in (
       λ t. lists.0 (values.0 c.if-not-are_opposite.false, limits.0 t),

@@ -9,13 +9,15 @@ loop-i-init g c = λ values len periods i below from. absurd (omega arith)
 
 pub loop-i-preserved : goal.loop-i-preserved
 loop-i-preserved g c = λ values len periods.
-    below_more (λ i. c.saturating_sub-from.result ≤ i → IsSubadditiveUpTo values c.args.total i) c.loop-i.i
+    below_more (λ i. c.saturating_sub-from.result ≤ i → IsSubadditiveUpTo values c.args.total i)
+    c.loop-i.i
     (c.loop-i.invariant values len periods)
     (λ _. (c.is_subadditive_part.ensures values len periods).0 c.if-not-is_subadditive_part.false)
 
 pub returns-then-not-is_subadditive_part : goal.returns-then-not-is_subadditive_part
 returns-then-not-is_subadditive_part g c = λ values len periods.
-    one_fails _ _ _ c.if-not-is_subadditive_part.true (c.is_subadditive_part.ensures values len periods)
+    one_fails _ _ _ c.if-not-is_subadditive_part.true
+    (c.is_subadditive_part.ensures values len periods)
     (λ all. all c.loop-i.i (omega arith))
 
 pub returns : goal.returns
@@ -24,7 +26,8 @@ returns g c = λ values len periods.
     c.saturating_sub-from.ensures ∙ ap (λ n. c.args.total + 2 - 2 * n) (sym len) in
     let end : c.min-end.result ≡ min (length values) (c.args.total / 3 + 1) =
     c.min-end.ensures ∙ ap (λ n. min n (c.args.total / 3 + 1)) (sym len) in (
-      λ _. total_by values c.args.total c.saturating_sub-from.result c.min-end.result c.loop-i.i from end c.loop-i-test.false
+      λ _. total_by values c.args.total c.saturating_sub-from.result c.min-end.result c.loop-i.i
+          from end c.loop-i-test.false
           (c.loop-i.invariant values len periods),
       λ _. refl,
     )

@@ -17,9 +17,11 @@ returns-then-values-ne0 c =
 pub returns-then-not-is_symmetric_list : goal.returns-then-not-is_symmetric_list
 returns-then-not-is_symmetric_list c =
     let scale = to_z-of_z w128 c.args.scale c.ranges.scale in
-    let symmetric = subst (λ s. IsTrue c.is_symmetric_list.result ↔ IsSymmetricList c.args.values.now c.args.place s) scale
+    let symmetric = subst (λ s. IsTrue c.is_symmetric_list.result
+    ↔ IsSymmetricList c.args.values.now c.args.place s) scale
     c.is_symmetric_list.ensures in
-    one_fails _ _ _ c.if-not-is_symmetric_list.true symmetric (λ m. ((minimal_list _ _ _ c.requires).1 m).0.1)
+    one_fails _ _ _ c.if-not-is_symmetric_list.true symmetric
+    (λ m. ((minimal_list _ _ _ c.requires).1 m).0.1)
 
 pub returns : goal.returns
 returns c =
@@ -28,7 +30,8 @@ returns c =
     let first = value_read c.args.values.now _ _ 0 t (omega arith) in
     let zero = c.if-values-ne0.false in
     let scale = to_z-of_z w128 c.args.scale c.ranges.scale in
-    let symmetric = subst (λ s. IsTrue c.is_symmetric_list.result ↔ IsSymmetricList c.args.values.now c.args.place s) scale
+    let symmetric = subst (λ s. IsTrue c.is_symmetric_list.result
+    ↔ IsSymmetricList c.args.values.now c.args.place s) scale
     c.is_symmetric_list.ensures in
     in_other_words_ok c.is_subadditive_list.result _ _ c.is_subadditive_list.ensures
     (list_decides _ _ _ t (omega (arith, ints)) (symmetric.0 c.if-not-is_symmetric_list.false))

@@ -9,11 +9,13 @@ two_periods-requires g c = (c.args.place, c.args.scale, c.requires.table, c.requ
 pub is_subadditive_by-requires-clause-periods : goal.is_subadditive_by-requires-clause-periods
 is_subadditive_by-requires-clause-periods g c =
     have_periods g.E.Entry.number _ c.args.values.now
-    (subst (λ xs. AreTwoPeriods g.E.Entry.number xs c.args.values.now) (sym c.as_slice.ensures.value) c.in_ok-periods.ensures)
+    (subst (λ xs. AreTwoPeriods g.E.Entry.number xs c.args.values.now)
+    (sym c.as_slice.ensures.value) c.in_ok-periods.ensures)
 
 pub returns : goal.returns
 returns g c =
     let values = c.args.values.now in
-    let periods = subst (λ xs. AreTwoPeriods g.E.Entry.number xs values) (sym c.as_slice.ensures.value) c.in_ok-periods.ensures in
+    let periods = subst (λ xs. AreTwoPeriods g.E.Entry.number xs values)
+    (sym c.as_slice.ensures.value) c.in_ok-periods.ensures in
     c.is_subadditive_by.ensures values refl periods
     (totals_decide values c.args.place c.args.scale c.requires.table c.requires.symmetric)

@@ -8,7 +8,8 @@ pub overflow_add-values : goal.overflow_add-values
 overflow_add-values c =
     let t = c.requires in
     let i = c.loop-i.i in
-    values_fit _ _ _ i _ _ _ t (value_read _ _ _ i t (omega arith)) (rest_value _ _ _ _ _ t c.wrapped-opposite.ensures)
+    values_fit _ _ _ i _ _ _ t (value_read _ _ _ i t (omega arith))
+    (rest_value _ _ _ _ _ t c.wrapped-opposite.ensures)
 
 pub returns-then-values-i : goal.returns-then-values-i
 returns-then-values-i c =

@@ -7,16 +7,20 @@ use Rattle.gj_cover.proofs.class.listed.Goals as goal
 
 pub loop-index-preserved-then-not-contains : goal.loop-index-preserved-then-not-contains
 loop-index-preserved-then-not-contains c =
-    c.loop-index.invariant ∙ sym (place_false (has c.args.set.now) c.loop-index.index (sym c.contains.ensures ∙ c.if-not-contains.true))
+    c.loop-index.invariant
+    ∙ sym (place_false (has c.args.set.now) c.loop-index.index
+    (sym c.contains.ensures ∙ c.if-not-contains.true))
 
 pub loop-index-preserved : goal.loop-index-preserved
 loop-index-preserved c =
     c.in_ok-push.ensures.items ∙ ap (λ l. l ++ c.loop-index.index ∷ []) c.loop-index.invariant
-    ∙ sym (place_true (has c.args.set.now) c.loop-index.index (sym c.contains.ensures ∙ c.if-not-contains.false))
+    ∙ sym (place_true (has c.args.set.now) c.loop-index.index
+    (sym c.contains.ensures ∙ c.if-not-contains.false))
 
 pub returns-clause-ascending : goal.returns-clause-ascending
 returns-clause-ascending c =
-    subst IsStrictlyIncreasing (sym c.loop-index.invariant) (places_ascend (has c.args.set.now) c.loop-index.index)
+    subst IsStrictlyIncreasing (sym c.loop-index.invariant)
+    (places_ascend (has c.args.set.now) c.loop-index.index)
 
 pub returns-clause-members : goal.returns-clause-members
 returns-clause-members c i =

@@ -10,5 +10,7 @@ returns c =
     let t = c.in_ok-table.table in
     let f = c.args.shape.now in
     let tells = c.in_ok-table.ensures.tells in
-    cover_on f.order (IsTightInTable t) (IsTight f) c.in_ok-found.found (λ i j. (tells i j).0) (λ i j. (tells i j).1)
-    (subst (λ q. IsCoverOf q (IsTightInTable t) c.in_ok-found.found) c.in_ok-table.ensures.order c.in_ok-found.ensures)
+    cover_on f.order (IsTightInTable t) (IsTight f) c.in_ok-found.found (λ i j. (tells i j).0)
+    (λ i j. (tells i j).1)
+    (subst (λ q. IsCoverOf q (IsTightInTable t) c.in_ok-found.found) c.in_ok-table.ensures.order
+    c.in_ok-found.ensures)

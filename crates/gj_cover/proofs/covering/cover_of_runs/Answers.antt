@@ -11,4 +11,5 @@ returns c =
     let tells = c.in_ok-table.ensures.tells in
     cover_on c.args.q (IsTightInTable t) (InRuns c.args.q c.args.runs.now) c.in_ok-found.found
     (λ i j. (tells i j).0) (λ i j. (tells i j).1)
-    (subst (λ q. IsCoverOf q (IsTightInTable t) c.in_ok-found.found) c.in_ok-table.ensures.order c.in_ok-found.ensures)
+    (subst (λ q. IsCoverOf q (IsTightInTable t) c.in_ok-found.found) c.in_ok-table.ensures.order
+    c.in_ok-found.ensures)

@@ -7,7 +7,8 @@ use Rattle.gj_cover.proofs.covering.cover_of_table.Goals as goal
 pub least_class-requires : goal.least_class-requires
 least_class-requires c =
     let t = c.args.table.now in
-    uncovered t.order (IsTightInTable t) c.in_ok-found.found c.in_ok-found.ensures.progress c.in_ok-found.ensures.complete
+    uncovered t.order (IsTightInTable t) c.in_ok-found.found c.in_ok-found.ensures.progress
+    c.in_ok-found.ensures.complete
 
 pub returns : goal.returns
 returns c =

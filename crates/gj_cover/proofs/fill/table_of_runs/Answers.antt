@@ -21,11 +21,13 @@ loop-run-preserved c =
     let run = get_or c.args.runs.now n zero in
     let rows = c.loop-run.rows.items in
     let new = c.mark.new.rows.items in
-    let marked = subst (λ (q : ℕ). (i j : ℕ) → i < q → j < q → IsMarked new i j ↔ (IsMarked rows i j ⊎ RunHolds q i j run))
+    let marked = subst (λ (q : ℕ). (i j : ℕ) → i < q → j < q →
+    IsMarked new i j ↔ (IsMarked rows i j ⊎ RunHolds q i j run))
     c.loop-run.invariant.0 c.mark.ensures.marked in (
       c.mark.ensures.length ∙ c.loop-run.invariant.0,
       one_run_more c.args.q n c.args.runs.now run rows new c.loop-run-test.true
-          (get_or_default c.args.runs.now n run zero c.loop-run-test.true) c.loop-run.invariant.1 marked,
+          (get_or_default c.args.runs.now n run zero c.loop-run-test.true) c.loop-run.invariant.1
+          marked,
     )
 
 pub returns-clause-tells : goal.returns-clause-tells
@@ -33,5 +35,7 @@ returns-clause-tells c =
     let some = c.requires.order.0 in
     let t = c.in_ok-table.table in
     let all : c.loop-run.run-index ≡ length c.args.runs.now = omega arith in
-    tells_runs c.args.q c.args.runs.now c.loop-run.run-index t (omega arith) c.in_ok-table.ensures.order all
-    (subst (HoldRuns c.args.q c.args.runs.now c.loop-run.run-index) (sym c.in_ok-table.ensures.rows) c.loop-run.invariant.1)
+    tells_runs c.args.q c.args.runs.now c.loop-run.run-index t
+    (omega arith) c.in_ok-table.ensures.order all
+    (subst (HoldRuns c.args.q c.args.runs.now c.loop-run.run-index)
+    (sym c.in_ok-table.ensures.rows) c.loop-run.invariant.1)

@@ -13,7 +13,8 @@ returns-clause-found c =
     covering_found q (IsTightInTable t) i c.earlier.result
     (restated (Either (IsPairInRow q i) (IsAcross q i)) (IsSquare q) (CoversBy t i) c.earlier.result
     (λ a b. all_on q i a b c.requires) (all_back q i)
-    (merged (IsPairInRow q i) (IsAcross q i) (CoversBy t i) c.first_in_row.result c.first_across.result c.earlier.result
+    (merged (IsPairInRow q i) (IsAcross q i)
+    (CoversBy t i) c.first_in_row.result c.first_across.result c.earlier.result
     c.first_in_row.ensures c.first_across.ensures c.earlier.ensures))
 
 pub returns-clause-none : goal.returns-clause-none
@@ -24,5 +25,6 @@ returns-clause-none c =
     covering_none q (IsTightInTable t) (table_period t) i c.requires c.earlier.result
     (restated (Either (IsPairInRow q i) (IsAcross q i)) (IsSquare q) (CoversBy t i) c.earlier.result
     (λ a b. all_on q i a b c.requires) (all_back q i)
-    (merged (IsPairInRow q i) (IsAcross q i) (CoversBy t i) c.first_in_row.result c.first_across.result c.earlier.result
+    (merged (IsPairInRow q i) (IsAcross q i)
+    (CoversBy t i) c.first_in_row.result c.first_across.result c.earlier.result
     c.first_in_row.ensures c.first_across.ensures c.earlier.ensures))

@@ -19,14 +19,18 @@ returns-clause-joined c j below other =
     let i = c.args.i in
     let from = has c.linked_from.result j in
     let to = has c.linked_to.result j in
-    let is = c.bounded.ensures j ∙ ap (λ b. b && has c.or.result j) (lt-ltb j t.order below) ∙ c.or.ensures j in (
+    let is = c.bounded.ensures j ∙ ap (λ b. b && has c.or.result j) (lt-ltb j t.order below)
+    ∙ c.or.ensures j in (
       λ e. elim (or_cases from to (sym is ∙ e)) [
-        | inl x ↦ joined_by_links t.order (IsTightInTable t) i j c.requires below ((c.linked_from.ensures j below).0 x)
+        | inl x ↦ joined_by_links t.order (IsTightInTable t) i j c.requires below
+            ((c.linked_from.ensures j below).0 x)
         | inr x ↦ joined_turned t.order (IsTightInTable t) j i
-            (joined_by_links t.order (IsTightInTable t) j i below c.requires ((c.linked_to.ensures j below).0 x))
+            (joined_by_links t.order (IsTightInTable t) j i below c.requires
+            ((c.linked_to.ensures j below).0 x))
       ],
-      λ h. is ∙ (elim (linked t.order (IsTightInTable t) (table_period t) i j c.requires below other h) [
-        | inl l ↦ or_left from to ((c.linked_from.ensures j below).1 l)
-        | inr l ↦ or_right from to ((c.linked_to.ensures j below).1 l)
-      ]),
+      λ h. is ∙ (elim (linked t.order (IsTightInTable t) (table_period t) i j c.requires below other
+          h) [
+            | inl l ↦ or_left from to ((c.linked_from.ensures j below).1 l)
+            | inr l ↦ or_right from to ((c.linked_to.ensures j below).1 l)
+          ]),
     )

@@ -19,17 +19,21 @@ returns-clause-joined c j below other =
     let i = c.args.i in
     let from = has c.rows_linked_from-from.result j in
     let to = has c.rows_linked_to.result j in
-    let is = c.bounded.ensures j ∙ ap (λ b. b && has c.or.result j) (lt-ltb j t.order below) ∙ c.or.ensures j in (
+    let is = c.bounded.ensures j ∙ ap (λ b. b && has c.or.result j) (lt-ltb j t.order below)
+    ∙ c.or.ensures j in (
       λ e. elim (or_cases from to (sym is ∙ e)) [
-        | inl x ↦ joined_by_links t.order (IsTightInTable t) i j c.requires.start below ((c.rows_linked_from-from.ensures j below).0 x)
+        | inl x ↦ joined_by_links t.order (IsTightInTable t) i j c.requires.start below
+            ((c.rows_linked_from-from.ensures j below).0 x)
         | inr x ↦ joined_turned t.order (IsTightInTable t) j i
-            (joined_by_links t.order (IsTightInTable t) j i below c.requires.start (c.rows_linked_to.ensures.links j below x))
+            (joined_by_links t.order (IsTightInTable t) j i below c.requires.start
+            (c.rows_linked_to.ensures.links j below x))
       ],
-      λ h. is ∙ (elim (linked t.order (IsTightInTable t) (table_period t) i j c.requires.start below other h) [
-        | inl l ↦ or_left from to ((c.rows_linked_from-from.ensures j below).1 l)
-        | inr l ↦ elim (c.rows_linked_to.ensures.all j below l) [
-          | inl x ↦ or_right from to x
-          | inr x ↦ or_left from to ((c.rows_linked_from-from.ensures j below).1 x)
-        ]
-      ]),
+      λ h. is ∙ (elim (linked t.order (IsTightInTable t) (table_period t) i j c.requires.start below
+          other h) [
+            | inl l ↦ or_left from to ((c.rows_linked_from-from.ensures j below).1 l)
+            | inr l ↦ elim (c.rows_linked_to.ensures.all j below l) [
+              | inl x ↦ or_right from to x
+              | inr x ↦ or_left from to ((c.rows_linked_from-from.ensures j below).1 x)
+            ]
+          ]),
     )

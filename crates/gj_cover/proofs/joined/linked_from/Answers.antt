@@ -15,13 +15,19 @@ returns c j below =
     let k = place_of q i j in
     let place = turned_place q i j c.requires below in
     let next = mod-lt (j + 1) {m = q} (omega arith) in
-    linked_from t i j k (has c.or.result j) (has c.and-diagonal.result j) (has c.turned-horizontal.result j) (has c.turned-vertical.result j)
+    linked_from t i j k (has c.or.result j) (has c.and-diagonal.result j)
+    (has c.turned-horizontal.result j) (has c.turned-vertical.result j)
     c.requires below place.0 place.1
     (c.or.ensures j ∙ ap (λ x. x || has c.turned-vertical.result j) (c.or-links.ensures j))
     (c.and-diagonal.ensures j ∙ ap₂ (λ (x y : Bool). x && y) (c.row-next_row.ensures j below)
-    (back_in q q j (has c.row-row.result.now) (has c.turned_back.result j) refl below (c.turned_back.ensures j)
+    (back_in q q j (has c.row-row.result.now) (has c.turned_back.result j) refl below
+    (c.turned_back.ensures j)
     ∙ c.row-row.ensures ((j + 1) % q) next))
-    (turned_in q n i j (has c.and.result) (has c.turned-horizontal.result j) is below (c.turned-horizontal.ensures j)
-    ∙ c.and.ensures k ∙ ap₂ (λ (x y : Bool). x && y) (c.row-row.ensures k place.0) (c.row-next_row.ensures k place.0))
-    (turned_in q n i j (has c.and-2.result) (has c.turned-vertical.result j) is below (c.turned-vertical.ensures j)
-    ∙ c.and-2.ensures k ∙ ap₂ (λ (x y : Bool). x && y) (c.column-column.ensures k place.0) (c.column-next_column.ensures k place.0))
+    (turned_in q n i j (has c.and.result) (has c.turned-horizontal.result j) is below
+    (c.turned-horizontal.ensures j)
+    ∙ c.and.ensures k ∙ ap₂ (λ (x y : Bool). x && y) (c.row-row.ensures k place.0)
+    (c.row-next_row.ensures k place.0))
+    (turned_in q n i j (has c.and-2.result) (has c.turned-vertical.result j) is below
+    (c.turned-vertical.ensures j)
+    ∙ c.and-2.ensures k ∙ ap₂ (λ (x y : Bool). x && y) (c.column-column.ensures k place.0)
+    (c.column-next_column.ensures k place.0))

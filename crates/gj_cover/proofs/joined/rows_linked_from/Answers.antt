@@ -26,13 +26,20 @@ returns c j below =
     let round : p q ≡ p 0 =
     ap₂ (λ (x y : Bool). x && y) (row_is q (omega arith) ∙ around i ∙ sym (row_is 0 (omega arith)))
     (next_is q (omega arith) ∙ around (i + 1) ∙ sym (next_is 0 (omega arith))) in
-    let past : (b : ℕ) → q < b → p b ≡ false = λ b behind. and_left (row b) (next_row b) (c.whole_row-row.ensures.within b behind) in
-    let moved = subst (λ n. has c.both_up_and_down-horizontal.result j ≡ ((ltb j 1024 && (leb i j && p (j - i))) || p (j + (n - i))))
+    let past : (b : ℕ) → q < b →
+    p b ≡ false = λ b behind. and_left (row b) (next_row b)
+    (c.whole_row-row.ensures.within b behind) in
+    let moved = subst (λ n. has c.both_up_and_down-horizontal.result j
+    ≡ ((ltb j 1024 && (leb i j && p (j - i))) || p (j + (n - i))))
     c.order-order.ensures.value (c.both_up_and_down-horizontal.ensures j) in
-    linked_from_symmetric t i j k (has c.or.result j) (has c.and-diagonal.result j) (has c.both_up_and_down-horizontal.result j)
+    linked_from_symmetric t i j k (has c.or.result j) (has c.and-diagonal.result j)
+    (has c.both_up_and_down-horizontal.result j)
     c.requires.start below place.0 place.1 (symmetric_tight t c.requires.sides.columns_are)
     (c.or.ensures j)
     (c.and-diagonal.ensures j ∙ ap₂ (λ (x y : Bool). x && y) (next_is j (omega arith))
-    (c.down_one.ensures j ∙ row_is (j + 1) (omega arith) ∙ same_tight t i (j + 1) i ((j + 1) % q) refl (sym (mod-mod (j + 1) q))))
-    (round_turn q i j p (has c.both_up_and_down-horizontal.result j) (omega arith) c.requires.start below round past moved
-    ∙ ap₂ (λ (x y : Bool). x && y) (row_is k (omega (arith, place.0))) (next_is k (omega (arith, place.0))))
+    (c.down_one.ensures j ∙ row_is (j + 1) (omega arith)
+    ∙ same_tight t i (j + 1) i ((j + 1) % q) refl (sym (mod-mod (j + 1) q))))
+    (round_turn q i j p (has c.both_up_and_down-horizontal.result j)
+    (omega arith) c.requires.start below round past moved
+    ∙ ap₂ (λ (x y : Bool). x && y) (row_is k (omega (arith, place.0)))
+    (next_is k (omega (arith, place.0))))

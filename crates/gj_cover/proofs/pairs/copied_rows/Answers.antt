@@ -28,13 +28,16 @@ loop-a-preserved c =
           (λ h. tight.0 (told.0 (sym same ∙ h)), λ h. same ∙ told.1 (tight.1 h)))
           c.loop-a.invariant.1 a b below b_below),
       λ a below. subst (λ l. in_row l a q ≡ in_row l a 0) (sym items)
-          (round_more q n rows row c.loop-a.invariant.0 (subst (λ m. has row m ≡ has row 0) is c.round.ensures.round)
+          (round_more q n rows row c.loop-a.invariant.0
+          (subst (λ m. has row m ≡ has row 0) is c.round.ensures.round)
           c.loop-a.invariant.2 a below),
       λ a b below past. subst (λ l. in_row l a b ≡ false) (sym items)
           (within_more q n rows row c.loop-a.invariant.0
-          (λ k behind. c.round.ensures.within k (subst (λ m. m < k) (sym is) behind)) c.loop-a.invariant.3 a b below past),
+          (λ k behind. c.round.ensures.within k (subst (λ m. m < k) (sym is) behind))
+          c.loop-a.invariant.3 a b below past),
     )
 
 pub round-requires-clause-within : goal.round-requires-clause-within
 round-requires-clause-within c b past =
-    c.row.ensures.within b (subst (λ m. m ≤ b) (c.order-order.ensures.value ∙ sym c.requires.order) past)
+    c.row.ensures.within b
+    (subst (λ m. m ≤ b) (c.order-order.ensures.value ∙ sym c.requires.order) past)

@@ -13,7 +13,8 @@ returns-then-is_covering-2 c =
     let none = edge_covers_none t i a b in
     first_there (CoversBy t i) Upper a b (c.is_covering-2.ensures.0 c.if-is_covering-2.true)
     (ranked (λ kind. CoversBy t i kind a b) 5 none.0 (λ low. none.1) (λ low. none.2) (λ low. none.3)
-    (λ low h. let lower = c.is_covering.ensures.1 h in cc (lower, c.if-is_covering.false)) (λ low h. absurd (omega arith)))
+    (λ low h. let lower = c.is_covering.ensures.1 h in cc (lower, c.if-is_covering.false))
+    (λ low h. absurd (omega arith)))
 
 pub returns : goal.returns
 returns c =

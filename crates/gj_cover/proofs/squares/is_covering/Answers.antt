@@ -9,10 +9,13 @@ returns c =
     let all = links_of face.kind face.a face.b ++ onto in (
       λ t. record {
         additive = c.is_additive.ensures.0 c.if-not-is_additive.false;
-        projection = subst (λ l. IsOneOf c.args.table.now.order (l ++ onto) c.args.i) c.requires.triangle
-            (subst (λ q. IsOneOf q all c.args.i) c.order.ensures.value (c.has_interval.ensures.0 t));
+        projection = subst (λ l. IsOneOf c.args.table.now.order (l ++ onto) c.args.i)
+            c.requires.triangle
+            (subst (λ q. IsOneOf q all c.args.i) c.order.ensures.value
+            (c.has_interval.ensures.0 t));
       },
       λ h. c.has_interval.ensures.1
           (subst (λ q. IsOneOf q all c.args.i) (sym c.order.ensures.value)
-          (subst (λ l. IsOneOf c.args.table.now.order (l ++ onto) c.args.i) (sym c.requires.triangle) h.projection)),
+          (subst (λ l. IsOneOf c.args.table.now.order (l ++ onto) c.args.i)
+          (sym c.requires.triangle) h.projection)),
     )

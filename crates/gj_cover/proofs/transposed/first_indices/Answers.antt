@@ -8,6 +8,8 @@ returns-clause-firsts c =
     let n = length c.args.rows.now in
     let turned = c.in_ok-turned.turned.items in
     let columns = c.in_ok-firsts.ensures.columns in
-    firsts_are n n c.args.rows.now turned c.in_ok-firsts.firsts.items (omega (arith, c.requires.some)) refl c.in_ok-turned.ensures.turned
+    firsts_are n n c.args.rows.now turned c.in_ok-firsts.firsts.items
+    (omega (arith, c.requires.some)) refl c.in_ok-turned.ensures.turned
     (subst (λ m. AreColumns m turned c.in_ok-firsts.firsts.items) c.in_ok-turned.ensures.length
-    (subst (λ l. AreColumns (length l) l c.in_ok-firsts.firsts.items) c.as_slice.ensures.value columns))
+    (subst (λ l. AreColumns (length l) l c.in_ok-firsts.firsts.items) c.as_slice.ensures.value
+    columns))

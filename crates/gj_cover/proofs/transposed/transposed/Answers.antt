@@ -16,11 +16,14 @@ loop-a-init c = (
 pub loop-a-preserved : goal.loop-a-preserved
 loop-a-preserved c = (
   c.add_to_columns.ensures.length ∙ c.loop-a.invariant.0,
-  row_added c.args.rows.now c.loop-a.columns.items c.add_to_columns.new.columns.items _ c.loop-a.a c.loop-a-test.true
-      (sym (get_or_default _ _ _ _ c.loop-a-test.true)) c.loop-a.invariant.0 c.loop-a.invariant.1 c.add_to_columns.ensures.added,
+  row_added c.args.rows.now c.loop-a.columns.items c.add_to_columns.new.columns.items _ c.loop-a.a
+      c.loop-a-test.true
+      (sym (get_or_default _ _ _ _ c.loop-a-test.true)) c.loop-a.invariant.0 c.loop-a.invariant.1
+      c.add_to_columns.ensures.added,
 )
 
 pub returns-clause-columns : goal.returns-clause-columns
 returns-clause-columns c a b a_below b_below =
     c.loop-a.invariant.1 b a b_below
-    ∙ ap (λ x. x && in_row c.args.rows.now a b) (lt-ltb a c.loop-a.a (let low : a < c.loop-a.a = omega arith in low))
+    ∙ ap (λ x. x && in_row c.args.rows.now a b)
+    (lt-ltb a c.loop-a.a (let low : a < c.loop-a.a = omega arith in low))

@@ -4,4 +4,5 @@ use Rattle.gj_cover.proofs.transposed.transposed.Given as goal
 
 abbrev pub invariant-loop-a : goal.invariant-loop-a
 invariant-loop-a l = (length l.columns.items ≡ length l.rows)
-    × ((b i : ℕ) → b < length l.rows → in_row l.columns.items b i ≡ (ltb i l.a && in_row l.rows i b))
+    × ((b i : ℕ) → b < length l.rows →
+    in_row l.columns.items b i ≡ (ltb i l.a && in_row l.rows i b))

@@ -13,11 +13,15 @@ loop-a-preserved c =
     let len = ap length items ∙ length-append c.loop-a.turned.items (c.turned.result ∷ []) in (
       len ∙ ap (λ n. n + 1) c.loop-a.invariant.0,
       λ a s a_below s_below. ap (λ l. in_row l a s) items
-          ∙ one_more_turned c.args.rows.now c.loop-a.turned.items _ c.turned.result c.loop-a.a c.loop-a.invariant.0 c.loop-a-test.true (sym (get_or_default _ _ _ _ c.loop-a-test.true)) c.turned.ensures c.loop-a.invariant.1 a s a_below s_below,
+          ∙ one_more_turned c.args.rows.now c.loop-a.turned.items _ c.turned.result c.loop-a.a
+          c.loop-a.invariant.0 c.loop-a-test.true
+          (sym (get_or_default _ _ _ _ c.loop-a-test.true)) c.turned.ensures
+          c.loop-a.invariant.1 a s a_below s_below,
     )
 
 pub returns-clause-length : goal.returns-clause-length
 returns-clause-length c = c.loop-a.invariant.0 ∙ omega arith
 
 pub returns-clause-turned : goal.returns-clause-turned
-returns-clause-turned c a s a_below s_below = c.loop-a.invariant.1 a s (let low : a < c.loop-a.a = omega arith in low) s_below
+returns-clause-turned c a s a_below s_below =
+    c.loop-a.invariant.1 a s (let low : a < c.loop-a.a = omega arith in low) s_below

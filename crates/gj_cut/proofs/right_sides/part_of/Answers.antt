@@ -6,8 +6,10 @@ use mir.Syntax.{w128}
 
 pub returns-else-den-eq1-clause-inside : goal.returns-else-den-eq1-clause-inside
 returns-else-den-eq1-clause-inside c =
-    let not_whole : IsWhole c.args.right → ⊥ = λ whole. c.if-den-eq1.false (ap (of_z w128) (c.den.ensures ∙ whole)) in
-    part_inside c.args.right c.fract.result (λ w floor. sym (c.fract.ensures.value w floor)) not_whole
+    let not_whole : IsWhole c.args.right →
+    ⊥ = λ whole. c.if-den-eq1.false (ap (of_z w128) (c.den.ensures ∙ whole)) in
+    part_inside c.args.right c.fract.result (λ w floor. sym (c.fract.ensures.value w floor))
+    not_whole
 
 pub returns-else-den-eq1-clause-kind : goal.returns-else-den-eq1-clause-kind
 returns-else-den-eq1-clause-kind c fine = (

@@ -9,7 +9,8 @@ returns-then-eq-clause-side g c =
     let place = c.place.result in
     let side = c.in-Some.ensures.side in (
       side.0,
-      (part_at_place c.args.rule.now.kind c.args.right f place c.place.ensures.limits side.1 c.place.ensures.place).0
+      (part_at_place c.args.rule.now.kind c.args.right f place c.place.ensures.limits side.1
+          c.place.ensures.place).0
           ((parts_Decides f place).0 (sym c.eq.ensures ∙ c.if-eq.true)),
     )
 
@@ -20,7 +21,9 @@ returns-else-eq-clause-side g c =
     let side = c.in-Some.ensures.side in (
       side.0,
       λ h.
-          let same = (part_at_place c.args.rule.now.kind c.args.right f place c.place.ensures.limits side.1 c.place.ensures.place).1 h in
-          let wrong : false ≡ true = sym c.if-eq.false ∙ c.eq.ensures ∙ (parts_Decides f place).1 same in
+          let same = (part_at_place c.args.rule.now.kind c.args.right f place c.place.ensures.limits
+          side.1 c.place.ensures.place).1 h in
+          let wrong : false ≡ true = sym c.if-eq.false ∙ c.eq.ensures
+          ∙ (parts_Decides f place).1 same in
           cc,
     )

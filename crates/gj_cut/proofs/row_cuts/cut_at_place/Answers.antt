@@ -10,7 +10,8 @@ use Rattle.gj_cut.proofs.row_cuts.cut_at_place.Goals as goal
 
 pub terms-requires : goal.terms-requires
 terms-requires g c =
-    subst (λ (entries : List Entry). All (λ e. IsRowNumber e.value) entries) (sym c.as_slice.ensures)
+    subst (λ (entries : List Entry). All (λ e. IsRowNumber e.value) entries)
+    (sym c.as_slice.ensures)
     (entries_in_range c.args.row.now c.requires.limits)
 
 pub returns-clause-holds : goal.returns-clause-holds
@@ -21,4 +22,5 @@ returns-clause-holds g c minimal =
     let items = c.in_ok-terms.terms.items in
     subst (λ (terms : List Term). HoldsFor row (Cut terms)) (sym c.of.ensures)
     (holds_at answers rule rule.kind row items refl c.requires.bounds minimal c.requires.side.1
-    (subst (λ (entries : List Entry). AllZip (IsTermOf answers rule) entries items) c.as_slice.ensures c.in_ok-terms.ensures))
+    (subst (λ (entries : List Entry). AllZip (IsTermOf answers rule) entries items)
+    c.as_slice.ensures c.in_ok-terms.ensures))

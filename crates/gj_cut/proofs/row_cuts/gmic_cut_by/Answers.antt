@@ -13,5 +13,6 @@ returns-clause-cut g c =
     let f = c.args.f in
     IfOk-weaker c.cut_at_place.result (IsCutOf answers rule row) (IsGmicCutOf row)
     (λ cut h. gmic_cut_of f row cut c.requires.side.1
-    (subst (λ (kind : RuleKind). IsCutOfKind kind row cut) c.new-rule.ensures.kind (cut_of_kind answers rule row cut h)))
+    (subst (λ (kind : RuleKind). IsCutOfKind kind row cut) c.new-rule.ensures.kind
+    (cut_of_kind answers rule row cut h)))
     c.cut_at_place.ensures.cut

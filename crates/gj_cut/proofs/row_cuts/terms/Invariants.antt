@@ -8,5 +8,6 @@ abbrev pub invariant-loop-entry : goal.invariant-loop-entry
 invariant-loop-entry g l = record {
   count : vec_len l.terms ≡ l.entry-index;
   room : vec_capacity l.terms ≡ length l.entries;
-  terms : AllZip (IsTermOf g.E.Evaluator.answers l.rule) (take l.entry-index l.entries) l.terms.items;
+  terms : AllZip (IsTermOf g.E.Evaluator.answers l.rule)
+      (take l.entry-index l.entries) l.terms.items;
 }

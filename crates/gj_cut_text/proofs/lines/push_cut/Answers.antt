@@ -17,8 +17,12 @@ returns-in-Cut c =
     (λ (named, are, pushed).
     let line = Cut row.basic row.rhs named in (
       line,
-      subst (λ (cut : RowCut). NamesCut columns row cut line) (sym c.in-Cut.is)
-          (refl, refl, subst (λ (ts : List Term). AllZip (IsNamedTerm columns) ts named) c.as_slice.ensures are),
+      subst (λ (cut : RowCut). NamesCut columns row cut line) (sym c.in-Cut.is) (
+        refl,
+        refl,
+        subst (λ (ts : List Term). AllZip (IsNamedTerm columns) ts named)
+            c.as_slice.ensures are,
+      ),
       pushed,
     ))
     c.push_cut_row.ensures
@@ -29,7 +33,12 @@ returns-in-Integral c =
     let row = c.args.row.now in
     let line = Skip row.basic row.rhs Integral in
     on_ok_weaker c.push_skip_line.result
-    (λ pushed. (line, subst (λ (cut : RowCut). NamesCut columns row cut line) (sym c.in-Integral.is) (refl, refl), pushed))
+    (λ pushed. (
+      line,
+      subst (λ (cut : RowCut). NamesCut columns row cut line) (sym c.in-Integral.is)
+          (refl, refl),
+      pushed,
+    ))
     c.push_skip_line.ensures
 
 pub returns-in-OtherFraction : goal.returns-in-OtherFraction
@@ -38,5 +47,10 @@ returns-in-OtherFraction c =
     let row = c.args.row.now in
     let line = Skip row.basic row.rhs Other in
     on_ok_weaker c.push_skip_line-in-OtherFraction.result
-    (λ pushed. (line, subst (λ (cut : RowCut). NamesCut columns row cut line) (sym c.in-OtherFraction.is) (refl, refl), pushed))
+    (λ pushed. (
+      line,
+      subst (λ (cut : RowCut). NamesCut columns row cut line)
+          (sym c.in-OtherFraction.is) (refl, refl),
+      pushed,
+    ))
     c.push_skip_line-in-OtherFraction.ensures

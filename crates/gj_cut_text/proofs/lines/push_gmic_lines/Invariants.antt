@@ -4,4 +4,5 @@ use Rattle.gj_cut_text.specs.CutLines.{AppendsCuts}
 use Rattle.gj_cut_text.proofs.lines.push_gmic_lines.Given as goal
 
 abbrev pub invariant-loop-row : goal.invariant-loop-row
-invariant-loop-row l = AppendsCuts Gmic l.columns (take l.row-index l.rows) l.fn.out.items l.out.items
+invariant-loop-row l =
+    AppendsCuts Gmic l.columns (take l.row-index l.rows) l.fn.out.items l.out.items

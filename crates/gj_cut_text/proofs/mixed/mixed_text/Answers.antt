@@ -16,6 +16,7 @@ returns c =
       hold = made_hold c.args.rule.now columns rows made.lines made.are_made;
       subject = pushed.0;
       subject_is = pushed.1;
-      spelled = text_written (line (codes "gj-mixed 1")) pushed.0 (flat_map mixed_row_text made.lines) (line (codes "end")) _ _ _ _
+      spelled = text_written (line (codes "gj-mixed 1")) pushed.0
+          (flat_map mixed_row_text made.lines) (line (codes "end")) _ _ _ _
           c.in_ok-text.ensures.items pushed.2 made.appended c.in_ok-extend_from_slice.ensures.items;
     }

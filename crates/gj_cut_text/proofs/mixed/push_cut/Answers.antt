@@ -23,7 +23,8 @@ returns-in_ok-push_cut_row-in-Cut c =
         refl,
         refl,
         subst (λ (ts : List Term). AllZip (IsNamedTerm columns) ts named) c.as_slice.ensures are,
-        subst (λ (ts : List Term). AllZip (IsNamedTerm columns) ts weighed) c.as_slice-in-Cut.ensures are_weighed,
+        subst (λ (ts : List Term). AllZip (IsNamedTerm columns) ts weighed)
+            c.as_slice-in-Cut.ensures are_weighed,
       ),
       behind ∙ ap (λ xs. xs ++ flat_map weight_line weighed) pushed
           ∙ append_assoc c.args.out.now.items (row_text line) (flat_map weight_line weighed),
@@ -38,7 +39,8 @@ returns-in-Integral c =
     on_ok_weaker c.push_skip_line.result
     (λ pushed. (
       record { line = line; weights = [] },
-      subst (λ (cut : MixedCut). NamesMixedCut columns row cut line []) (sym c.in-Integral.is) (refl, refl, refl),
+      subst (λ (cut : MixedCut). NamesMixedCut columns row cut line []) (sym c.in-Integral.is)
+          (refl, refl, refl),
       pushed ∙ ap (λ xs. c.args.out.now.items ++ xs) (sym (append-nil (row_text line))),
     ))
     c.push_skip_line.ensures
@@ -51,7 +53,8 @@ returns-in-OtherFraction c =
     on_ok_weaker c.push_skip_line-in-OtherFraction.result
     (λ pushed. (
       record { line = line; weights = [] },
-      subst (λ (cut : MixedCut). NamesMixedCut columns row cut line []) (sym c.in-OtherFraction.is) (refl, refl, refl),
+      subst (λ (cut : MixedCut). NamesMixedCut columns row cut line []) (sym c.in-OtherFraction.is)
+          (refl, refl, refl),
       pushed ∙ ap (λ xs. c.args.out.now.items ++ xs) (sym (append-nil (row_text line))),
     ))
     c.push_skip_line-in-OtherFraction.ensures

@@ -4,4 +4,5 @@ use Rattle.gj_cut_text.specs.MixedLines.{AppendsLines}
 use Rattle.gj_cut_text.proofs.mixed_lines.push_lines_by.Given as goal
 
 abbrev pub invariant-loop-row : goal.invariant-loop-row
-invariant-loop-row g l = AppendsLines (Table l.fn.shape) l.columns (take l.row-index l.rows) l.fn.out.items l.out.items
+invariant-loop-row g l =
+    AppendsLines (Table l.fn.shape) l.columns (take l.row-index l.rows) l.fn.out.items l.out.items

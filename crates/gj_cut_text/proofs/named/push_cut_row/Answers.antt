@@ -12,6 +12,7 @@ returns c =
       map (named_term columns) terms,
       are_named columns terms,
       c.in_ok-push_lines.ensures
-          ∙ ap₂ (λ (xs ys : List ℕ). xs ++ ys) c.in_ok-push_cut_head.ensures (term_lines_are columns terms)
+          ∙ ap₂ (λ (xs ys : List ℕ). xs ++ ys) c.in_ok-push_cut_head.ensures
+          (term_lines_are columns terms)
           ∙ append_assoc c.args.out.now.items head _,
     )

@@ -9,7 +9,8 @@ use Rattle.gj_cut_text.proofs.named.push_lines.Goals as goal
 pub write_lines-start-requires-clause-columns : goal.write_lines-start-requires-clause-columns
 write_lines-start-requires-clause-columns c =
     let below = λ (t : Term). t.column < length c.args.columns.now in
-    subst (All below) (sym c.split_at.ensures.front) (All-take below c.min.result c.loop-left.left.now c.loop-left.invariant.below)
+    subst (All below) (sym c.split_at.ensures.front)
+    (All-take below c.min.result c.loop-left.left.now c.loop-left.invariant.below)
 
 pub loop-left-preserved : goal.loop-left-preserved
 loop-left-preserved c =
@@ -22,11 +23,17 @@ loop-left-preserved c =
     let text = c.write_lines-start.new.text in
     let start = c.write_lines-start.result in
     let whole : few ++ rest ≡ left =
-    ap (λ xs. xs ++ rest) c.split_at.ensures.front ∙ ap (λ xs. take c.min.result left ++ xs) c.split_at.ensures.back
+    ap (λ xs. xs ++ rest) c.split_at.ensures.front
+    ∙ ap (λ xs. take c.min.result left ++ xs) c.split_at.ensures.back
     ∙ take-append-drop c.min.result left in
     let lines : take (1700 - start) (drop start text) ≡ flat_map line few =
     take_all (1700 - start) (drop start text)
-    (omega (arith, length-drop start text, c.write_lines-start.ensures.space, c.loop-left.invariant.space))
+    (omega (
+      arith,
+      length-drop start text,
+      c.write_lines-start.ensures.space,
+      c.loop-left.invariant.space,
+    ))
     ∙ c.write_lines-start.ensures.written in
     record {
       written = ap (λ xs. xs ++ flat_map line rest)
@@ -34,6 +41,7 @@ loop-left-preserved c =
           ∙ append_assoc out (flat_map line few) (flat_map line rest)
           ∙ ap (λ xs. out ++ xs) (sym (flat_map-append line few rest))
           ∙ ap (λ xs. out ++ flat_map line xs) whole ∙ c.loop-left.invariant.written;
-      below = subst (All below) (sym c.split_at.ensures.back) (All-drop below c.min.result left c.loop-left.invariant.below);
+      below = subst (All below) (sym c.split_at.ensures.back)
+          (All-drop below c.min.result left c.loop-left.invariant.below);
       space = c.write_lines-start.ensures.space ∙ c.loop-left.invariant.space;
     }

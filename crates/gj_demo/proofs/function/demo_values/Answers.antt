@@ -12,6 +12,7 @@ loop-i-preserved c =
     record {
       count = ap length pushed ∙ length_push _ _ ∙ ap (λ n. n + 1) c.loop-i.invariant.count;
       values = subst (AreOver (λ i. pos (demo_number k i)) (2 * k)) (sym pushed)
-          (are_over_push (λ i. pos (demo_number k i)) (2 * k) _ c.demo_value.result c.loop-i.i c.loop-i.invariant.count
+          (are_over_push (λ i. pos (demo_number k i)) (2 * k) _ c.demo_value.result c.loop-i.i
+          c.loop-i.invariant.count
           c.loop-i.invariant.values c.demo_value.ensures);
     }

@@ -16,7 +16,8 @@ count_covered-covered-requires c =
     subst (λ xs. length xs < 2 ^ 32) (sym c.as_slice.ensures) (omega arith)
 
 pub halves_of-requires : goal.halves_of-requires
-halves_of-requires c = (c.in_ok-shape.shape, c.in_ok-proof.ensures.not_extreme.0, c.in_ok-proof.ensures.not_extreme.1)
+halves_of-requires c =
+    (c.in_ok-shape.shape, c.in_ok-proof.ensures.not_extreme.0, c.in_ok-proof.ensures.not_extreme.1)
 
 pub text_of-requires-clause-covered : goal.text_of-requires-clause-covered
 text_of-requires-clause-covered c =
@@ -38,12 +39,16 @@ returns c =
     let is = c.in_ok-proof.ensures.not_extreme.1 in
     let listed = c.count_additive_triangles-triangles.ensures in
     on_ok_along c.text_of.result
-    (λ text. text.items ≡ lines_with n order triangles covered (order - covered) cover.count c.halves_of.result.now)
+    (λ text. text.items ≡ lines_with n order triangles covered
+    (order - covered) cover.count c.halves_of.result.now)
     (λ text. HasSummary n text.items)
     (λ text spelled.
-    summary_of n f c.in_ok-proof.proof h listed.0 cover order triangles covered (order - covered) text.items
-    c.in_ok-shape.ensures.closed_form c.in_ok-shape.ensures.within_bounds c.in_ok-proof.ensures.decided is listed.1
+    summary_of n f c.in_ok-proof.proof h listed.0 cover order triangles covered
+    (order - covered) text.items
+    c.in_ok-shape.ensures.closed_form c.in_ok-shape.ensures.within_bounds
+    c.in_ok-proof.ensures.decided is listed.1
     c.in_ok-cover.ensures c.order.ensures.value listed.2
     (c.count_covered-covered.ensures ∙ ap (count_by is_some) c.as_slice.ensures) refl
-    (spelled ∙ ap (lines_with n order triangles covered (order - covered) cover.count) (c.halves_of.ensures.halves f h is)))
+    (spelled ∙ ap (lines_with n order triangles covered (order - covered) cover.count)
+    (c.halves_of.ensures.halves f h is)))
     c.text_of.ensures

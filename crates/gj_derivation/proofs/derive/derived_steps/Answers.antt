@@ -15,12 +15,15 @@ returns-in_default-clause-is c =
     let f = option_copied c.args.function in
     let r = c.loop-i.reached in
     let d = c.index-drafts-i.result in
-    let lost = subst (λ (made : Option Combination). MatchOption made (IsLost r d.combination) (IsPlaced r d.combination)) c.in_default.is
+    let lost = subst (λ (made : Option Combination). MatchOption made (IsLost r d.combination)
+    (IsPlaced r d.combination)) c.in_default.is
     c.in_ok-combination.ensures in (
       r,
       d,
-      subst (λ (xs : List Shown). IsReached f c.args.grid c.args.problem c.args.drafts.now c.loop-i.i xs r d) (sym c.of.ensures)
-          (reached_at f c.args.grid c.args.problem c.args.drafts.now c.loop-i.i d c.loop-i.shown.items r c.loop-i-test.true c.index-drafts-i.is
+      subst (λ (xs : List Shown). IsReached f c.args.grid c.args.problem c.args.drafts.now
+          c.loop-i.i xs r d) (sym c.of.ensures)
+          (reached_at f c.args.grid c.args.problem c.args.drafts.now c.loop-i.i d
+          c.loop-i.shown.items r c.loop-i-test.true c.index-drafts-i.is
           c.loop-i.invariant.shown),
       lost,
     )
@@ -38,8 +41,10 @@ returns-in-Some-end_of-clause-is c =
     (c.in-Some.combination, placed, c.in_ok-next.ensures.is) in (
       r,
       d,
-      subst (λ (xs : List Shown). IsReached f c.args.grid c.args.problem c.args.drafts.now c.loop-i.i xs r d) (sym c.of-in-Some-end_of.ensures)
-          (reached_at f c.args.grid c.args.problem c.args.drafts.now c.loop-i.i d c.loop-i.shown.items r c.loop-i-test.true c.index-drafts-i.is
+      subst (λ (xs : List Shown). IsReached f c.args.grid c.args.problem c.args.drafts.now
+          c.loop-i.i xs r d) (sym c.of-in-Some-end_of.ensures)
+          (reached_at f c.args.grid c.args.problem c.args.drafts.now c.loop-i.i d
+          c.loop-i.shown.items r c.loop-i-test.true c.index-drafts-i.is
           c.loop-i.invariant.shown),
       subst (λ (x : Shown). IsNext f c.args.grid r d x) end.0 next,
       subst (λ (x : Shown). Ends d.claim x) end.0 end.1,
@@ -75,7 +80,8 @@ loop-i-init c =
     record {
       shown = none_shown f c.args.grid c.args.problem c.new-shown.result.items
           c.in_ok-reached.reached c.new-shown.ensures.items c.in_ok-reached.ensures;
-      told = subst (TellWide f c.args.grid (begun c.args.problem) []) (sym c.new-shown.ensures.items)
+      told = subst (TellWide f c.args.grid (begun c.args.problem) [])
+          (sym c.new-shown.ensures.items)
           tt;
     }
 

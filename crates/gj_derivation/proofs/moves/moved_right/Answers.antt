@@ -27,7 +27,8 @@ loop-j-preserved c =
     (HasUpper c.index-columns-j.result) (rational c.in_ok-x.x) (rational c.index-claimed-j.result)
     (rational c.in-Some.shift) =
     MatchOption-at_some _ _ c.in-Some.shift c.in-Some.is c.in_ok-shift.ensures.is in
-    let moved = one_up_to c.args.columns.now c.args.factor c.args.sum.now c.args.claimed.now c.loop-j.j
+    let moved = one_up_to c.args.columns.now c.args.factor c.args.sum.now c.args.claimed.now
+    c.loop-j.j
     c.index-columns-j.result c.index-coefficient.result.now c.in_ok-x.x
     c.index-claimed-j.result c.in-Some.shift c.loop-j.right c.in_ok-right-2.right c.loop-j.is_whole
     c.stays_whole-is_whole.result c.loop-j-test.true c.requires.sum c.requires.claimed
@@ -36,7 +37,8 @@ loop-j-preserved c =
     c.index-claimed-j.is shifted
     (sum_value c.loop-j.right c.in-Some.shift c.in_ok-right-2.right c.in_ok-right-2.ensures.value)
     c.stays_whole-is_whole.ensures c.loop-j.invariant.moved in
-    let narrow = narrow_to_next c.args.columns.now c.args.factor c.args.sum.now c.args.claimed.now c.loop-j.j
+    let narrow = narrow_to_next c.args.columns.now c.args.factor c.args.sum.now c.args.claimed.now
+    c.loop-j.j
     c.index-columns-j.result c.index-coefficient.result.now c.index-claimed-j.result c.loop-j.right
     c.loop-j.is_whole c.loop-j-test.true c.requires.sum c.requires.claimed c.index-columns-j.is
     coefficient_is c.index-claimed-j.is c.loop-j.invariant.moved c.loop-j.invariant.narrow
@@ -55,12 +57,14 @@ loop-j-preserved-then-is_zero-2 c =
     let none = c.is_zero.ensures.0 (is_true c.is_zero.result c.if-is_zero.true) in
     let no_claim = c.is_zero-then-is_zero.ensures.0
     (is_true c.is_zero-then-is_zero.result c.if-is_zero-2.true) in
-    let moved = none_more c.args.columns.now c.args.factor c.args.sum.now c.args.claimed.now c.loop-j.j
+    let moved = none_more c.args.columns.now c.args.factor c.args.sum.now c.args.claimed.now
+    c.loop-j.j
     c.index-columns-j.result c.index-coefficient.result.now
     c.index-claimed-j.result c.loop-j.right c.loop-j.is_whole c.loop-j-test.true c.requires.sum
     c.requires.claimed c.index-columns-j.is coefficient_is
     c.index-claimed-j.is none no_claim c.loop-j.invariant.moved in
-    let narrow = narrow_to_next c.args.columns.now c.args.factor c.args.sum.now c.args.claimed.now c.loop-j.j
+    let narrow = narrow_to_next c.args.columns.now c.args.factor c.args.sum.now c.args.claimed.now
+    c.loop-j.j
     c.index-columns-j.result c.index-coefficient.result.now c.index-claimed-j.result c.loop-j.right
     c.loop-j.is_whole c.loop-j-test.true c.requires.sum c.requires.claimed c.index-columns-j.is
     coefficient_is c.index-claimed-j.is c.loop-j.invariant.moved c.loop-j.invariant.narrow

@@ -16,7 +16,8 @@ returns-in_default c =
     }) =
     failed_at f c.args.problem c.loop-i.grown c.args.steps.now c.loop-i.i c.index-steps-i.result
     c.in_ok-verdict.verdict c.loop-i-test.true
-    c.index-steps-i.is c.loop-i.invariant.added c.in_ok-verdict.ensures.is c.in_default.not-Accepted in
+    c.index-steps-i.is c.loop-i.invariant.added c.in_ok-verdict.ensures.is
+    c.in_default.not-Accepted in
     record {
       is = failure;
       exact = ready_exact f c.args.problem c.args.steps.now

@@ -6,4 +6,5 @@ use Rattle.gj_derivation_text.proofs.StepKinds.{by_kind}
 use Rattle.gj_derivation_text.proofs.lines.by_in.Goals as goal
 
 pub returns-in-Err-clause-broken : goal.returns-in-Err-clause-broken
-returns-in-Err-clause-broken c = kind_breaks Lenient line_form (codes "by") _ _ by_kind _ _ c.in-Err.ensures.fault
+returns-in-Err-clause-broken c =
+    kind_breaks Lenient line_form (codes "by") _ _ by_kind _ _ c.in-Err.ensures.fault

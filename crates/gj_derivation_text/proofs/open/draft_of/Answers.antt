@@ -9,7 +9,13 @@ returns c =
       c.factor_of.result,
       c.factor_of.ensures,
       λ i. record {
-        combination = record { «rule» = s.rule; multipliers = s.multipliers; at_upper = s.at_upper; factor = c.factor_of.result };
+        combination = record {
+          «rule» = s.rule;
+          multipliers = s.multipliers;
+          at_upper =
+              s.at_upper;
+          factor = c.factor_of.result;
+        };
         claim = c.claim_of.ensures i;
       },
     )

@@ -10,5 +10,7 @@ pub returns : goal.returns
 returns c =
     let term = λ (e : Entry). line_of line_form (term_told c.args.columns.now e) in
     two _ _ _ _ _ _ c.in_ok-push_line.ensures
-    (c.in_ok-push_terms.ensures ∙ ap (λ (es : List Entry). c.push_line.new.out.items ++ flat_map term es) c.as_slice.ensures)
+    (c.in_ok-push_terms.ensures
+    ∙ ap (λ (es : List Entry). c.push_line.new.out.items ++ flat_map term es)
+    c.as_slice.ensures)
     (claim_is c.args.columns.now c.args.claim.now)

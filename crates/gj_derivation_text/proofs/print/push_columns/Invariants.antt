@@ -8,4 +8,5 @@ use Rattle.gj_derivation_text.proofs.print.push_columns.Given as goal
 
 abbrev pub invariant-loop-j : goal.invariant-loop-j
 invariant-loop-j l =
-    ArePairs (λ name (c : Column). line_of problem_form (column_told name c)) l.initial.out.items l.names l.columns l.out.items (drop l.j l.names) (drop l.j l.columns)
+    ArePairs (λ name (c : Column). line_of problem_form (column_told name c)) l.initial.out.items
+    l.names l.columns l.out.items (drop l.j l.names) (drop l.j l.columns)

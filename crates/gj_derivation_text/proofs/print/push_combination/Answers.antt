@@ -11,6 +11,11 @@ returns c =
     let line = λ (m : Multiplier). line_of line_form (by_told c.args.lines.now m) in
     let turned = λ (j : ℕ). line_of line_form (upper_told c.args.columns.now j) in
     three _ _ _ _ _ _ _ _
-    (c.in_ok-push_multipliers.ensures ∙ ap (λ (ms : List Multiplier). c.args.out.now.items ++ flat_map line ms) c.as_slice.ensures)
-    (c.in_ok-push_turned.ensures ∙ ap (λ (js : List ℕ). c.push_multipliers.new.out.items ++ flat_map turned js) c.as_slice-2.ensures)
-    c.in_ok-push_factor.ensures (combination_is c.args.columns.now c.args.lines.now c.args.combination.now)
+    (c.in_ok-push_multipliers.ensures
+    ∙ ap (λ (ms : List Multiplier). c.args.out.now.items ++ flat_map line ms)
+    c.as_slice.ensures)
+    (c.in_ok-push_turned.ensures
+    ∙ ap (λ (js : List ℕ). c.push_multipliers.new.out.items ++ flat_map turned js)
+    c.as_slice-2.ensures)
+    c.in_ok-push_factor.ensures
+    (combination_is c.args.columns.now c.args.lines.now c.args.combination.now)

@@ -10,5 +10,7 @@ pub returns : goal.returns
 returns c =
     let line = λ (e : Entry). line_of problem_form (entry_told c.args.columns.now e) in
     two _ _ _ _ _ _ c.in_ok-push_head.ensures
-    (c.in_ok-push_entries.ensures ∙ ap (λ (es : List Entry). c.push_head.new.out.items ++ flat_map line es) c.as_slice.ensures)
+    (c.in_ok-push_entries.ensures
+    ∙ ap (λ (es : List Entry). c.push_head.new.out.items ++ flat_map line es)
+    c.as_slice.ensures)
     (constraint_is c.args.columns.now c.args.name.now c.args.constraint.now)

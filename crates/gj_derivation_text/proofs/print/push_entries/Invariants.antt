@@ -7,4 +7,5 @@ use Rattle.gj_derivation_text.proofs.print.push_entries.Given as goal
 
 abbrev pub invariant-loop-entry : goal.invariant-loop-entry
 invariant-loop-entry l =
-    ArePrinted (λ x. line_of problem_form (entry_told l.columns x)) l.initial.out.items l.entries l.out.items (drop l.entry-index l.entries)
+    ArePrinted (λ x. line_of problem_form (entry_told l.columns x)) l.initial.out.items l.entries
+    l.out.items (drop l.entry-index l.entries)

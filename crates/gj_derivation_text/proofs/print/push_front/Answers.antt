@@ -18,10 +18,13 @@ returns c =
     let constraint = λ (name : List ℕ) (d : Constraint). printed (constraint_told names name d) in (
       _,
       (text, has, refl),
-      front_is _ _ _ _ _ text (line (codes "gj-derivation 1")) _ _ _ pushed c.in_ok-extend_from_slice.ensures.items
+      front_is _ _ _ _ _ text (line (codes "gj-derivation 1")) _ _ _ pushed
+          c.in_ok-extend_from_slice.ensures.items
           (c.in_ok-push_columns.ensures
-          ∙ ap (λ (ds : List Column). c.extend_from_slice.new.self.items ++ each_pair column names ds) c.as_slice.ensures)
+          ∙ ap (λ (ds : List Column). c.extend_from_slice.new.self.items
+          ++ each_pair column names ds) c.as_slice.ensures)
           (c.in_ok-push_constraints.ensures
-          ∙ ap (λ (ds : List Constraint). c.push_columns.new.out.items ++ each_pair constraint c.args.constraints.now ds) c.as_slice-2.ensures)
+          ∙ ap (λ (ds : List Constraint). c.push_columns.new.out.items
+          ++ each_pair constraint c.args.constraints.now ds) c.as_slice-2.ensures)
           (problem_is names c.args.constraints.now c.args.problem.now),
     )

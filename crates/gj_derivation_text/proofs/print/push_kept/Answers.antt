@@ -5,10 +5,13 @@ use Rattle.gj_derivation_text.proofs.print.push_kept.Goals as goal
 
 pub loop-i-preserved : goal.loop-i-preserved
 loop-i-preserved c =
-    one_pair kept_name _ _ _ c.args.names.now c.args.shown.now c.loop-i.i c.index-names-i.result c.index-shown-i.result
-    (omega (arith, c.loop-i-test.true, c.requires)) c.loop-i-test.true c.index-names-i.is c.index-shown-i.is c.loop-i.invariant
+    one_pair kept_name _ _ _ c.args.names.now c.args.shown.now c.loop-i.i c.index-names-i.result
+    c.index-shown-i.result
+    (omega (arith, c.loop-i-test.true, c.requires)) c.loop-i-test.true c.index-names-i.is
+    c.index-shown-i.is c.loop-i.invariant
     c.in_ok-push_kept_name.ensures
 
 pub returns : goal.returns
 returns c =
-    all_pairs kept_name _ _ c.args.names.now c.args.shown.now c.loop-i.i c.loop-i-test.false c.loop-i.invariant
+    all_pairs kept_name _ _ c.args.names.now c.args.shown.now c.loop-i.i c.loop-i-test.false
+    c.loop-i.invariant

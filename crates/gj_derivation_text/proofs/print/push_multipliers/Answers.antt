@@ -6,10 +6,13 @@ use Rattle.gj_derivation_text.proofs.print.push_multipliers.Goals as goal
 
 pub loop-multiplier-preserved : goal.loop-multiplier-preserved
 loop-multiplier-preserved c =
-    one_printed (λ x. line_of line_form (by_told c.args.lines.now x)) _ _ _ c.args.multipliers.now c.loop-multiplier.multiplier-index c.multiplier-item.result
-    c.loop-multiplier-test.true c.multiplier-item.is c.loop-multiplier.invariant c.in_ok-push_multiplier.ensures
+    one_printed (λ x. line_of line_form (by_told c.args.lines.now x)) _ _ _ c.args.multipliers.now
+    c.loop-multiplier.multiplier-index c.multiplier-item.result
+    c.loop-multiplier-test.true c.multiplier-item.is c.loop-multiplier.invariant
+    c.in_ok-push_multiplier.ensures
 
 pub returns : goal.returns
 returns c =
-    all_printed (λ x. line_of line_form (by_told c.args.lines.now x)) _ _ c.args.multipliers.now c.loop-multiplier.multiplier-index c.loop-multiplier-test.false
+    all_printed (λ x. line_of line_form (by_told c.args.lines.now x)) _ _ c.args.multipliers.now
+    c.loop-multiplier.multiplier-index c.loop-multiplier-test.false
     c.loop-multiplier.invariant

@@ -7,4 +7,5 @@ use Rattle.gj_derivation_text.proofs.print.push_multipliers.Given as goal
 
 abbrev pub invariant-loop-multiplier : goal.invariant-loop-multiplier
 invariant-loop-multiplier l =
-    ArePrinted (λ x. line_of line_form (by_told l.lines x)) l.initial.out.items l.multipliers l.out.items (drop l.multiplier-index l.multipliers)
+    ArePrinted (λ x. line_of line_form (by_told l.lines x)) l.initial.out.items l.multipliers
+    l.out.items (drop l.multiplier-index l.multipliers)

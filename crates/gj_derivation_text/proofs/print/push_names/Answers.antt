@@ -5,11 +5,13 @@ use Rattle.gj_derivation_text.proofs.print.push_names.Goals as goal
 
 pub loop-name-preserved : goal.loop-name-preserved
 loop-name-preserved c =
-    one_name c.args.names.now c.loop-name.name-index c.name-item.result _ _ _ _ c.loop-name-test.true c.name-item.is c.in_ok-copy.ensures
+    one_name c.args.names.now c.loop-name.name-index c.name-item.result _ _ _ _
+    c.loop-name-test.true c.name-item.is c.in_ok-copy.ensures
     c.in_ok-push.ensures.items c.loop-name.invariant
 
 pub returns : goal.returns
 returns c =
     sym (append-nil c.loop-name.lines.items)
     ∙ sym (ap (λ (names : List (List ℕ)). c.loop-name.lines.items ++ names)
-    (drop_all c.loop-name.name-index c.args.names.now c.loop-name-test.false)) ∙ c.loop-name.invariant
+    (drop_all c.loop-name.name-index c.args.names.now c.loop-name-test.false))
+    ∙ c.loop-name.invariant

@@ -10,10 +10,13 @@ pub loop-column-preserved : goal.loop-column-preserved
 loop-column-preserved c =
     let turned = c.args.turned.now in
     let i = c.loop-column.column-index in
-    one_printed (λ (j : ℕ). line_of line_form (upper_told c.args.columns.now j)) _ _ _ turned i (get_or turned i 0) c.loop-column-test.true
-    (get_or_default turned i 0 (get_or turned i 0) c.loop-column-test.true) c.loop-column.invariant c.in_ok-push_upper.ensures
+    one_printed (λ (j : ℕ). line_of line_form (upper_told c.args.columns.now j)) _ _ _ turned i
+    (get_or turned i 0) c.loop-column-test.true
+    (get_or_default turned i 0 (get_or turned i 0) c.loop-column-test.true) c.loop-column.invariant
+    c.in_ok-push_upper.ensures
 
 pub returns : goal.returns
 returns c =
-    all_printed (λ (j : ℕ). line_of line_form (upper_told c.args.columns.now j)) _ _ c.args.turned.now c.loop-column.column-index
+    all_printed (λ (j : ℕ). line_of line_form (upper_told c.args.columns.now j)) _ _
+    c.args.turned.now c.loop-column.column-index
     c.loop-column-test.false c.loop-column.invariant

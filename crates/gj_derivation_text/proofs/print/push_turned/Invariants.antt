@@ -7,4 +7,5 @@ use Rattle.gj_derivation_text.proofs.print.push_turned.Given as goal
 
 abbrev pub invariant-loop-column : goal.invariant-loop-column
 invariant-loop-column l =
-    ArePrinted (λ (j : ℕ). line_of line_form (upper_told l.columns j)) l.initial.out.items l.turned l.out.items (drop l.column-index l.turned)
+    ArePrinted (λ (j : ℕ). line_of line_form (upper_told l.columns j)) l.initial.out.items l.turned
+    l.out.items (drop l.column-index l.turned)

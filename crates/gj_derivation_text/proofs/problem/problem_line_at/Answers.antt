@@ -20,7 +20,8 @@ returns-in_err-line-clause-fault c =
 pub returns-in-Ok-clause-found : goal.returns-in-Ok-clause-found
 returns-in-Ok-clause-found c =
     let found = c.in_ok-line.ensures.found in
-    line_read c.args.names.now.drafts c.args.drafts.now c.args.text.now _ _ _ _ _ found c.in_ok-line.ensures.words
+    line_read c.args.names.now.drafts c.args.drafts.now c.args.text.now _ _ _ _ _ found
+    c.in_ok-line.ensures.words
     (steps_end _ _ _ _ _ found (λ h. false≢true (c.if-goes_on.ensures.1 h))) _ c.in-Ok.ensures.found
 
 pub returns-in-Ok-clause-shorter : goal.returns-in-Ok-clause-shorter
@@ -29,6 +30,8 @@ returns-in-Ok-clause-shorter c = line_is_shorter Lenient _ _ _ _ c.in_ok-line.en
 pub returns-in-Err-Broken-clause-fault : goal.returns-in-Err-Broken-clause-fault
 returns-in-Err-Broken-clause-fault c =
     let found = c.in_ok-line.ensures.found in
-    line_fault c.args.names.now.drafts c.args.drafts.now c.args.text.now _ _ _ _ _ found c.in_ok-line.ensures.words
-    (steps_end _ _ _ _ _ found (λ h. false≢true (c.if-goes_on.ensures.1 h))) _ c.in-Err-Broken.reason
+    line_fault c.args.names.now.drafts c.args.drafts.now c.args.text.now _ _ _ _ _ found
+    c.in_ok-line.ensures.words
+    (steps_end _ _ _ _ _ found (λ h. false≢true (c.if-goes_on.ensures.1 h))) _
+    c.in-Err-Broken.reason
     (rw c.in-Err-Broken.field-0-is at c.in-Err-Broken.ensures.broken) c.at.ensures

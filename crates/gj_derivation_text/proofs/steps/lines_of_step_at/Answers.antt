@@ -9,14 +9,21 @@ use Rattle.gj_derivation_text.proofs.steps.lines_of_step_at.Goals as goal
 pub returns-in_err-behind-clause-fault : goal.returns-in_err-behind-clause-fault
 returns-in_err-behind-clause-fault c =
     let p = err_from_is_err_and c.from_residual.result c.from_residual.ensures.1 in
-    passed_on (IsFaultOf (lines_of_step c.args.names.now (begun c.args.rule)) c.args.text.now) _ _ _ p.1 p.2
-    (step_fault c.args.names.now (begun c.args.rule) c.args.text.now _ _ c.loop-used.invariant.leads _ c.in_err-behind.ensures.fault)
+    passed_on (IsFaultOf (lines_of_step c.args.names.now (begun c.args.rule)) c.args.text.now) _ _ _
+    p.1 p.2
+    (step_fault c.args.names.now (begun c.args.rule) c.args.text.now _ _ c.loop-used.invariant.leads
+    _ c.in_err-behind.ensures.fault)
 
 pub loop-used-preserved : goal.loop-used-preserved
 loop-used-preserved c = record {
   used = c.in_ok-behind.ensures.used;
-  shorter = omega (arith, rw c.in-Some.is at c.in_ok-behind.ensures.shorter, c.loop-used.invariant.shorter);
-  leads = step_on c.args.names.now (begun c.args.rule) c.args.text.now _ _ c.loop-used.invariant.leads _ _
+  shorter = omega (
+    arith,
+    rw c.in-Some.is at c.in_ok-behind.ensures.shorter,
+    c.loop-used.invariant.shorter,
+  );
+  leads = step_on c.args.names.now (begun c.args.rule) c.args.text.now _ _
+      c.loop-used.invariant.leads _ _
       (rw c.in-Some.is at c.in_ok-behind.ensures.found);
 }
 

@@ -12,7 +12,8 @@ pub returns-in_err-rest-clause-fault : goal.returns-in_err-rest-clause-fault
 returns-in_err-rest-clause-fault c =
     let drafts = c.args.names.now.drafts in
     let p = err_from_is_err_and c.from_residual.result c.from_residual.ensures.1 in
-    passed_on (IsFaultOf (loop_part (next_step drafts c.args.has_function) c.args.drafts.now) c.args.text.now) _ _ _ p.1 p.2
+    passed_on (IsFaultOf (loop_part (next_step drafts c.args.has_function) c.args.drafts.now)
+    c.args.text.now) _ _ _ p.1 p.2
     (fault_in_step drafts c.args.has_function _ c.args.drafts.now c.args.text.now _ _
     (ap (λ (m : Names). m.drafts) c.loop-alloc.invariant.names) c.loop-alloc.invariant.leads _
     (λ is. false≢true (c.loop-alloc-test.ensures.1 is)) c.in_err-rest.ensures.fault)
@@ -23,21 +24,27 @@ loop-alloc-preserved c =
     let flag = ap (λ (m : Names). m.drafts) c.loop-alloc.invariant.names in record {
       few = c.in_ok-rest.ensures.few;
       names = c.in_ok-rest.ensures.names ∙ ap (λ (b : Bool). names_of b c.step_at.new.drafts) flag;
-      leads = steps_on drafts c.args.has_function _ c.args.drafts.now c.args.text.now _ _ flag c.loop-alloc.invariant.leads _ _
+      leads = steps_on drafts c.args.has_function _ c.args.drafts.now c.args.text.now _ _ flag
+          c.loop-alloc.invariant.leads _ _
           (λ is. false≢true (c.loop-alloc-test.ensures.1 is)) c.in_ok-rest.ensures.found;
     }
 
 pub returns-in_err-rest-2-clause-fault : goal.returns-in_err-rest-2-clause-fault
 returns-in_err-rest-2-clause-fault c =
     let drafts = c.args.names.now.drafts in
-    let p = err_from_is_err_and c.from_residual-in_err-rest-2.result c.from_residual-in_err-rest-2.ensures.1 in
-    passed_on (IsFaultOf (loop_part (next_step drafts c.args.has_function) c.args.drafts.now) c.args.text.now) _ _ _ p.1 p.2
+    let p = err_from_is_err_and c.from_residual-in_err-rest-2.result
+    c.from_residual-in_err-rest-2.ensures.1 in
+    passed_on (IsFaultOf (loop_part (next_step drafts c.args.has_function) c.args.drafts.now)
+    c.args.text.now) _ _ _ p.1 p.2
     (fault_at_end drafts c.args.has_function _ c.args.drafts.now c.args.text.now _ _
-    (ap (λ (m : Names). m.drafts) c.loop-alloc.invariant.names) c.loop-alloc.invariant.leads _ (c.loop-alloc-test.ensures.0 refl)
+    (ap (λ (m : Names). m.drafts) c.loop-alloc.invariant.names) c.loop-alloc.invariant.leads _
+    (c.loop-alloc-test.ensures.0 refl)
     c.in_err-rest-2.ensures.fault)
 
 pub returns-clause-found : goal.returns-clause-found
 returns-clause-found c =
-    steps_end_here c.args.names.now.drafts c.args.has_function _ c.args.drafts.now c.args.text.now _ _
-    (ap (λ (m : Names). m.drafts) c.loop-alloc.invariant.names) c.loop-alloc.invariant.leads _ (c.loop-alloc-test.ensures.0 refl)
+    steps_end_here c.args.names.now.drafts c.args.has_function _ c.args.drafts.now c.args.text.now _
+    _
+    (ap (λ (m : Names). m.drafts) c.loop-alloc.invariant.names) c.loop-alloc.invariant.leads _
+    (c.loop-alloc-test.ensures.0 refl)
     c.in_ok-rest-2.ensures.found

@@ -11,50 +11,64 @@ use Rattle.gj_elim.proofs.keep.keep.Goals as goal
 
 pub make_kept-requires-clause-within : goal.make_kept-requires-clause-within
 make_kept-requires-clause-within c =
-    subst (λ (xs : List ℤ). c.args.origin.pivot < length xs) (sym (c.as_mut_slice.ensures.value ∙ c.in_ok-entries.ensures.items))
+    subst (λ (xs : List ℤ). c.args.origin.pivot < length xs)
+    (sym (c.as_mut_slice.ensures.value ∙ c.in_ok-entries.ensures.items))
     c.requires.within
 
 pub make_kept-requires-clause-fits : goal.make_kept-requires-clause-fits
 make_kept-requires-clause-fits c =
-    subst (λ (xs : List ℤ). All Fits xs) (sym (c.as_mut_slice.ensures.value ∙ c.in_ok-entries.ensures.items)) c.requires.fits
+    subst (λ (xs : List ℤ). All Fits xs)
+    (sym (c.as_mut_slice.ensures.value ∙ c.in_ok-entries.ensures.items)) c.requires.fits
 
 pub overflow_cast-place : goal.overflow_cast-place
-overflow_cast-place c = record { fits = subst (λ n. n < 2 ^ 32) (sym (c.len-place.ensures ∙ c.args.log.now.ok.0)) c.requires.count }
+overflow_cast-place c =
+    record {
+      fits = subst (λ n. n < 2 ^ 32) (sym (c.len-place.ensures ∙ c.args.log.now.ok.0))
+          c.requires.count;
+    }
 
 -- what is left of the row, as it is kept
-left_is : (c : goal.After-push_reserved-3) → c.make_kept.new.row ≡ kept_entries c.args.row.now c.args.origin.pivot
+left_is : (c : goal.After-push_reserved-3) →
+    c.make_kept.new.row ≡ kept_entries c.args.row.now c.args.origin.pivot
 left_is c =
     c.make_kept.ensures.value
-    ∙ ap (λ xs. kept_entries xs c.args.origin.pivot) (c.as_mut_slice.ensures.value ∙ c.in_ok-entries.ensures.items)
+    ∙ ap (λ xs. kept_entries xs c.args.origin.pivot) (c.as_mut_slice.ensures.value
+    ∙ c.in_ok-entries.ensures.items)
 
 held : (c : goal.After-push_reserved-3) → c.of-2.result ≡ c.make_kept.new.row
 held c =
     c.of-2.ensures
     ∙ with_items_is c.in_ok-entries.entries c.make_kept.new.row
-    (c.make_kept.auto.row ∙ ap length c.as_mut_slice.ensures.value ∙ sym c.in_ok-entries.entries.ok.0)
+    (c.make_kept.auto.row ∙ ap length c.as_mut_slice.ensures.value
+    ∙ sym c.in_ok-entries.entries.ok.0)
 
 pub returns-clause-line : goal.returns-clause-line
 returns-clause-line c =
-    line_pushed _ _ _ _ _ _ _ c.push_reserved.ensures.items c.in_ok-reserve.ensures.items (c.of.ensures ∙ c.in_ok-reduce.ensures.items)
+    line_pushed _ _ _ _ _ _ _ c.push_reserved.ensures.items c.in_ok-reserve.ensures.items
+    (c.of.ensures ∙ c.in_ok-reduce.ensures.items)
 
 pub returns-clause-entries : goal.returns-clause-entries
 returns-clause-entries c =
-    row_pushed _ _ _ _ _ c.push_reserved-2.ensures.items c.in_ok-reserve-2.ensures.items (held c ∙ left_is c)
+    row_pushed _ _ _ _ _ c.push_reserved-2.ensures.items c.in_ok-reserve-2.ensures.items
+    (held c ∙ left_is c)
 
 pub returns-clause-fits : goal.returns-clause-fits
 returns-clause-fits c = subst (λ (xs : List ℤ). All Fits xs) (left_is c) c.make_kept.ensures.fits
 
 pub returns-clause-extents : goal.returns-clause-extents
 returns-clause-extents c =
-    extents_more c.args.rows.now.items _ c.args.extents.now.items _ c.make_kept.new.row c.extent_of-extent.result c.requires.extents
+    extents_more c.args.rows.now.items _ c.args.extents.now.items _ c.make_kept.new.row
+    c.extent_of-extent.result c.requires.extents
     (row_pushed _ _ _ _ _ c.push_reserved-2.ensures.items c.in_ok-reserve-2.ensures.items (held c))
     (pushed _ _ _ _ c.push_reserved-3.ensures.items c.in_ok-reserve-3.ensures.items)
-    (subst (λ (xs : List ℤ). IsExtent c.extent_of-extent.result.bound c.extent_of-extent.result.end xs)
+    (subst (λ (xs : List ℤ). IsExtent c.extent_of-extent.result.bound c.extent_of-extent.result.end
+    xs)
     (c.as_slice.ensures.value ∙ sym c.of-2.ensures ∙ held c) c.extent_of-extent.ensures)
 
 pub returns-clause-places : goal.returns-clause-places
 returns-clause-places c =
-    places_more (length c.args.places.now) c.args.log.now.items c.push_reserved.new.self.items c.args.places.now _ c.len-place.result
+    places_more (length c.args.places.now) c.args.log.now.items c.push_reserved.new.self.items
+    c.args.places.now _ c.len-place.result
     c.requires.places c.requires.free (c.len-place.ensures ∙ c.args.log.now.ok.0)
     (pushed _ _ _ _ c.push_reserved.ensures.items c.in_ok-reserve.ensures.items)
 
@@ -74,7 +88,8 @@ returns-in_err-entries c =
 
 pub returns-in_err-reduce : goal.returns-in_err-reduce
 returns-in_err-reduce c =
-    let failed = err_from_is_err_and c.from_residual-in_err-reduce.result c.from_residual-in_err-reduce.ensures.1 in record {
+    let failed = err_from_is_err_and c.from_residual-in_err-reduce.result
+    c.from_residual-in_err-reduce.ensures.1 in record {
       line = rw failed.1 tt;
       entries = rw failed.1 tt;
       fits = rw failed.1 tt;
@@ -88,7 +103,8 @@ returns-in_err-reduce c =
 
 pub returns-in_err-reserve : goal.returns-in_err-reserve
 returns-in_err-reserve c =
-    let failed = err_from_is_err_and c.from_residual-in_err-reserve.result c.from_residual-in_err-reserve.ensures.1 in record {
+    let failed = err_from_is_err_and c.from_residual-in_err-reserve.result
+    c.from_residual-in_err-reserve.ensures.1 in record {
       line = rw failed.1 tt;
       entries = rw failed.1 tt;
       fits = rw failed.1 tt;
@@ -102,7 +118,8 @@ returns-in_err-reserve c =
 
 pub returns-in_err-reserve-2 : goal.returns-in_err-reserve-2
 returns-in_err-reserve-2 c =
-    let failed = err_from_is_err_and c.from_residual-in_err-reserve-2.result c.from_residual-in_err-reserve-2.ensures.1 in record {
+    let failed = err_from_is_err_and c.from_residual-in_err-reserve-2.result
+    c.from_residual-in_err-reserve-2.ensures.1 in record {
       line = rw failed.1 tt;
       entries = rw failed.1 tt;
       fits = rw failed.1 tt;
@@ -116,7 +133,8 @@ returns-in_err-reserve-2 c =
 
 pub returns-in_err-reserve-3 : goal.returns-in_err-reserve-3
 returns-in_err-reserve-3 c =
-    let failed = err_from_is_err_and c.from_residual-in_err-reserve-3.result c.from_residual-in_err-reserve-3.ensures.1 in record {
+    let failed = err_from_is_err_and c.from_residual-in_err-reserve-3.result
+    c.from_residual-in_err-reserve-3.ensures.1 in record {
       line = rw failed.1 tt;
       entries = rw failed.1 tt;
       fits = rw failed.1 tt;

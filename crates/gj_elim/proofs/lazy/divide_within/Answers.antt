@@ -7,10 +7,13 @@ loop-i-init c = division_start c.args.row.now c.args.from c.args.to c.requires.z
 
 pub loop-i-preserved : goal.loop-i-preserved
 loop-i-preserved c =
-    division_more c.args.row.now c.loop-i.row c.loop-i.i c.args.divisor _ c.loop-i.invariant (omega arith) c.loop-i.auto.row
+    division_more c.args.row.now c.loop-i.row c.loop-i.i c.args.divisor _ c.loop-i.invariant
+    (omega arith) c.loop-i.auto.row
     c.requires.divisor c.requires.some
-    (read_quotient_small (get_or c.loop-i.row c.loop-i.i (pos 0)) c.args.divisor (search rules) c.requires.some c.requires.small)
+    (read_quotient_small (get_or c.loop-i.row c.loop-i.i (pos 0)) c.args.divisor
+    (search rules) c.requires.some c.requires.small)
 
 pub returns : goal.returns
 returns c =
-    division_end c.args.row.now c.loop-i.row c.args.from c.args.to c.loop-i.i c.loop-i.invariant c.requires.zero (omega arith) c.loop-i.auto.row
+    division_end c.args.row.now c.loop-i.row c.args.from c.args.to c.loop-i.i c.loop-i.invariant
+    c.requires.zero (omega arith) c.loop-i.auto.row

@@ -14,11 +14,14 @@ returns-then-divisor-eq1-clause-value c =
 
 pub loop-i-preserved : goal.loop-i-preserved
 loop-i-preserved c =
-    divisor_more c.args.row.now c.loop-i.i c.loop-i.divisor c.divisor_with-divisor.result c.loop-i.invariant (omega arith)
+    divisor_more c.args.row.now c.loop-i.i c.loop-i.divisor c.divisor_with-divisor.result
+    c.loop-i.invariant (omega arith)
     (subst (λ (x : ℤ). IsGcd c.loop-i.divisor (unsigned_abs x) c.divisor_with-divisor.result)
-    (to_z-of_z w64 (get_or c.args.row.now c.loop-i.i (pos 0)) (search rules)) c.divisor_with-divisor.ensures.value)
+    (to_z-of_z w64 (get_or c.args.row.now c.loop-i.i (pos 0)) (search rules))
+    c.divisor_with-divisor.ensures.value)
     c.divisor_with-divisor.ensures.small
 
 pub returns-clause-value : goal.returns-clause-value
 returns-clause-value c =
-    divisor_end c.args.row.now c.args.from c.args.to c.loop-i.i c.loop-i.divisor c.loop-i.invariant c.requires.zero (omega arith)
+    divisor_end c.args.row.now c.args.from c.args.to c.loop-i.i c.loop-i.divisor c.loop-i.invariant
+    c.requires.zero (omega arith)

@@ -6,5 +6,6 @@ use Rattle.gj_elim.proofs.lazy.reduce_lazily.Given as goal
 
 abbrev pub invariant-loop-column : goal.invariant-loop-column
 invariant-loop-column l =
-    IsLazy (inserted (length l.initial.row) (kept_rows l._log l.rows) l.initial.row) (kept_rows l._log l.rows) (length l.initial.row)
+    IsLazy (inserted (length l.initial.row) (kept_rows l._log l.rows) l.initial.row)
+    (kept_rows l._log l.rows) (length l.initial.row)
     l.column l.row l.reduce.items l.is_stepped l.extent.bound l.extent.end

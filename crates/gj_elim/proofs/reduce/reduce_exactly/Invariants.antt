@@ -9,7 +9,10 @@ use Rattle.gj_elim.proofs.reduce.reduce_exactly.Given as goal
 abbrev pub invariant-loop-column : goal.invariant-loop-column
 invariant-loop-column l = record {
   behind : (i : Insertion) →
-      IsBehind i l.initial.reduce.items (rest whole_numbers (kept_rows l.log l.rows) (length l.initial.row) l.first l.initial.row) →
-      IsBehind i l.reduce.items (rest whole_numbers (kept_rows l.log l.rows) (length l.initial.row) l.column l.row);
+      IsBehind i l.initial.reduce.items
+      (rest whole_numbers (kept_rows l.log l.rows)
+      (length l.initial.row) l.first l.initial.row) →
+      IsBehind i l.reduce.items
+      (rest whole_numbers (kept_rows l.log l.rows) (length l.initial.row) l.column l.row);
   fits : All Fits l.row;
 }

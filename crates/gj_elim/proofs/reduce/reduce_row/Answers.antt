@@ -22,56 +22,70 @@ load-requires-clause-columns c = sym c.requires.small_columns
 
 pub reduce_exactly-requires-clause-triangular : goal.reduce_exactly-requires-clause-triangular
 reduce_exactly-requires-clause-triangular c =
-    subst (λ (n : ℕ). AreTriangular n (kept_rows c.args.log.now c.args.rows.now)) (sym (ap length c.copy_from_slice.ensures.after))
+    subst (λ (n : ℕ). AreTriangular n (kept_rows c.args.log.now c.args.rows.now))
+    (sym (ap length c.copy_from_slice.ensures.after))
     c.requires.triangular
 
 pub reduce_exactly-requires-clause-places : goal.reduce_exactly-requires-clause-places
 reduce_exactly-requires-clause-places c =
-    subst (λ (n : ℕ). ArePlaces n c.args.log.now c.args.places.now) (sym (ap length c.copy_from_slice.ensures.after)) c.requires.places
+    subst (λ (n : ℕ). ArePlaces n c.args.log.now c.args.places.now)
+    (sym (ap length c.copy_from_slice.ensures.after)) c.requires.places
 
 pub reduce_exactly-requires-clause-count : goal.reduce_exactly-requires-clause-count
 reduce_exactly-requires-clause-count c =
     subst (λ n. n < 2 ^ 32) (sym (ap length c.copy_from_slice.ensures.after)) c.requires.count
 
 pub reduce_exactly-requires-clause-fits : goal.reduce_exactly-requires-clause-fits
-reduce_exactly-requires-clause-fits c = subst (λ (xs : List ℤ). All Fits xs) (sym c.copy_from_slice.ensures.after) c.requires.fits
+reduce_exactly-requires-clause-fits c =
+    subst (λ (xs : List ℤ). All Fits xs) (sym c.copy_from_slice.ensures.after) c.requires.fits
 
 pub reduce_lazily-requires-clause-triangular : goal.reduce_lazily-requires-clause-triangular
 reduce_lazily-requires-clause-triangular c =
-    subst (λ (n : ℕ). AreTriangular n (kept_rows c.args.log.now c.args.rows.now)) (sym (ap length c.load.ensures)) c.requires.triangular
+    subst (λ (n : ℕ). AreTriangular n (kept_rows c.args.log.now c.args.rows.now))
+    (sym (ap length c.load.ensures)) c.requires.triangular
 
 pub reduce_lazily-requires-clause-places : goal.reduce_lazily-requires-clause-places
 reduce_lazily-requires-clause-places c =
-    subst (λ (n : ℕ). ArePlaces n c.args.log.now c.args.places.now) (sym (ap length c.load.ensures)) c.requires.places
+    subst (λ (n : ℕ). ArePlaces n c.args.log.now c.args.places.now)
+    (sym (ap length c.load.ensures)) c.requires.places
 
 pub reduce_lazily-requires-clause-count : goal.reduce_lazily-requires-clause-count
-reduce_lazily-requires-clause-count c = subst (λ n. n < 2 ^ 32) (sym (ap length c.load.ensures)) c.requires.count
+reduce_lazily-requires-clause-count c =
+    subst (λ n. n < 2 ^ 32) (sym (ap length c.load.ensures)) c.requires.count
 
 pub reduce_lazily-requires-clause-exact : goal.reduce_lazily-requires-clause-exact
 reduce_lazily-requires-clause-exact c = c.requires.row_columns ∙ sym (ap length c.load.ensures)
 
 pub reduce_lazily-requires-clause-extent : goal.reduce_lazily-requires-clause-extent
 reduce_lazily-requires-clause-extent c =
-    subst (λ (xs : List ℤ). IsExtent c.extent_of-extent.result.bound c.extent_of-extent.result.end xs) (sym c.load.ensures)
+    subst (λ (xs : List ℤ). IsExtent c.extent_of-extent.result.bound c.extent_of-extent.result.end
+    xs) (sym c.load.ensures)
     c.extent_of-extent.ensures
 
-pub reduce_exactly-requires-in-Column-clause-triangular : goal.reduce_exactly-requires-in-Column-clause-triangular
+pub reduce_exactly-requires-in-Column-clause-triangular :
+    goal.reduce_exactly-requires-in-Column-clause-triangular
 reduce_exactly-requires-in-Column-clause-triangular c =
     subst (λ (n : ℕ). AreTriangular n (kept_rows c.args.log.now c.args.rows.now))
     (sym (c.reduce_lazily.auto.exact ∙ c.requires.row_columns)) c.requires.triangular
 
-pub reduce_exactly-requires-in-Column-clause-places : goal.reduce_exactly-requires-in-Column-clause-places
+pub reduce_exactly-requires-in-Column-clause-places :
+    goal.reduce_exactly-requires-in-Column-clause-places
 reduce_exactly-requires-in-Column-clause-places c =
-    subst (λ (n : ℕ). ArePlaces n c.args.log.now c.args.places.now) (sym (c.reduce_lazily.auto.exact ∙ c.requires.row_columns))
+    subst (λ (n : ℕ). ArePlaces n c.args.log.now c.args.places.now)
+    (sym (c.reduce_lazily.auto.exact ∙ c.requires.row_columns))
     c.requires.places
 
-pub reduce_exactly-requires-in-Column-clause-count : goal.reduce_exactly-requires-in-Column-clause-count
+pub reduce_exactly-requires-in-Column-clause-count :
+    goal.reduce_exactly-requires-in-Column-clause-count
 reduce_exactly-requires-in-Column-clause-count c =
-    subst (λ n. n < 2 ^ 32) (sym (c.reduce_lazily.auto.exact ∙ c.requires.row_columns)) c.requires.count
+    subst (λ n. n < 2 ^ 32) (sym (c.reduce_lazily.auto.exact ∙ c.requires.row_columns))
+    c.requires.count
 
-pub reduce_exactly-requires-in-Column-clause-fits : goal.reduce_exactly-requires-in-Column-clause-fits
+pub reduce_exactly-requires-in-Column-clause-fits :
+    goal.reduce_exactly-requires-in-Column-clause-fits
 reduce_exactly-requires-in-Column-clause-fits c =
-    subst (λ (r : Reached). IsReachedWithin (length c.load.new.row) c.args.log.now r c.reduce_lazily.new.row c.reduce_lazily.new.exact)
+    subst (λ (r : Reached). IsReachedWithin (length c.load.new.row) c.args.log.now r
+    c.reduce_lazily.new.row c.reduce_lazily.new.exact)
     c.in-Column.is c.in_ok-reduce_lazily.ensures.within
 
 -- ---- what it answers
@@ -80,58 +94,79 @@ pub returns-then-extent-ge-GREATEST_BOUND-clause-wide :
     goal.returns-then-extent-ge-GREATEST_BOUND-clause-wide
 returns-then-extent-ge-GREATEST_BOUND-clause-wide c =
     λ e.
-    c.reduce_exactly.ensures.wide e (inserted (length c.args.given.now) (kept_rows c.args.log.now c.args.rows.now) c.args.given.now)
-    (start_at (kept_rows c.args.log.now c.args.rows.now) c.args.given.now c.copy_from_slice.new.self c.args.reduce.now.items
+    c.reduce_exactly.ensures.wide e
+    (inserted (length c.args.given.now) (kept_rows c.args.log.now c.args.rows.now)
+    c.args.given.now)
+    (start_at (kept_rows c.args.log.now c.args.rows.now) c.args.given.now c.copy_from_slice.new.self
+    c.args.reduce.now.items
     c.copy_from_slice.ensures.after c.requires.empty)
 
 pub returns-in-Column-clause-wide : goal.returns-in-Column-clause-wide
 returns-in-Column-clause-wide c =
     λ e.
-    c.reduce_exactly-in-Column.ensures.wide e (inserted (length c.args.given.now) (kept_rows c.args.log.now c.args.rows.now) c.args.given.now)
-    (reached_column (kept_rows c.args.log.now c.args.rows.now) c.args.given.now c.load.new.row c.reduce_lazily.new.row c.reduce_lazily.new.exact
-    c.in_ok-reduce_lazily.field-0 c.in-Column.column c.reduce_lazily.new.reduce.items c.load.ensures c.in-Column.is
+    c.reduce_exactly-in-Column.ensures.wide e
+    (inserted (length c.args.given.now) (kept_rows c.args.log.now c.args.rows.now)
+    c.args.given.now)
+    (reached_column (kept_rows c.args.log.now c.args.rows.now) c.args.given.now c.load.new.row
+    c.reduce_lazily.new.row c.reduce_lazily.new.exact
+    c.in_ok-reduce_lazily.field-0 c.in-Column.column c.reduce_lazily.new.reduce.items c.load.ensures
+    c.in-Column.is
     c.in_ok-reduce_lazily.ensures.reached)
 
 pub returns-then-extent-ge-GREATEST_BOUND-clause-left :
     goal.returns-then-extent-ge-GREATEST_BOUND-clause-left
 returns-then-extent-ge-GREATEST_BOUND-clause-left c =
     if_ok_more c.reduce_exactly.result _ _ c.reduce_exactly.ensures.done
-    (λ left h. (h (inserted (length c.args.given.now) (kept_rows c.args.log.now c.args.rows.now) c.args.given.now)
-    (start_at (kept_rows c.args.log.now c.args.rows.now) c.args.given.now c.copy_from_slice.new.self c.args.reduce.now.items
+    (λ left h. (h (inserted (length c.args.given.now) (kept_rows c.args.log.now c.args.rows.now)
+    c.args.given.now)
+    (start_at (kept_rows c.args.log.now c.args.rows.now) c.args.given.now c.copy_from_slice.new.self
+    c.args.reduce.now.items
     c.copy_from_slice.ensures.after c.requires.empty)).left_is)
 
 pub returns-then-extent-ge-GREATEST_BOUND-clause-narrow :
     goal.returns-then-extent-ge-GREATEST_BOUND-clause-narrow
 returns-then-extent-ge-GREATEST_BOUND-clause-narrow c =
     on_ok_more c.reduce_exactly.result _ _ c.reduce_exactly.ensures.done
-    (λ left h. (h (inserted (length c.args.given.now) (kept_rows c.args.log.now c.args.rows.now) c.args.given.now)
-    (start_at (kept_rows c.args.log.now c.args.rows.now) c.args.given.now c.copy_from_slice.new.self c.args.reduce.now.items
+    (λ left h. (h (inserted (length c.args.given.now) (kept_rows c.args.log.now c.args.rows.now)
+    c.args.given.now)
+    (start_at (kept_rows c.args.log.now c.args.rows.now) c.args.given.now c.copy_from_slice.new.self
+    c.args.reduce.now.items
     c.copy_from_slice.ensures.after c.requires.empty)).narrow)
 
 pub returns-in-Column-clause-left : goal.returns-in-Column-clause-left
 returns-in-Column-clause-left c =
     if_ok_more c.reduce_exactly-in-Column.result _ _ c.reduce_exactly-in-Column.ensures.done
-    (λ left h. (h (inserted (length c.args.given.now) (kept_rows c.args.log.now c.args.rows.now) c.args.given.now)
-    (reached_column (kept_rows c.args.log.now c.args.rows.now) c.args.given.now c.load.new.row c.reduce_lazily.new.row c.reduce_lazily.new.exact
-    c.in_ok-reduce_lazily.field-0 c.in-Column.column c.reduce_lazily.new.reduce.items c.load.ensures c.in-Column.is
+    (λ left h. (h (inserted (length c.args.given.now) (kept_rows c.args.log.now c.args.rows.now)
+    c.args.given.now)
+    (reached_column (kept_rows c.args.log.now c.args.rows.now) c.args.given.now c.load.new.row
+    c.reduce_lazily.new.row c.reduce_lazily.new.exact
+    c.in_ok-reduce_lazily.field-0 c.in-Column.column c.reduce_lazily.new.reduce.items c.load.ensures
+    c.in-Column.is
     c.in_ok-reduce_lazily.ensures.reached)).left_is)
 
 pub returns-in-Column-clause-narrow : goal.returns-in-Column-clause-narrow
 returns-in-Column-clause-narrow c =
     on_ok_more c.reduce_exactly-in-Column.result _ _ c.reduce_exactly-in-Column.ensures.done
-    (λ left h. (h (inserted (length c.args.given.now) (kept_rows c.args.log.now c.args.rows.now) c.args.given.now)
-    (reached_column (kept_rows c.args.log.now c.args.rows.now) c.args.given.now c.load.new.row c.reduce_lazily.new.row c.reduce_lazily.new.exact
-    c.in_ok-reduce_lazily.field-0 c.in-Column.column c.reduce_lazily.new.reduce.items c.load.ensures c.in-Column.is
+    (λ left h. (h (inserted (length c.args.given.now) (kept_rows c.args.log.now c.args.rows.now)
+    c.args.given.now)
+    (reached_column (kept_rows c.args.log.now c.args.rows.now) c.args.given.now c.load.new.row
+    c.reduce_lazily.new.row c.reduce_lazily.new.exact
+    c.in_ok-reduce_lazily.field-0 c.in-Column.column c.reduce_lazily.new.reduce.items c.load.ensures
+    c.in-Column.is
     c.in_ok-reduce_lazily.ensures.reached)).narrow)
 
 pub returns-in_err-reduce_lazily-clause-left : goal.returns-in_err-reduce_lazily-clause-left
-returns-in_err-reduce_lazily-clause-left c = rw (err_from_is_err_and c.from_residual.result c.from_residual.ensures.1).1 tt
+returns-in_err-reduce_lazily-clause-left c =
+    rw (err_from_is_err_and c.from_residual.result c.from_residual.ensures.1).1 tt
 
 pub returns-in_err-reduce_lazily-clause-within : goal.returns-in_err-reduce_lazily-clause-within
-returns-in_err-reduce_lazily-clause-within c = rw (err_from_is_err_and c.from_residual.result c.from_residual.ensures.1).1 tt
+returns-in_err-reduce_lazily-clause-within c =
+    rw (err_from_is_err_and c.from_residual.result c.from_residual.ensures.1).1 tt
 
 pub returns-in_err-reduce_lazily-clause-fits : goal.returns-in_err-reduce_lazily-clause-fits
-returns-in_err-reduce_lazily-clause-fits c = rw (err_from_is_err_and c.from_residual.result c.from_residual.ensures.1).1 tt
+returns-in_err-reduce_lazily-clause-fits c =
+    rw (err_from_is_err_and c.from_residual.result c.from_residual.ensures.1).1 tt
 
 pub returns-in_err-reduce_lazily-clause-narrow : goal.returns-in_err-reduce_lazily-clause-narrow
-returns-in_err-reduce_lazily-clause-narrow c = rw (err_from_is_err_and c.from_residual.result c.from_residual.ensures.1).1 tt
+returns-in_err-reduce_lazily-clause-narrow c =
+    rw (err_from_is_err_and c.from_residual.result c.from_residual.ensures.1).1 tt

@@ -10,13 +10,15 @@ use Rattle.gj_extreme.proofs.covered.extreme_or_slopes.Goals as goal
 pub new-requires-clause-components : goal.new-requires-clause-components
 new-requires-clause-components c =
     subst (All (λ k. k < c.args.cover.count)) (sym c.as_slice-2.ensures.value)
-    (numbers_below c.args.shape.now.order (IsTight c.args.shape.now) c.args.cover c.in_ok-component.component.items c.requires.cover
+    (numbers_below c.args.shape.now.order (IsTight c.args.shape.now) c.args.cover
+    c.in_ok-component.component.items c.requires.cover
     (c.in_ok-component.ensures ∙ c.as_slice.ensures))
 
 pub rows_of-requires-clause-components : goal.rows_of-requires-clause-components
 rows_of-requires-clause-components c =
     ap length (c.in_ok-system.ensures.component ∙ c.as_slice-2.ensures.value)
-    ∙ numbers_length c.args.shape.now.order (IsTight c.args.shape.now) c.args.cover c.in_ok-component.component.items c.requires.cover
+    ∙ numbers_length c.args.shape.now.order (IsTight c.args.shape.now) c.args.cover
+    c.in_ok-component.component.items c.requires.cover
     (c.in_ok-component.ensures ∙ c.as_slice.ensures)
 
 pub extreme_or_kernel-requires-clause-covered : goal.extreme_or_kernel-requires-clause-covered
@@ -26,13 +28,16 @@ extreme_or_kernel-requires-clause-covered c =
     (c.in_ok-component.ensures ∙ c.as_slice.ensures) in
     subst (λ m. AreAllCovered f c.args.cover.lines (component_in c.as_slice-in-Ok.result.now) m)
     (sym (c.in-Ok.ensures.rows.width ∙ c.in_ok-system.ensures.columns))
-    (subst (λ xs. AreAllCovered f c.args.cover.lines (component_in xs) c.args.cover.count) (sym c.as_slice-in-Ok.ensures.value) covered)
+    (subst (λ xs. AreAllCovered f c.args.cover.lines (component_in xs) c.args.cover.count)
+    (sym c.as_slice-in-Ok.ensures.value) covered)
 
 pub returns-in_err-component : goal.returns-in_err-component
 returns-in_err-component c =
-    memory_decision c.args.shape.now c.from_residual.result c.in_err-component.field-0.0 c.from_residual.ensures.0 c.from_residual.ensures.1
+    memory_decision c.args.shape.now c.from_residual.result c.in_err-component.field-0.0
+    c.from_residual.ensures.0 c.from_residual.ensures.1
 
 pub returns-in_err-system : goal.returns-in_err-system
 returns-in_err-system c =
-    memory_decision c.args.shape.now c.from_residual-in_err-system.result c.in_err-system.field-0.0 c.from_residual-in_err-system.ensures.0
+    memory_decision c.args.shape.now c.from_residual-in_err-system.result c.in_err-system.field-0.0
+    c.from_residual-in_err-system.ensures.0
     c.from_residual-in_err-system.ensures.1

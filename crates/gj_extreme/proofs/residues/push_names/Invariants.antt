@@ -7,7 +7,8 @@ use Rattle.gj_extreme.proofs.residues.push_names.Given as goal
 
 abbrev pub invariant-pairs : goal.invariant-pairs
 invariant-pairs l = (f : FunctionData) (behind : List RowName) → AreTightPairsOf f l.pairs →
-    (l.from ≤ f.order) × (l.names.items ++ (pairs_from f l.a l.from ++ behind) ≡ l.initial.names.items ++ (pairs_from f l.a l.a ++ behind))
+    (l.from ≤ f.order) × (l.names.items ++ (pairs_from f l.a l.from ++ behind)
+    ≡ l.initial.names.items ++ (pairs_from f l.a l.a ++ behind))
 
 abbrev pub decreases-pairs : goal.decreases-pairs
 decreases-pairs l = 1024 - l.from

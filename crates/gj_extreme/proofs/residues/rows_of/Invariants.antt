@@ -5,4 +5,5 @@ use Rattle.gj_extreme.proofs.residues.rows_of.Given as goal
 abbrev pub invariant-loop-name : goal.invariant-loop-name
 invariant-loop-name l =
     l.rows.items
-    ≡ map (row_of (component_in l.system.component) l.system.columns (length l.system.component) l.place) (take l.name-index l.names)
+    ≡ map (row_of (component_in l.system.component) l.system.columns
+    (length l.system.component) l.place) (take l.name-index l.names)

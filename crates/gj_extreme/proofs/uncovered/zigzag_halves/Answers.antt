@@ -11,20 +11,26 @@ use Rattle.gj_extreme.proofs.uncovered.zigzag_halves.Goals as goal
 pub split-requires-clause-perturbation : goal.split-requires-clause-perturbation
 split-requires-clause-perturbation c =
     let one = first_of_class c.args.class.now c.requires.some in
-    zigzag_splits c.args.shape.now c.args.class.now c.in_ok-perturbation.perturbation one.0 c.order-order.ensures.limits
-    c.requires.continuous c.requires.minimal c.requires.uncovered one.1 c.in_ok-perturbation.ensures.times
+    zigzag_splits c.args.shape.now c.args.class.now c.in_ok-perturbation.perturbation one.0
+    c.order-order.ensures.limits
+    c.requires.continuous c.requires.minimal c.requires.uncovered one.1
+    c.in_ok-perturbation.ensures.times
     (c.in_ok-perturbation.ensures.values
-    ∙ ap (λ q. map (zigzag q c.args.class.now) (range_with_len 0 (q * 4))) c.order-order.ensures.value)
+    ∙ ap (λ q. map (zigzag q c.args.class.now) (range_with_len 0 (q * 4)))
+    c.order-order.ensures.value)
 
 pub returns-in_err-split-clause-memory : goal.returns-in_err-split-clause-memory
 returns-in_err-split-clause-memory c =
-    handed IsMemoryFault c.from_residual-in_err-split.result (of_split c.in_err-split.field-0.0) c.from_residual-in_err-split.ensures.0
+    handed IsMemoryFault c.from_residual-in_err-split.result
+    (of_split c.in_err-split.field-0.0) c.from_residual-in_err-split.ensures.0
     c.from_residual-in_err-split.ensures.1
     (split_memory c.in_err-split.field-0.0
-    (λ e. zigzag_narrow c.args.shape.now c.args.class.now c.in_ok-perturbation.perturbation c.order-order.ensures.limits
+    (λ e. zigzag_narrow c.args.shape.now c.args.class.now c.in_ok-perturbation.perturbation
+    c.order-order.ensures.limits
     c.in_ok-perturbation.ensures.times
     (c.in_ok-perturbation.ensures.values
-    ∙ ap (λ q. map (zigzag q c.args.class.now) (range_with_len 0 (q * 4))) c.order-order.ensures.value)
+    ∙ ap (λ q. map (zigzag q c.args.class.now) (range_with_len 0 (q * 4)))
+    c.order-order.ensures.value)
     (c.in_err-split.ensures.wide e)))
 
 pub returns-clause-halves : goal.returns-clause-halves
@@ -32,9 +38,12 @@ returns-clause-halves c = record {
   intervals = c.args.class.now;
   least = c.requires.least;
   some = c.requires.some;
-  halves = zigzag_halves_are c.args.shape.now c.args.class.now c.in_ok-perturbation.perturbation c.in_ok-split.field-0
-      c.order-order.ensures.limits c.requires.continuous c.requires.minimal c.requires.uncovered c.in_ok-perturbation.ensures.times
+  halves = zigzag_halves_are c.args.shape.now c.args.class.now c.in_ok-perturbation.perturbation
+      c.in_ok-split.field-0
+      c.order-order.ensures.limits c.requires.continuous c.requires.minimal c.requires.uncovered
+      c.in_ok-perturbation.ensures.times
       (c.in_ok-perturbation.ensures.values
-      ∙ ap (λ q. map (zigzag q c.args.class.now) (range_with_len 0 (q * 4))) c.order-order.ensures.value)
+      ∙ ap (λ q. map (zigzag q c.args.class.now) (range_with_len 0 (q * 4)))
+      c.order-order.ensures.value)
       c.in_ok-split.ensures.halves;
 }

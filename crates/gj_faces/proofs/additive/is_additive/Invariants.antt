@@ -4,4 +4,5 @@ use Rattle.gj_faces.proofs.additive.is_additive.Given as goal
 
 abbrev pub invariant-loop-corner : goal.invariant-loop-corner
 invariant-loop-corner l =
-    (k : ℕ) → k < l.corner → get_or (limits_of l.shape l.face.kind l.face.a l.face.b) k (pos 0) ≡ pos 0
+    (k : ℕ) → k < l.corner → get_or (limits_of l.shape l.face.kind l.face.a l.face.b) k (pos 0)
+    ≡ pos 0

@@ -12,8 +12,10 @@ loop-a-preserved g c =
     let first = c.index-lanes-a.result in
     let row = c.of_sums.result in (
       rw c.push_reserved.ensures.items (row_more f c.loop-a.rows.items a row c.loop-a.invariant.0
-          (λ b. row_of_lanes g.L.Lane.number g.L.Lane.least g.L.Lane.bound f a c.write_periods.new.lanes read.result.now first
-          read.ensures.limits read.ensures.value c.write_periods.ensures.periods c.loop-a-test.true c.index-lanes-a.is b
+          (λ b. row_of_lanes g.L.Lane.number g.L.Lane.least g.L.Lane.bound f a
+          c.write_periods.new.lanes read.result.now first
+          read.ensures.limits read.ensures.value c.write_periods.ensures.periods c.loop-a-test.true
+          c.index-lanes-a.is b
           (IsTrue (has row b)) (c.of_sums.ensures b first))),
       omega (arith, c.loop-a.invariant.1),
     )

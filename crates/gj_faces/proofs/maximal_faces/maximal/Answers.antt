@@ -11,7 +11,8 @@ loop-a-init c = rw c.new-faces.ensures.items none
 pub loop-a-preserved : goal.loop-a-preserved
 loop-a-preserved c =
     let f = c.args.shape.now in
-    picked_row f f.order c.loop-a.a c.loop-a.faces.items c.push_maximal_row.new.faces.items c.loop-a.invariant c.in_ok-push_maximal_row.ensures
+    picked_row f f.order c.loop-a.a c.loop-a.faces.items c.push_maximal_row.new.faces.items
+    c.loop-a.invariant c.in_ok-push_maximal_row.ensures
 
 pub returns-clause-closures : goal.returns-clause-closures
 returns-clause-closures c =

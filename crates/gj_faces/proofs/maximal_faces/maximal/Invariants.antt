@@ -7,4 +7,5 @@ use Rattle.gj_faces.proofs.maximal_faces.maximal.Given as goal
 
 abbrev pub invariant-loop-a : goal.invariant-loop-a
 invariant-loop-a l =
-    ArePicked (IsMaximalIn l.shape) (flat_map (faces_of_row l.shape.order) (range_with_len 0 l.a)) l.faces.items
+    ArePicked (IsMaximalIn l.shape) (flat_map (faces_of_row l.shape.order) (range_with_len 0 l.a))
+    l.faces.items

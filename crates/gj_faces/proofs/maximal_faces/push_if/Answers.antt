@@ -5,9 +5,11 @@ use Rattle.gj_faces.proofs.maximal_faces.push_if.Goals as goal
 
 pub returns-then-is_maximal-clause-added : goal.returns-then-is_maximal-clause-added
 returns-then-is_maximal-clause-added c = λ f maximal.
-    adds_one f _ c.args.faces.now.items c.push_reserved.new.self.items (maximal.0 c.if-is_maximal.true)
+    adds_one f _ c.args.faces.now.items c.push_reserved.new.self.items
+    (maximal.0 c.if-is_maximal.true)
     c.push_reserved.ensures.items
 
 pub returns-else-is_maximal-clause-added : goal.returns-else-is_maximal-clause-added
 returns-else-is_maximal-clause-added c = λ f maximal.
-    adds_none f _ c.args.faces.now.items (λ yes. true≢false (sym (maximal.1 yes) ∙ c.if-is_maximal.false))
+    adds_none f _ c.args.faces.now.items
+    (λ yes. true≢false (sym (maximal.1 yes) ∙ c.if-is_maximal.false))

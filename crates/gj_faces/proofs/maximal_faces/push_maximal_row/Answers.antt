@@ -23,15 +23,18 @@ loop-b-preserved c =
     let middle = c.loop-b.faces.items in
     let first = c.in-Some.ensures in
     let behind = first.behind in
-    let inside : c.in-Some.b < c.args.shape.now.order = elim (cases_lt c.in-Some.b c.args.shape.now.order) [
+    let inside : c.in-Some.b < c.args.shape.now.order =
+    elim (cases_lt c.in-Some.b c.args.shape.now.order) [
       | inl below ↦ below
       | inr past ↦ absurd (true≢false (sym first.found ∙ c.of-alone.ensures.within b past))
     ] in
     let e : c.loop-b.from + (c.in-Some.b - c.loop-b.from) ≡ c.in-Some.b = omega arith in
-    let before = adds_no_squares f a c.loop-b.from (b - c.loop-b.from) c.of-alone.result old middle c.of-alone.ensures (omega arith)
+    let before = adds_no_squares f a c.loop-b.from (b - c.loop-b.from) c.of-alone.result old middle
+    c.of-alone.ensures (omega arith)
     (λ k from below. first.before k from (omega arith)) c.loop-b.invariant.0 in (
       adds_square f a b old middle c.push_square.new.faces.items
-          (subst (λ k. AddsMaximal f (flat_map (faces_of_square a) (range_with_len 0 k)) old middle) e before)
+          (subst (λ k. AddsMaximal f (flat_map (faces_of_square a) (range_with_len 0 k)) old middle)
+          e before)
           (c.push_square.ensures.added f c.of-alone.ensures inside),
       omega arith,
       omega (arith, c.push_square.ensures.few, c.push_square.ensures.capacity),
@@ -45,8 +48,11 @@ returns c =
     let new = c.loop-b.faces.items in
     let from = c.loop-b.from in
     let order = c.loop-b.invariant.1 in
-    let e : c.loop-b.from + (c.args.shape.now.order - c.loop-b.from) ≡ c.args.shape.now.order = omega arith in
-    subst (λ (xs : List Face). AddsMaximal f (faces_of_row f.order a) xs new) c.in_ok-reserve.ensures.items
+    let e : c.loop-b.from + (c.args.shape.now.order - c.loop-b.from) ≡ c.args.shape.now.order =
+    omega arith in
+    subst (λ (xs : List Face). AddsMaximal f (faces_of_row f.order a) xs new)
+    c.in_ok-reserve.ensures.items
     (subst (λ k. AddsMaximal f (flat_map (faces_of_square a) (range_with_len 0 k)) old new) e
-    (adds_no_squares f a from (f.order - from) c.of-alone.result old new c.of-alone.ensures (omega arith)
+    (adds_no_squares f a from (f.order - from) c.of-alone.result old new c.of-alone.ensures
+    (omega arith)
     (λ k low high. c.in_default.ensures k low) c.loop-b.invariant.0))

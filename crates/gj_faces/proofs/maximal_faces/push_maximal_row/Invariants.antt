@@ -6,7 +6,8 @@ use Rattle.gj_faces.proofs.maximal_faces.push_maximal_row.Given as goal
 
 abbrev pub invariant-loop-b : goal.invariant-loop-b
 invariant-loop-b l =
-    AddsMaximal l.shape (flat_map (faces_of_square l.a) (range_with_len 0 l.from)) l.initial.faces.items l.faces.items
+    AddsMaximal l.shape (flat_map (faces_of_square l.a) (range_with_len 0 l.from))
+    l.initial.faces.items l.faces.items
     × (l.from ≤ l.shape.order)
     × (vec_len l.faces + 2 * (l.shape.order - l.from) ≤ vec_capacity l.faces)
 

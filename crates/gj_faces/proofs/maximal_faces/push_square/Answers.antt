@@ -24,9 +24,13 @@ returns-else-contains-clause-added c = λ f alone below.
     let old = c.args.faces.now.items in
     let five = c.push_if.new.faces.items in
     let all = c.push_if-else-contains.new.faces.items in
-    adds_joined f (faces_in (Vertex ∷ Horizontal ∷ Vertical ∷ Diagonal ∷ Lower ∷ []) a b) (faces_in (Upper ∷ []) a b) old five all
-    (adds_joined f (faces_in (Vertex ∷ Horizontal ∷ Vertical ∷ Diagonal ∷ []) a b) (faces_in (Lower ∷ []) a b) old old five
-    (adds_no_edge f a b c.args.alone.now old alone below (sym c.contains.ensures ∙ c.if-contains.false))
-    (c.push_if.ensures.added f (same_as _ _ _ c.contains-else-contains.ensures (alone.each Lower b below))))
+    adds_joined f (faces_in (Vertex ∷ Horizontal ∷ Vertical ∷ Diagonal ∷ Lower ∷ []) a b)
+    (faces_in (Upper ∷ []) a b) old five all
+    (adds_joined f (faces_in (Vertex ∷ Horizontal ∷ Vertical ∷ Diagonal ∷ []) a b)
+    (faces_in (Lower ∷ []) a b) old old five
+    (adds_no_edge f a b c.args.alone.now old alone below
+    (sym c.contains.ensures ∙ c.if-contains.false))
+    (c.push_if.ensures.added f
+    (same_as _ _ _ c.contains-else-contains.ensures (alone.each Lower b below))))
     (c.push_if-else-contains.ensures.added f
     (same_as _ _ _ c.contains-else-contains-2.ensures (alone.each Upper b below)))

@@ -12,7 +12,8 @@ returns-then-not-is_in_runs c =
       λ impossible. absurd (let contrary = impossible in cc),
       λ additive. sym c.if-not-is_in_runs.true ∙ c.is_in_runs.ensures.1
           (rw c.corner-i.ensures
-          (All-get_or (λ corner. InRuns c.args.q c.args.runs.now corner.0 corner.1) (corners_of f.kind f.a f.b)
+          (All-get_or (λ corner. InRuns c.args.q c.args.runs.now corner.0 corner.1)
+          (corners_of f.kind f.a f.b)
           c.loop-index.index (0, 0) (omega arith) additive)),
     )
 
@@ -27,7 +28,8 @@ pub returns : goal.returns
 returns c =
     let f = c.args.face in
     let count = corner_count f.kind f.a f.b in (
-      λ _. All-from_get_or (λ corner. InRuns c.args.q c.args.runs.now corner.0 corner.1) (corners_of f.kind f.a f.b) (0, 0)
+      λ _. All-from_get_or (λ corner. InRuns c.args.q c.args.runs.now corner.0 corner.1)
+          (corners_of f.kind f.a f.b) (0, 0)
           (λ k below. c.loop-index.invariant k (omega arith)),
       λ _. refl,
     )

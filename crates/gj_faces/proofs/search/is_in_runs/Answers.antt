@@ -9,7 +9,8 @@ loop-low-preserved-then-run-b c =
       omega arith,
       omega arith,
       narrowed_up c.args.q c.args.runs.now c.args.i c.args.j c.loop-low.low c.loop-low.high
-          (c.loop-low.low + (c.loop-low.high - c.loop-low.low) / 2) (record { a = 0; from = 0; to = 0 }) c.requires.in_order
+          (c.loop-low.low + (c.loop-low.high - c.loop-low.low) / 2)
+          (record { a = 0; from = 0; to = 0 }) c.requires.in_order
           (omega arith)
           (elim c.if-run-b.either [
             | inl row ↦ inl (omega arith)
@@ -25,7 +26,8 @@ loop-low-preserved c =
       omega arith,
       omega arith,
       narrowed_down c.args.q c.args.runs.now c.args.i c.args.j c.loop-low.low c.loop-low.high
-          (c.loop-low.low + (c.loop-low.high - c.loop-low.low) / 2) (record { a = 0; from = 0; to = 0 }) c.requires.in_order
+          (c.loop-low.low + (c.loop-low.high - c.loop-low.low) / 2)
+          (record { a = 0; from = 0; to = 0 }) c.requires.in_order
           (omega arith) (elim c.if-b-run.either [
             | inl row ↦ inl (omega arith)
             | inr place ↦ elim c.if-run-b.either [

@@ -14,10 +14,14 @@ loop-from-preserved c =
     let row = c.args.row.now in
     let start = c.in-Some.ensures in
     let stop = c.in-Some-first_from.ensures in
-    let made = next_run f.order (IsTight f) c.args.a c.loop-from.place c.in-Some.from c.in-Some-first_from.to (has row)
-    (has c.and_not-starts.result) (has c.and_not-ends.result) c.loop-from.runs.items c.loop-from.invariant.0 c.requires.within c.requires.order.1
-    c.requires.row (λ i below. c.and_not-starts.ensures i ∙ ap (λ b. has row i && not b) (c.up.ensures i ∙ in_limit i _ below))
-    (λ i. c.and_not-ends.ensures i ∙ ap (λ b. has row i && not b) (c.down.ensures i)) c.loop-from.invariant.2
+    let made = next_run f.order (IsTight f) c.args.a c.loop-from.place c.in-Some.from
+    c.in-Some-first_from.to (has row)
+    (has c.and_not-starts.result) (has c.and_not-ends.result) c.loop-from.runs.items
+    c.loop-from.invariant.0 c.requires.within c.requires.order.1
+    c.requires.row (λ i below. c.and_not-starts.ensures i
+    ∙ ap (λ b. has row i && not b) (c.up.ensures i ∙ in_limit i _ below))
+    (λ i. c.and_not-ends.ensures i ∙ ap (λ b. has row i && not b) (c.down.ensures i))
+    c.loop-from.invariant.2
     start.behind start.found start.before stop.behind stop.found stop.before in (
       rw c.in_ok-push.ensures.items made.0,
       omega (arith, made.2),
@@ -29,16 +33,22 @@ unreachable-requires c =
     let f = c.args.shape.now in
     let row = c.args.row.now in
     let start = c.in-Some.ensures in
-    run_ends f.order (IsTight f c.args.a) c.in-Some.from (has row) (has c.and_not-starts.result) (has c.and_not-ends.result) c.requires.order.1
-    c.requires.row (λ i below. c.and_not-starts.ensures i ∙ ap (λ b. has row i && not b) (c.up.ensures i ∙ in_limit i _ below))
-    (λ i. c.and_not-ends.ensures i ∙ ap (λ b. has row i && not b) (c.down.ensures i)) start.within start.found
+    run_ends f.order (IsTight f c.args.a) c.in-Some.from (has row) (has c.and_not-starts.result)
+    (has c.and_not-ends.result) c.requires.order.1
+    c.requires.row (λ i below. c.and_not-starts.ensures i
+    ∙ ap (λ b. has row i && not b) (c.up.ensures i ∙ in_limit i _ below))
+    (λ i. c.and_not-ends.ensures i ∙ ap (λ b. has row i && not b) (c.down.ensures i)) start.within
+    start.found
     c.in_default-first_from.ensures
 
 pub returns : goal.returns
 returns c =
     let f = c.args.shape.now in
     let row = c.args.row.now in
-    row_done f.order (IsTight f) c.args.a c.loop-from.place (has row) (has c.and_not-starts.result) c.loop-from.runs.items
+    row_done f.order (IsTight f) c.args.a c.loop-from.place (has row)
+    (has c.and_not-starts.result) c.loop-from.runs.items
     c.loop-from.invariant.0 c.requires.order.1 c.requires.row
-    (λ i below. c.and_not-starts.ensures i ∙ ap (λ b. has row i && not b) (c.up.ensures i ∙ in_limit i _ below)) c.loop-from.invariant.2
+    (λ i below. c.and_not-starts.ensures i
+    ∙ ap (λ b. has row i && not b) (c.up.ensures i ∙ in_limit i _ below))
+    c.loop-from.invariant.2
     c.loop-from.invariant.1 c.in_default.ensures

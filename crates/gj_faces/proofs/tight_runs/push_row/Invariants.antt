@@ -6,7 +6,8 @@ use Rattle.gj_faces.proofs.tight_runs.push_row.Given as goal
 
 abbrev pub invariant-loop-from : goal.invariant-loop-from
 invariant-loop-from l =
-    AreRunsBefore l.shape.order (IsTight l.shape) l.a l.place l.runs.items × (l.place ≤ l.shape.order)
+    AreRunsBefore l.shape.order (IsTight l.shape) l.a l.place l.runs.items
+    × (l.place ≤ l.shape.order)
     × ((l.place ≡ 0) ⊎ (has l.row l.place ≡ false))
 
 abbrev pub decreases-loop-from : goal.decreases-loop-from

@@ -11,6 +11,7 @@ loop-a-preserved c =
     let f = c.args.shape.now in
     let few = c.count_in_row-count.ensures.few in
     let before = c.loop-a.invariant.1 in (
-      counted_rows f f.order c.loop-a.a c.loop-a.count c.count_in_row-count.result c.loop-a.invariant.0 c.count_in_row-count.ensures.count,
+      counted_rows f f.order c.loop-a.a c.loop-a.count c.count_in_row-count.result
+          c.loop-a.invariant.0 c.count_in_row-count.ensures.count,
       omega arith,
     )

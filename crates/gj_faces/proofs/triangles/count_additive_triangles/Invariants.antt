@@ -6,4 +6,5 @@ use Rattle.gj_faces.proofs.triangles.count_additive_triangles.Given as goal
 
 abbrev pub invariant-loop-a : goal.invariant-loop-a
 invariant-loop-a l =
-    AreCounted l.shape (flat_map (faces_of_row l.shape.order) (range_with_len 0 l.a)) l.count × (l.count ≤ 2048 * l.a)
+    AreCounted l.shape (flat_map (faces_of_row l.shape.order) (range_with_len 0 l.a)) l.count
+    × (l.count ≤ 2048 * l.a)

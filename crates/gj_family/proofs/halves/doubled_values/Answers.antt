@@ -12,7 +12,9 @@ loop-i-preserved c =
     let is : to_z w64 c.if-i-eq0.entry-bits ≡ doubled_value k i =
     elim c.if-i-eq0.branch [
       | then-i-eq0 w ↦ w.entry-is ∙ sym (doubled_at_zero k i w.if-i-eq0.true)
-      | else-i-eq0+then-i-place w ↦ w.entry-is ∙ sym (doubled_at_place k i w.if-i-eq0.false w.if-i-place.true)
-      | else-i-eq0+else-i-place w ↦ w.entry-is ∙ sym (doubled_elsewhere k i w.if-i-eq0.false w.if-i-place.false)
+      | else-i-eq0+then-i-place w ↦ w.entry-is
+          ∙ sym (doubled_at_place k i w.if-i-eq0.false w.if-i-place.true)
+      | else-i-eq0+else-i-place w ↦ w.entry-is
+          ∙ sym (doubled_elsewhere k i w.if-i-eq0.false w.if-i-place.false)
     ] in
     entries_pushed _ _ _ _ _ c.loop-i.invariant c.in_ok-push.ensures.items is

@@ -11,7 +11,8 @@ shape_over-requires-clause-limits_small c =
     let q = c.in_ok-order.order in
     let k = c.in_ok-order.place in
     let entries : HasEntries (λ i. pos (gmic_table q k i)) q c.as_slice-values.result.now =
-    subst (HasEntries (λ i. pos (gmic_table q k i)) q) (sym c.as_slice-values.ensures.value) c.in_ok-entries.ensures in
+    subst (HasEntries (λ i. pos (gmic_table q k i)) q)
+    (sym c.as_slice-values.ensures.value) c.in_ok-entries.ensures in
     entries_small (λ i. pos (gmic_table q k i)) q (gmic_scale q k) _ entries
     (λ i below. gmic_small q k i c.in_ok-order.ensures.place_fits.1 below)
 
@@ -24,7 +25,10 @@ returns-clause-closed_form c =
     let k = c.in_ok-order.place in
     let low = c.in_ok-order.ensures.place_fits.0 in
     let entries : HasEntries (λ i. pos (gmic_table q k i)) q c.as_slice-values.result.now =
-    subst (HasEntries (λ i. pos (gmic_table q k i)) q) (sym c.as_slice-values.ensures.value) c.in_ok-entries.ensures in
-    subst₂ (λ a b. IsGmic a b c.in_ok-shape_over.field-0) c.in_ok-order.ensures.order c.in_ok-order.ensures.place
-    (gmic_over q k c.as_slice-values.result.now c.in_ok-shape_over.field-0 (omega arith) c.in_ok-order.ensures.place_fits.1 entries
+    subst (HasEntries (λ i. pos (gmic_table q k i)) q)
+    (sym c.as_slice-values.ensures.value) c.in_ok-entries.ensures in
+    subst₂ (λ a b. IsGmic a b c.in_ok-shape_over.field-0) c.in_ok-order.ensures.order
+    c.in_ok-order.ensures.place
+    (gmic_over q k c.as_slice-values.result.now c.in_ok-shape_over.field-0
+    (omega arith) c.in_ok-order.ensures.place_fits.1 entries
     c.in_ok-shape_over.ensures)

@@ -11,10 +11,13 @@ loop-i-preserved c =
     let i = c.loop-i.i in
     let is : c.if-i-place.entry ≡ gmic_table c.args.order c.args.place i =
     elim c.if-i-place.branch [
-      | then-i-place w ↦ w.entry-is ∙ sym (table_rising c.args.order c.args.place i c.loop-i-test.true w.if-i-place.true)
+      | then-i-place w ↦ w.entry-is
+          ∙ sym (table_rising c.args.order c.args.place i c.loop-i-test.true w.if-i-place.true)
       | else-i-place w ↦
           let high : c.args.place ≤ i = omega arith in
-          w.entry-is ∙ sym (table_falling c.args.order c.args.place i c.requires.place_fits.1 high (omega arith))
+          w.entry-is ∙ sym (table_falling c.args.order c.args.place i c.requires.place_fits.1 high
+          (omega arith))
     ] in
-    entries_pushed (λ j. pos (gmic_table c.args.order c.args.place j)) i _ _ _ c.loop-i.invariant c.in_ok-push.ensures.items
+    entries_pushed (λ j. pos (gmic_table c.args.order c.args.place j)) i _ _ _ c.loop-i.invariant
+    c.in_ok-push.ensures.items
     (to_z-of_z w64 c.from.result (search rules) ∙ c.from.ensures ∙ ap pos is)

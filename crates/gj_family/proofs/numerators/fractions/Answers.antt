@@ -14,11 +14,14 @@ loop-numerator-preserved c =
     let ns = c.args.numerators.now in
     let d = c.args.denominator in
     let inside : i < length ns = omega arith in
-    let read : to_z w64 (of_z w64 (get_or ns i (pos 0))) ≡ at ns i = to_z-of_z w64 _ (search rules) ∙ sym (at_below ns i inside) in
-    let is : IsRatio c.ratio.result (at ns i) (pos d) = subst (λ n. IsRatio c.ratio.result n (pos d)) read c.ratio.ensures in
+    let read : to_z w64 (of_z w64 (get_or ns i (pos 0))) ≡ at ns i = to_z-of_z w64 _ (search rules)
+    ∙ sym (at_below ns i inside) in
+    let is : IsRatio c.ratio.result (at ns i) (pos d) =
+    subst (λ n. IsRatio c.ratio.result n (pos d)) read c.ratio.ensures in
     let pushed = c.in_ok-push.ensures.items in
     record {
       count = ap length pushed ∙ length_push _ _ ∙ ap (λ n. n + 1) c.loop-numerator.invariant.count;
       fractions = subst (AreOver _ _) (sym pushed)
-          (are_over_push (at ns) d _ c.ratio.result i c.loop-numerator.invariant.count c.loop-numerator.invariant.fractions is);
+          (are_over_push (at ns) d _ c.ratio.result i c.loop-numerator.invariant.count
+          c.loop-numerator.invariant.fractions is);
     }

@@ -22,7 +22,8 @@ not_up y z same low up =
 height_read : (z : ℤ) → unsigned_abs z ≤ 1000000 → to_z w64 (of_z w64 z) ≡ z
 height_read z small = to_z-of_z w64 z (fits_signed_from_abs w64 z (omega arith))
 
-height_low : (z : ℤ) → unsigned_abs z ≤ 1000000 → pos 0 <ℤ z → 0 < unsigned_abs (to_z w64 (of_z w64 z))
+height_low : (z : ℤ) → unsigned_abs z ≤ 1000000 → pos 0 <ℤ z →
+    0 < unsigned_abs (to_z w64 (of_z w64 z))
 height_low z small up =
     let some : 0 < unsigned_abs z = omega (arith, ints) in
     subst (λ (y : ℤ). 0 < unsigned_abs y) (sym (height_read z small)) some
@@ -35,11 +36,13 @@ height_high z small =
 pub shape_over-requires-clause-low : goal.shape_over-requires-clause-low
 shape_over-requires-clause-low c =
     let small = c.last_sum-height.ensures.small in
-    let up : pos 0 <ℤ c.last_sum-height.result = let h = c.if-height-le0.false in omega (arith, ints) in
+    let up : pos 0 <ℤ c.last_sum-height.result = let h = c.if-height-le0.false in
+    omega (arith, ints) in
     height_low c.last_sum-height.result small up
 
 pub shape_over-requires-clause-high : goal.shape_over-requires-clause-high
-shape_over-requires-clause-high c = height_high c.last_sum-height.result c.last_sum-height.ensures.small
+shape_over-requires-clause-high c =
+    height_high c.last_sum-height.result c.last_sum-height.ensures.small
 
 pub shape_over-requires-clause-lengths : goal.shape_over-requires-clause-lengths
 shape_over-requires-clause-lengths c = refl
@@ -53,9 +56,11 @@ shape_over-requires-clause-limits_small c =
     let small = c.last_sum-height.ensures.small in
     let low : 1 ≤ d = omega (arith, ints) in
     let counts = counts_small signs in
-    let entries = heights_are _ _ n signs _ _ c.count_falls-up.ensures c.count_rises-down.ensures c.as_slice-values.ensures.value c.in_ok-entries.ensures in
+    let entries = heights_are _ _ n signs _ _ c.count_falls-up.ensures c.count_rises-down.ensures
+    c.as_slice-values.ensures.value c.in_ok-entries.ensures in
     entries_small (height_of signs) n d _ entries
-    (λ i below. let high = sum_small (falls signs) (rises signs) signs i (omega arith) (omega arith) few in omega arith)
+    (λ i below. let high = sum_small (falls signs) (rises signs) signs i (omega arith)
+    (omega arith) few in omega arith)
 
 pub shape_over-requires-clause-values_small : goal.shape_over-requires-clause-values_small
 shape_over-requires-clause-values_small c = shape_over-requires-clause-limits_small c
@@ -68,10 +73,13 @@ returns-clause-closed_form c =
     let small = c.last_sum-height.ensures.small in
     let low : 0 < d = omega (arith, ints) in
     let d_is : pos d ≡ c.last_sum-height.result = omega (arith, ints) in
-    let whole = ap₂ (λ u v. sum_of_steps u v signs k) c.count_falls-up.ensures c.count_rises-down.ensures in
-    let entries = heights_are _ _ (length signs) signs _ _ c.count_falls-up.ensures c.count_rises-down.ensures
+    let whole = ap₂ (λ u v. sum_of_steps u v signs k) c.count_falls-up.ensures
+    c.count_rises-down.ensures in
+    let entries = heights_are _ _ (length signs) signs _ _ c.count_falls-up.ensures
+    c.count_rises-down.ensures
     c.as_slice-values.ensures.value c.in_ok-entries.ensures in
-    two_slope_over k d signs c.as_slice-values.result.now c.in_ok-shape_over.field-0 low (d_is ∙ c.last_sum-height.ensures.sum ∙ whole)
+    two_slope_over k d signs c.as_slice-values.result.now c.in_ok-shape_over.field-0 low
+    (d_is ∙ c.last_sum-height.ensures.sum ∙ whole)
     entries c.in_ok-shape_over.ensures
 
 pub returns-clause-ok : goal.returns-clause-ok
@@ -80,10 +88,13 @@ returns-clause-ok c =
     let few : length signs ≤ 1000 = let h = c.if-signs.false in omega arith in
     let some : 1 ≤ c.args.k = let apart = c.if-k-eq0.false in omega arith in
     let up_some : 0 < c.count_falls-up.result = let apart = c.if-up-eq0.false in omega arith in
-    let down_some : 0 < c.count_rises-down.result = let apart = c.if-down-eq0.false in omega arith in
-    let whole = ap₂ (λ u v. sum_of_steps u v signs c.args.k) c.count_falls-up.ensures c.count_rises-down.ensures in
+    let down_some : 0 < c.count_rises-down.result = let apart = c.if-down-eq0.false in
+    omega arith in
+    let whole = ap₂ (λ u v. sum_of_steps u v signs c.args.k) c.count_falls-up.ensures
+    c.count_rises-down.ensures in
     let small = c.last_sum-height.ensures.small in
-    let up : pos 0 <ℤ c.last_sum-height.result = let h = c.if-height-le0.false in omega (arith, ints) in (
+    let up : pos 0 <ℤ c.last_sum-height.result = let h = c.if-height-le0.false in
+    omega (arith, ints) in (
       c.if-signs-lt2.false,
       few,
       (some, c.if-k-signs.false),
@@ -98,7 +109,12 @@ pub returns-then-k-eq0-clause-fault : goal.returns-then-k-eq0-clause-fault
 returns-then-k-eq0-clause-fault c =
     let few : length c.args.signs.now ≤ 1000 = let h = c.if-signs.false in omega arith in
     elim c.then-k-eq0.branch [
-      | then-k-eq0-via-then-k-eq0 w ↦ (c.if-signs-lt2.false, few, λ place. let e = w.if-k-eq0.true in let low = place.0 in absurd (omega arith))
+      | then-k-eq0-via-then-k-eq0 w ↦ (
+        c.if-signs-lt2.false,
+        few,
+        λ place. let e =
+            w.if-k-eq0.true in let low = place.0 in absurd (omega arith),
+      )
       | then-k-eq0-via-else-k-eq0+then-k-signs w ↦ (
         c.if-signs-lt2.false,
         few,
@@ -111,10 +127,17 @@ returns-then-up-eq0-clause-fault c =
     let signs = c.args.signs.now in
     let few : length signs ≤ 1000 = let h = c.if-signs.false in omega arith in
     let some : 1 ≤ c.args.k = let apart = c.if-k-eq0.false in omega arith in
-    let whole = ap₂ (λ u v. sum_of_steps u v signs c.args.k) c.count_falls-up.ensures c.count_rises-down.ensures in
+    let whole = ap₂ (λ u v. sum_of_steps u v signs c.args.k) c.count_falls-up.ensures
+    c.count_rises-down.ensures in
     let place : IsPlace (length signs) c.args.k = (some, c.if-k-signs.false) in
     elim c.then-up-eq0.branch [
-      | then-up-eq0-via-then-up-eq0 w ↦ (c.if-signs-lt2.false, few, place, λ have. no_falls _ _ c.count_falls-up.ensures w.if-up-eq0.true have.1)
+      | then-up-eq0-via-then-up-eq0 w ↦ (
+        c.if-signs-lt2.false,
+        few,
+        place,
+        λ have. no_falls _ _ c.count_falls-up.ensures
+            w.if-up-eq0.true have.1,
+      )
       | then-up-eq0-via-else-up-eq0+then-down-eq0 w ↦ (
         c.if-signs-lt2.false,
         few,
@@ -126,7 +149,8 @@ returns-then-up-eq0-clause-fault c =
         few,
         place,
         λ have. let small = c.last_sum-height.ensures.small in
-            let low : c.last_sum-height.result ≤ℤ pos 0 = let h = w.if-height-le0.true in omega (arith, ints) in
+            let low : c.last_sum-height.result ≤ℤ pos 0 = let h = w.if-height-le0.true in
+            omega (arith, ints) in
             not_up _ _ (c.last_sum-height.ensures.sum ∙ whole) low have.2,
       )
     ]

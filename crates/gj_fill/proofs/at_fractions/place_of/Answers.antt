@@ -17,5 +17,7 @@ returns c =
     let e_is : e ≡ d = omega (arith, ints, c.den-parts.ensures) in
     let rest_is : i % e ≡ i % d = ap (λ n. i % n) e_is in
     let below = mod-lt i some in
-    place_by_parts c.args.q x _ c.rest_of.result i c.requires.some some c.rest_of.ensures.below (ap (λ n. n * c.rest_of.result) c.from.ensures)
-    c.rest_of.ensures.congruent (ap (λ n. i / n) e_is) (omega (arith, ints)) (omega (arith, ints)) (omega (arith, ints))
+    place_by_parts c.args.q x _ c.rest_of.result i c.requires.some some c.rest_of.ensures.below
+    (ap (λ n. n * c.rest_of.result) c.from.ensures)
+    c.rest_of.ensures.congruent (ap (λ n. i / n) e_is) (omega (arith, ints)) (omega (arith, ints))
+    (omega (arith, ints))

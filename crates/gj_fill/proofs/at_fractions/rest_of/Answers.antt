@@ -13,9 +13,13 @@ returns-clause-congruent c =
     let d = unsigned_abs (denominator x) in
     let above = x.lowest.positive in
     let some : 0 < d = omega (arith, ints) in
-    let n_is : to_z w128 (of_z w128 c.num.result) ≡ numerator x = omega (arith, ints, c.num.ensures) in
+    let n_is : to_z w128 (of_z w128 c.num.result) ≡ numerator x =
+    omega (arith, ints, c.num.ensures) in
     let d_is : to_z w128 (of_z w128 c.den.result) ≡ pos d = omega (arith, ints, c.den.ensures) in
-    let rest : c.rem_euclid.result ≡ int_rem_euclid (numerator x) (pos d) = c.rem_euclid.ensures.value ∙ ap₂ int_rem_euclid n_is d_is in
+    let rest : c.rem_euclid.result ≡ int_rem_euclid (numerator x) (pos d) =
+    c.rem_euclid.ensures.value ∙ ap₂ int_rem_euclid n_is d_is in
     let low = c.rem_euclid.ensures.lower_bound in
-    let same : pos (unsigned_abs (to_z w128 (of_z w128 c.rem_euclid.result))) ≡ c.rem_euclid.result = omega (arith, ints) in
-    subst (λ z. IsCongruent (numerator x) z d) (sym (same ∙ rest)) (congruent_to_remainder (numerator x) d some)
+    let same : pos (unsigned_abs (to_z w128 (of_z w128 c.rem_euclid.result)))
+    ≡ c.rem_euclid.result = omega (arith, ints) in
+    subst (λ z. IsCongruent (numerator x) z d) (sym (same ∙ rest))
+    (congruent_to_remainder (numerator x) d some)

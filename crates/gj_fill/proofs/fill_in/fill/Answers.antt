@@ -21,7 +21,8 @@ pub returns-clause-ascending : goal.returns-clause-ascending
 returns-clause-ascending c =
     let low = c.f-f.ensures.limits.order_low in
     subst (λ (pairs : List (Frac × Frac)). AreAscending (map even_break pairs)) (sym c.of.ensures)
-    (fill_points_ascend c.args.shape.now c.greatest_steps-steps.result.rise c.greatest_steps-steps.result.fall
+    (fill_points_ascend c.args.shape.now c.greatest_steps-steps.result.rise
+    c.greatest_steps-steps.result.fall
     c.in_ok-points.points.items (omega arith) c.in_ok-points.ensures)
 
 pub returns-clause-fill_in : goal.returns-clause-fill_in

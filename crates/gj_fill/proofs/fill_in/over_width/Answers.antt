@@ -6,7 +6,8 @@ use mir.Syntax.{w64}
 
 pub reduced-requires-clause-zero : goal.reduced-requires-clause-zero
 reduced-requires-clause-zero c =
-    let n : to_z w64 (of_z w64 c.from.result) ≡ pos c.args.n = omega (arith, ints, c.from.ensures) in
+    let n : to_z w64 (of_z w64 c.from.result) ≡ pos c.args.n =
+    omega (arith, ints, c.from.ensures) in
     let width : to_z w64 (of_z w64 c.args.width) ≡ c.args.width = omega (arith, ints) in
     let value = c.product.ensures.value ∙ ap₂ (λ x y. x *ℤ y) n width in
     let above = mul_positive_z (pos c.args.n) c.args.width (omega (arith, ints)) c.requires.wide in

@@ -17,7 +17,8 @@ returns-in_ok-push-2 c =
     let crossing = c.crossing_pair.result in
     let tests = c.crosses.ensures.0 c.if-crosses.true in (
       value ∷ crossing ∷ [],
-      subst (λ ps. AllZip IsPairOf ps (value ∷ crossing ∷ [])) (sym (points_crossing f s t a tests.0 tests.1))
+      subst (λ ps. AllZip IsPairOf ps (value ∷ crossing ∷ []))
+          (sym (points_crossing f s t a tests.0 tests.1))
           (pair, (c.crossing_pair.ensures, tt)),
       c.in_ok-push-2.ensures.items ∙ ap (λ bs. bs ++ crossing ∷ []) c.in_ok-push.ensures.items
           ∙ append_assoc c.args.points.now.items (value ∷ []) (crossing ∷ []),
@@ -31,8 +32,10 @@ returns-else-crosses c =
     let value : Frac × Frac = (c.ratio-x.result, c.value.result) in
     let pair : IsPairOf (value_point f c.args.a) value = search rules in
     let none : (neg_ℤ t <ℤ rise f c.args.a) × (rise f c.args.a <ℤ s) → ⊥ =
-    λ tests. let is : c.crosses.result ≡ true = c.crosses.ensures.1 tests in cc (is, c.if-crosses.false) in (
+    λ tests. let is : c.crosses.result ≡ true = c.crosses.ensures.1 tests in
+    cc (is, c.if-crosses.false) in (
       value ∷ [],
-      subst (λ ps. AllZip IsPairOf ps (value ∷ [])) (sym (points_single f s t c.args.a none)) (pair, tt),
+      subst (λ ps. AllZip IsPairOf ps (value ∷ [])) (sym (points_single f s t c.args.a none))
+          (pair, tt),
       c.in_ok-push.ensures.items,
     )

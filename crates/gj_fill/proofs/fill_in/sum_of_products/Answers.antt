@@ -11,6 +11,7 @@ returns-clause-value c =
     let w : to_z w64 (of_z w64 c.args.w) ≡ c.args.w = omega (arith, ints) in
     let first = c.product.ensures.value ∙ ap₂ (λ a b. a *ℤ b) x y in
     let second = c.product-2.ensures.value ∙ ap₂ (λ a b. a *ℤ b) u w in
-    let sum : to_z w128 (of_z w128 (to_z w128 (of_z w128 c.product.result) +ℤ to_z w128 (of_z w128 c.product-2.result)))
+    let sum : to_z w128 (of_z w128
+    (to_z w128 (of_z w128 c.product.result) +ℤ to_z w128 (of_z w128 c.product-2.result)))
     ≡ c.product.result +ℤ c.product-2.result = omega (arith, ints) in
     sum ∙ ap₂ (λ a b. a +ℤ b) first second

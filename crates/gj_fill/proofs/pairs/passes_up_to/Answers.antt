@@ -6,7 +6,8 @@ use Rattle.gj_fill.proofs.pairs.passes_up_to.Goals.{then-first-value_below, else
 
 pub loop-b-preserved : goal.loop-b-preserved
 loop-b-preserved c =
-    one_more c.args.values.now c.args.a c.args.a c.loop-b.b c.loop-b.passes c.if-first-value_below.passes c.loop-b.invariant
+    one_more c.args.values.now c.args.a c.args.a c.loop-b.b c.loop-b.passes
+    c.if-first-value_below.passes c.loop-b.invariant
     (elim c.if-first-value_below.branch [
       | then-first-value_below w ↦ inl w.passes-is
       | else-first-value_below w ↦ inr (w.passes-is, λ less. omega (arith, ints))

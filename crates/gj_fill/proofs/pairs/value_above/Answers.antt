@@ -11,4 +11,5 @@ returns-clause-value c =
     let n = length values in
     let turned = c.requires.turned in
     let whole : i - n + n ≡ i = omega arith in
-    itself c.value_below.result (omega (arith, c.value_below.ensures.small)) ∙ c.value_below.ensures.value ∙ sym (at_plus_length values (i - n)) ∙ ap (at values) whole
+    itself c.value_below.result (omega (arith, c.value_below.ensures.small))
+    ∙ c.value_below.ensures.value ∙ sym (at_plus_length values (i - n)) ∙ ap (at values) whole

@@ -5,5 +5,6 @@ use mir.Syntax.{w64}
 
 pub returns-clause-value : goal.returns-clause-value
 returns-clause-value c =
-    let same : to_z w64 (of_z w64 (get_or c.args.values.now c.args.i (pos 0))) ≡ get_or c.args.values.now c.args.i (pos 0) = search rules in
+    let same : to_z w64 (of_z w64 (get_or c.args.values.now c.args.i (pos 0)))
+    ≡ get_or c.args.values.now c.args.i (pos 0) = search rules in
     same ∙ sym (at_below c.args.values.now c.args.i c.requires.within)

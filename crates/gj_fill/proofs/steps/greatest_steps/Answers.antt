@@ -9,7 +9,8 @@ pub loop-a-init : goal.loop-a-init
 loop-a-init c =
     let first = c.rise_at-first.result in
     let same : to_z w64 (of_z w64 first) ≡ first = omega (arith, ints) in
-    extremes_begun c.args.shape.now.value (to_z w64 (of_z w64 first)) (same ∙ c.rise_at-first.ensures.value) (omega (arith, ints))
+    extremes_begun c.args.shape.now.value (to_z w64 (of_z w64 first))
+    (same ∙ c.rise_at-first.ensures.value) (omega (arith, ints))
 
 pub loop-a-preserved : goal.loop-a-preserved
 loop-a-preserved c =
@@ -19,9 +20,12 @@ loop-a-preserved c =
     let same : to_z w64 (of_z w64 step) ≡ step = omega (arith, ints) in
     let up : to_z w64 (of_z w64 c.max-most.result) ≡ c.max-most.result = omega (arith, ints) in
     let down : to_z w64 (of_z w64 c.min-least.result) ≡ c.min-least.result = omega (arith, ints) in
-    extremes_more c.args.shape.now.value c.loop-a.a most least step (to_z w64 (of_z w64 c.max-most.result))
-    (to_z w64 (of_z w64 c.min-least.result)) c.loop-a.invariant c.rise_at-step.ensures.value c.rise_at-step.ensures.small
-    (up ∙ c.max-most.ensures.value ∙ ap (int_max most) same) (down ∙ c.min-least.ensures.value ∙ ap (int_min least) same)
+    extremes_more c.args.shape.now.value c.loop-a.a most least step
+    (to_z w64 (of_z w64 c.max-most.result))
+    (to_z w64 (of_z w64 c.min-least.result)) c.loop-a.invariant c.rise_at-step.ensures.value
+    c.rise_at-step.ensures.small
+    (up ∙ c.max-most.ensures.value ∙ ap (int_max most) same) (down ∙ c.min-least.ensures.value
+    ∙ ap (int_min least) same)
 
 pub returns : goal.returns
 returns c =
@@ -32,5 +36,6 @@ returns c =
     let size : unsigned_abs least < 2 ^ 52 = c.loop-a.invariant.least_small in
     let some : 0 < f.order = omega (arith, limits.order_low) in
     greatest_are f.value f.order most least _ _ limits.value_length some
-    (subst (λ n. AreExtremes f.value n most least) (let e : c.loop-a.a ≡ f.order = omega arith in e) c.loop-a.invariant)
+    (subst (λ n. AreExtremes f.value n most least) (let e : c.loop-a.a ≡ f.order = omega arith in
+    e) c.loop-a.invariant)
     refl (omega (arith, ints))

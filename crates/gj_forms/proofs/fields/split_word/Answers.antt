@@ -6,7 +6,8 @@ use Rattle.gj_forms.proofs.LineWords.{first_word, no_words, word_parts}
 use Rattle.gj_forms.proofs.fields.split_word.Goals as goal
 
 pub returns-in_err-line-clause-none : goal.returns-in_err-line-clause-none
-returns-in_err-line-clause-none c = rw c.from_residual.ensures (no_words c.args.line.now (sym c.in_err-line.ensures))
+returns-in_err-line-clause-none c =
+    rw c.from_residual.ensures (no_words c.args.line.now (sym c.in_err-line.ensures))
 
 pub returns-clause-found : goal.returns-clause-found
 returns-clause-found c =

@@ -9,7 +9,8 @@ use Rattle.gj_forms.proofs.text_lines.are_words.Goals.{then-byte-eq9-via-then-by
 pub returns-then-place-start : goal.returns-then-place-start
 returns-then-place-start c = (
   λ h. absurd (false≢true h),
-  λ all. absurd (no_word_before c.args.bytes.now c.loop-place.start c.loop-place.place c.if-place-start.true c.loop-place-test.true
+  λ all. absurd (no_word_before c.args.bytes.now c.loop-place.start c.loop-place.place
+      c.if-place-start.true c.loop-place-test.true
       c.if-byte-eq32.true (c.loop-place.invariant.same.1 all)),
 )
 
@@ -17,7 +18,8 @@ pub returns-then-byte-eq9 : goal.returns-then-byte-eq9
 returns-then-byte-eq9 c = (
   λ h. absurd (false≢true h),
   λ all.
-      let word = in_words c.args.bytes.now c.loop-place.place all c.loop-place-test.true c.if-byte-eq32.false in
+      let word = in_words c.args.bytes.now c.loop-place.place all c.loop-place-test.true
+      c.if-byte-eq32.false in
       absurd
       (elim c.then-byte-eq9.branch [
         | then-byte-eq9-via-then-byte-eq9 w ↦ word.no_tab w.if-byte-eq9.true
@@ -33,7 +35,9 @@ loop-place-preserved c =
     let inv = c.loop-place.invariant in
     elim c.if-byte-eq32.branch [
       | then-byte-eq32+else-place-start w ↦
-          let word = word_before bytes start place (omega (arith, inv.within, w.if-place-start.false)) c.loop-place-test.true inv.plain w.if-byte-eq32.true in
+          let word = word_before bytes start place
+          (omega (arith, inv.within, w.if-place-start.false)) c.loop-place-test.true inv.plain
+          w.if-byte-eq32.true in
           rw w.start-is
           (record {
             same = (λ more. inv.same.0 (word.1 more), λ all. word.0 (inv.same.1 all));
@@ -51,7 +55,8 @@ loop-place-preserved c =
             same = inv.same;
             within = omega (arith, inv.within);
             plain = λ k low high.
-                below_more (λ (j : ℕ). start ≤ j → IsInWord (get_or bytes j 0)) place (λ j l lo. inv.plain j lo l) (λ lo. byte) k high low;
+                below_more (λ (j : ℕ). start ≤ j → IsInWord (get_or bytes j 0)) place
+                (λ j l lo. inv.plain j lo l) (λ lo. byte) k high low;
           })
     ]
 
@@ -60,7 +65,8 @@ returns c =
     let bytes = c.args.bytes.now in
     let start = c.loop-place.start in
     let inv = c.loop-place.invariant in
-    let plain : IsPlainBetween bytes start (length bytes) = λ k low high. inv.plain k low (omega arith) in
+    let plain : IsPlainBetween bytes start (length bytes) =
+    λ k low high. inv.plain k low (omega arith) in
     let last = last_word bytes start (omega (arith, inv.within)) plain in (
       λ h. inv.same.0 (last.0 (ltb-true start (length bytes) h)),
       λ all. lt-ltb start (length bytes) (last.1 (inv.same.1 all)),

@@ -9,4 +9,6 @@ pub returns : goal.returns
 returns c =
     let text = c.args.text.now in
     subst (λ k. IsLineNumber text (drop k text) (c.count.result + 1)) c.saturating_sub.ensures
-    (number_of_cut text _ _ (ap (λ n. n + 1) (c.count.ensures ∙ ap length c.memchr_iter.ensures.value ∙ length-places (is_byte 10) _)))
+    (number_of_cut text _ _
+    (ap (λ n. n + 1) (c.count.ensures ∙ ap length c.memchr_iter.ensures.value
+    ∙ length-places (is_byte 10) _)))

@@ -22,7 +22,8 @@ pub loop-left-preserved-then-begins_comment : goal.loop-left-preserved-then-begi
 loop-left-preserved-then-begins_comment c =
     let comment = c.behind_comment-left.ensures in
     record {
-      found = λ start words rest h. c.loop-left.invariant.found start words rest (further _ _ _ comment.1 comment.2 h);
+      found = λ start words rest h. c.loop-left.invariant.found start words rest
+          (further _ _ _ comment.1 comment.2 h);
       skipped = λ h. c.loop-left.invariant.skipped (more _ _ _ comment.1 comment.2 h);
     }
 
@@ -31,7 +32,8 @@ loop-left-preserved c =
     let skipped = c.is_skipped.ensures.0 c.if-not-is_skipped.false in
     let first = c.first_line-line.ensures.words in
     record {
-      found = λ start words rest h. c.loop-left.invariant.found start words rest (further _ _ _ first skipped h);
+      found = λ start words rest h. c.loop-left.invariant.found start words rest
+          (further _ _ _ first skipped h);
       skipped = λ h. c.loop-left.invariant.skipped (more _ _ _ first skipped h);
     }
 
@@ -41,4 +43,6 @@ loop-left-smaller c =
     omega (arith, part.2, length-append part.0 c.first_line-line.result.rest.now, ap length part.1)
 
 pub returns-clause-none : goal.returns-clause-none
-returns-clause-none c = c.loop-left.invariant.skipped (nothing _ (none_from_test c.loop-left.left.now c.loop-left-test.ensures))
+returns-clause-none c =
+    c.loop-left.invariant.skipped
+    (nothing _ (none_from_test c.loop-left.left.now c.loop-left-test.ensures))

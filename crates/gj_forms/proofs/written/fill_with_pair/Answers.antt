@@ -7,4 +7,5 @@ pub returns-clause-written : goal.returns-clause-written
 returns-clause-written c =
     let front = 32 ∷ fraction_text c.args.x ++ 32 ∷ fraction_text c.args.y in
     c.write_pair.ensures.written
-    ∙ ap (λ (xs : List ℕ). front ++ (10 ∷ xs)) (drop_all 163 c.args.text.now (omega (arith, c.requires)))
+    ∙ ap (λ (xs : List ℕ). front ++ (10 ∷ xs))
+    (drop_all 163 c.args.text.now (omega (arith, c.requires)))

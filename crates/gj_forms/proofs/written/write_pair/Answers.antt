@@ -10,5 +10,6 @@ returns-clause-written c =
     let behind = drop c.args.end c.args.text.now in
     let last = written_before c.args.text.now c.args.end 10 (omega arith) (omega arith) in
     c.write_spaced.ensures.written
-    ∙ ap (λ (xs : List ℕ). first ++ xs) (c.write_spaced-second.ensures.written ∙ ap (λ (xs : List ℕ). second ++ xs) last)
+    ∙ ap (λ (xs : List ℕ). first ++ xs) (c.write_spaced-second.ensures.written
+    ∙ ap (λ (xs : List ℕ). second ++ xs) last)
     ∙ sym (append_assoc first second (10 ∷ behind))

@@ -10,6 +10,7 @@ invariant_of-result c =
     let d = c.args.self.den in
     let num = read_part n c.args.self.lowest.num_fits in
     let den = read_part d c.args.self.lowest.den_fits in
-    let lowest : IsLowest (d -ℤ n) d = complement_lowest n d c.args.self.lowest c.requires.not_negative c.requires.at_most_one in
+    let lowest : IsLowest (d -ℤ n) d =
+    complement_lowest n d c.args.self.lowest c.requires.not_negative c.requires.at_most_one in
     let rest = read_part (d -ℤ n) lowest.num_fits in
     simp (num, den, rest) (record { lowest = lowest })

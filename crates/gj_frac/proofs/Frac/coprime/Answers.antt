@@ -33,6 +33,8 @@ invariant_of-result-2 c =
     let num' = to_z-of_z w128 (pos 0 -ℤ c.args.num) (omega (arith, ints, c.requires.num_fits)) in
     let den' = to_z-of_z w128 (pos 0 -ℤ c.args.den) (omega (arith, ints, c.requires.den_fits)) in
     let zero = c.requires.zero in
-    let positive : pos 0 <ℤ (pos 0 -ℤ c.args.den) = negated_positive c.args.den zero (simp den at c.if-den-gt0.false) in
-    let lowest = lowest_negated c.args.num c.args.den positive c.requires.num_fits c.requires.den_fits c.requires.coprime in
+    let positive : pos 0 <ℤ (pos 0 -ℤ c.args.den) =
+    negated_positive c.args.den zero (simp den at c.if-den-gt0.false) in
+    let lowest = lowest_negated c.args.num c.args.den positive c.requires.num_fits
+    c.requires.den_fits c.requires.coprime in
     simp (num, den, num', den') (record { lowest = lowest })

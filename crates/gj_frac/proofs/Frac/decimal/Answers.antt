@@ -14,25 +14,31 @@ overflow_cast-power_of_ten c =
 
 pub reduced-requires-clause-zero : goal.reduced-requires-clause-zero
 reduced-requires-clause-zero c =
-    let power = read_ten c.power_of_ten.result c.args.places c.power_of_ten.ensures c.requires.places in
+    let power = read_ten c.power_of_ten.result c.args.places c.power_of_ten.ensures
+    c.requires.places in
     let some : 0 < 10 ^ c.args.places = one-le-pow c.args.places 10 (omega arith) in
     simp power (λ none. omega arith)
 
 pub reduced-requires-clause-den_fits : goal.reduced-requires-clause-den_fits
 reduced-requires-clause-den_fits c =
-    let power = read_ten c.power_of_ten.result c.args.places c.power_of_ten.ensures c.requires.places in
+    let power = read_ten c.power_of_ten.result c.args.places c.power_of_ten.ensures
+    c.requires.places in
     simp power (ten_small c.args.places c.requires.places)
 
 pub returns-then-size : goal.returns-then-size
 returns-then-size c =
-    let power = read_ten c.power_of_ten.result c.args.places c.power_of_ten.ensures c.requires.places in
+    let power = read_ten c.power_of_ten.result c.args.places c.power_of_ten.ensures
+    c.requires.places in
     let num = to_z-of_z w128 c.args.num c.ranges.num in
     simp (num, power) at c.reduced.ensures
 
 pub returns : goal.returns
 returns c =
     let num = to_z-of_z w128 c.args.num c.ranges.num in
-    let size : c.unsigned_abs-size.result ≡ unsigned_abs c.args.num = c.unsigned_abs-size.ensures.value ∙ ap unsigned_abs num in
-    let value : with_sign (lt_z (to_z w128 (of_z w128 c.args.num)) (pos 0)) c.unsigned_abs-size.result ≡ c.args.num =
+    let size : c.unsigned_abs-size.result ≡ unsigned_abs c.args.num =
+    c.unsigned_abs-size.ensures.value ∙ ap unsigned_abs num in
+    let value : with_sign (lt_z (to_z w128 (of_z w128 c.args.num)) (pos 0))
+    c.unsigned_abs-size.result ≡ c.args.num =
     ap₂ (λ z n. with_sign (lt_z z (pos 0)) n) num size ∙ sign_and_size c.args.num in
-    subst (λ z. IsRatio c.short_decimal.result z (pos (10 ^ c.args.places))) value c.short_decimal.ensures
+    subst (λ z. IsRatio c.short_decimal.result z (pos (10 ^ c.args.places))) value
+    c.short_decimal.ensures

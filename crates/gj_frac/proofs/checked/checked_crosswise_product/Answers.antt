@@ -10,13 +10,23 @@ use mir.Syntax.{w128}
 
 pub returns-in_err-num-clause-wide : goal.returns-in_err-num-clause-wide
 returns-in_err-num-clause-wide c =
-    let refused = simp (read_part c.args.x.num c.args.x.lowest.num_fits, read_part c.args.y.num c.args.y.lowest.num_fits) at c.in_err-num.ensures in
-    let wide : FitsProduct c.args.x c.args.y → ⊥ = λ fits. refused (numerators_fit c.args.x c.args.y c.requires.first c.requires.second fits) in
+    let refused = simp (
+      read_part c.args.x.num c.args.x.lowest.num_fits,
+      read_part c.args.y.num
+          c.args.y.lowest.num_fits,
+    ) at c.in_err-num.ensures in
+    let wide : FitsProduct c.args.x c.args.y →
+    ⊥ = λ fits. refused (numerators_fit c.args.x c.args.y c.requires.first c.requires.second
+    fits) in
     on_err _ _ wide
 
 pub returns-in_err-den-clause-wide : goal.returns-in_err-den-clause-wide
 returns-in_err-den-clause-wide c =
-    let refused = simp (read_part c.args.x.den c.args.x.lowest.den_fits, read_part c.args.y.den c.args.y.lowest.den_fits) at c.in_err-den.ensures in
+    let refused = simp (
+      read_part c.args.x.den c.args.x.lowest.den_fits,
+      read_part c.args.y.den
+          c.args.y.lowest.den_fits,
+    ) at c.in_err-den.ensures in
     let wide : FitsProduct c.args.x c.args.y → ⊥ = λ fits.
     refused (denominators_fit c.args.x c.args.y c.requires.first c.requires.second fits) in
     on_err _ _ wide
@@ -25,12 +35,20 @@ returns-in_err-den-clause-wide c =
 num_is : (c : goal.In_ok-den) → to_z w128 (of_z w128 c.in_ok-num.num) ≡ c.args.x.num *ℤ c.args.y.num
 num_is c =
     to_z-of_z w128 c.in_ok-num.num (search rules)
-    ∙ simp (read_part c.args.x.num c.args.x.lowest.num_fits, read_part c.args.y.num c.args.y.lowest.num_fits) at c.in_ok-num.ensures.1
+    ∙ simp (
+      read_part c.args.x.num c.args.x.lowest.num_fits,
+      read_part c.args.y.num
+          c.args.y.lowest.num_fits,
+    ) at c.in_ok-num.ensures.1
 
 den_is : (c : goal.In_ok-den) → to_z w128 (of_z w128 c.in_ok-den.den) ≡ c.args.x.den *ℤ c.args.y.den
 den_is c =
     to_z-of_z w128 c.in_ok-den.den (search rules)
-    ∙ simp (read_part c.args.x.den c.args.x.lowest.den_fits, read_part c.args.y.den c.args.y.lowest.den_fits) at c.in_ok-den.ensures.1
+    ∙ simp (
+      read_part c.args.x.den c.args.x.lowest.den_fits,
+      read_part c.args.y.den
+          c.args.y.lowest.den_fits,
+    ) at c.in_ok-den.ensures.1
 
 pub coprime-requires-clause-zero : goal.coprime-requires-clause-zero
 coprime-requires-clause-zero c = simp (den_is c) (denominators_some c.args.x c.args.y)
@@ -41,16 +59,26 @@ coprime-requires-clause-coprime c =
 
 pub coprime-requires-clause-num_fits : goal.coprime-requires-clause-num_fits
 coprime-requires-clause-num_fits c =
-    simp (to_z-of_z w128 c.in_ok-num.num (search rules)) (subst Fits (sym c.in_ok-num.ensures.1) c.in_ok-num.ensures.0)
+    simp (to_z-of_z w128 c.in_ok-num.num (search rules))
+    (subst Fits (sym c.in_ok-num.ensures.1) c.in_ok-num.ensures.0)
 
 pub coprime-requires-clause-den_fits : goal.coprime-requires-clause-den_fits
 coprime-requires-clause-den_fits c =
-    simp (to_z-of_z w128 c.in_ok-den.den (search rules)) (subst Fits (sym c.in_ok-den.ensures.1) c.in_ok-den.ensures.0)
+    simp (to_z-of_z w128 c.in_ok-den.den (search rules))
+    (subst Fits (sym c.in_ok-den.ensures.1) c.in_ok-den.ensures.0)
 
 pub returns-clause-value : goal.returns-clause-value
 returns-clause-value c =
     let num = to_z-of_z w128 c.in_ok-num.num (search rules)
-    ∙ simp (read_part c.args.x.num c.args.x.lowest.num_fits, read_part c.args.y.num c.args.y.lowest.num_fits) at c.in_ok-num.ensures.1 in
+    ∙ simp (
+      read_part c.args.x.num c.args.x.lowest.num_fits,
+      read_part c.args.y.num
+          c.args.y.lowest.num_fits,
+    ) at c.in_ok-num.ensures.1 in
     let den = to_z-of_z w128 c.in_ok-den.den (search rules)
-    ∙ simp (read_part c.args.x.den c.args.x.lowest.den_fits, read_part c.args.y.den c.args.y.lowest.den_fits) at c.in_ok-den.ensures.1 in
+    ∙ simp (
+      read_part c.args.x.den c.args.x.lowest.den_fits,
+      read_part c.args.y.den
+          c.args.y.lowest.den_fits,
+    ) at c.in_ok-den.ensures.1 in
     simp (num, den) at c.coprime.ensures

@@ -8,4 +8,5 @@ pub returns : goal.returns
 returns c =
     let n = to_z-of_z w128 c.args.n c.ranges.n in
     let m = to_z-of_z w128 c.args.m c.ranges.m in
-    step_fits c.checked_sub.result c.part.result (c.args.n -ℤ c.args.m) (simp (n, m) at c.checked_sub.ensures) c.part.ensures
+    step_fits c.checked_sub.result c.part.result (c.args.n -ℤ c.args.m)
+    (simp (n, m) at c.checked_sub.ensures) c.part.ensures

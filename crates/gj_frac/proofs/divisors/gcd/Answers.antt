@@ -12,10 +12,13 @@ returns-then-y-eq0 c = c.loop-y.invariant _ (IsGcd-from_zero _ _ (omega arith))
 pub returns-then-x : goal.returns-then-x
 returns-then-x c =
     let same = c.from.ensures in
-    c.loop-y.invariant _ (subst (λ (g : ℕ). IsGcd c.loop-y.x c.loop-y.y g) (sym same) c.gcd_in_64_bits.ensures)
+    c.loop-y.invariant _
+    (subst (λ (g : ℕ). IsGcd c.loop-y.x c.loop-y.y g) (sym same) c.gcd_in_64_bits.ensures)
 
 pub returns : goal.returns
 returns c =
     let same = c.from-2.ensures in
     c.loop-y.invariant _
-    (IsGcd-from_mod _ _ _ (subst (λ (g : ℕ). IsGcd c.loop-y.y (c.loop-y.x % c.loop-y.y) g) (sym same) c.gcd_in_64_bits-2.ensures))
+    (IsGcd-from_mod _ _ _
+    (subst (λ (g : ℕ). IsGcd c.loop-y.y (c.loop-y.x % c.loop-y.y) g)
+    (sym same) c.gcd_in_64_bits-2.ensures))

@@ -27,10 +27,12 @@ loop-first-preserved c =
     let below : abs_diff f s < 2 ^ 64 = omega arith in
     let zeros = zeros_of_difference f s (omega arith) (omega arith) in
     let quotient : c.abs_diff-size.result / 2 ^ trailing_zeros w64 ((s + (2 ^ 64 - f)) % 2 ^ 64) ≡
-    abs_diff f s / 2 ^ trailing_zeros w64 (abs_diff f s) = ap₂ (λ m n. m / 2 ^ n) c.abs_diff-size.ensures zeros in
+    abs_diff f s / 2 ^ trailing_zeros w64 (abs_diff f s) =
+    ap₂ (λ m n. m / 2 ^ n) c.abs_diff-size.ensures zeros in
     record {
       first = subst (λ n. n % 2 ≡ 1) (sym quotient) (odd_part (abs_diff f s) some below).0;
-      second = lesser_odd f s c.min-second.result held.first held.second (lesser_is f s _ c.min-second.ensures);
+      second = lesser_odd f s c.min-second.result held.first held.second
+          (lesser_is f s _ c.min-second.ensures);
       divisors = λ g h. held.divisors g (from_odd_difference f s g held.first held.second some below
           (subst₂ (λ m n. IsGcd m n g) quotient (lesser_is f s _ c.min-second.ensures) h));
     }
@@ -39,4 +41,5 @@ pub returns : goal.returns
 returns c =
     let same : c.loop-first.first ≡ c.loop-first.second = omega arith in
     c.loop-first.invariant.divisors _
-    (subst (λ n. IsGcd c.loop-first.first n c.loop-first.first) same (dvd_refl _, dvd_refl _, λ d p q. p))
+    (subst (λ n. IsGcd c.loop-first.first n c.loop-first.first) same
+    (dvd_refl _, dvd_refl _, λ d p q. p))

@@ -15,9 +15,11 @@ pub returns : goal.returns
 returns c =
     let a = odd_part c.args.a c.requires.first (omega arith) in
     let b = odd_part c.args.b c.requires.second (omega arith) in
-    let g = c.gcd_of_odd.result * 2 ^ min (trailing_zeros w64 c.args.a) (trailing_zeros w64 c.args.b) in
+    let g = c.gcd_of_odd.result * 2 ^ min (trailing_zeros w64 c.args.a)
+    (trailing_zeros w64 c.args.b) in
     let h : IsGcd c.args.a c.args.b g =
     subst₂ (λ m n. IsGcd m n g) a.1 b.1 (odd_powers _ _ _ _ _ a.0 b.0 c.gcd_of_odd.ensures) in
     let most : g ≤ c.args.a = le_of_dvd c.requires.first h.0 in
     let whole : g % 2 ^ 64 ≡ g = mod-eq_of_lt (omega arith) in
-    subst (IsGcd c.args.a c.args.b) (sym (ap (λ n. c.gcd_of_odd.result * 2 ^ n % 2 ^ 64) c.min.ensures ∙ whole)) h
+    subst (IsGcd c.args.a c.args.b)
+    (sym (ap (λ n. c.gcd_of_odd.result * 2 ^ n % 2 ^ 64) c.min.ensures ∙ whole)) h

@@ -19,7 +19,9 @@ returns-in-Ok-Ok c =
     let divisor_fits : SFits w64 c.args.divisor = subst (SFits w64) divisor c.in-Ok-Ok.ensures'.0 in
     let n_is : c.in-Ok-Ok.n ≡ c.args.n = c.in-Ok-Ok.ensures.1 ∙ n in
     let divisor_is : c.in-Ok-Ok.divisor ≡ c.args.divisor = c.in-Ok-Ok.ensures'.1 ∙ divisor in
-    let small = quot_is w64 c.args.n c.args.divisor n_fits divisor_fits (quot_fits w64 c.args.n c.args.divisor n_fits c.requires.positive) in
-    let is : c.from.result ≡ int_div c.args.n c.args.divisor = simp (n_is, divisor_is) at c.from.ensures ∙ small in
+    let small = quot_is w64 c.args.n c.args.divisor n_fits divisor_fits
+    (quot_fits w64 c.args.n c.args.divisor n_fits c.requires.positive) in
+    let is : c.from.result ≡ int_div c.args.n c.args.divisor =
+    simp (n_is, divisor_is) at c.from.ensures ∙ small in
     ap (λ z. z *ℤ c.args.divisor) (to_z-of_z w128 c.from.result (search rules) ∙ is)
     ∙ quotient_of_divisor c.args.n c.args.divisor c.requires.divides

@@ -6,7 +6,9 @@ returns-in_default-clause-broken c = no_break_words _ c.in_default.ensures.none
 
 pub returns-in-Some-break_of-clause-found : goal.returns-in-Some-break_of-clause-found
 returns-in-Some-break_of-clause-found c =
-    break_spelled _ _ _ c.in-Some-break_of.point c.in-Some.ensures.found c.in-Some-break_of.ensures.place c.in-Some-break_of.ensures.point
+    break_spelled _ _ _ c.in-Some-break_of.point c.in-Some.ensures.found
+    c.in-Some-break_of.ensures.place c.in-Some-break_of.ensures.point
 
 pub returns-in-None-clause-broken : goal.returns-in-None-clause-broken
-returns-in-None-clause-broken c = no_break_numbers _ _ c.in-Some.words c.in-Some.ensures.found c.in-None.ensures.none
+returns-in-None-clause-broken c =
+    no_break_numbers _ _ c.in-Some.words c.in-Some.ensures.found c.in-None.ensures.none

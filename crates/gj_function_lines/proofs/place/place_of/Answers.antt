@@ -20,10 +20,12 @@ returns-in_err-denominator-clause-none c = rw c.from_residual-in_err-denominator
     absurd (none-some p.d (sym c.in_err-denominator.was ∙ c.count_of-2.ensures.only p.d
     (omega (arith, p.den_at_most, c.requires)) is)))
 
-pub returns-then-order-denominator-ne0-clause-none : goal.returns-then-order-denominator-ne0-clause-none
+pub returns-then-order-denominator-ne0-clause-none :
+    goal.returns-then-order-denominator-ne0-clause-none
 returns-then-order-denominator-ne0-clause-none c = λ h.
     let p = place_parts _ _ _ h.0 c.args.fraction.lowest (some_order _ c.requires) h.2 in
-    let is = sym (within_bits _ _ c.den.ensures c.args.fraction.lowest.den_fits) ∙ c.in_ok-denominator.ensures.found in
+    let is = sym (within_bits _ _ c.den.ensures c.args.fraction.lowest.den_fits)
+    ∙ c.in_ok-denominator.ensures.found in
     let same : c.in_ok-denominator.denominator ≡ p.d = omega (arith, ints, is, p.den_is) in
     absurd (c.if-order-denominator-ne0.true (ap (λ d. c.args.order % d) same ∙ p.divides))
 
@@ -31,24 +33,31 @@ pub returns-in_err-place-clause-none : goal.returns-in_err-place-clause-none
 returns-in_err-place-clause-none c = rw c.from_residual-in_err-place.ensures (λ h.
     let p = place_parts _ _ _ h.0 c.args.fraction.lowest (some_order _ c.requires) h.2 in
     let is = product_is _ _ _ _ _ _
-    (sym (within_bits _ _ c.num.ensures c.args.fraction.lowest.num_fits) ∙ c.in_ok-numerator.ensures.found)
-    (sym (within_bits _ _ c.den.ensures c.args.fraction.lowest.den_fits) ∙ c.in_ok-denominator.ensures.found) p in
+    (sym (within_bits _ _ c.num.ensures c.args.fraction.lowest.num_fits)
+    ∙ c.in_ok-numerator.ensures.found)
+    (sym (within_bits _ _ c.den.ensures c.args.fraction.lowest.den_fits)
+    ∙ c.in_ok-denominator.ensures.found) p in
     absurd (c.in_err-place.ensures (omega (arith, is, h.1, c.requires))))
 
 pub returns-then-not-is_place-clause-none : goal.returns-then-not-is_place-clause-none
 returns-then-not-is_place-clause-none c = λ h.
     let p = place_parts _ _ _ h.0 c.args.fraction.lowest (some_order _ c.requires) h.2 in
     let is = product_is _ _ _ _ _ _
-    (sym (within_bits _ _ c.num.ensures c.args.fraction.lowest.num_fits) ∙ c.in_ok-numerator.ensures.found)
-    (sym (within_bits _ _ c.den.ensures c.args.fraction.lowest.den_fits) ∙ c.in_ok-denominator.ensures.found) p in
+    (sym (within_bits _ _ c.num.ensures c.args.fraction.lowest.num_fits)
+    ∙ c.in_ok-numerator.ensures.found)
+    (sym (within_bits _ _ c.den.ensures c.args.fraction.lowest.den_fits)
+    ∙ c.in_ok-denominator.ensures.found) p in
     let place_is = c.in_ok-place.ensures.1 in
-    false≢true (c.if-not-is_place.ensures.1 (omega (arith, is, place_is, h.1), omega (arith, is, place_is, h.1)))
+    false≢true (c.if-not-is_place.ensures.1
+    (omega (arith, is, place_is, h.1), omega (arith, is, place_is, h.1)))
 
 pub returns-clause-found : goal.returns-clause-found
 returns-clause-found c = (
   c.if-not-is_place.ensures.0 refl,
   place_found _ _ _ _ _ _
-      (sym (within_bits _ _ c.num.ensures c.args.fraction.lowest.num_fits) ∙ c.in_ok-numerator.ensures.found)
-      (sym (within_bits _ _ c.den.ensures c.args.fraction.lowest.den_fits) ∙ c.in_ok-denominator.ensures.found)
+      (sym (within_bits _ _ c.num.ensures c.args.fraction.lowest.num_fits)
+      ∙ c.in_ok-numerator.ensures.found)
+      (sym (within_bits _ _ c.den.ensures c.args.fraction.lowest.den_fits)
+      ∙ c.in_ok-denominator.ensures.found)
       c.if-order-denominator-ne0.false c.in_ok-place.ensures.1,
 )

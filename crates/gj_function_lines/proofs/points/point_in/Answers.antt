@@ -12,5 +12,6 @@ returns-in-Some-point_of-clause-found c =
 
 pub returns-in-None-clause-broken : goal.returns-in-None-clause-broken
 returns-in-None-clause-broken c =
-    no_point_numbers c.args.spelling _ c.in-Some.words c.in-Some.ensures.found (λ same. false≢true (c.if-are_three_same.ensures.1 same))
+    no_point_numbers c.args.spelling _ c.in-Some.words c.in-Some.ensures.found
+    (λ same. false≢true (c.if-are_three_same.ensures.1 same))
     c.in-None.ensures.none

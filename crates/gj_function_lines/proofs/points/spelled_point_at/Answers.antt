@@ -4,12 +4,15 @@ use Rattle.gj_function_lines.proofs.points.spelled_point_at.Goals as goal
 
 pub returns-in-Ok-clause-found : goal.returns-in-Ok-clause-found
 returns-in-Ok-clause-found c =
-    point_read _ _ _ _ _ _ c.in_ok-line.line.point c.in_ok-line.ensures.found c.in-Ok.ensures.ok c.in-Ok.ensures.small
+    point_read _ _ _ _ _ _ c.in_ok-line.line.point c.in_ok-line.ensures.found c.in-Ok.ensures.ok
+    c.in-Ok.ensures.small
     c.in-Ok.ensures.common
 
 pub returns-in-Err-clause-fault : goal.returns-in-Err-clause-fault
 returns-in-Err-clause-fault c =
-    rw c.refusal_of.ensures (point_refused _ _ _ _ _ c.in_ok-line.line.point _ c.in_ok-line.ensures.found c.in-Err.ensures.fault)
+    rw c.refusal_of.ensures
+    (point_refused _ _ _ _ _ c.in_ok-line.line.point _ c.in_ok-line.ensures.found
+    c.in-Err.ensures.fault)
 
 pub returns-in_err-line-clause-fault : goal.returns-in_err-line-clause-fault
 returns-in_err-line-clause-fault c =

@@ -8,8 +8,10 @@ loop-i-init c = none_pushed _ _
 pub loop-i-preserved : goal.loop-i-preserved
 loop-i-preserved c =
     let (p, is, pushed) = c.in_ok-push_line_at.ensures in
-    one_pushed _ _ p _ _ _ c.order-i-end.ensures.limits (omega (arith, c.order-i-end.ensures.value)) c.loop-i.invariant is pushed
+    one_pushed _ _ p _ _ _ c.order-i-end.ensures.limits (omega (arith, c.order-i-end.ensures.value))
+    c.loop-i.invariant is pushed
 
 pub returns : goal.returns
 returns c =
-    all_pushed _ _ _ _ c.order-i-end.ensures.limits (omega (arith, c.order-i-end.ensures.value)) c.loop-i.invariant
+    all_pushed _ _ _ _ c.order-i-end.ensures.limits (omega (arith, c.order-i-end.ensures.value))
+    c.loop-i.invariant

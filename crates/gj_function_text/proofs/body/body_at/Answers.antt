@@ -10,6 +10,8 @@ use Rattle.gj_function_text.proofs.body.body_at.Goals as goal
 
 pub returns-else-begins_with_word-clause-fault : goal.returns-else-begins_with_word-clause-fault
 returns-else-begins_with_word-clause-fault c =
-    IfErr-weaker c.function_at.result (IsFaultOf (function_part Lenient) c.args.text.now) (IsFaultOf body_part c.args.text.now)
-    (λ e. fault_else (BeginsWithWord Lenient (codes "family")) family_part (function_part Lenient) c.args.text.now e
+    IfErr-weaker c.function_at.result (IsFaultOf (function_part Lenient) c.args.text.now)
+    (IsFaultOf body_part c.args.text.now)
+    (λ e. fault_else (BeginsWithWord Lenient (codes "family")) family_part
+    (function_part Lenient) c.args.text.now e
     (λ is. false≢true (c.if-begins_with_word.ensures.1 is))) c.function_at.ensures.fault

@@ -14,20 +14,23 @@ returns-in_default-fraction_of-clause-broken c =
 pub returns-then-not-is_inside-clause-broken : goal.returns-then-not-is_inside-clause-broken
 returns-then-not-is_inside-clause-broken c = inr (
   c.in-Some-fraction_of.place,
-  place_spelled Lenient _ _ c.in-Some-fraction_of.place c.in-Some.ensures.found c.in-Some-fraction_of.ensures.found,
+  place_spelled Lenient _ _ c.in-Some-fraction_of.place c.in-Some.ensures.found
+      c.in-Some-fraction_of.ensures.found,
   inl (refl, λ is. false≢true (c.if-not-is_inside.ensures.1 is)),
 )
 
 pub returns-then-not-is_coarse-clause-broken : goal.returns-then-not-is_coarse-clause-broken
 returns-then-not-is_coarse-clause-broken c = inr (
   c.in-Some-fraction_of.place,
-  place_spelled Lenient _ _ c.in-Some-fraction_of.place c.in-Some.ensures.found c.in-Some-fraction_of.ensures.found,
+  place_spelled Lenient _ _ c.in-Some-fraction_of.place c.in-Some.ensures.found
+      c.in-Some-fraction_of.ensures.found,
   inr (refl, c.if-not-is_inside.ensures.0 refl, λ is. false≢true (c.if-not-is_coarse.ensures.1 is)),
 )
 
 pub returns-clause-found : goal.returns-clause-found
 returns-clause-found c = (
   c.in-Some-fraction_of.place,
-  place_spelled Lenient _ _ c.in-Some-fraction_of.place c.in-Some.ensures.found c.in-Some-fraction_of.ensures.found,
+  place_spelled Lenient _ _ c.in-Some-fraction_of.place c.in-Some.ensures.found
+      c.in-Some-fraction_of.ensures.found,
   (c.if-not-is_inside.ensures.0 refl, c.if-not-is_coarse.ensures.0 refl, refl),
 )

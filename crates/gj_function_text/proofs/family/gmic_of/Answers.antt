@@ -16,4 +16,5 @@ returns-in-Ok-clause-found c = (
 pub returns-in-Err-clause-broken : goal.returns-in-Err-clause-broken
 returns-in-Err-clause-broken c =
     family_refused (gmic_words c.args.word.now) (gmic c.in-Some.f) c.in-Err.fault _
-    (gmic_spelled c.args.word.now c.in-Some.f c.in-Some.ensures.found) c.in-Err.ensures.fault c.line_fault.ensures
+    (gmic_spelled c.args.word.now c.in-Some.f c.in-Some.ensures.found) c.in-Err.ensures.fault
+    c.line_fault.ensures

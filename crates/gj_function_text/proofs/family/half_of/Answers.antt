@@ -16,4 +16,5 @@ returns-in-Ok-clause-found c = (
 pub returns-in-Err-clause-broken : goal.returns-in-Err-clause-broken
 returns-in-Err-clause-broken c =
     family_refused (half_words c.args.word.now) (half c.in-Some.f) c.in-Err.fault _
-    (half_spelled c.args.word.now c.in-Some.f c.in-Some.ensures.found) c.in-Err.ensures.fault c.line_fault.ensures
+    (half_spelled c.args.word.now c.in-Some.f c.in-Some.ensures.found) c.in-Err.ensures.fault
+    c.line_fault.ensures

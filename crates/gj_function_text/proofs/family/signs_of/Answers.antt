@@ -19,9 +19,11 @@ loop-byte-preserved c =
     let byte = get_or word i 0 in
     let signs = c.loop-byte.signs.items in
     take_more word i 0 c.loop-byte-test.true
-    ∙ ap₂ (λ bytes b. bytes ++ b ∷ []) c.loop-byte.invariant (sign_read byte (c.requires i 0 c.loop-byte-test.true))
+    ∙ ap₂ (λ bytes b. bytes ++ b ∷ []) c.loop-byte.invariant
+    (sign_read byte (c.requires i 0 c.loop-byte-test.true))
     ∙ sym (map-append sign_byte signs (nat_eq byte 43 ∷ []))
     ∙ ap (map sign_byte) (sym c.in_ok-push.ensures.items)
 
 pub returns : goal.returns
-returns c = sym (take_all c.loop-byte.byte-index c.args.word.now c.loop-byte-test.false) ∙ c.loop-byte.invariant
+returns c = sym (take_all c.loop-byte.byte-index c.args.word.now c.loop-byte-test.false)
+    ∙ c.loop-byte.invariant

@@ -20,5 +20,6 @@ returns c =
     let points = c.args.points.now in
     let breaks = c.as_slice.ensures.value ∙ c.loop-pair.invariant
     ∙ ap (map even_break) (take_all c.loop-pair.pair-index points c.loop-pair-test.false) in
-    subst (λ (bs : List Break). IfOk c.write_breaks_with_limits.result (λ (text : Vec ℕ Global). text.items ≡ canonical_breaks_text c.args.f bs))
+    subst (λ (bs : List Break). IfOk c.write_breaks_with_limits.result
+    (λ (text : Vec ℕ Global). text.items ≡ canonical_breaks_text c.args.f bs))
     breaks c.write_breaks_with_limits.ensures

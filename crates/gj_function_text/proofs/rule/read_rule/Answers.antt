@@ -11,12 +11,14 @@ pub returns-in-Ok-clause-found : goal.returns-in-Ok-clause-found
 returns-in-Ok-clause-found c = (
   omega arith,
   subst (IsRuleText c.args.bytes.now)
-      (sym (rest_at_length rule_text rule_text_is_exact _ tt _ c.in-Ok.ensures.found)) c.in-Ok.ensures.found,
+      (sym (rest_at_length rule_text rule_text_is_exact _ tt _ c.in-Ok.ensures.found))
+      c.in-Ok.ensures.found,
 )
 
 pub returns-in-Ok-clause-only : goal.returns-in-Ok-clause-only
 returns-in-Ok-clause-only c = λ rest h.
-    rest_at_length rule_text rule_text_is_exact _ tt _ c.in-Ok.ensures.found ∙ one_end _ _ _ c.in-Ok.ensures.found h
+    rest_at_length rule_text rule_text_is_exact _ tt _ c.in-Ok.ensures.found
+    ∙ one_end _ _ _ c.in-Ok.ensures.found h
 
 pub returns-in-Err-Refused-clause-only : goal.returns-in-Err-Refused-clause-only
 returns-in-Err-Refused-clause-only c = λ rest h.

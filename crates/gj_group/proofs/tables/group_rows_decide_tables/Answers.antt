@@ -14,7 +14,9 @@ returns-clause-perturbation c = λ t n k s w some low minimal len. (
 )
 
 pub returns-clause-extreme : goal.returns-clause-extreme
-returns-clause-extreme c = λ t n k s some low minimal. (zero_from_extreme t n k s some low, extreme_from_zero t n k s some low minimal)
+returns-clause-extreme c =
+    λ t n k s some low minimal.
+    (zero_from_extreme t n k s some low, extreme_from_zero t n k s some low minimal)
 
 pub returns-clause-function : goal.returns-clause-function
 returns-clause-function c = λ f l minimal. (function_zero f l, function_extreme f l minimal)

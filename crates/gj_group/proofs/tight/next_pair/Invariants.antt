@@ -5,4 +5,5 @@ use Rattle.gj_group.proofs.tight.next_pair.Given as goal
 
 abbrev pub invariant-loop-row : goal.invariant-loop-row
 invariant-loop-row l =
-    (l.a < l.row) × (pair_rows (at l.values) (length l.values) l.a l.from ≡ rows_from (at l.values) (length l.values) l.row)
+    (l.a < l.row) × (pair_rows (at l.values) (length l.values) l.a l.from
+    ≡ rows_from (at l.values) (length l.values) l.row)

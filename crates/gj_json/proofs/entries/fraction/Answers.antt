@@ -7,5 +7,6 @@ use Rattle.gj_json.proofs.entries.fraction.Goals as goal
 pub returns-in-Some-clause-none : goal.returns-in-Some-clause-none
 returns-in-Some-clause-none c =
     none_weaker c.fraction_of.result
-    (no_word (view c.args.value.now) c.as_bytes.result.now (sym c.in-Some.ensures ∙ ap Some (sym c.as_bytes.ensures.value)))
+    (no_word (view c.args.value.now) c.as_bytes.result.now
+    (sym c.in-Some.ensures ∙ ap Some (sym c.as_bytes.ensures.value)))
     c.fraction_of.ensures.none

@@ -6,5 +6,6 @@ use Rattle.gj_json.proofs.form.list.Goals as goal
 
 pub returns : goal.returns
 returns c =
-    ap Some (ap (map view) c.as_slice.ensures.value ∙ sym (list_of_items (map view c.in_ok-as_array.field-0.now.items)))
+    ap Some (ap (map view) c.as_slice.ensures.value
+    ∙ sym (list_of_items (map view c.in_ok-as_array.field-0.now.items)))
     ∙ ap (option_map list_of) c.in_ok-as_array.ensures

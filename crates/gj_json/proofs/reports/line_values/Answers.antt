@@ -14,17 +14,21 @@ loop-byte-preserved c =
     elim c.if-byte-eq10.branch [
       | then-byte-eq10+in_ok-text_value+in_ok-push w ↦
           rw (w.values-is, w.line-is)
-          (line_ended text n vs w.push.new.self.items line w.clear.new.self.items w.in_ok-text_value.field-0 (get_or text n 0)
+          (line_ended text n vs w.push.new.self.items line w.clear.new.self.items
+          w.in_ok-text_value.field-0 (get_or text n 0)
           (omega arith) (search rules) w.if-byte-eq10.true c.loop-byte.invariant
-          (w.in_ok-text_value.ensures ∙ ap string w.as_slice.ensures.value) w.in_ok-push.ensures.items w.clear.ensures.items)
+          (w.in_ok-text_value.ensures ∙ ap string w.as_slice.ensures.value)
+          w.in_ok-push.ensures.items w.clear.ensures.items)
       | else-byte-eq10+in_ok-push-2 w ↦
           rw (w.values-is, w.line-is)
-          (byte_taken text n vs line w.push-else-byte-eq10.new.self.items (get_or text n 0) (omega arith) (search rules)
+          (byte_taken text n vs line w.push-else-byte-eq10.new.self.items (get_or text n 0)
+          (omega arith) (search rules)
           w.if-byte-eq10.false c.requires.bytes c.loop-byte.invariant w.in_ok-push-2.ensures.items)
     ]
 
 pub returns : goal.returns
 returns c =
-    let h = all_lines c.args.text.now c.loop-byte.byte-index c.loop-byte.values.items c.loop-byte.line.items (omega arith)
+    let h = all_lines c.args.text.now c.loop-byte.byte-index c.loop-byte.values.items
+    c.loop-byte.line.items (omega arith)
     c.requires.ended c.loop-byte.invariant in
     (h.0, h.1, view-Array c.loop-byte.values ∙ ap array h.2)

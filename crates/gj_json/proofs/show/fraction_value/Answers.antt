@@ -7,5 +7,6 @@ use Rattle.gj_json.proofs.show.fraction_value.Goals as goal
 pub unwrap-requires : goal.unwrap-requires
 unwrap-requires c =
     c.from_utf8.ensures.succeeds
-    (subst IsUtf8 (sym (c.in_ok-print_frac.ensures.ok ∙ ap (λ t. t ++ fraction_text c.args.x) c.new-text.ensures.items))
+    (subst IsUtf8 (sym (c.in_ok-print_frac.ensures.ok
+    ∙ ap (λ t. t ++ fraction_text c.args.x) c.new-text.ensures.items))
     (fraction_is_utf8 c.args.x))

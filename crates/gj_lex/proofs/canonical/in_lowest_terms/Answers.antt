@@ -15,7 +15,8 @@ returns-then-den-clause-only c = λ lowest.
     let size_is : pos c.in-Ok-Ok.size ≡ pos (unsigned_abs c.args.num) =
     ap pos (c.in-Ok-Ok.ensures.1 ∙ c.unsigned_abs.ensures.value ∙ ap unsigned_abs num) in
     let made = subst₂ (IsRatio c.of_small-x.result) size_is den_is c.of_small-x.ensures in
-    let parts = lowest_parts c.of_small-x.result _ _ made (lowest_size c.args.num c.args.den lowest) in
+    let parts = lowest_parts c.of_small-x.result _ _ made
+    (lowest_size c.args.num c.args.den lowest) in
     absurd (c.if-den.true (ap (of_z w128) (c.den.ensures ∙ parts.1)))
 
 pub returns-then-num-lt0-clause-found : goal.returns-then-num-lt0-clause-found
@@ -29,8 +30,10 @@ returns-then-num-lt0-clause-found c =
     ap pos (c.in-Ok-Ok.ensures.1 ∙ c.unsigned_abs.ensures.value ∙ ap unsigned_abs num) in
     let made = subst₂ (IsRatio c.of_small-x.result) size_is den_is c.of_small-x.ensures in
     let den_same : c.of_small-x.result.den ≡ c.args.den =
-    sym c.den.ensures ∙ sym (to_z-of_z w128 c.den.result (search rules)) ∙ ap (to_z w128) c.if-den.false ∙ den in
-    let size = same_numerator c.of_small-x.result (pos (unsigned_abs c.args.num)) c.args.den made den_same in
+    sym c.den.ensures ∙ sym (to_z-of_z w128 c.den.result (search rules))
+    ∙ ap (to_z w128) c.if-den.false ∙ den in
+    let size = same_numerator c.of_small-x.result (pos (unsigned_abs c.args.num)) c.args.den made
+    den_same in
     let parts = turned_parts c.of_small-x.result c.neg.result c.neg.ensures in
     let below = simp num at c.if-num-lt0.true in
     let sign : neg_ℤ (pos (unsigned_abs c.args.num)) ≡ c.args.num = omega (arith, ints) in
@@ -47,8 +50,10 @@ returns-clause-found c =
     ap pos (c.in-Ok-Ok.ensures.1 ∙ c.unsigned_abs.ensures.value ∙ ap unsigned_abs num) in
     let made = subst₂ (IsRatio c.of_small-x.result) size_is den_is c.of_small-x.ensures in
     let den_same : c.of_small-x.result.den ≡ c.args.den =
-    sym c.den.ensures ∙ sym (to_z-of_z w128 c.den.result (search rules)) ∙ ap (to_z w128) c.if-den.false ∙ den in
-    let size = same_numerator c.of_small-x.result (pos (unsigned_abs c.args.num)) c.args.den made den_same in
+    sym c.den.ensures ∙ sym (to_z-of_z w128 c.den.result (search rules))
+    ∙ ap (to_z w128) c.if-den.false ∙ den in
+    let size = same_numerator c.of_small-x.result (pos (unsigned_abs c.args.num)) c.args.den made
+    den_same in
     let above = simp num at c.if-num-lt0.false in
     let sign : pos (unsigned_abs c.args.num) ≡ c.args.num = omega (arith, ints) in
     (size ∙ sign, den_same)

@@ -7,14 +7,17 @@ use Rattle.gj_lex.proofs.digits.long_value.Goals as goal
 pub returns-in_err-value : goal.returns-in_err-value
 returns-in_err-value c =
     rw c.from_residual.ensures
-    (no_number_from_there c.args.front _ _ _ _ c.loop-byte-test.true c.loop-byte.invariant.value c.in_err-value.ensures)
+    (no_number_from_there c.args.front _ _ _ _ c.loop-byte-test.true c.loop-byte.invariant.value
+    c.in_err-value.ensures)
 
 pub loop-byte-preserved : goal.loop-byte-preserved
 loop-byte-preserved c =
     let e = c.in_ok-value.ensures in
-    let step = value_after_more c.args.front c.args.word.now c.loop-byte.byte-index c.loop-byte-test.true in
+    let step = value_after_more c.args.front c.args.word.now c.loop-byte.byte-index
+    c.loop-byte-test.true in
     record {
       digits = digits_more 10 _ _ c.loop-byte-test.true c.loop-byte.invariant.digits e.0.0;
-      value = e.1 ∙ ap (λ v. v * 10 + digit_value (get_or c.args.word.now c.loop-byte.byte-index 0)) c.loop-byte.invariant.value ∙ sym step;
+      value = e.1 ∙ ap (λ v. v * 10 + digit_value (get_or c.args.word.now c.loop-byte.byte-index 0))
+          c.loop-byte.invariant.value ∙ sym step;
       small = omega (arith, e.0.1, e.1);
     }

@@ -13,12 +13,18 @@ returns-then-is_empty-clause-only c = λ n small e.
       | then-is_empty-via-then-is_empty w ↦ grind (arith, common_steps)
       | then-is_empty-via-else-is_empty+then-has_leading_zero w ↦
           let h = w.has_leading_zero.ensures.0 w.if-has_leading_zero.true in
-          omega (arith, h.0, decimal_leading_zero n (omega arith) (omega (arith, h.1, ap (λ ds. get_or ds 0 0) e)))
+          omega (
+            arith,
+            h.0,
+            decimal_leading_zero n (omega arith)
+                (omega (arith, h.1, ap (λ ds. get_or ds 0 0) e)),
+          )
     ])
 
 pub returns-clause-found : goal.returns-clause-found
 returns-clause-found c =
-    read_digits_found _ _ c.value_of.ensures (grind (arith, common_steps)) (λ lead. grind (arith, common_steps))
+    read_digits_found _ _ c.value_of.ensures (grind (arith, common_steps))
+    (λ lead. grind (arith, common_steps))
 
 pub returns-clause-only : goal.returns-clause-only
 returns-clause-only c = read_digits_only _ _ c.value_of.ensures

@@ -12,10 +12,12 @@ pub returns-then-rest-eq0-clause-written : goal.returns-then-rest-eq0-clause-wri
 returns-then-rest-eq0-clause-written c =
     let some = decimal_some c.loop-rest.rest c.loop-rest.invariant.small in
     sym (c.loop-rest.invariant.written
-    ∙ last_digit_written c.loop-rest.text c.loop-rest.start c.loop-rest.rest (omega arith) (omega arith) (omega arith))
+    ∙ last_digit_written c.loop-rest.text c.loop-rest.start c.loop-rest.rest (omega arith)
+    (omega arith) (omega arith))
 
 pub returns-then-rest-eq0-clause-room : goal.returns-then-rest-eq0-clause-room
-returns-then-rest-eq0-clause-room c = omega (arith, decimal_some c.loop-rest.rest c.loop-rest.invariant.small)
+returns-then-rest-eq0-clause-room c =
+    omega (arith, decimal_some c.loop-rest.rest c.loop-rest.invariant.small)
 
 pub loop-rest-smaller : goal.loop-rest-smaller
 loop-rest-smaller c = omega (arith, decimal_some c.loop-rest.rest c.loop-rest.invariant.small)
@@ -25,8 +27,13 @@ loop-rest-preserved c =
     let some = decimal_some c.loop-rest.rest c.loop-rest.invariant.small in
     record {
       written = c.loop-rest.invariant.written
-          ∙ digit_written c.loop-rest.text c.loop-rest.start c.loop-rest.rest (omega arith) (omega arith) (omega arith) c.loop-rest.invariant.small;
-      room = omega (arith, length-decimal-step c.loop-rest.rest (omega arith) c.loop-rest.invariant.small);
+          ∙ digit_written c.loop-rest.text c.loop-rest.start c.loop-rest.rest (omega arith)
+          (omega arith) (omega arith) c.loop-rest.invariant.small;
+      room = omega (
+        arith,
+        length-decimal-step c.loop-rest.rest
+            (omega arith) c.loop-rest.invariant.small,
+      );
       within = omega arith;
       small = omega arith;
     }

@@ -4,4 +4,5 @@ use Rattle.gj_lex.proofs.lenient.mark_place.Goals as goal
 
 pub returns : goal.returns
 returns c =
-    c.unwrap_or.ensures ∙ ap (λ o. unwrap_or o (length c.args.word.now)) c.first_mark.ensures ∙ position_unwrapped _ c.args.word.now
+    c.unwrap_or.ensures ∙ ap (λ o. unwrap_or o (length c.args.word.now)) c.first_mark.ensures
+    ∙ position_unwrapped _ c.args.word.now

@@ -7,4 +7,5 @@ use Rattle.gj_lex.proofs.line_feeds.far_line_feed.Goals as goal
 pub returns : goal.returns
 returns c =
     position_of_next is_line_feed c.args.text.now c.next.new.self c.next.result
-    (subst (λ all. TakesFirst all c.next.result c.next.new.self) c.memchr_iter.ensures.value c.next.ensures.steps)
+    (subst (λ all. TakesFirst all c.next.result c.next.new.self) c.memchr_iter.ensures.value
+    c.next.ensures.steps)

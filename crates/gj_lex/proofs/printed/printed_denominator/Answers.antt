@@ -29,4 +29,5 @@ returns-clause-only c = λ d rest some small none other is.
 
 pub returns-clause-printed : goal.returns-clause-printed
 returns-clause-printed c =
-    denominator_printed _ _ _ c.in_ok-den.den c.in-Some.ensures.found c.in_ok-den.ensures.printed (omega (arith, c.if-den-lt2.false))
+    denominator_printed _ _ _ c.in_ok-den.den c.in-Some.ensures.found c.in_ok-den.ensures.printed
+    (omega (arith, c.if-den-lt2.false))

@@ -4,7 +4,8 @@ use Rattle.gj_lex.proofs.PrintedNumbers.{minus_number}
 use Rattle.gj_lex.proofs.printed.printed_whole.Goals as goal
 
 pub returns-in_err-size-2-clause-none : goal.returns-in_err-size-2-clause-none
-returns-in_err-size-2-clause-none c = rw c.from_residual-in_err-size-2.ensures (λ n rest small none is.
+returns-in_err-size-2-clause-none c =
+    rw c.from_residual-in_err-size-2.ensures (λ n rest small none is.
     let h = minus_number _ _ rest n small c.in-Some.ensures.found is in
     c.in_err-size-2.ensures.none (unsigned_abs n) rest small none h.2)
 

@@ -8,20 +8,27 @@ use mir.Syntax.{w64, w128}
 pub returns-then-den-from-clause-only : goal.returns-then-den-from-clause-only
 returns-then-den-from-clause-only c = λ lowest.
     let num = to_z-of_z w64 c.args.num c.ranges.num in
-    let size_is : c.unsigned_abs.result ≡ unsigned_abs c.args.num = c.unsigned_abs.ensures.value ∙ ap unsigned_abs num in
-    let made = subst (λ n. IsRatio c.of_small-x.result (pos n) (pos c.args.den)) size_is c.of_small-x.ensures in
-    let parts = lowest_parts c.of_small-x.result _ _ made (lowest_size c.args.num (pos c.args.den) lowest) in
+    let size_is : c.unsigned_abs.result ≡ unsigned_abs c.args.num = c.unsigned_abs.ensures.value
+    ∙ ap unsigned_abs num in
+    let made = subst (λ n. IsRatio c.of_small-x.result (pos n) (pos c.args.den)) size_is
+    c.of_small-x.ensures in
+    let parts = lowest_parts c.of_small-x.result _ _ made
+    (lowest_size c.args.num (pos c.args.den) lowest) in
     absurd (c.if-den-from.true (ap (of_z w128) (c.den.ensures ∙ parts.1 ∙ sym c.from.ensures)))
 
 pub returns-then-num-lt0-clause-found : goal.returns-then-num-lt0-clause-found
 returns-then-num-lt0-clause-found c =
     let num = to_z-of_z w64 c.args.num c.ranges.num in
-    let size_is : c.unsigned_abs.result ≡ unsigned_abs c.args.num = c.unsigned_abs.ensures.value ∙ ap unsigned_abs num in
-    let made = subst (λ n. IsRatio c.of_small-x.result (pos n) (pos c.args.den)) size_is c.of_small-x.ensures in
+    let size_is : c.unsigned_abs.result ≡ unsigned_abs c.args.num = c.unsigned_abs.ensures.value
+    ∙ ap unsigned_abs num in
+    let made = subst (λ n. IsRatio c.of_small-x.result (pos n) (pos c.args.den)) size_is
+    c.of_small-x.ensures in
     let den_same : c.of_small-x.result.den ≡ pos c.args.den =
-    sym c.den.ensures ∙ sym (to_z-of_z w128 c.den.result (search rules)) ∙ ap (to_z w128) c.if-den-from.false
+    sym c.den.ensures ∙ sym (to_z-of_z w128 c.den.result (search rules))
+    ∙ ap (to_z w128) c.if-den-from.false
     ∙ to_z-of_z w128 c.from.result (search rules) ∙ c.from.ensures in
-    let size = same_numerator c.of_small-x.result (pos (unsigned_abs c.args.num)) (pos c.args.den) made den_same in
+    let size = same_numerator c.of_small-x.result (pos (unsigned_abs c.args.num))
+    (pos c.args.den) made den_same in
     let parts = turned_parts c.of_small-x.result c.neg.result c.neg.ensures in
     let below = simp num at c.if-num-lt0.true in
     let sign : neg_ℤ (pos (unsigned_abs c.args.num)) ≡ c.args.num = omega (arith, ints) in
@@ -30,12 +37,16 @@ returns-then-num-lt0-clause-found c =
 pub returns-clause-found : goal.returns-clause-found
 returns-clause-found c =
     let num = to_z-of_z w64 c.args.num c.ranges.num in
-    let size_is : c.unsigned_abs.result ≡ unsigned_abs c.args.num = c.unsigned_abs.ensures.value ∙ ap unsigned_abs num in
-    let made = subst (λ n. IsRatio c.of_small-x.result (pos n) (pos c.args.den)) size_is c.of_small-x.ensures in
+    let size_is : c.unsigned_abs.result ≡ unsigned_abs c.args.num = c.unsigned_abs.ensures.value
+    ∙ ap unsigned_abs num in
+    let made = subst (λ n. IsRatio c.of_small-x.result (pos n) (pos c.args.den)) size_is
+    c.of_small-x.ensures in
     let den_same : c.of_small-x.result.den ≡ pos c.args.den =
-    sym c.den.ensures ∙ sym (to_z-of_z w128 c.den.result (search rules)) ∙ ap (to_z w128) c.if-den-from.false
+    sym c.den.ensures ∙ sym (to_z-of_z w128 c.den.result (search rules))
+    ∙ ap (to_z w128) c.if-den-from.false
     ∙ to_z-of_z w128 c.from.result (search rules) ∙ c.from.ensures in
-    let size = same_numerator c.of_small-x.result (pos (unsigned_abs c.args.num)) (pos c.args.den) made den_same in
+    let size = same_numerator c.of_small-x.result (pos (unsigned_abs c.args.num))
+    (pos c.args.den) made den_same in
     let above = simp num at c.if-num-lt0.false in
     let sign : pos (unsigned_abs c.args.num) ≡ c.args.num = omega (arith, ints) in
     (size ∙ sign, den_same)

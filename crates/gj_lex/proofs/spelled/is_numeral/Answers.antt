@@ -11,7 +11,8 @@ some_from_test n h = grind (arith, nat_tests)
 
 pub returns-then-not-is_empty : goal.returns-then-not-is_empty
 returns-then-not-is_empty c =
-    let digits : IsTrue c.all.result ↔ All IsAsciiDigit c.args.word.now = grind (arith, common_steps) in (
+    let digits : IsTrue c.all.result ↔ All IsAsciiDigit c.args.word.now =
+    grind (arith, common_steps) in (
       λ h. (some_from_test _ c.if-not-is_empty.ensures, digits_from_all _ (digits.0 h)),
       λ h. digits.1 (all_from_digits _ h.1),
     )

@@ -9,8 +9,10 @@ use Rattle.gj_lex.proofs.words.next_word.Goals as goal
 
 pub returns-in_err-start-clause-none : goal.returns-in_err-start-clause-none
 returns-in_err-start-clause-none c =
-    let place = first_from is_word_byte c.args.line.now c.args.from _ c.requires c.first_byte.ensures in
-    rw c.from_residual.ensures (blank_to_end c.args.line.now c.args.from (place.1 c.in_err-start.was))
+    let place = first_from is_word_byte c.args.line.now c.args.from _ c.requires
+    c.first_byte.ensures in
+    rw c.from_residual.ensures
+    (blank_to_end c.args.line.now c.args.from (place.1 c.in_err-start.was))
 
 pub returns-clause-word : goal.returns-clause-word
 returns-clause-word c =
@@ -19,6 +21,7 @@ returns-clause-word c =
     let place = first_from is_word_byte line c.args.from _ c.requires c.first_byte.ensures in
     let at = place.0 _ c.in_ok-start.was in
     let behind = take (length line - start) (drop start line) in
-    let len = c.unwrap_or-len.ensures ∙ ap (λ o. unwrap_or o (length behind)) c.first_blank.ensures ∙ position_unwrapped is_blank behind
+    let len = c.unwrap_or-len.ensures ∙ ap (λ o. unwrap_or o (length behind)) c.first_blank.ensures
+    ∙ position_unwrapped is_blank behind
     ∙ ap (position_or_len is_blank) (take_rest line start) in
     word_at line c.args.from _ _ at.0 at.1 (ap (λ n. start + n) len)

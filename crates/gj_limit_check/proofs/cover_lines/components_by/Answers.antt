@@ -13,7 +13,8 @@ returns-then-not-meets_rule c =
     let h = c.loop-index.invariant in
     let have = subst (HaveLines (take k lines)) (sym c.as_slice.ensures.value) h.numbered.have in
     broken c.args.shape.now lines k c.loop-index-test.true h.meet
-    (λ meets. let yes' = (c.meets_rule.ensures (take k lines) have).1 meets in let no' = c.if-not-meets_rule.true in cc)
+    (λ meets. let yes' = (c.meets_rule.ensures (take k lines) have).1 meets in
+    let no' = c.if-not-meets_rule.true in cc)
 
 pub loop-index-preserved : goal.loop-index-preserved
 loop-index-preserved c =
@@ -40,7 +41,8 @@ loop-index-preserved c =
           within.interval within.from meets w.if-line.false in
           let number_length = h.numbered.number_length in
           let from = within.from in
-          let read : w.index.result.now ≡ get_or numbers l.from 0 = w.index.ensures ∙ get_or_default numbers l.from _ 0 (omega arith) in
+          let read : w.index.result.now ≡ get_or numbers l.from 0 = w.index.ensures
+          ∙ get_or_default numbers l.from _ 0 (omega arith) in
           let written = ap (λ v. v.items) w.number-is ∙ ap (λ n. set numbers l.interval n) read in
           subst₂ Next (sym written) (sym w.count-is) more
     ]
@@ -49,5 +51,7 @@ pub returns : goal.returns
 returns c =
     let past = c.loop-index-test.false in
     let end = c.loop-index.auto.index-end in
-    all_covered c.args.shape.now c.args.lines.now c.loop-index.index (omega arith) c.loop-index.has_line.items
-    (record { number = c.loop-index.number; count = c.loop-index.count }) c.requires.count c.requires.lines c.loop-index.invariant
+    all_covered c.args.shape.now c.args.lines.now c.loop-index.index
+    (omega arith) c.loop-index.has_line.items
+    (record { number = c.loop-index.number; count = c.loop-index.count }) c.requires.count
+    c.requires.lines c.loop-index.invariant

@@ -17,7 +17,8 @@ use Rattle.gj_limit_check.proofs.extremality.check_extreme.Goals as goal
 
 pub returns-then-not-is_minimal-clause-fault : goal.returns-then-not-is_minimal-clause-fault
 returns-then-not-is_minimal-clause-fault c =
-    extreme_not_minimal c.args.numbers c.args.shape.now c.args.lines.now c.args.rows.now (denied _ _ c.if-not-is_minimal.true c.is_minimal.ensures)
+    extreme_not_minimal c.args.numbers c.args.shape.now c.args.lines.now c.args.rows.now
+    (denied _ _ c.if-not-is_minimal.true c.is_minimal.ensures)
 
 pub returns-in-BrokenAt-clause-fault : goal.returns-in-BrokenAt-clause-fault
 returns-in-BrokenAt-clause-fault c =
@@ -32,7 +33,8 @@ returns-in-BrokenAt-clause-fault c =
     let line = c.line_behind_covers-line.ensures in
     let number : f.order + 5 + i ≡ c.line_behind_covers-line.result = omega arith in
     subst (λ (n : ℕ). IsFirstLimitFailure (Extreme c.args.numbers f lines rows) n Cover) number
-    (extreme_cover_broken c.args.numbers f lines rows i (c.is_minimal.ensures.0 c.if-not-is_minimal.false) broken)
+    (extreme_cover_broken c.args.numbers f lines rows i
+    (c.is_minimal.ensures.0 c.if-not-is_minimal.false) broken)
 
 pub returns-in-Some-clause-fault : goal.returns-in-Some-clause-fault
 returns-in-Some-clause-fault c =
@@ -42,15 +44,20 @@ returns-in-Some-clause-fault c =
     let components = c.in-Whole.components in
     let failure = c.in-Some.failure in
     let whole = subst (IsCoverOutcome f lines) c.in-Whole.is c.in_ok-components.ensures in
-    let outcome = subst₂ (λ (number : List ℕ) r. IsLimitGroupsOutcome c.args.numbers f (component_in number) components.count rows r)
+    let outcome = subst₂
+    (λ (number : List ℕ) r. IsLimitGroupsOutcome c.args.numbers f
+    (component_in number) components.count rows r)
     c.as_slice-number.ensures.value c.in-Some.is c.in_ok-failure.ensures in
     let points = function_lines f in
     let count = c.requires.count in
     let line = c.in_ok-line.ensures in
     let first = c.first_group_line-groups.ensures.value in
-    let number : f.order + length lines + 5 + length (modulus_lines c.args.numbers) + failure.below ≡ c.in_ok-line.line = omega arith in
-    subst₂ (IsFirstLimitFailure (Extreme c.args.numbers f lines rows)) number (sym c.rule_on_groups.ensures)
-    (extreme_group_fails c.args.numbers f lines rows components c.first_group_line-groups.ensures.limits
+    let number : f.order + length lines + 5 + length (modulus_lines c.args.numbers) + failure.below
+    ≡ c.in_ok-line.line = omega arith in
+    subst₂ (IsFirstLimitFailure (Extreme c.args.numbers f lines rows)) number
+    (sym c.rule_on_groups.ensures)
+    (extreme_group_fails c.args.numbers f lines rows components
+    c.first_group_line-groups.ensures.limits
     (c.is_minimal.ensures.0 c.if-not-is_minimal.false) whole.0 whole.1 failure outcome)
 
 pub returns-then-rows-columns-clause-fault : goal.returns-then-rows-columns-clause-fault
@@ -60,16 +67,21 @@ returns-then-rows-columns-clause-fault c =
     let rows = c.args.rows.now in
     let components = c.in-Whole.components in
     let whole = subst (IsCoverOutcome f lines) c.in-Whole.is c.in_ok-components.ensures in
-    let outcome = subst₂ (λ (number : List ℕ) r. IsLimitGroupsOutcome c.args.numbers f (component_in number) components.count rows r)
+    let outcome = subst₂
+    (λ (number : List ℕ) r. IsLimitGroupsOutcome c.args.numbers f
+    (component_in number) components.count rows r)
     c.as_slice-number.ensures.value c.in_default.is c.in_ok-failure.ensures in
-    let other = subst (λ q. length rows ≢ columns_for q components.count) c.order.ensures.value c.if-rows-columns.true in
+    let other = subst (λ q. length rows ≢ columns_for q components.count) c.order.ensures.value
+    c.if-rows-columns.true in
     let points = function_lines f in
     let count = c.requires.count in
     let line = c.in_ok-line-2.ensures in
     let first = c.first_group_line-groups.ensures.value in
-    let number : f.order + 5 + length lines + length (modulus_lines c.args.numbers) + length (group_lines 0 rows) ≡ c.in_ok-line-2.line = omega arith in
+    let number : f.order + 5 + length lines + length (modulus_lines c.args.numbers) + length
+    (group_lines 0 rows) ≡ c.in_ok-line-2.line = omega arith in
     subst (λ (n : ℕ). IsFirstLimitFailure (Extreme c.args.numbers f lines rows) n Rank) number
-    (extreme_rank_fails c.args.numbers f lines rows components c.first_group_line-groups.ensures.limits
+    (extreme_rank_fails c.args.numbers f lines rows components
+    c.first_group_line-groups.ensures.limits
     (c.is_minimal.ensures.0 c.if-not-is_minimal.false) whole.0 whole.1 outcome other)
 
 pub returns-clause-ok : goal.returns-clause-ok
@@ -79,8 +91,11 @@ returns-clause-ok c =
     let rows = c.args.rows.now in
     let components = c.in-Whole.components in
     let whole = subst (IsCoverOutcome f lines) c.in-Whole.is c.in_ok-components.ensures in
-    let outcome = subst₂ (λ (number : List ℕ) r. IsLimitGroupsOutcome c.args.numbers f (component_in number) components.count rows r)
+    let outcome = subst₂
+    (λ (number : List ℕ) r. IsLimitGroupsOutcome c.args.numbers f
+    (component_in number) components.count rows r)
     c.as_slice-number.ensures.value c.in_default.is c.in_ok-failure.ensures in
-    let full = subst (λ q. length rows ≡ columns_for q components.count) c.order.ensures.value c.if-rows-columns.false in
+    let full = subst (λ q. length rows ≡ columns_for q components.count) c.order.ensures.value
+    c.if-rows-columns.false in
     extreme_meets c.args.numbers f lines rows components c.first_group_line-groups.ensures.limits
     (c.is_minimal.ensures.0 c.if-not-is_minimal.false) whole.0 whole.1 outcome full

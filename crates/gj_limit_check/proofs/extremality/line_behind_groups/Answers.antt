@@ -15,12 +15,14 @@ loop-row-preserved c =
     let row = c.row-item.result in
     let before = take i rows in
     let so_far = c.loop-row.invariant in
-    let counted = ap (λ rs. length (group_lines 0 rs)) (with_place rows i row c.loop-row-test.true c.row-item.is)
+    let counted = ap (λ rs. length (group_lines 0 rs))
+    (with_place rows i row c.loop-row-test.true c.row-item.is)
     ∙ count_of_groups (before ++ row ∷ [])
     ∙ ap (λ rs. length (plain.group_lines 0 rs)) (map-append plain_row before (row ∷ []))
     ∙ one_group_more 0 (map plain_row before) (plain_row row) in
     let others = count_of_groups before in
-    let steps = ap (λ columns. length (plain.reduction_lines 0 0 columns)) c.as_slice.ensures ∙ length-reductions 0 0 row.reduce in
+    let steps = ap (λ columns. length (plain.reduction_lines 0 0 columns)) c.as_slice.ensures
+    ∙ length-reductions 0 0 row.reduce in
     let pivot = c.in_ok-pivot.ensures in
     let line = c.in_ok-line.ensures in
     omega arith

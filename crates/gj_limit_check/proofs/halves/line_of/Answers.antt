@@ -7,7 +7,8 @@ use Rattle.gj_limit_check.specs.HalvesLines.{halves_fault_line}
 use Rattle.gj_limit_check.proofs.halves.line_of.Goals as goal
 
 -- a failure that is at no point
-at_halves : (f : FunctionData) (failure : HalvesFailure) → ((i : ℕ) → failure ≡ Range i → ⊥) → ((i : ℕ) → failure ≡ Average i → ⊥) →
+at_halves : (f : FunctionData) (failure : HalvesFailure) → ((i : ℕ) → failure ≡ Range i → ⊥) →
+    ((i : ℕ) → failure ≡ Average i → ⊥) →
     halves_fault_line f failure ≡ f.order + 5
 at_halves f Scale range average = refl
 at_halves f (Range i) range average = absurd (range i refl)
@@ -22,7 +23,8 @@ returns-in_default c =
     let points = function_lines f in
     let line = c.line_behind_function.ensures.value in
     let number : c.line_behind_function.result ≡ f.order + 5 = omega arith in
-    number ∙ sym (at_halves f c.args.failure (λ i. c.in_default.not-Range i) (λ i. c.in_default.not-Average i))
+    number ∙ sym (at_halves f c.args.failure (λ i. c.in_default.not-Range i)
+    (λ i. c.in_default.not-Average i))
 
 pub returns-in-Range : goal.returns-in-Range
 returns-in-Range c =
@@ -37,5 +39,6 @@ returns-in-Average c =
     let f = c.args.shape.now in
     let points = function_lines f in
     let line = c.line_of_pair-in-Average.ensures in
-    let number : c.line_of_pair-in-Average.result ≡ f.order + 5 + (c.in-Average.index + 1) = omega arith in
+    let number : c.line_of_pair-in-Average.result ≡ f.order + 5 + (c.in-Average.index + 1) =
+    omega arith in
     number ∙ ap (halves_fault_line f) (sym c.in-Average.is)

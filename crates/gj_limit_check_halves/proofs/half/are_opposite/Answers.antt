@@ -33,9 +33,11 @@ loop-i-preserved c =
     let h = c.args.half in
     let i = c.loop-i.i in
     let half = c.requires.half in
-    let both = sum_read h _ _ i (h.place + (h.order - i)) _ _ half c.requires.numbers c.requires.others
+    let both = sum_read h _ _ i (h.place + (h.order - i)) _ _ half c.requires.numbers
+    c.requires.others
     (number_below h _ i half c.requires.numbers c.loop-i-test.true)
     (number_read h _ _ _ half c.requires.others c.wrapped-opposite.ensures.value) in
-    let index = ap (λ n. at c.args.numbers.now i +ℤ at c.args.others.now (h.place + (n - i))) c.requires.numbers.length in
+    let index = ap (λ n. at c.args.numbers.now i +ℤ at c.args.others.now (h.place + (n - i)))
+    c.requires.numbers.length in
     below_more _ i c.loop-i.invariant
     (index ∙ sym both ∙ ap (to_z w128) c.if-numbers-i.false ∙ scale_read h half)

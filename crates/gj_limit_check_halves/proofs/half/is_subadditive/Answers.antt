@@ -19,6 +19,7 @@ loop-a-preserved c =
 pub returns : goal.returns
 returns c =
     let f = data_of c.args.half in (
-      λ _. from_diagonals (IsSubadditiveAt f) f.order (mirrored_square f) (λ a below. c.loop-a.invariant a (omega arith)),
+      λ _. from_diagonals (IsSubadditiveAt f) f.order (mirrored_square f)
+          (λ a below. c.loop-a.invariant a (omega arith)),
       λ _. refl,
     )

@@ -10,8 +10,10 @@ returns-then-ne c =
 
 pub returns-then-ne-2 : goal.returns-then-ne-2
 returns-then-ne-2 c =
-    let h = c.args.halves.now in
-    (λ _. value_differs h c.requires (unequal c.ne-2.result _ _ c.ne-2.ensures c.if-ne-2.true), λ _. refl)
+    let h = c.args.halves.now in (
+      λ _. value_differs h c.requires (unequal c.ne-2.result _ _ c.ne-2.ensures c.if-ne-2.true),
+      λ _. refl,
+    )
 
 pub returns : goal.returns
 returns c =
@@ -20,6 +22,7 @@ returns c =
       λ m. elim (cases_Bool c.ne-3.result) [
         | inl same ↦ same
         | inr other ↦ absurd (none_differs h (equal c.ne.result _ _ c.ne.ensures c.if-ne.false)
-            (equal c.ne-2.result _ _ c.ne-2.ensures c.if-ne-2.false) (equal c.ne-3.result _ _ c.ne-3.ensures other) m)
+            (equal c.ne-2.result _ _ c.ne-2.ensures c.if-ne-2.false)
+            (equal c.ne-3.result _ _ c.ne-3.ensures other) m)
       ],
     )

@@ -17,7 +17,8 @@ half c = record {
   right = c.as_slice-3.result;
 }
 
-made : (c : After-as_slice-3) → IsMadeOf c.args.shape.now c.args.halves.now c.args.refinement c.args.numbers.now (half c)
+made : (c : After-as_slice-3) →
+    IsMadeOf c.args.shape.now c.args.halves.now c.args.refinement c.args.numbers.now (half c)
 made c = record {
   order = refl;
   place = ap (λ p. p * c.args.refinement.times) c.place.ensures.value;
@@ -30,12 +31,14 @@ made c = record {
 pub is_minimal-requires : goal.is_minimal-requires
 is_minimal-requires c =
     let d = (goal.at.is_minimal-requires c).After-as_slice-3 in
-    half_made c.args.shape.now c.args.halves.now c.args.refinement c.args.numbers.now (half d) c.place.ensures.limits c.requires.halves
+    half_made c.args.shape.now c.args.halves.now c.args.refinement c.args.numbers.now
+    (half d) c.place.ensures.limits c.requires.halves
     c.requires.refinement c.requires.numbers (made d)
 
 pub returns : goal.returns
 returns c =
     let d = (goal.at.returns c).After-as_slice-3 in
     in_other_words _ _ _ c.is_minimal.ensures
-    (half_by c.args.shape.now c.args.halves.now c.args.refinement c.args.numbers.now (half d) c.place.ensures.limits
+    (half_by c.args.shape.now c.args.halves.now c.args.refinement c.args.numbers.now
+    (half d) c.place.ensures.limits
     c.requires.refinement (made d))

@@ -9,22 +9,27 @@ use Rattle.gj_limit_check_halves.proofs.pairs.are_between.Goals as goal
 pub returns-then-not-is_between : goal.returns-then-not-is_between
 returns-then-not-is_between c =
     let scale = to_z-of_z w128 c.args.scale c.ranges.scale in
-    let left = subst₂ (λ xs s. IsTrue c.is_between.result ↔ IsBetween (at xs c.args.index) s) c.as_slice.ensures scale c.is_between.ensures in
+    let left = subst₂ (λ xs s. IsTrue c.is_between.result ↔ IsBetween (at xs c.args.index) s)
+    c.as_slice.ensures scale c.is_between.ensures in
     one_fails _ _ _ c.if-not-is_between.true left (λ m. (m.left_low, m.left_high))
 
 pub returns-then-not-is_between-2 : goal.returns-then-not-is_between-2
 returns-then-not-is_between-2 c =
     let scale = to_z-of_z w128 c.args.scale c.ranges.scale in
-    let value = subst₂ (λ xs s. IsTrue c.is_between-2.result ↔ IsBetween (at xs c.args.index) s) c.as_slice-2.ensures scale c.is_between-2.ensures in
+    let value = subst₂ (λ xs s. IsTrue c.is_between-2.result ↔ IsBetween (at xs c.args.index) s)
+    c.as_slice-2.ensures scale c.is_between-2.ensures in
     one_fails _ _ _ c.if-not-is_between-2.true value (λ m. (m.value_low, m.value_high))
 
 pub returns : goal.returns
 returns c =
     let i = c.args.index in
     let scale = to_z-of_z w128 c.args.scale c.ranges.scale in
-    let left = subst₂ (λ xs s. IsTrue c.is_between.result ↔ IsBetween (at xs i) s) c.as_slice.ensures scale c.is_between.ensures in
-    let value = subst₂ (λ xs s. IsTrue c.is_between-2.result ↔ IsBetween (at xs i) s) c.as_slice-2.ensures scale c.is_between-2.ensures in
-    let right = subst₂ (λ xs s. IsTrue c.is_between-3.result ↔ IsBetween (at xs i) s) c.as_slice-3.ensures scale c.is_between-3.ensures in
+    let left = subst₂ (λ xs s. IsTrue c.is_between.result ↔ IsBetween (at xs i) s)
+    c.as_slice.ensures scale c.is_between.ensures in
+    let value = subst₂ (λ xs s. IsTrue c.is_between-2.result ↔ IsBetween (at xs i) s)
+    c.as_slice-2.ensures scale c.is_between-2.ensures in
+    let right = subst₂ (λ xs s. IsTrue c.is_between-3.result ↔ IsBetween (at xs i) s)
+    c.as_slice-3.ensures scale c.is_between-3.ensures in
     let l = left.0 c.if-not-is_between.false in
     let v = value.0 c.if-not-is_between-2.false in (
       λ t.

@@ -6,23 +6,28 @@ use Rattle.gj_limit_check_halves.proofs.rows.is_subadditive_row.Goals as goal
 
 pub returns-then-not-passes_kind : goal.returns-then-not-passes_kind
 returns-then-not-passes_kind c =
-    one_fails _ _ _ c.if-not-passes_kind.true c.passes_kind.ensures (kind_of_row (data_of c.args.half) c.args.a Vertex)
+    one_fails _ _ _ c.if-not-passes_kind.true c.passes_kind.ensures
+    (kind_of_row (data_of c.args.half) c.args.a Vertex)
 
 pub returns-then-not-passes_kind-2 : goal.returns-then-not-passes_kind-2
 returns-then-not-passes_kind-2 c =
-    one_fails _ _ _ c.if-not-passes_kind-2.true c.passes_kind-2.ensures (kind_of_row (data_of c.args.half) c.args.a Horizontal)
+    one_fails _ _ _ c.if-not-passes_kind-2.true c.passes_kind-2.ensures
+    (kind_of_row (data_of c.args.half) c.args.a Horizontal)
 
 pub returns-then-not-passes_kind-3 : goal.returns-then-not-passes_kind-3
 returns-then-not-passes_kind-3 c =
-    one_fails _ _ _ c.if-not-passes_kind-3.true c.passes_kind-3.ensures (kind_of_row (data_of c.args.half) c.args.a Vertical)
+    one_fails _ _ _ c.if-not-passes_kind-3.true c.passes_kind-3.ensures
+    (kind_of_row (data_of c.args.half) c.args.a Vertical)
 
 pub returns-then-not-passes_kind-4 : goal.returns-then-not-passes_kind-4
 returns-then-not-passes_kind-4 c =
-    one_fails _ _ _ c.if-not-passes_kind-4.true c.passes_kind-4.ensures (kind_of_row (data_of c.args.half) c.args.a Diagonal)
+    one_fails _ _ _ c.if-not-passes_kind-4.true c.passes_kind-4.ensures
+    (kind_of_row (data_of c.args.half) c.args.a Diagonal)
 
 pub returns-then-not-passes_kind-5 : goal.returns-then-not-passes_kind-5
 returns-then-not-passes_kind-5 c =
-    one_fails _ _ _ c.if-not-passes_kind-5.true c.passes_kind-5.ensures (kind_of_row (data_of c.args.half) c.args.a Lower)
+    one_fails _ _ _ c.if-not-passes_kind-5.true c.passes_kind-5.ensures
+    (kind_of_row (data_of c.args.half) c.args.a Lower)
 
 pub returns : goal.returns
 returns c =

@@ -11,7 +11,8 @@ returns-then-not-passes_terms c =
     let low = c.loop-corner-test.true in
     let end = c.corners-corner-end.ensures in
     one_fails _ _ _ c.if-not-passes_terms.true c.passes_terms.ensures
-    (λ all. (corner_by_terms (data_of c.args.half) c.args.kind corner c.terms_of.result c.args.a c.terms_of.ensures.value (omega arith)).1
+    (λ all. (corner_by_terms (data_of c.args.half) c.args.kind corner c.terms_of.result c.args.a
+    c.terms_of.ensures.value (omega arith)).1
     (all corner (omega arith)))
 
 pub loop-corner-preserved : goal.loop-corner-preserved
@@ -21,5 +22,6 @@ loop-corner-preserved c =
     let low = c.loop-corner-test.true in
     let end = c.corners-corner-end.ensures in
     below_more (PassesCorner f c.args.kind c.args.a) corner c.loop-corner.invariant
-    ((corner_by_terms f c.args.kind corner c.terms_of.result c.args.a c.terms_of.ensures.value (omega arith)).0
+    ((corner_by_terms f c.args.kind corner c.terms_of.result c.args.a c.terms_of.ensures.value
+    (omega arith)).0
     (c.passes_terms.ensures.0 c.if-not-passes_terms.false))

@@ -20,12 +20,16 @@ returns-then-is_full c =
     let rows = c.requires.inserted in
     let kept = (limit_elimination f c.args.component.now n).kept in
     let full = c.is_full.ensures.0 c.if-is_full.true in
-    let most = rank_at_most n kept (elimination_has whole_sound n (system_rows f comp n) (system_columns f comp n)).triangular in
+    let most = rank_at_most n kept
+    (elimination_has whole_sound n (system_rows f comp n)
+    (system_columns f comp n)).triangular in
     let len = ap length rows.kept in
     let columns = rows.columns.columns in
-    let all : length (limit_elimination f c.args.component.now (columns_of f c.args.cover)).kept ≡ columns_of f c.args.cover = omega arith in
+    let all : length (limit_elimination f c.args.component.now (columns_of f c.args.cover)).kept
+    ≡ columns_of f c.args.cover = omega arith in
     let lines : AreLoggedRows kept c.log.result.now =
-    subst₂ AreLoggedRows (sym rows.kept) (sym c.log.ensures) (lines_of_log c.args.rows.now.basis.kept) in
+    subst₂ AreLoggedRows (sym rows.kept) (sym c.log.ensures)
+    (lines_of_log c.args.rows.now.basis.kept) in
     let are : AreExtremeRows Whole f c.args.cover.lines c.of.result = record {
       cover = c.args.cover;
       component = c.args.component.now;
@@ -34,10 +38,12 @@ returns-then-is_full c =
       needed = rows.fits;
       all = all;
       rows_are = c.of.ensures
-          ∙ c.in_ok-groups.ensures f kept (c.as_slice.ensures.value ∙ rows.names ∙ ap (map (name_of f)) (sym rows.kept)) lines;
+          ∙ c.in_ok-groups.ensures f kept (c.as_slice.ensures.value ∙ rows.names
+          ∙ ap (map (name_of f)) (sym rows.kept)) lines;
     } in (
       (c.in_ok-copy.ensures, c.requires.minimal, are),
-      extreme_has_text Whole f c.in_ok-copy.field-0 c.args.cover.lines c.of.result c.requires.limits c.in_ok-copy.ensures are,
+      extreme_has_text Whole f c.in_ok-copy.field-0 c.args.cover.lines c.of.result c.requires.limits
+          c.in_ok-copy.ensures are,
     )
 
 pub returns : goal.returns

@@ -8,5 +8,6 @@ use Rattle.gj_limit_extreme.proofs.groups.groups_of.Given as goal
 
 abbrev pub invariant-loop-name : goal.invariant-loop-name
 invariant-loop-name l =
-    (f : FunctionData) (kept : List KeptRow) → l.names ≡ map (name_of f) kept → AreLoggedRows kept l.log →
+    (f : FunctionData) (kept : List KeptRow) → l.names ≡ map (name_of f) kept →
+    AreLoggedRows kept l.log →
     l.groups.items ≡ map (group_of f) (take (length l.yielded) kept)

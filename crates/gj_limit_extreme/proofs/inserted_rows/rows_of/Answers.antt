@@ -13,10 +13,12 @@ pub returns-in_err-insert-clause-wide : goal.returns-in_err-insert-clause-wide
 returns-in_err-insert-clause-wide c = λ e.
     let f = c.args.shape.now in
     c.in_err-insert.ensures.wide
-    (same_error c.from_residual-in_err-insert.result c.in_err-insert.field-0.0 _ c.from_residual-in_err-insert.ensures.0
+    (same_error c.from_residual-in_err-insert.result c.in_err-insert.field-0.0 _
+    c.from_residual-in_err-insert.ensures.0
     c.from_residual-in_err-insert.ensures.1 e)
     f (tight_rows_from f 0) c.requires.system
-    (subst (AreToCome f c.args.system.now.component (columns_in c.args.system.now) c.in_ok-rows.rows) (first_rows f)
+    (subst (AreToCome f c.args.system.now.component
+    (columns_in c.args.system.now) c.in_ok-rows.rows) (first_rows f)
     (c.in_ok-rows.ensures.to_come f c.requires.system))
 
 pub loop-a-init : goal.loop-a-init
@@ -30,7 +32,8 @@ loop-a-init c =
       columns = c.insert.ensures.columns;
       count = omega arith;
       to_come = c.in_ok-insert.ensures.to_come f (tight_rows_from f 0) c.requires.system
-          (subst (AreToCome f c.args.system.now.component (columns_in c.args.system.now) c.in_ok-rows.rows) (first_rows f)
+          (subst (AreToCome f c.args.system.now.component
+          (columns_in c.args.system.now) c.in_ok-rows.rows) (first_rows f)
           (c.in_ok-rows.ensures.to_come f c.requires.system));
     }
 
@@ -42,53 +45,67 @@ returns-then-is_full-clause-rows c =
     let full = c.is_full.ensures.0 c.if-is_full.true in
     let columns = c.loop-a.invariant.columns.columns in
     all_inserted f comp n c.loop-a.rows
-    (full_leaves_out f comp n c.loop-a.rows (tight_rows_from f c.loop-a.a) [] (omega arith) c.loop-a.invariant.to_come)
+    (full_leaves_out f comp n c.loop-a.rows (tight_rows_from f c.loop-a.a) []
+    (omega arith) c.loop-a.invariant.to_come)
 
 pub insert_all-requires-clause-names : goal.insert_all-requires-clause-names
 insert_all-requires-clause-names c =
     let f = c.args.shape.now in
-    let names = c.as_slice.ensures.value ∙ c.in_ok-push_tight_rows.ensures ∙ ap (λ xs. xs ++ tight_rows f c.loop-a.a) c.clear.ensures.items in
+    let names = c.as_slice.ensures.value ∙ c.in_ok-push_tight_rows.ensures
+    ∙ ap (λ xs. xs ++ tight_rows f c.loop-a.a) c.clear.ensures.items in
     let below : c.loop-a.a < c.args.shape.now.order = omega (arith, c.order-order.ensures.value) in
-    subst (λ q. All (λ name. IsLimitRowBelow name q) c.as_slice.result.now) (sym c.requires.system.order)
-    (subst (All (λ name. IsLimitRowBelow name c.args.shape.now.order)) (sym names) (row_names_below f c.loop-a.a below))
+    subst (λ q. All (λ name. IsLimitRowBelow name q) c.as_slice.result.now)
+    (sym c.requires.system.order)
+    (subst (All (λ name. IsLimitRowBelow name c.args.shape.now.order)) (sym names)
+    (row_names_below f c.loop-a.a below))
 
 pub insert_all-requires-clause-count : goal.insert_all-requires-clause-count
 insert_all-requires-clause-count c =
     let f = c.args.shape.now in
-    let names = c.as_slice.ensures.value ∙ c.in_ok-push_tight_rows.ensures ∙ ap (λ xs. xs ++ tight_rows f c.loop-a.a) c.clear.ensures.items in
+    let names = c.as_slice.ensures.value ∙ c.in_ok-push_tight_rows.ensures
+    ∙ ap (λ xs. xs ++ tight_rows f c.loop-a.a) c.clear.ensures.items in
     let below : c.loop-a.a < c.args.shape.now.order = omega (arith, c.order-order.ensures.value) in
     let count = c.loop-a.invariant.count in
     let len = ap length names in
-    let all = ap length (next_rows f c.loop-a.a below) ∙ length-append (tight_rows f c.loop-a.a) (tight_rows_from f (c.loop-a.a + 1)) in
+    let all = ap length (next_rows f c.loop-a.a below)
+    ∙ length-append (tight_rows f c.loop-a.a) (tight_rows_from f (c.loop-a.a + 1)) in
     omega arith
 
 pub returns-in_err-insert_all-clause-wide : goal.returns-in_err-insert_all-clause-wide
 returns-in_err-insert_all-clause-wide c = λ e.
     let f = c.args.shape.now in
-    let names = c.as_slice.ensures.value ∙ c.in_ok-push_tight_rows.ensures ∙ ap (λ xs. xs ++ tight_rows f c.loop-a.a) c.clear.ensures.items in
+    let names = c.as_slice.ensures.value ∙ c.in_ok-push_tight_rows.ensures
+    ∙ ap (λ xs. xs ++ tight_rows f c.loop-a.a) c.clear.ensures.items in
     let below : c.loop-a.a < c.args.shape.now.order = omega (arith, c.order-order.ensures.value) in
     c.in_err-insert_all.ensures.wide
-    (same_error c.from_residual-in_err-insert_all.result c.in_err-insert_all.field-0.0 _ c.from_residual-in_err-insert_all.ensures.0
+    (same_error c.from_residual-in_err-insert_all.result c.in_err-insert_all.field-0.0 _
+    c.from_residual-in_err-insert_all.ensures.0
     c.from_residual-in_err-insert_all.ensures.1 e)
     f (tight_rows_from f (c.loop-a.a + 1)) c.requires.system
     (subst (AreToCome f c.args.system.now.component (columns_in c.args.system.now) c.loop-a.rows)
-    (next_rows f c.loop-a.a below ∙ ap (λ xs. xs ++ tight_rows_from f (c.loop-a.a + 1)) (sym names)) c.loop-a.invariant.to_come)
+    (next_rows f c.loop-a.a below ∙ ap (λ xs. xs ++ tight_rows_from f (c.loop-a.a + 1)) (sym names))
+    c.loop-a.invariant.to_come)
 
 pub loop-a-preserved : goal.loop-a-preserved
 loop-a-preserved c =
     let f = c.args.shape.now in
-    let names = c.as_slice.ensures.value ∙ c.in_ok-push_tight_rows.ensures ∙ ap (λ xs. xs ++ tight_rows f c.loop-a.a) c.clear.ensures.items in
+    let names = c.as_slice.ensures.value ∙ c.in_ok-push_tight_rows.ensures
+    ∙ ap (λ xs. xs ++ tight_rows f c.loop-a.a) c.clear.ensures.items in
     let below : c.loop-a.a < c.args.shape.now.order = omega (arith, c.order-order.ensures.value) in
     let count = c.loop-a.invariant.count in
     let more = c.insert_all.ensures.count in
     let len = ap length names in
-    let all = ap length (next_rows f c.loop-a.a below) ∙ length-append (tight_rows f c.loop-a.a) (tight_rows_from f (c.loop-a.a + 1)) in
+    let all = ap length (next_rows f c.loop-a.a below)
+    ∙ length-append (tight_rows f c.loop-a.a) (tight_rows_from f (c.loop-a.a + 1)) in
     record {
       columns = c.insert_all.ensures.columns;
       count = omega arith;
-      to_come = c.in_ok-insert_all.ensures.to_come f (tight_rows_from f (c.loop-a.a + 1)) c.requires.system
-          (subst (AreToCome f c.args.system.now.component (columns_in c.args.system.now) c.loop-a.rows)
-          (next_rows f c.loop-a.a below ∙ ap (λ xs. xs ++ tight_rows_from f (c.loop-a.a + 1)) (sym names)) c.loop-a.invariant.to_come);
+      to_come = c.in_ok-insert_all.ensures.to_come f
+          (tight_rows_from f (c.loop-a.a + 1)) c.requires.system
+          (subst (AreToCome f c.args.system.now.component
+          (columns_in c.args.system.now) c.loop-a.rows)
+          (next_rows f c.loop-a.a below ∙ ap (λ xs. xs ++ tight_rows_from f (c.loop-a.a + 1))
+          (sym names)) c.loop-a.invariant.to_come);
     }
 
 pub returns-clause-rows : goal.returns-clause-rows
@@ -97,4 +114,6 @@ returns-clause-rows c =
     let comp = c.args.system.now.component in
     let n = columns_in c.args.system.now in
     all_inserted f comp n c.loop-a.rows
-    (subst (AreToCome f comp n c.loop-a.rows) (no_rows f c.loop-a.a (omega (arith, c.order-order.ensures.value))) c.loop-a.invariant.to_come)
+    (subst (AreToCome f comp n c.loop-a.rows)
+    (no_rows f c.loop-a.a (omega (arith, c.order-order.ensures.value)))
+    c.loop-a.invariant.to_come)

@@ -7,5 +7,6 @@ abbrev pub invariant-loop-a : goal.invariant-loop-a
 invariant-loop-a l = record {
   columns : HaveColumns (columns_in l.system) l.rows;
   count : l.rows.basis.inserted + length (tight_rows_from l.shape l.a) < 2 ^ 32;
-  to_come : AreToCome l.shape l.system.component (columns_in l.system) l.rows (tight_rows_from l.shape l.a);
+  to_come : AreToCome l.shape l.system.component (columns_in l.system) l.rows
+      (tight_rows_from l.shape l.a);
 }

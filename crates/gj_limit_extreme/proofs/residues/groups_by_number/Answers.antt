@@ -17,19 +17,26 @@ use Rattle.gj_extreme.proofs.RenumberedKernel.{lines_of_log}
 use Rattle.gj_limit_extreme.proofs.residues.groups_by_number.Goals as goal
 
 pub loop-line-init : goal.loop-line-init
-loop-line-init c = (ap length c.in_ok-kept.ensures.items, λ f kept names log. c.in_ok-kept.ensures.items)
+loop-line-init c = (
+  ap length c.in_ok-kept.ensures.items,
+  λ f kept names log. c.in_ok-kept.ensures.items,
+)
 
 pub loop-line-preserved : goal.loop-line-preserved
 loop-line-preserved c =
-    let more = count_more c.loop-line.kept.items c.push.new.self.items _ c.in_ok-push.ensures.items in
+    let more = count_more c.loop-line.kept.items c.push.new.self.items _
+    c.in_ok-push.ensures.items in
     let line = c.line-item.result in
     let low = subst (λ (l : LogRow). l.number < length c.args.names.now) (sym c.line-item.is)
-    (All-get_or (λ l. l.number < length c.args.names.now) c.args.log.now c.loop-line.line-index line (omega arith) c.requires) in (
+    (All-get_or (λ l. l.number < length c.args.names.now) c.args.log.now c.loop-line.line-index line
+    (omega arith) c.requires) in (
       more ∙ ap (λ n. n + 1) c.loop-line.invariant.0,
       λ f kept names log.
           let whole = ap length log ∙ length-map kept log_row in
-          one_name_more (limit_rows f) F kept c.args.log.now c.args.names.now c.loop-line.kept.items c.push.new.self.items c.loop-line.line-index _
-          line (omega arith) log c.line-item.is names low (c.loop-line.invariant.1 f kept names log) c.in_ok-push.ensures.items,
+          one_name_more (limit_rows f) F kept c.args.log.now c.args.names.now c.loop-line.kept.items
+          c.push.new.self.items c.loop-line.line-index _
+          line (omega arith) log c.line-item.is names low (c.loop-line.invariant.1 f kept names log)
+          c.in_ok-push.ensures.items,
     )
 
 pub groups_of-requires : goal.groups_of-requires
@@ -41,15 +48,18 @@ groups_of-requires c =
 pub returns : goal.returns
 returns c =
     on_ok_along c.groups_of.result
-    (λ v. (f : FunctionData) (kept : List KeptRow) → c.as_slice.result.now ≡ map (name_of f) kept → AreLoggedRows kept c.args.log.now →
+    (λ v. (f : FunctionData) (kept : List KeptRow) → c.as_slice.result.now ≡ map (name_of f) kept →
+    AreLoggedRows kept c.args.log.now →
     v.items ≡ map (group_of f) kept)
-    (λ v. (f : FunctionData) (kept : List KeptRow) → c.args.names.now ≡ limit_rows f → c.args.log.now ≡ map log_row kept →
+    (λ v. (f : FunctionData) (kept : List KeptRow) → c.args.names.now ≡ limit_rows f →
+    c.args.log.now ≡ map log_row kept →
     v.items ≡ map (group_of f) kept)
     (λ v given f kept names log.
     let whole = ap length log ∙ length-map kept log_row in
     let all : c.loop-line.line-index ≡ length kept = omega arith in
     given f kept
-    (c.as_slice.ensures.value ∙ c.loop-line.invariant.1 f kept names log ∙ ap (λ i. map (name_of f) (take i kept)) all
+    (c.as_slice.ensures.value ∙ c.loop-line.invariant.1 f kept names log
+    ∙ ap (λ i. map (name_of f) (take i kept)) all
     ∙ ap (map (name_of f)) (take-length kept))
     (subst (AreLoggedRows kept) (sym log) (lines_of_log kept)))
     c.groups_of.ensures

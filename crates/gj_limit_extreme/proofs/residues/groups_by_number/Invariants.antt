@@ -8,5 +8,6 @@ use Rattle.gj_limit_extreme.proofs.residues.groups_by_number.Given as goal
 
 abbrev pub invariant-loop-line : goal.invariant-loop-line
 invariant-loop-line l = (length l.kept.items ≡ l.line-index)
-    × ((f : FunctionData) (kept : List KeptRow) → l.names ≡ limit_rows f → l.log ≡ map log_row kept →
+    × ((f : FunctionData) (kept : List KeptRow) → l.names ≡ limit_rows f →
+    l.log ≡ map log_row kept →
     l.kept.items ≡ map (name_of f) (take l.line-index kept))

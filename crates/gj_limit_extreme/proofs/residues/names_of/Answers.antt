@@ -11,5 +11,7 @@ loop-a-preserved c =
     let f = c.args.shape.now in
     let below : c.loop-a.a < c.args.shape.now.order = omega (arith, c.order-order.ensures.value) in
     ap (λ names. names ++ tight_rows_from f (c.loop-a.a + 1)) c.in_ok-push_tight_rows.ensures
-    ∙ append_assoc c.loop-a.names.items (tight_rows f c.loop-a.a) (tight_rows_from f (c.loop-a.a + 1))
-    ∙ ap (λ names. c.loop-a.names.items ++ names) (sym (next_rows f c.loop-a.a below)) ∙ c.loop-a.invariant
+    ∙ append_assoc c.loop-a.names.items (tight_rows f c.loop-a.a)
+    (tight_rows_from f (c.loop-a.a + 1))
+    ∙ ap (λ names. c.loop-a.names.items ++ names) (sym (next_rows f c.loop-a.a below))
+    ∙ c.loop-a.invariant

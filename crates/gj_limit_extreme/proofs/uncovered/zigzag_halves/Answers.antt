@@ -14,16 +14,21 @@ zigzag_sides-requires-clause-within c =
 
 pub split_limits-requires-clause-perturbation : goal.split_limits-requires-clause-perturbation
 split_limits-requires-clause-perturbation c =
-    zigzag_can_split c.args.shape.now c.args.class.now c.in_ok-perturbation.perturbation c.order.result c.order.ensures.limits
-    c.requires.minimal c.requires.least c.requires.some c.order.ensures.value c.in_ok-perturbation.ensures
+    zigzag_can_split c.args.shape.now c.args.class.now c.in_ok-perturbation.perturbation
+    c.order.result c.order.ensures.limits
+    c.requires.minimal c.requires.least c.requires.some c.order.ensures.value
+    c.in_ok-perturbation.ensures
 
 pub returns-in_err-split_limits-clause-memory : goal.returns-in_err-split_limits-clause-memory
 returns-in_err-split_limits-clause-memory c =
-    handed IsMemoryFault c.from_residual-in_err-split_limits.result (of_split c.in_err-split_limits.field-0.0)
+    handed IsMemoryFault c.from_residual-in_err-split_limits.result
+    (of_split c.in_err-split_limits.field-0.0)
     c.from_residual-in_err-split_limits.ensures.0 c.from_residual-in_err-split_limits.ensures.1
     (split_memory c.in_err-split_limits.field-0.0
-    (λ e. zigzag_narrow c.args.shape.now c.args.class.now c.in_ok-perturbation.perturbation c.order.result c.order.ensures.limits
-    c.requires.minimal c.requires.least c.requires.some c.order.ensures.value c.in_ok-perturbation.ensures
+    (λ e. zigzag_narrow c.args.shape.now c.args.class.now c.in_ok-perturbation.perturbation
+    c.order.result c.order.ensures.limits
+    c.requires.minimal c.requires.least c.requires.some c.order.ensures.value
+    c.in_ok-perturbation.ensures
     (c.in_err-split_limits.ensures.wide e)))
 
 pub returns-clause-halves : goal.returns-clause-halves
@@ -34,7 +39,8 @@ returns-clause-halves c =
       least = c.requires.least;
       some = c.requires.some;
       halves = subst (λ w. AreLimitHalvesOf f 4 w c.in_ok-split_limits.field-0)
-          (zigzag_sides_are f c.args.class.now c.in_ok-perturbation.perturbation c.order.result c.order.ensures.limits c.requires.minimal
+          (zigzag_sides_are f c.args.class.now c.in_ok-perturbation.perturbation c.order.result
+          c.order.ensures.limits c.requires.minimal
           c.requires.least c.requires.some c.order.ensures.value c.in_ok-perturbation.ensures)
           c.in_ok-split_limits.ensures.halves;
     }

@@ -6,5 +6,6 @@ use Rattle.gj_limit_faces_text.proofs.parts.is_maximal.Goals as goal
 pub returns-then-has : goal.returns-then-has
 returns-then-has c =
     λ (f : FunctionData) a rows.
-    told_by_rows f a c.args.b c.args.back c.args.here.now c.args.before.now rows c.args.kind true c.is_part.result
+    told_by_rows f a c.args.b c.args.back c.args.here.now c.args.before.now rows c.args.kind true
+    c.is_part.result
     (sym c.if-has.true ∙ c.has.ensures) c.is_part.ensures

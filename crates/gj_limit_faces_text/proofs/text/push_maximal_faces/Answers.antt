@@ -8,5 +8,6 @@ loop-a-init c = appends_nothing c.args.shape.now c.args.out.now.items c.args.out
 
 pub loop-a-preserved : goal.loop-a-preserved
 loop-a-preserved c =
-    appends_more c.args.shape.now (faces_of_row c.args.shape.now.order) c.loop-a.a c.args.out.now.items c.loop-a.out.items
+    appends_more c.args.shape.now (faces_of_row c.args.shape.now.order) c.loop-a.a
+    c.args.out.now.items c.loop-a.out.items
     c.push_row.new.out.items c.loop-a.invariant c.in_ok-push_row.ensures

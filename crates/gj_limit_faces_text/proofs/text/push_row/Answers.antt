@@ -9,7 +9,8 @@ loop-b-init c = appends_nothing c.args.shape.now c.args.out.now.items c.args.out
 
 pub loop-b-preserved : goal.loop-b-preserved
 loop-b-preserved c =
-    appends_more c.args.shape.now (faces_of_square c.args.a) c.loop-b.b c.args.out.now.items c.loop-b.out.items c.push_square.new.out.items
+    appends_more c.args.shape.now (faces_of_square c.args.a) c.loop-b.b c.args.out.now.items
+    c.loop-b.out.items c.push_square.new.out.items
     c.loop-b.invariant
     (c.in_ok-push_square.ensures c.args.shape.now (record {
       bounds = c.order-order.ensures.limits;
@@ -17,6 +18,8 @@ loop-b-preserved c =
       second = subst (λ n. c.loop-b.b < n) c.order-order.ensures.value c.loop-b-test.true;
       is_here = c.of-here.ensures;
       is_before = subst (λ i. IsAdditiveRow c.args.shape.now i c.of-before.result)
-          (c.one_less.ensures.value ∙ ap (λ n. one_less n c.args.a) c.order-order.ensures.value) c.of-before.ensures;
-      is_back = c.one_less-in-loop-b.ensures.value ∙ ap (λ n. one_less n c.loop-b.b) c.order-order.ensures.value;
+          (c.one_less.ensures.value ∙ ap (λ n. one_less n c.args.a) c.order-order.ensures.value)
+          c.of-before.ensures;
+      is_back = c.one_less-in-loop-b.ensures.value
+          ∙ ap (λ n. one_less n c.loop-b.b) c.order-order.ensures.value;
     }))

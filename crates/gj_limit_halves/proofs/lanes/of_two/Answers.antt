@@ -9,5 +9,6 @@ returns c = λ s t first second.
     let least = c.min-least.ensures in
     let greatest = c.max.ensures in
     subst (λ n. AreLeastIn (s ∷ t ∷ []) n chosen) (sym least)
-    (of_two s t c.args.x c.args.y chosen (λ e. c.where_greatest_is_none.ensures.none (greatest ∙ e) ∙ least)
+    (of_two s t c.args.x c.args.y chosen (λ e. c.where_greatest_is_none.ensures.none (greatest ∙ e)
+    ∙ least)
     (λ other. c.where_greatest_is_none.ensures.some (λ e. other (sym greatest ∙ e))) first second)

@@ -34,16 +34,21 @@ periods-requires-3-clause-range c = λ i.
 
 pub least_of_all-least-requires : goal.least_of_all-least-requires
 least_of_all-least-requires c =
-    are_side_lanes c.args.shape.now c.as_slice.result.now c.as_slice-2.result.now c.as_slice-3.result.now
+    are_side_lanes c.args.shape.now c.as_slice.result.now c.as_slice-2.result.now
+    c.as_slice-3.result.now
     c.left_numerators.ensures.limits c.requires.minimal
-    (subst₂ Periods (sym c.as_slice.ensures.value) c.left_numerators.ensures.value c.in_ok-lefts.ensures)
-    (subst₂ Periods (sym c.as_slice-2.ensures.value) c.value_numerators.ensures.value c.in_ok-values.ensures)
-    (subst₂ Periods (sym c.as_slice-3.ensures.value) c.right_numerators.ensures.value c.in_ok-rights.ensures)
+    (subst₂ Periods (sym c.as_slice.ensures.value) c.left_numerators.ensures.value
+    c.in_ok-lefts.ensures)
+    (subst₂ Periods (sym c.as_slice-2.ensures.value) c.value_numerators.ensures.value
+    c.in_ok-values.ensures)
+    (subst₂ Periods (sym c.as_slice-3.ensures.value) c.right_numerators.ensures.value
+    c.in_ok-rights.ensures)
 
 pub returns : goal.returns
 returns c =
     let least = c.least_of_all-least.result in
     let grid = c.least_on_grid.ensures in
     is_least c.args.shape.now c.left_numerators.ensures.limits c.requires.minimal c.args.times
-    c.least_on_grid.result least.any least.beside_zero c.requires.low c.least_of_all-least.ensures grid.corners
+    c.least_on_grid.result least.any least.beside_zero c.requires.low c.least_of_all-least.ensures
+    grid.corners
     grid.beside grid.met

@@ -18,7 +18,8 @@ loop-i-preserved c =
     let entry = refined f c.args.entries.now c.args.times i in
     let number = get_or c.args.numbers.now i (pos 0) in
     let entry_read : wide c.from.result ≡ entry =
-    to_z-of_z w128 c.from.result (search rules) ∙ c.from.ensures ∙ to_z-of_z w64 c.refined_entry-entry.result (search rules)
+    to_z-of_z w128 c.from.result (search rules) ∙ c.from.ensures
+    ∙ to_z-of_z w64 c.refined_entry-entry.result (search rules)
     ∙ c.refined_entry-entry.ensures in
     let number_read : wide number ≡ number = to_z-of_z w128 number (search rules) in
     let t = moved_at f c.args.entries.now c.args.times factor step c.args.numbers.now in

@@ -5,4 +5,5 @@ use Rattle.gj_limit_halves.proofs.moved.moved.Given as goal
 
 abbrev pub invariant-loop-i : goal.invariant-loop-i
 invariant-loop-i l =
-    l.items.items ≡ map (moved_at l.shape l.entries l.times l.factor l.step l.numbers) (range_with_len 0 l.i)
+    l.items.items ≡ map (moved_at l.shape l.entries l.times l.factor l.step l.numbers)
+    (range_with_len 0 l.i)

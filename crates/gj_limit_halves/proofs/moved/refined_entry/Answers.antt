@@ -23,7 +23,8 @@ overflow_add-result c =
     let low = c.requires.low in
     let high = c.requires.high in
     let rest : c.args.i % c.args.times < c.args.times = omega arith in
-    sum_fits (m - r) r c.from-2.result c.from-3.result c.right_numerator.result c.left_numerator.result
+    sum_fits (m - r) r c.from-2.result c.from-3.result c.right_numerator.result
+    c.left_numerator.result
     c.from-2.ensures c.from-3.ensures (omega arith) (omega arith) c.right_numerator.ensures.small
     c.left_numerator.ensures.small
 
@@ -37,8 +38,10 @@ returns c =
     let low = c.requires.low in
     let high = c.requires.high in
     let rest : c.args.i % c.args.times < c.args.times = omega arith in
-    sum_read (m - r) r c.from-2.result c.from-3.result c.right_numerator.result c.left_numerator.result
+    sum_read (m - r) r c.from-2.result c.from-3.result c.right_numerator.result
+    c.left_numerator.result
     c.from-2.ensures c.from-3.ensures (omega arith) (omega arith) c.right_numerator.ensures.small
     c.left_numerator.ensures.small
-    ∙ ap₂ (λ x y. pos (m - r) *ℤ x +ℤ pos r *ℤ y) c.right_numerator.ensures.value c.left_numerator.ensures.value
+    ∙ ap₂ (λ x y. pos (m - r) *ℤ x +ℤ pos r *ℤ y) c.right_numerator.ensures.value
+    c.left_numerator.ensures.value
     ∙ sym (refined_inside f xs m i c.if-rest-eq0.false)

@@ -22,10 +22,12 @@ loop-i-preserved c =
     let z_read : wide c.in_ok-sum.field-0 ≡ c.in_ok-sum.field-0 = to_z-of_z w128 z (search rules) in
     let here =
     left_here component numbers i before (wide x) (wide y) (wide z) c.wrapped-before.ensures.value
-    (to_z-of_z w128 x (search rules)) (to_z-of_z w128 y (search rules)) (z_read ∙ c.in_ok-sum.ensures.1) in
+    (to_z-of_z w128 x (search rules)) (to_z-of_z w128 y (search rules))
+    (z_read ∙ c.in_ok-sum.ensures.1) in
     let w = limits_from q (component_in component) (at_column numbers) in
     record {
-      listed = listed_more w.left c.loop-i.limits.items c.push.new.self.items i (wide z) c.loop-i.invariant.listed
+      listed = listed_more w.left c.loop-i.limits.items c.push.new.self.items i
+          (wide z) c.loop-i.invariant.listed
           c.in_ok-push.ensures.items here;
       fits = fits_more c.loop-i.limits.items c.push.new.self.items (wide z) c.loop-i.invariant.fits
           c.in_ok-push.ensures.items
@@ -42,6 +44,8 @@ returns-in_err-sum-clause-wide c =
     let x = get_or numbers (2 * (q - 1 - before)) (pos 0) in
     let y = get_or numbers (2 * q - 1 + get_or component before 0) (pos 0) in
     let here =
-    left_here component numbers i before (wide x) (wide y) (wide x +ℤ wide y) c.wrapped-before.ensures.value
+    left_here component numbers i before (wide x) (wide y)
+    (wide x +ℤ wide y) c.wrapped-before.ensures.value
     (to_z-of_z w128 x (search rules)) (to_z-of_z w128 y (search rules)) refl in
-    λ is. wide_here component numbers i (wide x +ℤ wide y) c.loop-i-test.true here c.in_err-sum.ensures
+    λ is. wide_here component numbers i (wide x +ℤ wide y) c.loop-i-test.true here
+    c.in_err-sum.ensures

@@ -9,6 +9,7 @@ use Rattle.gj_limit_halves.proofs.perturbations.left_limits.Given as goal
 abbrev pub invariant-loop-i : goal.invariant-loop-i
 invariant-loop-i l = record {
   listed : l.limits.items
-      ≡ map (limits_from (length l.component) (component_in l.component) (at_column l.numbers)).left (range_with_len 0 l.i);
+      ≡ map (limits_from (length l.component) (component_in l.component) (at_column l.numbers)).left
+      (range_with_len 0 l.i);
   fits : All Fits l.limits.items;
 }

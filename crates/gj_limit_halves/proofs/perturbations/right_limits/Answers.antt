@@ -13,6 +13,8 @@ loop-i-preserved c =
     let numbers = c.args.numbers.now in
     let i = c.loop-i.i in
     let read = to_z-of_z w128 (get_or numbers (2 * (q - 1 - i)) (pos 0)) (search rules) in
-    let index = ap (λ n. at_column numbers (right_column q n)) (sym (mod-eq_of_lt c.loop-i-test.true)) in
-    listed_more (λ j. at_column numbers (right_column q (j % q))) c.loop-i.limits.items c.push.new.self.items i _
+    let index = ap (λ n. at_column numbers (right_column q n))
+    (sym (mod-eq_of_lt c.loop-i-test.true)) in
+    listed_more (λ j. at_column numbers (right_column q (j % q))) c.loop-i.limits.items
+    c.push.new.self.items i _
     c.loop-i.invariant c.in_ok-push.ensures.items (read ∙ index)

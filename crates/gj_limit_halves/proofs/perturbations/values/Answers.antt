@@ -15,5 +15,6 @@ loop-i-preserved c =
     let read = to_z-of_z w128 (get_or numbers (2 * (q - i) - 1) (pos 0)) (search rules) in
     let low = c.loop-i.auto.i in
     let here = value_behind q (at_column numbers) i (omega (arith, low)) c.loop-i-test.true in
-    listed_more (λ j. value_from q (at_column numbers) (j % q)) c.loop-i.values.items c.push-in-loop-i.new.self.items i _
+    listed_more (λ j. value_from q (at_column numbers) (j % q)) c.loop-i.values.items
+    c.push-in-loop-i.new.self.items i _
     c.loop-i.invariant c.in_ok-push-2.ensures.items (read ∙ here)

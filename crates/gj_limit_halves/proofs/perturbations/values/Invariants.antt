@@ -6,4 +6,5 @@ use Rattle.gj_limit_halves.proofs.perturbations.values.Given as goal
 
 abbrev pub invariant-loop-i : goal.invariant-loop-i
 invariant-loop-i l =
-    l.values.items ≡ map (λ i. value_from l.order (at_column l.numbers) (i % l.order)) (range_with_len 0 l.i)
+    l.values.items ≡ map (λ i. value_from l.order (at_column l.numbers) (i % l.order))
+    (range_with_len 0 l.i)

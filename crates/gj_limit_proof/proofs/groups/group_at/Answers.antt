@@ -7,12 +7,15 @@ use Rattle.gj_limit_proof.proofs.groups.group_at.Goals as goal
 
 pub returns-in_err-columns-clause-fault : goal.returns-in_err-columns-clause-fault
 returns-in_err-columns-clause-fault c =
-    let p = err_from_is_err_and c.from_residual-in_err-columns.result c.from_residual-in_err-columns.ensures.1 in
+    let p = err_from_is_err_and c.from_residual-in_err-columns.result
+    c.from_residual-in_err-columns.ensures.1 in
     passed_on (IsFaultOf (group_part c.args.order) c.args.text.now) _ _ _ p.1 p.2
     (fault_in_steps _ _ _ _ _ c.in_ok-name.ensures.found c.in_err-columns.ensures.fault)
 
 pub returns-in_err-pivot-clause-fault : goal.returns-in_err-pivot-clause-fault
 returns-in_err-pivot-clause-fault c =
-    let p = err_from_is_err_and c.from_residual-in_err-pivot.result c.from_residual-in_err-pivot.ensures.1 in
+    let p = err_from_is_err_and c.from_residual-in_err-pivot.result
+    c.from_residual-in_err-pivot.ensures.1 in
     passed_on (IsFaultOf (group_part c.args.order) c.args.text.now) _ _ _ p.1 p.2
-    (fault_in_pivot _ _ _ _ _ c.in_ok-name.ensures.found _ _ c.in_ok-columns.ensures.found c.in_err-pivot.ensures.fault)
+    (fault_in_pivot _ _ _ _ _ c.in_ok-name.ensures.found _ _ c.in_ok-columns.ensures.found
+    c.in_err-pivot.ensures.fault)

@@ -6,7 +6,8 @@ use Rattle.gj_limit_proof.specs.LimitGrammar.{group_part}
 use Rattle.gj_limit_proof.proofs.groups.groups_at.Given as goal
 
 abbrev pub invariant-loop-alloc : goal.invariant-loop-alloc
-invariant-loop-alloc l = LeadsOn (next_until BeginsEnd (group_part l.order)) [] l.text l.rows.items l.rest
+invariant-loop-alloc l = LeadsOn (next_until BeginsEnd (group_part l.order))
+    [] l.text l.rows.items l.rest
 
 abbrev pub decreases-loop-alloc : goal.decreases-loop-alloc
 decreases-loop-alloc l = length l.rest

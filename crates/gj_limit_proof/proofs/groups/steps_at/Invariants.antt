@@ -7,7 +7,8 @@ use Rattle.gj_limit_proof.proofs.GroupTexts.{reduce_form}
 use Rattle.gj_limit_proof.proofs.groups.steps_at.Given as goal
 
 abbrev pub invariant-loop-rest : goal.invariant-loop-rest
-invariant-loop-rest l = LeadsOn (next_while BeginsStep (form_part reduce_form)) [] l.text l.columns.items l.rest
+invariant-loop-rest l = LeadsOn (next_while BeginsStep (form_part reduce_form))
+    [] l.text l.columns.items l.rest
 
 abbrev pub decreases-loop-rest : goal.decreases-loop-rest
 decreases-loop-rest l = length l.rest

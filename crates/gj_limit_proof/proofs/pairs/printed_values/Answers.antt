@@ -19,11 +19,14 @@ returns c =
     let y = c.in_ok-second.second in
     let x_fits = small_fits x c.in_ok-first.ensures.small in
     let y_fits = small_fits y c.in_ok-second.ensures.small in
-    let first = within_bits _ x (c.from.ensures ∙ few_digits x c.in_ok-first.ensures.small) x_fits in
-    let second = within_bits _ y (c.from-2.ensures ∙ few_digits y c.in_ok-second.ensures.small) y_fits in
+    let first = within_bits _ x (c.from.ensures ∙ few_digits x c.in_ok-first.ensures.small)
+    x_fits in
+    let second = within_bits _ y (c.from-2.ensures ∙ few_digits y c.in_ok-second.ensures.small)
+    y_fits in
     let s : c.thrice-first.result ≡ thrice x = c.thrice-first.ensures ∙ ap thrice first in
     let t : c.thrice-second.result ≡ thrice y = c.thrice-second.ensures ∙ ap thrice second in (
-      values_printed _ _ _ _ _ _ _ _ _ _ c.in_ok-words.ensures.found c.in_ok-first.ensures.found c.in_ok-behind_byte.ensures.found
+      values_printed _ _ _ _ _ _ _ _ _ _ c.in_ok-words.ensures.found c.in_ok-first.ensures.found
+          c.in_ok-behind_byte.ensures.found
           c.in_ok-second.ensures.found c.in_ok-rest.ensures.found s t,
       subst AllFit (sym s) (x_fits, x_fits, x_fits),
       subst AllFit (sym t) (y_fits, y_fits, y_fits),

@@ -8,7 +8,8 @@ use Rattle.gj_limit_proof.proofs.read.not_extreme_at.Goals as goal
 
 pub returns-in_err-halves-clause-fault : goal.returns-in_err-halves-clause-fault
 returns-in_err-halves-clause-fault c =
-    let p = err_from_is_err_and c.from_residual-in_err-halves.result c.from_residual-in_err-halves.ensures.1 in
+    let p = err_from_is_err_and c.from_residual-in_err-halves.result
+    c.from_residual-in_err-halves.ensures.1 in
     passed_on (IsFaultOf not_extreme_part c.args.text.now) _ _ _ p.1 p.2
     (fault_in_halves _ _ _ _ c.in_ok-shape.ensures.found c.in_err-halves.ensures.fault)
 

@@ -6,11 +6,14 @@ use Rattle.gj_limit_proof.proofs.sides.sides_of_word.Goals as goal
 
 abbrev corner_at : ℕ → FaceKind × ℕ
 corner_at i =
-    get_or ((Horizontal, 0) ∷ (Horizontal, 1) ∷ (Vertical, 0) ∷ (Vertical, 1) ∷ (Diagonal, 0) ∷ (Diagonal, 1)
-    ∷ (Lower, 0) ∷ (Lower, 1) ∷ (Lower, 2) ∷ (Upper, 0) ∷ (Upper, 1) ∷ (Upper, 2) ∷ []) i (Vertex, 0)
+    get_or ((Horizontal, 0) ∷ (Horizontal, 1) ∷ (Vertical, 0) ∷ (Vertical, 1) ∷ (Diagonal, 0)
+    ∷ (Diagonal, 1)
+    ∷ (Lower, 0) ∷ (Lower, 1) ∷ (Lower, 2) ∷ (Upper, 0) ∷ (Upper, 1) ∷ (Upper, 2) ∷ []) i
+    (Vertex, 0)
 
 -- each word of an edge or a triangle is that of one of these corners
-every_word : (P : List ℕ → Type 0) → ((i : ℕ) → i < 12 → P (sides_word (corner_at i).0 (corner_at i).1)) →
+every_word : (P : List ℕ → Type 0) →
+    ((i : ℕ) → i < 12 → P (sides_word (corner_at i).0 (corner_at i).1)) →
     (kind : FaceKind) (corner : ℕ) → kind ≢ Vertex → P (sides_word kind corner)
 every_word P h Vertex corner other = absurd (other refl)
 every_word P h Horizontal zero other = h 0 (lit< tt)
@@ -28,9 +31,12 @@ every_word P h Upper (suc (suc corner)) other = h 11 (lit< tt)
 
 pub returns-clause-none : goal.returns-clause-none
 returns-clause-none c = λ kind corner other is.
-    every_word (λ w. c.args.word.now ≡ w → ⊥) (λ i below. c.loop-kind.invariant i (omega arith)) kind corner other is
+    every_word (λ w. c.args.word.now ≡ w → ⊥) (λ i below. c.loop-kind.invariant i (omega arith))
+    kind corner other is
 
 pub loop-kind-preserved : goal.loop-kind-preserved
 loop-kind-preserved c =
-    below_more (λ i. c.args.word.now ≡ sides_word (corner_at i).0 (corner_at i).1 → ⊥) c.loop-kind.kind-index c.loop-kind.invariant
-    (λ is. let same : c.args.word.now ≡ c.sides_word.result.now = is ∙ sym c.sides_word.ensures in search rules)
+    below_more (λ i. c.args.word.now ≡ sides_word (corner_at i).0 (corner_at i).1 →
+    ⊥) c.loop-kind.kind-index c.loop-kind.invariant
+    (λ is. let same : c.args.word.now ≡ c.sides_word.result.now = is ∙ sym c.sides_word.ensures in
+    search rules)

@@ -7,4 +7,5 @@ use Rattle.gj_limit_proof.proofs.sides.sides_of_word.Given as goal
 abbrev pub invariant-loop-kind : goal.invariant-loop-kind
 invariant-loop-kind l =
     (k : ℕ) → k < l.kind-index →
-    l.word ≡ sides_word (get_or l.kind-items k (Vertex, 0)).0 (get_or l.kind-items k (Vertex, 0)).1 → ⊥
+    l.word ≡ sides_word (get_or l.kind-items k (Vertex, 0)).0
+    (get_or l.kind-items k (Vertex, 0)).1 → ⊥

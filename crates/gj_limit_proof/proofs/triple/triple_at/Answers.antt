@@ -9,10 +9,13 @@ returns c =
     let i = c.args.index in
     let within = c.requires.within in
     let below = c.requires.below in
-    let left = within_bits _ _ (item_is numbers.left n i within.left_length below _ c.as_slice.ensures)
+    let left = within_bits _ _
+    (item_is numbers.left n i within.left_length below _ c.as_slice.ensures)
     (item_fits numbers.left n i within.left_length below within.left_fit) in
-    let value = within_bits _ _ (item_is numbers.value n i within.value_length below _ c.as_slice-2.ensures)
+    let value = within_bits _ _
+    (item_is numbers.value n i within.value_length below _ c.as_slice-2.ensures)
     (item_fits numbers.value n i within.value_length below within.value_fit) in
-    let right = within_bits _ _ (item_is numbers.right n i within.right_length below _ c.as_slice-3.ensures)
+    let right = within_bits _ _
+    (item_is numbers.right n i within.right_length below _ c.as_slice-3.ensures)
     (item_fits numbers.right n i within.right_length below within.right_fit) in
     λ j. record { left = left j; value = value j; right = right j }

@@ -17,7 +17,8 @@ returns c b =
     let other = c.if-terms-eq0.false in
     let above = c.terms_of-terms.ensures.above in
     turned_set f c.order-order.ensures.limits c.args.kind c.args.corner c.args.a
-    c.order-order.result c.index_before.result c.terms_of-terms.result c.requires.corner c.requires.within
+    c.order-order.result c.index_before.result c.terms_of-terms.result c.requires.corner
+    c.requires.within
     c.order-order.ensures.value c.terms_of-terms.ensures.table c.index_before.ensures.value
     (λ (v : ℕ). has c.row-row.result v) (has c.and.result b) (has c.turned_up-turned.result b) b
     (omega (arith, other, above)) c.row-row.ensures

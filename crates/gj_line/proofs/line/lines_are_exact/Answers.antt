@@ -7,4 +7,5 @@ pub returns : goal.returns
 returns g c =
     let by = g.F.Fields.form c.args.line.now.fields in
     λ s. rule_in_is_exact s (named_form g.W.KnownWord.spelled by)
-    (line_is_clear g.W.KnownWord.spelled by (g.F.Fields.are_clear c.args.line.now.fields c.requires))
+    (line_is_clear g.W.KnownWord.spelled by
+    (g.F.Fields.are_clear c.args.line.now.fields c.requires))

@@ -7,4 +7,5 @@ pub returns-clause-written : goal.returns-clause-written
 returns-clause-written c =
     let spaced = 32 ∷ fraction_text c.args.x in
     c.write_spaced.ensures.written
-    ∙ ap (λ (xs : List ℕ). spaced ++ xs) (drop_all 81 c.args.text.now (omega (arith, c.requires))) ∙ append-nil spaced
+    ∙ ap (λ (xs : List ℕ). spaced ++ xs) (drop_all 81 c.args.text.now (omega (arith, c.requires)))
+    ∙ append-nil spaced

@@ -5,12 +5,17 @@ use Rattle.gj_loops.proofs.narrow.quotient.Goals as goal
 use mir.Syntax.{Width, w64, w128}
 
 -- a narrow number fits 64 bits
-narrow_fits : (z : ℤ) → FitsSigned w128 z → unsigned_abs (to_z w128 (of_z w128 z)) < 2 ^ 63 → FitsSigned w64 z
-narrow_fits z fits narrow = fits_signed_from_abs w64 z (subst (λ (x : ℤ). unsigned_abs x < 2 ^ 63) (to_z-of_z w128 z fits) narrow)
+narrow_fits : (z : ℤ) → FitsSigned w128 z → unsigned_abs (to_z w128 (of_z w128 z)) < 2 ^ 63 →
+    FitsSigned w64 z
+narrow_fits z fits narrow =
+    fits_signed_from_abs w64 z
+    (subst (λ (x : ℤ). unsigned_abs x < 2 ^ 63) (to_z-of_z w128 z fits) narrow)
 
 -- and is read there as it is
-narrow_read : (z : ℤ) → FitsSigned w128 z → FitsSigned w64 z → to_z w64 (of_z w64 (to_z w128 (of_z w128 z))) ≡ z
-narrow_read z fits narrow = ap (λ x. to_z w64 (of_z w64 x)) (to_z-of_z w128 z fits) ∙ to_z-of_z w64 z narrow
+narrow_read : (z : ℤ) → FitsSigned w128 z → FitsSigned w64 z →
+    to_z w64 (of_z w64 (to_z w128 (of_z w128 z))) ≡ z
+narrow_read z fits narrow = ap (λ x. to_z w64 (of_z w64 x)) (to_z-of_z w128 z fits)
+    ∙ to_z-of_z w64 z narrow
 
 positive_bits : (w : Width) (z : ℤ) → pos 0 <ℤ z → 0 < of_z w z
 positive_bits w (pos n) h = omega (arith, ints)
@@ -49,8 +54,10 @@ returns-then-is_narrow-2 c =
     ∙ ap₂ (λ a b. to_z w64 (of_z w64 (int_div (to_z w64 (of_z w64 a)) (to_z w64 (of_z w64 b)))))
     (to_z-of_z w128 c.args.n c.ranges.n) (to_z-of_z w128 c.args.divisor c.ranges.divisor)
     ∙ quot_is w64 c.args.n c.args.divisor n d (quot_fits w64 c.args.n c.args.divisor n c.requires))
-    ∙ to_z-of_z w128 (int_div c.args.n c.args.divisor) (quot_fits w128 c.args.n c.args.divisor c.ranges.n c.requires)
+    ∙ to_z-of_z w128 (int_div c.args.n c.args.divisor)
+    (quot_fits w128 c.args.n c.args.divisor c.ranges.n c.requires)
 
 pub returns : goal.returns
 returns c =
-    quot_is w128 c.args.n c.args.divisor c.ranges.n c.ranges.divisor (quot_fits w128 c.args.n c.args.divisor c.ranges.n c.requires)
+    quot_is w128 c.args.n c.args.divisor c.ranges.n c.ranges.divisor
+    (quot_fits w128 c.args.n c.args.divisor c.ranges.n c.requires)

@@ -24,19 +24,22 @@ returns-in_err-row-clause-wide c =
     let x = to_z-of_z w128 (get_or c.loop-i.row c.loop-i.i (pos 0)) (search rules) in
     let e = to_z-of_z w128 (get_or c.args.kept.now c.loop-i.i (pos 0)) (search rules) in
     on_err _ _
-    (combined_wide c.args.u c.args.w c.args.row.now c.args.kept.now c.loop-i.row c.loop-i.i (simp (u, w) at c.loop-i.invariant) c.requires
+    (combined_wide c.args.u c.args.w c.args.row.now c.args.kept.now c.loop-i.row c.loop-i.i
+    (simp (u, w) at c.loop-i.invariant) c.requires
     c.loop-i.auto.row (omega arith) (simp (u, x, w, e) at c.in_err-row.ensures.wide))
 
 pub returns-clause-value : goal.returns-clause-value
 returns-clause-value c =
     let u = to_z-of_z w128 c.args.u c.ranges.u in
     let w = to_z-of_z w128 c.args.w c.ranges.w in
-    combined_value c.args.u c.args.w c.args.row.now c.args.kept.now c.loop-i.row c.loop-i.i (simp (u, w) at c.loop-i.invariant) c.requires
+    combined_value c.args.u c.args.w c.args.row.now c.args.kept.now c.loop-i.row c.loop-i.i
+    (simp (u, w) at c.loop-i.invariant) c.requires
     c.loop-i.auto.row (omega arith)
 
 pub returns-clause-fits : goal.returns-clause-fits
 returns-clause-fits c =
     let u = to_z-of_z w128 c.args.u c.ranges.u in
     let w = to_z-of_z w128 c.args.w c.ranges.w in
-    combined_narrow c.args.u c.args.w c.args.row.now c.args.kept.now c.loop-i.row c.loop-i.i (simp (u, w) at c.loop-i.invariant) c.requires
+    combined_narrow c.args.u c.args.w c.args.row.now c.args.kept.now c.loop-i.row c.loop-i.i
+    (simp (u, w) at c.loop-i.invariant) c.requires
     c.loop-i.auto.row (omega arith)

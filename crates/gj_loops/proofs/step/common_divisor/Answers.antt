@@ -6,7 +6,8 @@ use Rattle.gj_loops.proofs.step.common_divisor.Goals as goal
 
 divisor : (c : goal.After-gcd) → IsDivisor c.args.m c.args.n c.gcd.result
 divisor c =
-    divisor_of c.args.m c.args.n c.unsigned_abs.result c.unsigned_abs-2.result c.gcd.result c.requires.fits c.requires.some
+    divisor_of c.args.m c.args.n c.unsigned_abs.result c.unsigned_abs-2.result c.gcd.result
+    c.requires.fits c.requires.some
     (c.unsigned_abs.ensures.value ∙ ap unsigned_abs (to_z-of_z w128 c.args.m c.ranges.m))
     (c.unsigned_abs-2.ensures.value ∙ ap unsigned_abs (to_z-of_z w128 c.args.n c.ranges.n))
     c.gcd.ensures

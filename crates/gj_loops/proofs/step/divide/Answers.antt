@@ -15,32 +15,41 @@ small row d fits is = subst (λ (n : ℕ). n < 2 ^ 127) (sym is) (gcd_of_row_sma
 pub overflow_cast-divisor : goal.overflow_cast-divisor
 overflow_cast-divisor c =
     fits_natural c.divisor_of_row-divisor.result
-    (small c.args.row.now c.divisor_of_row-divisor.result c.requires c.divisor_of_row-divisor.ensures)
+    (small c.args.row.now c.divisor_of_row-divisor.result c.requires
+    c.divisor_of_row-divisor.ensures)
 
 pub quotient-requires : goal.quotient-requires
 quotient-requires c =
     let is = read_natural c.divisor_of_row-divisor.result
-    (small c.args.row.now c.divisor_of_row-divisor.result c.requires c.divisor_of_row-divisor.ensures) in
+    (small c.args.row.now c.divisor_of_row-divisor.result c.requires
+    c.divisor_of_row-divisor.ensures) in
     omega (arith, ints)
 
 pub loop-x-preserved : goal.loop-x-preserved
 loop-x-preserved c =
-    over_more (λ x. int_div x (pos c.divisor_of_row-divisor.result)) c.args.row.now c.loop-x.row c.loop-x.x-index _
+    over_more (λ x. int_div x (pos c.divisor_of_row-divisor.result)) c.args.row.now c.loop-x.row
+    c.loop-x.x-index _
     (omega arith) c.loop-x.auto.row c.loop-x.invariant
     (ap (λ z. to_z w128 (of_z w128 z)) c.quotient.ensures
-    ∙ read_quotient (get_or c.loop-x.row c.loop-x.x-index (pos 0)) c.divisor_of_row-divisor.result (search rules) (omega arith)
-    (small c.args.row.now c.divisor_of_row-divisor.result c.requires c.divisor_of_row-divisor.ensures))
+    ∙ read_quotient (get_or c.loop-x.row c.loop-x.x-index (pos 0)) c.divisor_of_row-divisor.result
+    (search rules) (omega arith)
+    (small c.args.row.now c.divisor_of_row-divisor.result c.requires
+    c.divisor_of_row-divisor.ensures))
 
 pub returns-after-loop-x-clause-value : goal.returns-after-loop-x-clause-value
 returns-after-loop-x-clause-value c =
-    divided_large c.args.row.now c.loop-x.row c.divisor_of_row-divisor.result c.divisor_of_row-divisor.ensures (omega arith)
-    (over_all (λ x. int_div x (pos c.divisor_of_row-divisor.result)) c.args.row.now c.loop-x.row c.loop-x.x-index (omega arith)
+    divided_large c.args.row.now c.loop-x.row c.divisor_of_row-divisor.result
+    c.divisor_of_row-divisor.ensures (omega arith)
+    (over_all (λ x. int_div x (pos c.divisor_of_row-divisor.result)) c.args.row.now c.loop-x.row
+    c.loop-x.x-index (omega arith)
     c.loop-x.auto.row c.loop-x.invariant)
 
 pub returns-after-loop-x-clause-fits : goal.returns-after-loop-x-clause-fits
 returns-after-loop-x-clause-fits c =
-    subst (All Fits) (sym (returns-after-loop-x-clause-value c)) (divided_fits c.args.row.now c.requires)
+    subst (All Fits) (sym (returns-after-loop-x-clause-value c))
+    (divided_fits c.args.row.now c.requires)
 
 pub returns-else-divisor-gt1-clause-value : goal.returns-else-divisor-gt1-clause-value
 returns-else-divisor-gt1-clause-value c =
-    divided_small c.args.row.now c.divisor_of_row-divisor.result c.divisor_of_row-divisor.ensures (omega arith)
+    divided_small c.args.row.now c.divisor_of_row-divisor.result c.divisor_of_row-divisor.ensures
+    (omega arith)

@@ -9,4 +9,5 @@ pub returns : goal.returns
 returns c =
     IsGcd-swap (unsigned_abs c.args.x) c.args.divisor c.gcd.result
     (subst (λ (n : ℕ). IsGcd n c.args.divisor c.gcd.result)
-    (c.unsigned_abs.ensures.value ∙ ap unsigned_abs (to_z-of_z w128 c.args.x c.ranges.x)) c.gcd.ensures)
+    (c.unsigned_abs.ensures.value ∙ ap unsigned_abs (to_z-of_z w128 c.args.x c.ranges.x))
+    c.gcd.ensures)

@@ -5,7 +5,8 @@ use Rattle.gj_minimal.proofs.faces.failed_in_row.Goals as goal
 
 pub returns-then-squares_pass-clause-none : goal.returns-then-squares_pass-clause-none
 returns-then-squares_pass-clause-none g c =
-    squares_from_diagonal c.args.shape.now c.args.a c.requires.vertices c.requires.within c.requires.rows
+    squares_from_diagonal c.args.shape.now c.args.a c.requires.vertices c.requires.within
+    c.requires.rows
     (c.squares_pass.ensures c.if-squares_pass.true)
 
 pub failed_in_square-requires-clause-squares : goal.failed_in_square-requires-clause-squares
@@ -16,4 +17,5 @@ failed_in_square-requires-clause-squares g c = record {
 
 pub loop-b-preserved : goal.loop-b-preserved
 loop-b-preserved g c =
-    below_more (PassesSquare c.args.shape.now c.args.a) c.loop-b.b c.loop-b.invariant c.in_default.ensures.none
+    below_more (PassesSquare c.args.shape.now c.args.a) c.loop-b.b c.loop-b.invariant
+    c.in_default.ensures.none

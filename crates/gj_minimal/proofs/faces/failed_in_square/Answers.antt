@@ -4,15 +4,18 @@ use Rattle.gj_minimal.proofs.faces.failed_in_square.Goals as goal
 
 pub returns-in-Some-clause-found : goal.returns-in-Some-clause-found
 returns-in-Some-clause-found c =
-    let r = reached c.args.shape.now c.of-square.result c.args.a c.args.b c.requires.first c.requires.second
+    let r = reached c.args.shape.now c.of-square.result c.args.a c.args.b c.requires.first
+    c.requires.second
     c.requires.vertices c.requires.squares c.of-square.ensures in
     corner_fails r _ _ c.loop-kind-test.true c.loop-kind.invariant c.in-Some.ensures.found
 
 pub loop-kind-preserved : goal.loop-kind-preserved
 loop-kind-preserved c =
-    let r = reached c.args.shape.now c.of-square.result c.args.a c.args.b c.requires.first c.requires.second
+    let r = reached c.args.shape.now c.of-square.result c.args.a c.args.b c.requires.first
+    c.requires.second
     c.requires.vertices c.requires.squares c.of-square.ensures in
-    below_more (PassesKind c.args.shape.now c.args.a c.args.b) c.loop-kind.kind-index c.loop-kind.invariant
+    below_more (PassesKind c.args.shape.now c.args.a c.args.b) c.loop-kind.kind-index
+    c.loop-kind.invariant
     (face_in_square r _ c.in_default.ensures.none)
 
 pub returns-clause-none : goal.returns-clause-none

@@ -13,13 +13,15 @@ returns-in_err-failure-clause-minimal c =
 pub returns-clause-first : goal.returns-clause-first
 returns-clause-first c =
     let found = c.in_ok-failure.ensures.found in
-    first_failed c.args.shape.now (test_of c.in_ok-failure.failure) c.shown.result found.test found.before found.fails
+    first_failed c.args.shape.now (test_of c.in_ok-failure.failure) c.shown.result found.test
+    found.before found.fails
     c.shown.ensures.shows
 
 pub returns-clause-shown : goal.returns-clause-shown
 returns-clause-shown c =
     let found = c.in_ok-failure.ensures.found in
-    let first = first_failed c.args.shape.now (test_of c.in_ok-failure.failure) c.shown.result found.test found.before
+    let first = first_failed c.args.shape.now (test_of c.in_ok-failure.failure) c.shown.result
+    found.test found.before
     found.fails c.shown.ensures.shows in
     first_shown c.args.shape.now c.shown.result c.first_failure.ensures.limits first
 
@@ -29,7 +31,8 @@ denied c minimal =
     let f = c.args.shape.now in
     let limits = c.first_failure.ensures.limits in
     let found = c.in_ok-failure.ensures.found in
-    let first = first_failed f (test_of c.in_ok-failure.failure) c.shown.result found.test found.before found.fails
+    let first = first_failed f (test_of c.in_ok-failure.failure) c.shown.result found.test
+    found.before found.fails
     c.shown.ensures.shows in
     violation_denies f c.shown.result limits (first_shown f c.shown.result limits first) minimal
 
@@ -38,4 +41,5 @@ returns-clause-only c = λ minimal. absurd (denied c minimal)
 
 pub returns-clause-own_grid : goal.returns-clause-own_grid
 returns-clause-own_grid c = λ continuous own.
-    absurd (denied c (minimal_from_own_grid c.args.shape.now c.first_failure.ensures.limits continuous own))
+    absurd (denied c (minimal_from_own_grid c.args.shape.now c.first_failure.ensures.limits
+    continuous own))

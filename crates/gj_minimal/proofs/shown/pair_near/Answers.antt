@@ -39,7 +39,8 @@ pub point_near-requires-clause-coordinate : goal.point_near-requires-clause-coor
 point_near-requires-clause-coordinate c =
     let order = c.order-order.ensures.value in
     let at = ap (λ (p : ℕ × ℕ). p.0) c.corner-a.ensures in
-    let high = (corner_up_to c.args.face.kind c.args.face.a c.args.face.b c.args.at_corner c.args.shape.now.order
+    let high = (corner_up_to c.args.face.kind c.args.face.a c.args.face.b c.args.at_corner
+    c.args.shape.now.order
     c.requires.first c.requires.second c.requires.corner).0 in
     omega arith
 
@@ -47,7 +48,8 @@ pub point_near-requires-2-clause-coordinate : goal.point_near-requires-2-clause-
 point_near-requires-2-clause-coordinate c =
     let order = c.order-order.ensures.value in
     let at = ap (λ (p : ℕ × ℕ). p.1) c.corner-a.ensures in
-    let high = (corner_up_to c.args.face.kind c.args.face.a c.args.face.b c.args.at_corner c.args.shape.now.order
+    let high = (corner_up_to c.args.face.kind c.args.face.a c.args.face.b c.args.at_corner
+    c.args.shape.now.order
     c.requires.first c.requires.second c.requires.corner).1 in
     omega arith
 
@@ -56,7 +58,8 @@ point_near-requires-clause-sum c =
     let order = c.order-order.ensures.value in
     let total = c.coordinate_sums-sum_a.ensures.first in
     let n_is = c.corners-n.ensures ∙ same_corners c.args.face.kind c.args.face.a c.args.face.b in
-    rw (order, total, n_is) (sums_below c.args.face.kind c.args.face.a c.args.face.b c.args.shape.now.order
+    rw (order, total, n_is)
+    (sums_below c.args.face.kind c.args.face.a c.args.face.b c.args.shape.now.order
     c.requires.first c.requires.second).0
 
 pub point_near-requires-2-clause-sum : goal.point_near-requires-2-clause-sum
@@ -64,27 +67,34 @@ point_near-requires-2-clause-sum c =
     let order = c.order-order.ensures.value in
     let total = c.coordinate_sums-sum_a.ensures.second in
     let n_is = c.corners-n.ensures ∙ same_corners c.args.face.kind c.args.face.a c.args.face.b in
-    rw (order, total, n_is) (sums_below c.args.face.kind c.args.face.a c.args.face.b c.args.shape.now.order
+    rw (order, total, n_is)
+    (sums_below c.args.face.kind c.args.face.a c.args.face.b c.args.shape.now.order
     c.requires.first c.requires.second).1
 
 pub point_near-requires-clause-fine : goal.point_near-requires-clause-fine
 point_near-requires-clause-fine c =
     let bits : to_z w64 (of_z w64 c.limit_total.result) ≡ c.limit_total.result =
     let fits = c.limit_total.ensures.fits in omega (arith, ints) in
-    let total_is = bits ∙ c.limit_total.ensures.value ∙ ap total (c.of-square.ensures c.args.face.kind) in
+    let total_is = bits ∙ c.limit_total.ensures.value
+    ∙ ap total (c.of-square.ensures c.args.face.kind) in
     let n_is = c.corners-n.ensures ∙ same_corners c.args.face.kind c.args.face.a c.args.face.b in
-    fine_near_corner c.args.shape.now c.args.face.kind c.args.face.a c.args.face.b c.order-order.result
-    c.least_denominator-h.result c.corners-n.result _ c.order-order.ensures.limits c.requires.symmetry
+    fine_near_corner c.args.shape.now c.args.face.kind c.args.face.a c.args.face.b
+    c.order-order.result
+    c.least_denominator-h.result c.corners-n.result _ c.order-order.ensures.limits
+    c.requires.symmetry
     c.order-order.ensures.value n_is total_is c.least_denominator-h.ensures.bounded
 
 pub point_near-requires-2-clause-fine : goal.point_near-requires-2-clause-fine
 point_near-requires-2-clause-fine c =
     let bits : to_z w64 (of_z w64 c.limit_total.result) ≡ c.limit_total.result =
     let fits = c.limit_total.ensures.fits in omega (arith, ints) in
-    let total_is = bits ∙ c.limit_total.ensures.value ∙ ap total (c.of-square.ensures c.args.face.kind) in
+    let total_is = bits ∙ c.limit_total.ensures.value
+    ∙ ap total (c.of-square.ensures c.args.face.kind) in
     let n_is = c.corners-n.ensures ∙ same_corners c.args.face.kind c.args.face.a c.args.face.b in
-    fine_near_corner c.args.shape.now c.args.face.kind c.args.face.a c.args.face.b c.order-order.result
-    c.least_denominator-h.result c.corners-n.result _ c.order-order.ensures.limits c.requires.symmetry
+    fine_near_corner c.args.shape.now c.args.face.kind c.args.face.a c.args.face.b
+    c.order-order.result
+    c.least_denominator-h.result c.corners-n.result _ c.order-order.ensures.limits
+    c.requires.symmetry
     c.order-order.ensures.value n_is total_is c.least_denominator-h.ensures.bounded
 
 pub returns-clause-shows : goal.returns-clause-shows
@@ -100,10 +110,13 @@ returns-clause-shows c =
     let fits = c.limit_total.ensures.fits in omega (arith, ints) in
     let total_is = total_bits ∙ c.limit_total.ensures.value ∙ ap total (c.of-square.ensures kind) in
     let n_is = c.corners-n.ensures ∙ same_corners kind a b in
-    pair_shown c.args.shape.now kind a b c.args.at_corner c.least_denominator-h.result c.corners-n.result
+    pair_shown c.args.shape.now kind a b c.args.at_corner c.least_denominator-h.result
+    c.corners-n.result
     c.order-order.result c.corner-a.result.0 c.corner-a.result.1 c.coordinate_sums-sum_a.result.0
-    c.coordinate_sums-sum_a.result.1 _ _ c.point_near.result c.point_near-2.result c.order-order.ensures.limits
-    c.requires.corner c.order-order.ensures.value n_is c.corner-a.ensures c.coordinate_sums-sum_a.ensures.first
+    c.coordinate_sums-sum_a.result.1 _ _ c.point_near.result c.point_near-2.result
+    c.order-order.ensures.limits
+    c.requires.corner c.order-order.ensures.value n_is c.corner-a.ensures
+    c.coordinate_sums-sum_a.ensures.first
     c.coordinate_sums-sum_a.ensures.second limit_is total_is c.least_denominator-h.ensures.least
     c.point_near.ensures.value c.point_near-2.ensures.value
 
@@ -111,13 +124,17 @@ pub returns-clause-points : goal.returns-clause-points
 returns-clause-points c =
     let bits : to_z w64 (of_z w64 c.limit_total.result) ≡ c.limit_total.result =
     let fits = c.limit_total.ensures.fits in omega (arith, ints) in
-    let total_is = bits ∙ c.limit_total.ensures.value ∙ ap total (c.of-square.ensures c.args.face.kind) in
+    let total_is = bits ∙ c.limit_total.ensures.value
+    ∙ ap total (c.of-square.ensures c.args.face.kind) in
     let n_is = c.corners-n.ensures ∙ same_corners c.args.face.kind c.args.face.a c.args.face.b in
-    let fine = fine_near_corner c.args.shape.now c.args.face.kind c.args.face.a c.args.face.b c.order-order.result
-    c.least_denominator-h.result c.corners-n.result _ c.order-order.ensures.limits c.requires.symmetry
+    let fine = fine_near_corner c.args.shape.now c.args.face.kind c.args.face.a c.args.face.b
+    c.order-order.result
+    c.least_denominator-h.result c.corners-n.result _ c.order-order.ensures.limits
+    c.requires.symmetry
     c.order-order.ensures.value n_is total_is c.least_denominator-h.ensures.bounded in
     let some = (some_corners c.args.face.kind c.args.face.a c.args.face.b).0 in
     let from = c.least_denominator-h.ensures.least.from in
-    two_points c.args.shape.now c.order-order.result c.least_denominator-h.result _ _ c.point_near.result
+    two_points c.args.shape.now c.order-order.result c.least_denominator-h.result _ _
+    c.point_near.result
     c.point_near-2.result c.order-order.ensures.value (omega arith) fine c.point_near.ensures.below
     c.point_near-2.ensures.below c.point_near.ensures.value c.point_near-2.ensures.value

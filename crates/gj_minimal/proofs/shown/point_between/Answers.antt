@@ -9,7 +9,8 @@ returns-then-midpoints_agree-clause-shows c =
       refl,
       inr (
         c.if-midpoints_agree.ensures.0 refl,
-        subst₂ (λ (n q : ℕ). IsRatio x (pos (4 * n + 1)) (pos (q * 4))) c.from-index.ensures c.order.ensures.value
+        subst₂ (λ (n q : ℕ). IsRatio x (pos (4 * n + 1)) (pos (q * 4))) c.from-index.ensures
+            c.order.ensures.value
             c.grid_point.ensures,
       ),
     )

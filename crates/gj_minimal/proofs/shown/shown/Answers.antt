@@ -19,7 +19,8 @@ returns-in-Value-clause-shows c =
     let x = c.grid_point.result in
     subst (λ failure. Shows f (test_of failure) (violation.Negative x)) (sym c.in-Value.is) (
       x,
-      subst₂ (λ (n q : ℕ). IsRatio x (pos n) (pos (q * 1))) c.from.ensures c.order-order.ensures.value c.grid_point.ensures,
+      subst₂ (λ (n q : ℕ). IsRatio x (pos n) (pos (q * 1))) c.from.ensures
+          c.order-order.ensures.value c.grid_point.ensures,
       refl,
     )
 
@@ -29,7 +30,8 @@ returns-in-Mirror-clause-shows c =
     let x = c.grid_point-in-Mirror.result in
     subst (λ failure. Shows f (test_of failure) (violation.Asymmetric x)) (sym c.in-Mirror.is) (
       x,
-      subst₂ (λ (n q : ℕ). IsRatio x (pos n) (pos (q * 1))) c.from-in-Mirror.ensures c.order-order.ensures.value
+      subst₂ (λ (n q : ℕ). IsRatio x (pos n) (pos (q * 1))) c.from-in-Mirror.ensures
+          c.order-order.ensures.value
           c.grid_point-in-Mirror.ensures,
       refl,
     )

@@ -3,4 +3,5 @@ use Rattle.gj_minimal.proofs.signs.failed_interval_sign.Goals as goal
 
 pub returns-then-is_continuous-clause-none : goal.returns-then-is_continuous-clause-none
 returns-then-is_continuous-clause-none c =
-    signs_of_continuous c.args.shape.now c.requires.limits (c.requires.continuous c.if-is_continuous.true) c.requires.values
+    signs_of_continuous c.args.shape.now c.requires.limits
+    (c.requires.continuous c.if-is_continuous.true) c.requires.values

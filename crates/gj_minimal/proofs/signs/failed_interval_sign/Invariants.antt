@@ -5,4 +5,5 @@ use Rattle.gj_minimal.proofs.signs.failed_interval_sign.Given as goal
 
 abbrev pub invariant-loop-i : goal.invariant-loop-i
 invariant-loop-i l =
-    HoldsBelow (λ j. Passes l.shape (nonnegative_after j) × Passes l.shape (nonnegative_before j)) l.i
+    HoldsBelow (λ j. Passes l.shape (nonnegative_after j) × Passes l.shape (nonnegative_before j))
+    l.i

@@ -8,78 +8,106 @@ use Rattle.gj_minimal.proofs.squares.squares_pass.Goals as goal
 pub plus-requires-clause-first : goal.plus-requires-clause-first
 plus-requires-clause-first g c =
     let len = c.order-order.ensures.limits.right_length in
-    (read_at g.L.Lane.number g.L.UnsignedLane.natural c.args.a g.met.L.UnsignedLane.from_zero g.met.L.UnsignedLane.is_natural c.requires.lanes.rights (omega arith) c.index-rights-a.is).small
+    (read_at g.L.Lane.number g.L.UnsignedLane.natural c.args.a g.met.L.UnsignedLane.from_zero
+    g.met.L.UnsignedLane.is_natural c.requires.lanes.rights
+    (omega arith) c.index-rights-a.is).small
 
 pub plus-requires-clause-second : goal.plus-requires-clause-second
 plus-requires-clause-second g c =
     let len = c.order-order.ensures.limits.value_length in
-    (read_at g.L.Lane.number g.L.UnsignedLane.natural c.loop-b.b g.met.L.UnsignedLane.from_zero g.met.L.UnsignedLane.is_natural c.requires.lanes.values (omega arith) c.index-values-b.is).small
+    (read_at g.L.Lane.number g.L.UnsignedLane.natural c.loop-b.b g.met.L.UnsignedLane.from_zero
+    g.met.L.UnsignedLane.is_natural c.requires.lanes.values
+    (omega arith) c.index-values-b.is).small
 
 pub plus-requires-in-loop-b-clause-first : goal.plus-requires-in-loop-b-clause-first
 plus-requires-in-loop-b-clause-first g c =
     let len = c.order-order.ensures.limits.right_length in
-    let small = (read_at g.L.Lane.number g.L.UnsignedLane.natural c.args.a g.met.L.UnsignedLane.from_zero g.met.L.UnsignedLane.is_natural c.requires.lanes.rights (omega arith) c.index-rights-a.is).small in
+    let small = (read_at g.L.Lane.number g.L.UnsignedLane.natural c.args.a
+    g.met.L.UnsignedLane.from_zero g.met.L.UnsignedLane.is_natural c.requires.lanes.rights
+    (omega arith) c.index-rights-a.is).small in
     let least = c.lesser-least_first.ensures in
     omega arith
 
 pub plus-requires-in-loop-b-clause-second : goal.plus-requires-in-loop-b-clause-second
 plus-requires-in-loop-b-clause-second g c =
     let len = c.order-order.ensures.limits.right_length in
-    (read_at g.L.Lane.number g.L.UnsignedLane.natural c.loop-b.b g.met.L.UnsignedLane.from_zero g.met.L.UnsignedLane.is_natural c.requires.lanes.rights (omega arith) c.index-rights-b.is).small
+    (read_at g.L.Lane.number g.L.UnsignedLane.natural c.loop-b.b g.met.L.UnsignedLane.from_zero
+    g.met.L.UnsignedLane.is_natural c.requires.lanes.rights
+    (omega arith) c.index-rights-b.is).small
 
 pub plus-requires-in-loop-b-2-clause-first : goal.plus-requires-in-loop-b-2-clause-first
 plus-requires-in-loop-b-2-clause-first g c =
     let len = c.order-order.ensures.limits.left_length in
-    (read_at g.L.Lane.number g.L.UnsignedLane.natural (c.args.a + 1) g.met.L.UnsignedLane.from_zero g.met.L.UnsignedLane.is_natural c.requires.lanes.lefts (omega arith) c.index-lefts-a.is).small
+    (read_at g.L.Lane.number g.L.UnsignedLane.natural (c.args.a + 1) g.met.L.UnsignedLane.from_zero
+    g.met.L.UnsignedLane.is_natural c.requires.lanes.lefts
+    (omega arith) c.index-lefts-a.is).small
 
 pub plus-requires-in-loop-b-2-clause-second : goal.plus-requires-in-loop-b-2-clause-second
 plus-requires-in-loop-b-2-clause-second g c =
     let len = c.order-order.ensures.limits.value_length in
-    let small = (read_at g.L.Lane.number g.L.UnsignedLane.natural c.loop-b.b g.met.L.UnsignedLane.from_zero g.met.L.UnsignedLane.is_natural c.requires.lanes.values (omega arith) c.index-values-b.is).small in
+    let small = (read_at g.L.Lane.number g.L.UnsignedLane.natural c.loop-b.b
+    g.met.L.UnsignedLane.from_zero g.met.L.UnsignedLane.is_natural c.requires.lanes.values
+    (omega arith) c.index-values-b.is).small in
     let least = c.lesser-least.ensures in
     omega arith
 
 pub plus-requires-in-loop-b-3-clause-first : goal.plus-requires-in-loop-b-3-clause-first
 plus-requires-in-loop-b-3-clause-first g c =
     let len = c.order-order.ensures.limits.right_length in
-    let small = (read_at g.L.Lane.number g.L.UnsignedLane.natural c.args.a g.met.L.UnsignedLane.from_zero g.met.L.UnsignedLane.is_natural c.requires.lanes.rights (omega arith) c.index-rights-a.is).small in
+    let small = (read_at g.L.Lane.number g.L.UnsignedLane.natural c.args.a
+    g.met.L.UnsignedLane.from_zero g.met.L.UnsignedLane.is_natural c.requires.lanes.rights
+    (omega arith) c.index-rights-a.is).small in
     let least = c.lesser-least_first.ensures in
     omega arith
 
 pub plus-requires-in-loop-b-3-clause-second : goal.plus-requires-in-loop-b-3-clause-second
 plus-requires-in-loop-b-3-clause-second g c =
     let len = c.order-order.ensures.limits.left_length in
-    (read_at g.L.Lane.number g.L.UnsignedLane.natural (c.loop-b.b + 1) g.met.L.UnsignedLane.from_zero g.met.L.UnsignedLane.is_natural c.requires.lanes.lefts (omega arith) c.index-lefts-b.is).small
+    (read_at g.L.Lane.number g.L.UnsignedLane.natural
+    (c.loop-b.b + 1) g.met.L.UnsignedLane.from_zero g.met.L.UnsignedLane.is_natural
+    c.requires.lanes.lefts (omega arith) c.index-lefts-b.is).small
 
 pub plus-requires-in-loop-b-4-clause-first : goal.plus-requires-in-loop-b-4-clause-first
 plus-requires-in-loop-b-4-clause-first g c =
     let len = c.order-order.ensures.limits.left_length in
-    (read_at g.L.Lane.number g.L.UnsignedLane.natural (c.args.a + 1) g.met.L.UnsignedLane.from_zero g.met.L.UnsignedLane.is_natural c.requires.lanes.lefts (omega arith) c.index-lefts-a.is).small
+    (read_at g.L.Lane.number g.L.UnsignedLane.natural (c.args.a + 1) g.met.L.UnsignedLane.from_zero
+    g.met.L.UnsignedLane.is_natural c.requires.lanes.lefts
+    (omega arith) c.index-lefts-a.is).small
 
 pub plus-requires-in-loop-b-4-clause-second : goal.plus-requires-in-loop-b-4-clause-second
 plus-requires-in-loop-b-4-clause-second g c =
     let len = c.order-order.ensures.limits.right_length in
-    (read_at g.L.Lane.number g.L.UnsignedLane.natural c.loop-b.b g.met.L.UnsignedLane.from_zero g.met.L.UnsignedLane.is_natural c.requires.lanes.rights (omega arith) c.index-rights-b.is).small
+    (read_at g.L.Lane.number g.L.UnsignedLane.natural c.loop-b.b g.met.L.UnsignedLane.from_zero
+    g.met.L.UnsignedLane.is_natural c.requires.lanes.rights
+    (omega arith) c.index-rights-b.is).small
 
 pub plus-requires-in-loop-b-5-clause-first : goal.plus-requires-in-loop-b-5-clause-first
 plus-requires-in-loop-b-5-clause-first g c =
     let len = c.order-order.ensures.limits.right_length in
-    (read_at g.L.Lane.number g.L.UnsignedLane.natural c.args.a g.met.L.UnsignedLane.from_zero g.met.L.UnsignedLane.is_natural c.requires.lanes.rights (omega arith) c.index-rights-a.is).small
+    (read_at g.L.Lane.number g.L.UnsignedLane.natural c.args.a g.met.L.UnsignedLane.from_zero
+    g.met.L.UnsignedLane.is_natural c.requires.lanes.rights
+    (omega arith) c.index-rights-a.is).small
 
 pub plus-requires-in-loop-b-5-clause-second : goal.plus-requires-in-loop-b-5-clause-second
 plus-requires-in-loop-b-5-clause-second g c =
     let len = c.order-order.ensures.limits.left_length in
-    (read_at g.L.Lane.number g.L.UnsignedLane.natural (c.loop-b.b + 1) g.met.L.UnsignedLane.from_zero g.met.L.UnsignedLane.is_natural c.requires.lanes.lefts (omega arith) c.index-lefts-b.is).small
+    (read_at g.L.Lane.number g.L.UnsignedLane.natural
+    (c.loop-b.b + 1) g.met.L.UnsignedLane.from_zero g.met.L.UnsignedLane.is_natural
+    c.requires.lanes.lefts (omega arith) c.index-lefts-b.is).small
 
 pub plus-requires-in-loop-b-6-clause-first : goal.plus-requires-in-loop-b-6-clause-first
 plus-requires-in-loop-b-6-clause-first g c =
     let len = c.order-order.ensures.limits.left_length in
-    (read_at g.L.Lane.number g.L.UnsignedLane.natural (c.args.a + 1) g.met.L.UnsignedLane.from_zero g.met.L.UnsignedLane.is_natural c.requires.lanes.lefts (omega arith) c.index-lefts-a.is).small
+    (read_at g.L.Lane.number g.L.UnsignedLane.natural (c.args.a + 1) g.met.L.UnsignedLane.from_zero
+    g.met.L.UnsignedLane.is_natural c.requires.lanes.lefts
+    (omega arith) c.index-lefts-a.is).small
 
 pub plus-requires-in-loop-b-6-clause-second : goal.plus-requires-in-loop-b-6-clause-second
 plus-requires-in-loop-b-6-clause-second g c =
     let len = c.order-order.ensures.limits.left_length in
-    (read_at g.L.Lane.number g.L.UnsignedLane.natural (c.loop-b.b + 1) g.met.L.UnsignedLane.from_zero g.met.L.UnsignedLane.is_natural c.requires.lanes.lefts (omega arith) c.index-lefts-b.is).small
+    (read_at g.L.Lane.number g.L.UnsignedLane.natural
+    (c.loop-b.b + 1) g.met.L.UnsignedLane.from_zero g.met.L.UnsignedLane.is_natural
+    c.requires.lanes.lefts (omega arith) c.index-lefts-b.is).small
 
 pub loop-b-preserved : goal.loop-b-preserved
 loop-b-preserved g c none =
@@ -91,17 +119,40 @@ loop-b-preserved g c none =
     let left_length = c.order-order.ensures.limits.left_length in
     let value_length = c.order-order.ensures.limits.value_length in
     let right_length = c.order-order.ensures.limits.right_length in
-    let right_first = (read_at g.L.Lane.number g.L.UnsignedLane.natural c.args.a g.met.L.UnsignedLane.from_zero g.met.L.UnsignedLane.is_natural c.requires.lanes.rights (omega arith) c.index-rights-a.is).is in
-    let left_first = (read_at g.L.Lane.number g.L.UnsignedLane.natural (c.args.a + 1) g.met.L.UnsignedLane.from_zero g.met.L.UnsignedLane.is_natural c.requires.lanes.lefts (omega arith) c.index-lefts-a.is).is in
-    let value_first = (read_at g.L.Lane.number g.L.UnsignedLane.natural c.args.a g.met.L.UnsignedLane.from_zero g.met.L.UnsignedLane.is_natural c.requires.lanes.values (omega arith) c.index-values-a.is).is in
-    let value = (read_at g.L.Lane.number g.L.UnsignedLane.natural c.loop-b.b g.met.L.UnsignedLane.from_zero g.met.L.UnsignedLane.is_natural c.requires.lanes.values (omega arith) c.index-values-b.is).is in
-    let right = (read_at g.L.Lane.number g.L.UnsignedLane.natural c.loop-b.b g.met.L.UnsignedLane.from_zero g.met.L.UnsignedLane.is_natural c.requires.lanes.rights (omega arith) c.index-rights-b.is).is in
-    let left = (read_at g.L.Lane.number g.L.UnsignedLane.natural (c.loop-b.b + 1) g.met.L.UnsignedLane.from_zero g.met.L.UnsignedLane.is_natural c.requires.lanes.lefts (omega arith) c.index-lefts-b.is).is in
-    let right_at_sum = (read_at g.L.Lane.number g.L.UnsignedLane.natural (c.args.a + c.loop-b.b) g.met.L.UnsignedLane.from_zero g.met.L.UnsignedLane.is_natural c.requires.lanes.rights (omega arith) c.index-rights-sum.is).is in
-    let left_at_next = (read_at g.L.Lane.number g.L.UnsignedLane.natural (c.args.a + c.loop-b.b + 1) g.met.L.UnsignedLane.from_zero g.met.L.UnsignedLane.is_natural c.requires.lanes.lefts (omega arith) c.index-lefts-next.is).is in
-    let value_at_next = (read_at g.L.Lane.number g.L.UnsignedLane.natural (c.args.a + c.loop-b.b + 1) g.met.L.UnsignedLane.from_zero g.met.L.UnsignedLane.is_natural c.requires.lanes.values (omega arith) c.index-values-next.is).is in
-    let right_at_next = (read_at g.L.Lane.number g.L.UnsignedLane.natural (c.args.a + c.loop-b.b + 1) g.met.L.UnsignedLane.from_zero g.met.L.UnsignedLane.is_natural c.requires.lanes.rights (omega arith) c.index-rights-next.is).is in
-    let left_at_last = (read_at g.L.Lane.number g.L.UnsignedLane.natural (c.args.a + c.loop-b.b + 1 + 1) g.met.L.UnsignedLane.from_zero g.met.L.UnsignedLane.is_natural c.requires.lanes.lefts (omega arith) c.index-lefts-next-in-loop-b.is).is in
+    let right_first = (read_at g.L.Lane.number g.L.UnsignedLane.natural c.args.a
+    g.met.L.UnsignedLane.from_zero g.met.L.UnsignedLane.is_natural c.requires.lanes.rights
+    (omega arith) c.index-rights-a.is).is in
+    let left_first = (read_at g.L.Lane.number g.L.UnsignedLane.natural
+    (c.args.a + 1) g.met.L.UnsignedLane.from_zero g.met.L.UnsignedLane.is_natural
+    c.requires.lanes.lefts (omega arith) c.index-lefts-a.is).is in
+    let value_first = (read_at g.L.Lane.number g.L.UnsignedLane.natural c.args.a
+    g.met.L.UnsignedLane.from_zero g.met.L.UnsignedLane.is_natural c.requires.lanes.values
+    (omega arith) c.index-values-a.is).is in
+    let value = (read_at g.L.Lane.number g.L.UnsignedLane.natural c.loop-b.b
+    g.met.L.UnsignedLane.from_zero g.met.L.UnsignedLane.is_natural c.requires.lanes.values
+    (omega arith) c.index-values-b.is).is in
+    let right = (read_at g.L.Lane.number g.L.UnsignedLane.natural c.loop-b.b
+    g.met.L.UnsignedLane.from_zero g.met.L.UnsignedLane.is_natural c.requires.lanes.rights
+    (omega arith) c.index-rights-b.is).is in
+    let left = (read_at g.L.Lane.number g.L.UnsignedLane.natural
+    (c.loop-b.b + 1) g.met.L.UnsignedLane.from_zero g.met.L.UnsignedLane.is_natural
+    c.requires.lanes.lefts (omega arith) c.index-lefts-b.is).is in
+    let right_at_sum = (read_at g.L.Lane.number g.L.UnsignedLane.natural
+    (c.args.a + c.loop-b.b) g.met.L.UnsignedLane.from_zero g.met.L.UnsignedLane.is_natural
+    c.requires.lanes.rights (omega arith) c.index-rights-sum.is).is in
+    let left_at_next = (read_at g.L.Lane.number g.L.UnsignedLane.natural
+    (c.args.a + c.loop-b.b + 1) g.met.L.UnsignedLane.from_zero g.met.L.UnsignedLane.is_natural
+    c.requires.lanes.lefts (omega arith) c.index-lefts-next.is).is in
+    let value_at_next = (read_at g.L.Lane.number g.L.UnsignedLane.natural
+    (c.args.a + c.loop-b.b + 1) g.met.L.UnsignedLane.from_zero g.met.L.UnsignedLane.is_natural
+    c.requires.lanes.values (omega arith) c.index-values-next.is).is in
+    let right_at_next = (read_at g.L.Lane.number g.L.UnsignedLane.natural
+    (c.args.a + c.loop-b.b + 1) g.met.L.UnsignedLane.from_zero g.met.L.UnsignedLane.is_natural
+    c.requires.lanes.rights (omega arith) c.index-rights-next.is).is in
+    let left_at_last = (read_at g.L.Lane.number g.L.UnsignedLane.natural
+    (c.args.a + c.loop-b.b + 1 + 1) g.met.L.UnsignedLane.from_zero
+    g.met.L.UnsignedLane.is_natural c.requires.lanes.lefts
+    (omega arith) c.index-lefts-next-in-loop-b.is).is in
     let least_first = c.lesser-least_first.ensures in
     let least = c.lesser-least.ensures in
     let greatest = c.greater-greatest.ensures in
@@ -128,8 +179,10 @@ loop-b-preserved g c none =
     let x0 = at_next.0 in
     let x1 = at_next.1 in
     below_more (λ b. a ≤ b → PassesSquare f a b) b (c.loop-b.invariant one.0)
-    (λ from. square_from_naturals g.L.Lane.bound f a b (in_range_from_0 _ zero h.lefts.range) (in_range_from_0 _ zero h.values.range)
-    (in_range_from_0 _ zero h.rights.range) c.requires.vertices c.requires.within (omega arith) (record {
+    (λ from. square_from_naturals g.L.Lane.bound f a b (in_range_from_0 _ zero h.lefts.range)
+    (in_range_from_0 _ zero h.values.range)
+    (in_range_from_0 _ zero h.rights.range) c.requires.vertices c.requires.within (omega arith)
+    (record {
       at_sum = (omega arith, omega arith);
       before_next = (omega arith, omega arith);
       at_next = (omega arith, omega arith);
@@ -137,4 +190,5 @@ loop-b-preserved g c none =
     }))
 
 pub returns : goal.returns
-returns g c = λ none b from below. c.loop-b.invariant (c.is_zero.ensures.0 none) b (omega arith) from
+returns g c = λ none b from below. c.loop-b.invariant (c.is_zero.ensures.0 none) b
+    (omega arith) from

@@ -11,11 +11,13 @@ returns-then-right_numerator-left_numerator c =
     let y = c.left_numerator.result in
     let s = c.scale.result in
     let fits : FitsSigned w64 c.scale.result = search rules in
-    let start = same_read x y s c.right_numerator.ensures.small c.left_numerator.ensures.small fits c.if-right_numerator-left_numerator.true in
+    let start = same_read x y s c.right_numerator.ensures.small c.left_numerator.ensures.small fits
+    c.if-right_numerator-left_numerator.true in
     let first = c.right_numerator.ensures.value in
     let second : c.left_numerator.result ≡ at c.args.shape.now.left (c.args.shape.now.place +
     (c.args.shape.now.order - c.args.i)) =
-    c.left_numerator.ensures.value ∙ ap₂ (λ (k q : ℕ). at f.left (k + (q - i))) c.place.ensures.value c.order.ensures.value in
+    c.left_numerator.ensures.value
+    ∙ ap₂ (λ (k q : ℕ). at f.left (k + (q - i))) c.place.ensures.value c.order.ensures.value in
     let one = c.scale.ensures.value in
     let u = c.left_numerator-then-right_numerator-left_numerator.result in
     let v = c.right_numerator-then-right_numerator-left_numerator.result in
@@ -24,10 +26,12 @@ returns-then-right_numerator-left_numerator c =
     let end = sum_bits u v t c.left_numerator-then-right_numerator-left_numerator.ensures.small
     c.right_numerator-then-right_numerator-left_numerator.ensures.small t_fits in
     let third = c.left_numerator-then-right_numerator-left_numerator.ensures.value in
-    let fourth : c.right_numerator-then-right_numerator-left_numerator.result ≡ at c.args.shape.now.right
+    let fourth : c.right_numerator-then-right_numerator-left_numerator.result
+    ≡ at c.args.shape.now.right
     (c.args.shape.now.place + (c.args.shape.now.order - (c.args.i + 1))) =
     c.right_numerator-then-right_numerator-left_numerator.ensures.value
-    ∙ ap₂ (λ (k q : ℕ). at f.right (k + (q - (i + 1)))) c.place-2.ensures.value c.order-2.ensures.value in
+    ∙ ap₂ (λ (k q : ℕ). at f.right (k + (q - (i + 1)))) c.place-2.ensures.value
+    c.order-2.ensures.value in
     let also_one = c.scale-then-right_numerator-left_numerator.ensures.value in (
       λ e. let same = end.0 e in (cc, cc),
       λ p. end.1 (let same = p.1 in cc),

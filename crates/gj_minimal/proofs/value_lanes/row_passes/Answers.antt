@@ -7,6 +7,7 @@ pub returns : goal.returns
 returns g c passes =
     let f = c.args.shape.now in
     let rest = c.rest_of-rest.result in
-    let again = subst (λ (q : ℕ). PassesWithSum f c.args.a (rest + q)) c.order.ensures.value (c.part_passes-2.ensures passes) in
+    let again = subst (λ (q : ℕ). PassesWithSum f c.args.a (rest + q)) c.order.ensures.value
+    (c.part_passes-2.ensures passes) in
     ahead_by_sums f c.args.a rest c.rest_of-rest.ensures.below c.rest_of-rest.ensures.sum
     (c.part_passes.ensures c.if-not-part_passes.false) again

@@ -7,12 +7,14 @@ use Rattle.gj_minimal.proofs.vertices.failed_over.Goals as goal
 
 pub returns-in-Some-clause-found : goal.returns-in-Some-clause-found
 returns-in-Some-clause-found g c =
-    vertex_fails c.args.shape.now c.loop-a.a c.in-Some.b c.vertex.result c.requires.symmetry c.vertex.ensures
+    vertex_fails c.args.shape.now c.loop-a.a c.in-Some.b c.vertex.result c.requires.symmetry
+    c.vertex.ensures
     (omega arith) c.loop-a.invariant c.in-Some.ensures.found
 
 pub loop-a-preserved : goal.loop-a-preserved
 loop-a-preserved g c =
-    below_more (PassesVertexRow c.args.shape.now) c.loop-a.a c.loop-a.invariant c.in_default.ensures.none
+    below_more (PassesVertexRow c.args.shape.now) c.loop-a.a c.loop-a.invariant
+    c.in_default.ensures.none
 
 pub returns-clause-none : goal.returns-clause-none
 returns-clause-none g c = record {
@@ -24,4 +26,5 @@ pub write_periods-requires-clause-range : goal.write_periods-requires-clause-ran
 write_periods-requires-clause-range g c =
     let read = c.value_numerators.ensures in
     let all = are_bounded c.args.shape.now read.limits c.requires.symmetry in
-    up_to_scale _ _ _ _ read.value g.met.L.UnsignedLane.from_zero c.requires.fits all.value_low all.value_high
+    up_to_scale _ _ _ _ read.value g.met.L.UnsignedLane.from_zero c.requires.fits all.value_low
+    all.value_high

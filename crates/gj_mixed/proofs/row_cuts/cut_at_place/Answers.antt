@@ -10,7 +10,8 @@ use Rattle.gj_mixed.proofs.row_cuts.cut_at_place.Goals as goal
 
 pub terms_of-requires-clause-range : goal.terms_of-requires-clause-range
 terms_of-requires-clause-range g c =
-    subst (λ (entries : List Entry). All (λ e. IsRowNumber e.value) entries) (sym c.as_slice.ensures)
+    subst (λ (entries : List Entry). All (λ e. IsRowNumber e.value) entries)
+    (sym c.as_slice.ensures)
     (entries_in_range c.args.row.now c.requires.limits)
 
 pub returns-clause-holds : goal.returns-clause-holds
@@ -24,7 +25,10 @@ returns-clause-holds g c minimal =
     let terms = c.in_ok-terms.field-0.terms.items in
     let weights = c.in_ok-terms.field-0.weights.items in
     let made = c.in_ok-terms.ensures in
-    subst₂ (λ (ts ws : List Term). MixedHoldsFor row (Cut ts ws)) (sym c.of.ensures) (sym c.of-2.ensures)
-    (mixed_holds_at answers weighs rule slopes rule.kind row (whole_entries continuous c.as_slice.result.now)
-    (continuous_entries continuous c.as_slice.result.now) terms weights refl c.requires.bounds minimal c.requires.side.1
+    subst₂ (λ (ts ws : List Term). MixedHoldsFor row (Cut ts ws)) (sym c.of.ensures)
+    (sym c.of-2.ensures)
+    (mixed_holds_at answers weighs rule slopes rule.kind row
+    (whole_entries continuous c.as_slice.result.now)
+    (continuous_entries continuous c.as_slice.result.now) terms weights refl c.requires.bounds
+    minimal c.requires.side.1
     c.requires.slopes made.terms made.weights)

@@ -23,26 +23,36 @@ loop-entry-preserved g c =
     let kept = c.loop-entry.invariant in
     elim c.if-flag.branch [
       | then-flag+in_ok-push w ↦
-          let same : vec_len c.if-flag.terms ≡ vec_len c.loop-entry.terms = ap (λ v. vec_len v) w.terms-is in
+          let same : vec_len c.if-flag.terms ≡ vec_len c.loop-entry.terms =
+          ap (λ v. vec_len v) w.terms-is in
           record {
             few = omega arith;
             room = ap (λ v. vec_capacity v) w.terms-is ∙ kept.room;
-            terms = zip_dropped terms (λ e. not (here e)) entries i x c.loop-entry.terms.items c.if-flag.terms.items below
+            terms = zip_dropped terms (λ e. not (here e)) entries i x c.loop-entry.terms.items
+                c.if-flag.terms.items below
                 c.entry-item.is (ap not w.if-flag.true) (ap (λ v. v.items) w.terms-is) kept.terms;
-            weights = zip_kept weights here entries i x c.loop-entry.weights.items w.push.new.self.items c.if-flag.weights.items
-                c.mixed_term-made.result below c.entry-item.is w.if-flag.true (ap (λ v. v.items) w.weights-is) w.in_ok-push.ensures.items
+            weights = zip_kept weights here entries i x c.loop-entry.weights.items
+                w.push.new.self.items c.if-flag.weights.items
+                c.mixed_term-made.result below c.entry-item.is w.if-flag.true
+                (ap (λ v. v.items) w.weights-is) w.in_ok-push.ensures.items
                 kept.weights (c.mixed_term-made.ensures.continuous w.if-flag.true);
           }
       | else-flag w ↦
-          let same : vec_len c.if-flag.terms ≡ vec_len w.push_reserved.new.self = ap (λ v. vec_len v) w.terms-is in
+          let same : vec_len c.if-flag.terms ≡ vec_len w.push_reserved.new.self =
+          ap (λ v. vec_len v) w.terms-is in
           let more = w.push_reserved.ensures.len in
           record {
             few = omega arith;
-            room = ap (λ v. vec_capacity v) w.terms-is ∙ w.push_reserved.ensures.capacity ∙ kept.room;
-            terms = zip_kept terms (λ e. not (here e)) entries i x c.loop-entry.terms.items w.push_reserved.new.self.items
-                c.if-flag.terms.items c.mixed_term-made.result below c.entry-item.is (ap not w.if-flag.false)
-                (ap (λ v. v.items) w.terms-is) w.push_reserved.ensures.items kept.terms (c.mixed_term-made.ensures.whole w.if-flag.false);
-            weights = zip_dropped weights here entries i x c.loop-entry.weights.items c.if-flag.weights.items below
+            room = ap (λ v. vec_capacity v) w.terms-is ∙ w.push_reserved.ensures.capacity
+                ∙ kept.room;
+            terms = zip_kept terms (λ e. not (here e)) entries i x c.loop-entry.terms.items
+                w.push_reserved.new.self.items
+                c.if-flag.terms.items c.mixed_term-made.result below c.entry-item.is
+                (ap not w.if-flag.false)
+                (ap (λ v. v.items) w.terms-is) w.push_reserved.ensures.items kept.terms
+                (c.mixed_term-made.ensures.whole w.if-flag.false);
+            weights = zip_dropped weights here entries i x c.loop-entry.weights.items
+                c.if-flag.weights.items below
                 c.entry-item.is w.if-flag.false (ap (λ v. v.items) w.weights-is) kept.weights;
           }
     ]
@@ -59,10 +69,14 @@ mixed_term-made-requires g c =
 
 pub returns-clause-terms : goal.returns-clause-terms
 returns-clause-terms g c =
-    subst (λ (entries : List Entry). AllZip (IsTermOf g.E.Evaluator.answers c.args.rule.now) (whole_entries c.args.continuous.now entries) c.loop-entry.terms.items)
-    (take_all c.loop-entry.entry-index c.args.entries.now c.loop-entry-test.false) c.loop-entry.invariant.terms
+    subst (λ (entries : List Entry). AllZip (IsTermOf g.E.Evaluator.answers c.args.rule.now)
+    (whole_entries c.args.continuous.now entries) c.loop-entry.terms.items)
+    (take_all c.loop-entry.entry-index c.args.entries.now c.loop-entry-test.false)
+    c.loop-entry.invariant.terms
 
 pub returns-clause-weights : goal.returns-clause-weights
 returns-clause-weights g c =
-    subst (λ (entries : List Entry). AllZip (IsWeightTermOf g.G.Evaluator.answers c.args.slopes.now) (continuous_entries c.args.continuous.now entries) c.loop-entry.weights.items)
-    (take_all c.loop-entry.entry-index c.args.entries.now c.loop-entry-test.false) c.loop-entry.invariant.weights
+    subst (λ (entries : List Entry). AllZip (IsWeightTermOf g.G.Evaluator.answers c.args.slopes.now)
+    (continuous_entries c.args.continuous.now entries) c.loop-entry.weights.items)
+    (take_all c.loop-entry.entry-index c.args.entries.now c.loop-entry-test.false)
+    c.loop-entry.invariant.weights

@@ -9,6 +9,8 @@ abbrev pub invariant-loop-entry : goal.invariant-loop-entry
 invariant-loop-entry g l = record {
   few : vec_len l.terms ≤ l.entry-index;
   room : vec_capacity l.terms ≡ length l.entries;
-  terms : AllZip (IsTermOf g.E.Evaluator.answers l.rule) (whole_entries l.continuous (take l.entry-index l.entries)) l.terms.items;
-  weights : AllZip (IsWeightTermOf g.G.Evaluator.answers l.slopes) (continuous_entries l.continuous (take l.entry-index l.entries)) l.weights.items;
+  terms : AllZip (IsTermOf g.E.Evaluator.answers l.rule)
+      (whole_entries l.continuous (take l.entry-index l.entries)) l.terms.items;
+  weights : AllZip (IsWeightTermOf g.G.Evaluator.answers l.slopes)
+      (continuous_entries l.continuous (take l.entry-index l.entries)) l.weights.items;
 }

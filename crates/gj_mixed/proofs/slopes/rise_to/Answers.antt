@@ -11,8 +11,10 @@ overflow_sub-result c =
     let high = c.requires.limits.scale_high in
     let (a_low, a_high) = value_within f c.args.i c.requires.limits c.requires.minimal in
     let (b_low, b_high) = value_within f 0 c.requires.limits c.requires.minimal in
-    let first = reads_as c.value_num.result (at f.value c.args.i) c.value_num.ensures (omega (arith, ints)) in
-    let second = reads_as c.value_num-2.result (at f.value 0) c.value_num-2.ensures (omega (arith, ints)) in
+    let first = reads_as c.value_num.result (at f.value c.args.i) c.value_num.ensures
+    (omega (arith, ints)) in
+    let second = reads_as c.value_num-2.result (at f.value 0) c.value_num-2.ensures
+    (omega (arith, ints)) in
     search rules
 
 -- the difference as it is computed
@@ -22,9 +24,12 @@ rise_is c =
     let high = c.requires.limits.scale_high in
     let (a_low, a_high) = value_within f c.args.i c.requires.limits c.requires.minimal in
     let (b_low, b_high) = value_within f 0 c.requires.limits c.requires.minimal in
-    let first = reads_as c.value_num.result (at f.value c.args.i) c.value_num.ensures (omega (arith, ints)) in
-    let second = reads_as c.value_num-2.result (at f.value 0) c.value_num-2.ensures (omega (arith, ints)) in
-    reads_as (read c.value_num.result -ℤ read c.value_num-2.result) (at f.value c.args.i -ℤ at f.value 0)
+    let first = reads_as c.value_num.result (at f.value c.args.i) c.value_num.ensures
+    (omega (arith, ints)) in
+    let second = reads_as c.value_num-2.result (at f.value 0) c.value_num-2.ensures
+    (omega (arith, ints)) in
+    reads_as (read c.value_num.result -ℤ read c.value_num-2.result)
+    (at f.value c.args.i -ℤ at f.value 0)
     (ap₂ (λ x y. x -ℤ y) first second) (omega (arith, ints))
 
 pub returns-clause-value : goal.returns-clause-value

@@ -9,7 +9,8 @@ overflow_add-result c =
     let low = c.requires.low in
     let high = c.requires.high in
     let rest : c.args.i % c.args.times < c.args.times = omega arith in
-    sum_fits (m - r) r c.from.result c.from-2.result c.value_numerator.result c.value_numerator-2.result c.from.ensures c.from-2.ensures
+    sum_fits (m - r) r c.from.result c.from-2.result c.value_numerator.result
+    c.value_numerator-2.result c.from.ensures c.from-2.ensures
     (omega arith) (omega arith) c.value_numerator.ensures.small c.value_numerator-2.ensures.small
 
 pub returns : goal.returns
@@ -21,7 +22,9 @@ returns c =
     let low = c.requires.low in
     let high = c.requires.high in
     let rest : c.args.i % c.args.times < c.args.times = omega arith in
-    sum_read (m - r) r c.from.result c.from-2.result c.value_numerator.result c.value_numerator-2.result c.from.ensures c.from-2.ensures
+    sum_read (m - r) r c.from.result c.from-2.result c.value_numerator.result
+    c.value_numerator-2.result c.from.ensures c.from-2.ensures
     (omega arith) (omega arith) c.value_numerator.ensures.small c.value_numerator-2.ensures.small
-    ∙ ap₂ (λ x y. pos (m - r) *ℤ x +ℤ pos r *ℤ y) c.value_numerator.ensures.value c.value_numerator-2.ensures.value
+    ∙ ap₂ (λ x y. pos (m - r) *ℤ x +ℤ pos r *ℤ y) c.value_numerator.ensures.value
+    c.value_numerator-2.ensures.value
     ∙ sym (table_continuous f m i c.requires.continuous)

@@ -17,7 +17,8 @@ moved_entry-requires c =
     let factor_read = to_z-of_z w128 c.args.factor c.ranges.factor in
     let step_read = to_z-of_z w128 c.args.step c.ranges.step in
     let entry_read : wide c.from.result ≡ entry =
-    to_z-of_z w128 c.from.result (search rules) ∙ c.from.ensures ∙ to_z-of_z w64 entry (search rules) in
+    to_z-of_z w128 c.from.result (search rules) ∙ c.from.ensures
+    ∙ to_z-of_z w64 entry (search rules) in
     let value_read : wide value ≡ value = to_z-of_z w128 value (search rules) in
     record {
       entry = rw (factor_read, entry_read) small.entry;
@@ -32,7 +33,8 @@ loop-i-preserved c =
     let entry = get_or c.args.table.now i (pos 0) in
     let value = get_or c.args.values.now i (pos 0) in
     let entry_read : wide c.from.result ≡ entry =
-    to_z-of_z w128 c.from.result (search rules) ∙ c.from.ensures ∙ to_z-of_z w64 entry (search rules) in
+    to_z-of_z w128 c.from.result (search rules) ∙ c.from.ensures
+    ∙ to_z-of_z w64 entry (search rules) in
     let value_read : wide value ≡ value = to_z-of_z w128 value (search rules) in
     let t = moved_at c.args.table.now factor c.args.values.now step in
     let next : wide c.moved_entry.result ≡ t i =

@@ -20,14 +20,16 @@ table_length t xs n e = ap length e ∙ length-map-range_with_len t 0 n
 pub overflow_cast-factor : goal.overflow_cast-factor
 overflow_cast-factor c =
     let limits = c.order.ensures.limits in
-    let small = size_fits c.greatest_size-size.result c.args.shape.now.scale c.args.p.now.times limits.scale_low
+    let small = size_fits c.greatest_size-size.result c.args.shape.now.scale c.args.p.now.times
+    limits.scale_low
     c.requires.perturbation.times_low c.in-Some.ensures.1 in
     fits_signed_from_abs w128 (pos c.greatest_size-size.result) (omega arith)
 
 pub overflow_mul-factor : goal.overflow_mul-factor
 overflow_mul-factor c =
     let limits = c.order.ensures.limits in
-    let small = size_fits c.greatest_size-size.result c.args.shape.now.scale c.args.p.now.times limits.scale_low
+    let small = size_fits c.greatest_size-size.result c.args.shape.now.scale c.args.p.now.times
+    limits.scale_low
     c.requires.perturbation.times_low c.in-Some.ensures.1 in
     rw (to_z_pos w128 c.greatest_size-size.result (omega arith))
     (fits_signed_from_abs w128 (pos (3 * c.greatest_size-size.result)) (omega arith))
@@ -41,7 +43,8 @@ moved-requires-clause-length c =
     let x = pos u in
     let values = c.as_slice-values.result.now in
     let xs = c.as_slice-table.result.now in
-    let parts = parts_of f p size u values xs c.order.ensures.limits c.requires.minimal c.requires.perturbation
+    let parts = parts_of f p size u values xs c.order.ensures.limits c.requires.minimal
+    c.requires.perturbation
     c.as_slice-values.ensures c.greatest_size-size.ensures c.in-Some.ensures.1
     (c.as_slice-table.ensures.value ∙ c.in_ok-entries.ensures) c.in_ok-least.ensures in
     let count : length c.as_slice-values.result.now ≡ c.args.shape.now.order * c.args.p.now.times =
@@ -59,7 +62,8 @@ moved-requires-2-clause-length c =
     let x = pos u in
     let values = c.as_slice-values.result.now in
     let xs = c.as_slice-table.result.now in
-    let parts = parts_of f p size u values xs c.order.ensures.limits c.requires.minimal c.requires.perturbation
+    let parts = parts_of f p size u values xs c.order.ensures.limits c.requires.minimal
+    c.requires.perturbation
     c.as_slice-values.ensures c.greatest_size-size.ensures c.in-Some.ensures.1
     (c.as_slice-table.ensures.value ∙ c.in_ok-entries.ensures) c.in_ok-least.ensures in
     let count : length c.as_slice-values.result.now ≡ c.args.shape.now.order * c.args.p.now.times =
@@ -77,10 +81,12 @@ moved-requires-clause-small c =
     let x = pos u in
     let values = c.as_slice-values.result.now in
     let xs = c.as_slice-table.result.now in
-    let parts = parts_of f p size u values xs c.order.ensures.limits c.requires.minimal c.requires.perturbation
+    let parts = parts_of f p size u values xs c.order.ensures.limits c.requires.minimal
+    c.requires.perturbation
     c.as_slice-values.ensures c.greatest_size-size.ensures c.in-Some.ensures.1
     (c.as_slice-table.ensures.value ∙ c.in_ok-entries.ensures) c.in_ok-least.ensures in
-    let factor_is = factor_read size (size_fits size f.scale p.times c.order.ensures.limits.scale_low
+    let factor_is = factor_read size
+    (size_fits size f.scale p.times c.order.ensures.limits.scale_low
     c.requires.perturbation.times_low c.in-Some.ensures.1) in
     let step_is : wide c.from-step.result ≡ pos c.in_ok-least.least =
     ap wide c.from-step.ensures ∙ step_read c.in_ok-least.least (search rules) in
@@ -96,10 +102,12 @@ moved-requires-2-clause-small c =
     let x = pos u in
     let values = c.as_slice-values.result.now in
     let xs = c.as_slice-table.result.now in
-    let parts = parts_of f p size u values xs c.order.ensures.limits c.requires.minimal c.requires.perturbation
+    let parts = parts_of f p size u values xs c.order.ensures.limits c.requires.minimal
+    c.requires.perturbation
     c.as_slice-values.ensures c.greatest_size-size.ensures c.in-Some.ensures.1
     (c.as_slice-table.ensures.value ∙ c.in_ok-entries.ensures) c.in_ok-least.ensures in
-    let factor_is = factor_read size (size_fits size f.scale p.times c.order.ensures.limits.scale_low
+    let factor_is = factor_read size
+    (size_fits size f.scale p.times c.order.ensures.limits.scale_low
     c.requires.perturbation.times_low c.in-Some.ensures.1) in
     let step_is : wide c.from-step.result ≡ pos c.in_ok-least.least =
     ap wide c.from-step.ensures ∙ step_read c.in_ok-least.least (search rules) in
@@ -116,15 +124,18 @@ returns c =
     let x = pos u in
     let values = c.as_slice-values.result.now in
     let xs = c.as_slice-table.result.now in
-    let parts = parts_of f p size u values xs c.order.ensures.limits c.requires.minimal c.requires.perturbation
+    let parts = parts_of f p size u values xs c.order.ensures.limits c.requires.minimal
+    c.requires.perturbation
     c.as_slice-values.ensures c.greatest_size-size.ensures c.in-Some.ensures.1
     (c.as_slice-table.ensures.value ∙ c.in_ok-entries.ensures) c.in_ok-least.ensures in
-    let factor_is = factor_read size (size_fits size f.scale p.times c.order.ensures.limits.scale_low
+    let factor_is = factor_read size
+    (size_fits size f.scale p.times c.order.ensures.limits.scale_low
     c.requires.perturbation.times_low c.in-Some.ensures.1) in
     let step_is : wide c.from-step.result ≡ pos c.in_ok-least.least =
     ap wide c.from-step.ensures ∙ step_read c.in_ok-least.least (search rules) in
     let turned_is = turned_read (wide c.from-step.result) u step_is (search rules) in
-    let scale_is : wide c.in-Some.scale ≡ pos (3 * c.greatest_size-size.result * (c.args.shape.now.scale * c.args.p.now.times)) =
+    let scale_is : wide c.in-Some.scale
+    ≡ pos (3 * c.greatest_size-size.result * (c.args.shape.now.scale * c.args.p.now.times)) =
     to_z-of_z w128 c.in-Some.scale (search rules) ∙ c.in-Some.ensures.0 in
     let halves : Halves =
     record {
@@ -138,14 +149,17 @@ returns c =
       order = ap (λ k. k * p.times) c.order.ensures.value;
       scale = scale_is;
       first = c.of.ensures ∙ c.in_ok-first.ensures
-          ∙ ap₂ (λ a b. map (moved_at xs a values b) (range_with_len 0 (length values))) factor_is step_is;
+          ∙ ap₂ (λ a b. map (moved_at xs a values b) (range_with_len 0 (length values))) factor_is
+          step_is;
       second = c.of-2.ensures ∙ c.in_ok-second.ensures
-          ∙ ap₂ (λ a b. map (moved_at xs a values b) (range_with_len 0 (length values))) factor_is turned_is;
+          ∙ ap₂ (λ a b. map (moved_at xs a values b) (range_with_len 0 (length values))) factor_is
+          turned_is;
     } in
     record {
       halves = are_halves f p size x values xs halves parts made;
       different = are_different f p size x values xs halves parts made;
       limits = fit_proof_text f p size x values xs halves parts made;
-      narrow = not_wide f p size (subst (λ ys. IsGreatestSize (at ys) size) parts.values_is parts.greatest) parts.narrow;
+      narrow = not_wide f p size
+          (subst (λ ys. IsGreatestSize (at ys) size) parts.values_is parts.greatest) parts.narrow;
       wide = λ e. search rules;
     }

@@ -4,7 +4,8 @@ use Rattle.gj_perturb.proofs.LaneSlacks.{no_corner, one_row_of_corners_more}
 use Rattle.gj_perturb.proofs.lanes.least_at_corners.Goals as goal
 
 pub loop-i-init : goal.loop-i-init
-loop-i-init c = no_corner c.args.lanes.now c.args.n (IsInRows c.args.n 0) (λ a b (low, from, below). omega arith)
+loop-i-init c = no_corner c.args.lanes.now c.args.n (IsInRows c.args.n 0)
+    (λ a b (low, from, below). omega arith)
 
 pub loop-i-preserved : goal.loop-i-preserved
 loop-i-preserved c =

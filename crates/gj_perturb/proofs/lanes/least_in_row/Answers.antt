@@ -9,7 +9,8 @@ loop-j-preserved c =
     let n = c.args.n in
     let i = c.args.i in
     let j = c.loop-j.j in
-    let here = one_triangle lanes n i j c.min-least.result c.max-greatest.result c.where_greatest_is_none.result c.requires.lanes
+    let here = one_triangle lanes n i j c.min-least.result c.max-greatest.result
+    c.where_greatest_is_none.result c.requires.lanes
     c.requires.below c.loop-j-test.true
     (record {
       least_is = c.min-least.ensures ∙ ap₂ min c.min.ensures refl;
@@ -17,5 +18,6 @@ loop-j-preserved c =
       none = c.where_greatest_is_none.ensures.none;
       some = c.where_greatest_is_none.ensures.some;
     }) in
-    subst₂ (AreLeast lanes n (IsInRow i (j + 1))) (sym c.min-any.ensures) (sym c.min-beside_zero.ensures)
+    subst₂ (AreLeast lanes n (IsInRow i (j + 1))) (sym c.min-any.ensures)
+    (sym c.min-beside_zero.ensures)
     (one_square_more lanes n i j _ _ _ _ c.loop-j.invariant here)

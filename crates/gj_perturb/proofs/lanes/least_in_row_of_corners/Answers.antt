@@ -5,7 +5,8 @@ use Rattle.gj_perturb.proofs.lanes.least_in_row_of_corners.Goals as goal
 
 pub loop-j-init : goal.loop-j-init
 loop-j-init c =
-    no_corner c.args.lanes.now c.args.n (IsInRow c.args.i c.args.i) (λ a b (e, from, below). omega arith)
+    no_corner c.args.lanes.now c.args.n (IsInRow c.args.i c.args.i)
+    (λ a b (e, from, below). omega arith)
 
 pub loop-j-preserved : goal.loop-j-preserved
 loop-j-preserved c =

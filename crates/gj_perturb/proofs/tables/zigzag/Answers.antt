@@ -13,7 +13,8 @@ use mir.Syntax.{w128}
 pub index-requires : goal.index-requires
 index-requires c =
     let whole : length c.in_ok-chosen.chosen.items ≡ c.args.q =
-    ap length c.in_ok-chosen.ensures ∙ length-map-range_with_len (is_among c.args.class.now) 0 c.args.q in
+    ap length c.in_ok-chosen.ensures
+    ∙ length-map-range_with_len (is_among c.args.class.now) 0 c.args.q in
     omega arith
 
 pub loop-i-preserved : goal.loop-i-preserved
@@ -22,8 +23,10 @@ loop-i-preserved c =
     let class = c.args.class.now in
     let i = c.loop-i.i in
     let t = zigzag q class in
-    let mark : c.index.result.now ≡ get_or (map (is_among class) (range_with_len 0 q)) (i / 4) c.index.result.now =
-    c.index.ensures ∙ ap (λ marks. get_or marks (i / 4) c.index.result.now) c.in_ok-chosen.ensures in
+    let mark : c.index.result.now ≡ get_or (map (is_among class) (range_with_len 0 q))
+    (i / 4) c.index.result.now =
+    c.index.ensures ∙ ap (λ marks. get_or marks (i / 4) c.index.result.now)
+    c.in_ok-chosen.ensures in
     let value : to_z w128 (of_z w128 c.zigzag_value.result) ≡ t i =
     to_z-of_z w128 c.zigzag_value.result (search rules) ∙ c.zigzag_value.ensures
     ∙ zigzag_from_marks q class i c.index.result.now c.index.result.now c.loop-i-test.true mark in
@@ -39,9 +42,11 @@ returns-clause-values c =
 
 pub returns-clause-perturbation : goal.returns-clause-perturbation
 returns-clause-perturbation c = λ f.
-    zigzag_list_perturbs f c.args.q c.args.class.now c.of.result (omega arith) (returns-clause-values c)
+    zigzag_list_perturbs f c.args.q c.args.class.now c.of.result (omega arith)
+    (returns-clause-values c)
 
 pub returns-clause-zero : goal.returns-clause-zero
 returns-clause-zero c = λ a.
-    zigzag_at_list c.args.q c.args.class.now c.of.result (omega arith) (returns-clause-values c) (a * 4)
+    zigzag_at_list c.args.q c.args.class.now c.of.result (omega arith) (returns-clause-values c)
+    (a * 4)
     ∙ zigzag_at_multiple c.args.q c.args.class.now a

@@ -13,5 +13,6 @@ returns-then-is_whole c =
     subst (λ (is_whole : Bool). IsLowerBound is_whole c.args.lower bound) (sym c.if-is_whole.true) (
       neg_ℤ floor.0,
       ceiling_from_floor c.args.lower c.neg.result floor.0 c.neg.ensures floor.1,
-      negation_value c.rounded_down.result bound c.neg-then-is_whole.ensures ∙ ap neg_ℚ floor.2 ∙ sym (whole_neg floor.0),
+      negation_value c.rounded_down.result bound c.neg-then-is_whole.ensures ∙ ap neg_ℚ floor.2
+          ∙ sym (whole_neg floor.0),
     )

@@ -12,5 +12,6 @@ returns c =
     let x = c.in-Some.whole in (
       n,
       c.floor.ensures,
-      whole_ratio x n (subst (λ (z : ℤ). IsRatio x z (pos 1)) (to_z-of_z w128 n (search rules)) (MatchOption-at_some _ _ x c.in-Some.is c.new.ensures.value)),
+      whole_ratio x n (subst (λ (z : ℤ). IsRatio x z (pos 1)) (to_z-of_z w128 n (search rules))
+          (MatchOption-at_some _ _ x c.in-Some.is c.new.ensures.value)),
     )

@@ -7,12 +7,16 @@ pub returns-then-num-eq0-clause-next : goal.returns-then-num-eq0-clause-next
 returns-then-num-eq0-clause-next c = λ (done : IsTrue true).
     let x = c.args.coefficient in
     let none : x.num ≡ pos 0 =
-    sym (read_part x.num x.lowest.num_fits) ∙ ap (λ (z : ℤ). to_z w128 (of_z w128 z)) (sym c.num.ensures) ∙ ap (to_z w128) c.if-num-eq0.true in
+    sym (read_part x.num x.lowest.num_fits)
+    ∙ ap (λ (z : ℤ). to_z w128 (of_z w128 z)) (sym c.num.ensures)
+    ∙ ap (to_z w128) c.if-num-eq0.true in
     inl (inl none, refl)
 
 pub returns-then-num-eq0-clause-narrow : goal.returns-then-num-eq0-clause-narrow
 returns-then-num-eq0-clause-narrow c = λ wide.
     let x = c.args.coefficient in
     let none : x.num ≡ pos 0 =
-    sym (read_part x.num x.lowest.num_fits) ∙ ap (λ (z : ℤ). to_z w128 (of_z w128 z)) (sym c.num.ensures) ∙ ap (to_z w128) c.if-num-eq0.true in
+    sym (read_part x.num x.lowest.num_fits)
+    ∙ ap (λ (z : ℤ). to_z w128 (of_z w128 z)) (sym c.num.ensures)
+    ∙ ap (to_z w128) c.if-num-eq0.true in
     wide.kept (inl none)

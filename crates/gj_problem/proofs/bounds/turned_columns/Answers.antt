@@ -31,7 +31,8 @@ loop-j-preserved c =
     let same : c.in-Ok.index ≡ j = c.in-Ok.ensures.1 in
     let c_below : j < length cs = omega arith in
     let up_below : j < length ups = omega arith in
-    let next = held_next ds cs ups j c.index-columns-j.result c.index-coefficients-j.result up c.loop-j-test.true c_below up_below
+    let next = held_next ds cs ups j c.index-columns-j.result c.index-coefficients-j.result up
+    c.loop-j-test.true c_below up_below
     c.index-columns-j.is c.index-coefficients-j.is (default_unused ups j false up up_below) in
     let h : ℕ → Held = λ i. record {
       index = i;
@@ -39,17 +40,25 @@ loop-j-preserved c =
       coefficient = c.index-coefficients-j.result;
       at_upper = up;
     } in
-    let next_is = subst (λ (i : ℕ). take (j + 1) (held 0 ds cs ups) ≡ take j (held 0 ds cs ups) ++ h i ∷ []) (sym same) next in
+    let next_is = subst (λ (i : ℕ). take (j + 1) (held 0 ds cs ups) ≡ take j (held 0 ds cs ups)
+    ++ h i ∷ []) (sym same) next in
     let small : c.in-Ok.index < 2 ^ 32 = omega (arith, c.in-Ok.ensures.0, same) in
     record {
       turned = record {
-        made = made_next IsLeftOut IsTurned (take j (held 0 ds cs ups)) (take (j + 1) (held 0 ds cs ups)) (h c.in-Ok.index)
-            c.loop-j.bounds.pieces.items c.turn.new.bounds.pieces.items next_is c.loop-j.invariant.turned.made (c.in_ok-turn.ensures.next c.if-not-branch.false);
-        right_is = right_more (rational c.args.right) (rational c.loop-j.bounds.right) (rational c.turn.new.bounds.right)
-            c.loop-j.bounds.pieces.items c.turn.new.bounds.pieces.items c.loop-j.invariant.turned.right_is (c.in_ok-turn.ensures.right c.if-not-branch.false);
+        made = made_next IsLeftOut IsTurned (take j (held 0 ds cs ups))
+            (take (j + 1) (held 0 ds cs ups)) (h c.in-Ok.index)
+            c.loop-j.bounds.pieces.items c.turn.new.bounds.pieces.items next_is
+            c.loop-j.invariant.turned.made (c.in_ok-turn.ensures.next c.if-not-branch.false);
+        right_is = right_more (rational c.args.right) (rational c.loop-j.bounds.right)
+            (rational c.turn.new.bounds.right)
+            c.loop-j.bounds.pieces.items c.turn.new.bounds.pieces.items
+            c.loop-j.invariant.turned.right_is
+            (c.in_ok-turn.ensures.right c.if-not-branch.false);
       };
-      narrow = narrow_turns_with (take j (held 0 ds cs ups)) (take (j + 1) (held 0 ds cs ups)) c.args.right (h c.in-Ok.index)
-          c.loop-j.bounds.pieces.items c.loop-j.bounds.right next_is c.loop-j.invariant.turned c.loop-j.invariant.narrow small
+      narrow = narrow_turns_with (take j (held 0 ds cs ups))
+          (take (j + 1) (held 0 ds cs ups)) c.args.right (h c.in-Ok.index)
+          c.loop-j.bounds.pieces.items c.loop-j.bounds.right next_is c.loop-j.invariant.turned
+          c.loop-j.invariant.narrow small
           c.in_ok-turn.ensures.narrow;
     }
 
@@ -63,8 +72,10 @@ returns-then-not-branch-clause-turned c =
     let same : c.in-Ok.index ≡ j = c.in-Ok.ensures.1 in
     let c_below : j < length cs = omega arith in
     let up_below : j < length ups = omega arith in
-    let split = held_split ds cs ups j c.index-columns-j.result c.index-coefficients-j.result up c.loop-j-test.true c_below
-    up_below c.index-columns-j.is c.index-coefficients-j.is (default_unused ups j false up up_below) in
+    let split = held_split ds cs ups j c.index-columns-j.result c.index-coefficients-j.result up
+    c.loop-j-test.true c_below
+    up_below c.index-columns-j.is c.index-coefficients-j.is
+    (default_unused ups j false up up_below) in
     let h : ℕ → Held = λ i. record {
       index = i;
       column = c.index-columns-j.result;
@@ -75,8 +86,10 @@ returns-then-not-branch-clause-turned c =
       before = take j (held 0 ds cs ups);
       column = h c.in-Ok.index;
       after = drop (j + 1) (held 0 ds cs ups);
-      place = subst (λ (i : ℕ). held 0 ds cs ups ≡ take j (held 0 ds cs ups) ++ h i ∷ drop (j + 1) (held 0 ds cs ups)) (sym same) split;
-      none_before = none_free (take j (held 0 ds cs ups)) c.loop-j.bounds.pieces.items c.loop-j.invariant.turned.made;
+      place = subst (λ (i : ℕ). held 0 ds cs ups ≡ take j (held 0 ds cs ups) ++ h i ∷ drop (j + 1)
+          (held 0 ds cs ups)) (sym same) split;
+      none_before = none_free (take j (held 0 ds cs ups)) c.loop-j.bounds.pieces.items
+          c.loop-j.invariant.turned.made;
       free = c.in_ok-turn.ensures.free c.if-not-branch.true;
       index = refl;
     }
@@ -91,23 +104,30 @@ returns-then-not-branch-clause-narrow c =
     let same : c.in-Ok.index ≡ j = c.in-Ok.ensures.1 in
     let c_below : j < length cs = omega arith in
     let up_below : j < length ups = omega arith in
-    let split = held_split ds cs ups j c.index-columns-j.result c.index-coefficients-j.result up c.loop-j-test.true c_below
-    up_below c.index-columns-j.is c.index-coefficients-j.is (default_unused ups j false up up_below) in
+    let split = held_split ds cs ups j c.index-columns-j.result c.index-coefficients-j.result up
+    c.loop-j-test.true c_below
+    up_below c.index-columns-j.is c.index-coefficients-j.is
+    (default_unused ups j false up up_below) in
     let h : ℕ → Held = λ i. record {
       index = i;
       column = c.index-columns-j.result;
       coefficient = c.index-coefficients-j.result;
       at_upper = up;
     } in
-    narrow_turns_to_free (take j (held 0 ds cs ups)) (held 0 ds cs ups) (drop (j + 1) (held 0 ds cs ups)) c.args.right (h c.in-Ok.index)
+    narrow_turns_to_free (take j (held 0 ds cs ups)) (held 0 ds cs ups)
+    (drop (j + 1) (held 0 ds cs ups)) c.args.right (h c.in-Ok.index)
     c.loop-j.bounds.pieces.items c.loop-j.bounds.right
-    (subst (λ (i : ℕ). held 0 ds cs ups ≡ take j (held 0 ds cs ups) ++ h i ∷ drop (j + 1) (held 0 ds cs ups)) (sym same) split)
-    c.loop-j.invariant.turned c.loop-j.invariant.narrow (omega (arith, c.in-Ok.ensures.0, same)) (c.in_ok-turn.ensures.free c.if-not-branch.true)
+    (subst (λ (i : ℕ). held 0 ds cs ups ≡ take j (held 0 ds cs ups) ++ h i ∷ drop (j + 1)
+    (held 0 ds cs ups)) (sym same) split)
+    c.loop-j.invariant.turned c.loop-j.invariant.narrow (omega (arith, c.in-Ok.ensures.0, same))
+    (c.in_ok-turn.ensures.free c.if-not-branch.true)
 
 pub returns-clause-turned : goal.returns-clause-turned
 returns-clause-turned c =
-    subst (λ (hs : List Held). AreTurned hs c.args.right c.loop-j.bounds.pieces.items c.loop-j.bounds.right)
-    (held_all_taken c.args.columns.now c.args.coefficients.now c.args.at_upper.now c.loop-j.j c.loop-j-test.false) c.loop-j.invariant.turned
+    subst (λ (hs : List Held). AreTurned hs c.args.right c.loop-j.bounds.pieces.items
+    c.loop-j.bounds.right)
+    (held_all_taken c.args.columns.now c.args.coefficients.now c.args.at_upper.now c.loop-j.j
+    c.loop-j-test.false) c.loop-j.invariant.turned
 
 pub returns-in_err-turn-clause-wide : goal.returns-in_err-turn-clause-wide
 returns-in_err-turn-clause-wide c = λ fault.
@@ -119,8 +139,10 @@ returns-in_err-turn-clause-wide c = λ fault.
     let same : c.in-Ok.index ≡ j = c.in-Ok.ensures.1 in
     let c_below : j < length cs = omega arith in
     let up_below : j < length ups = omega arith in
-    let split = held_split ds cs ups j c.index-columns-j.result c.index-coefficients-j.result up c.loop-j-test.true c_below
-    up_below c.index-columns-j.is c.index-coefficients-j.is (default_unused ups j false up up_below) in
+    let split = held_split ds cs ups j c.index-columns-j.result c.index-coefficients-j.result up
+    c.loop-j-test.true c_below
+    up_below c.index-columns-j.is c.index-coefficients-j.is
+    (default_unused ups j false up up_below) in
     let h : ℕ → Held = λ i. record {
       index = i;
       column = c.index-columns-j.result;
@@ -131,11 +153,13 @@ returns-in_err-turn-clause-wide c = λ fault.
       before = take j (held 0 ds cs ups);
       next = h c.in-Ok.index;
       after = drop (j + 1) (held 0 ds cs ups);
-      place = subst (λ (i : ℕ). held 0 ds cs ups ≡ take j (held 0 ds cs ups) ++ h i ∷ drop (j + 1) (held 0 ds cs ups)) (sym same) split;
+      place = subst (λ (i : ℕ). held 0 ds cs ups ≡ take j (held 0 ds cs ups) ++ h i ∷ drop (j + 1)
+          (held 0 ds cs ups)) (sym same) split;
       pieces = c.loop-j.bounds.pieces.items;
       right = c.loop-j.bounds.right;
       turned = c.loop-j.invariant.turned;
-      wide = inr (c.in_err-turn.ensures.wide (handed_on c.from_residual.result _ _ c.from_residual.ensures.1 fault));
+      wide = inr (c.in_err-turn.ensures.wide
+          (handed_on c.from_residual.result _ _ c.from_residual.ensures.1 fault));
     }
 
 pub returns-in_default-clause-wide : goal.returns-in_default-clause-wide
@@ -150,9 +174,16 @@ returns-in_default-clause-wide c = λ fault.
     let up_below : j < length ups = omega arith in
     record {
       before = take j (held 0 ds cs ups);
-      next = record { index = j; column = c.index-columns-j.result; coefficient = k; at_upper = up };
+      next = record {
+        index = j;
+        column = c.index-columns-j.result;
+        coefficient = k;
+        at_upper =
+            up;
+      };
       after = drop (j + 1) (held 0 ds cs ups);
-      place = held_split ds cs ups j c.index-columns-j.result k up c.loop-j-test.true c_below up_below c.index-columns-j.is
+      place = held_split ds cs ups j c.index-columns-j.result k up c.loop-j-test.true c_below
+          up_below c.index-columns-j.is
           (default_unused cs j c.args.right k c_below) (default_unused ups j false up up_below);
       pieces = c.loop-j.bounds.pieces.items;
       right = c.loop-j.bounds.right;
@@ -163,4 +194,5 @@ returns-in_default-clause-wide c = λ fault.
 pub returns-clause-narrow : goal.returns-clause-narrow
 returns-clause-narrow c =
     subst (λ (hs : List Held). AreWideTurns hs c.args.right → ⊥)
-    (held_all_taken c.args.columns.now c.args.coefficients.now c.args.at_upper.now c.loop-j.j c.loop-j-test.false) c.loop-j.invariant.narrow
+    (held_all_taken c.args.columns.now c.args.coefficients.now c.args.at_upper.now c.loop-j.j
+    c.loop-j-test.false) c.loop-j.invariant.narrow

@@ -6,6 +6,7 @@ use Rattle.gj_problem.proofs.bounds.turned_columns.Given as goal
 
 abbrev pub invariant-loop-j : goal.invariant-loop-j
 invariant-loop-j l = record {
-  turned : AreTurned (take l.j (held 0 l.columns l.coefficients l.at_upper)) l.fn.right l.bounds.pieces.items l.bounds.right;
+  turned : AreTurned (take l.j (held 0 l.columns l.coefficients l.at_upper)) l.fn.right
+      l.bounds.pieces.items l.bounds.right;
   narrow : AreWideTurns (take l.j (held 0 l.columns l.coefficients l.at_upper)) l.fn.right → ⊥;
 }

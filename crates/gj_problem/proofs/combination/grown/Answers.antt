@@ -11,8 +11,10 @@ returns c =
     let scale = c.in_ok-scale.scale in
     let same = to_z-of_z w128 c.in_ok-grown.grown (search rules) ∙ c.in_ok-grown.ensures.1 in
     let is : to_z w128 (of_z w128 c.in_ok-grown.grown) ≡ common *ℤ scale =
-    same ∙ ap₂ (λ x y. x *ℤ y) (to_z-of_z w128 common c.ranges.common) (to_z-of_z w128 scale (search rules)) in
+    same ∙ ap₂ (λ x y. x *ℤ y) (to_z-of_z w128 common c.ranges.common)
+    (to_z-of_z w128 scale (search rules)) in
     record {
-      some = subst (λ (z : ℤ). pos 0 <ℤ z) (sym is) (mul_positive_z common scale c.requires.some c.in_ok-scale.ensures);
+      some = subst (λ (z : ℤ). pos 0 <ℤ z) (sym is)
+          (mul_positive_z common scale c.requires.some c.in_ok-scale.ensures);
       fits = subst Fits (sym same) c.in_ok-grown.ensures.0;
     }

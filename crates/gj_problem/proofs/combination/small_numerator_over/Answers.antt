@@ -18,11 +18,14 @@ returns c =
     let top : to_z w128 (of_z w128 c.num-2.result) ≡ x.num =
     ap (λ z. to_z w128 (of_z w128 z)) c.num-2.ensures ∙ read_part x.num x.lowest.num_fits in
     let common_is : pos common ≡ c.args.denominator =
-    ap pos c.in-Ok.ensures.1 ∙ pos_abs_z (to_z w128 (of_z w128 c.args.denominator)) c.in-Ok.ensures.0.0
+    ap pos c.in-Ok.ensures.1
+    ∙ pos_abs_z (to_z w128 (of_z w128 c.args.denominator)) c.in-Ok.ensures.0.0
     ∙ to_z-of_z w128 c.args.denominator c.ranges.denominator in
     let d_is : pos d ≡ x.den =
-    ap pos c.in-Ok-try_from.ensures.1 ∙ pos_abs_z (to_z w128 (of_z w128 c.den-2.result)) c.in-Ok-try_from.ensures.0.0 ∙ bottom in
-    let n_is : n ≡ x.num = to_z-of_z w32 c.in-Ok-try_from-2.n (search rules) ∙ c.in-Ok-try_from-2.ensures.1 ∙ top in
+    ap pos c.in-Ok-try_from.ensures.1
+    ∙ pos_abs_z (to_z w128 (of_z w128 c.den-2.result)) c.in-Ok-try_from.ensures.0.0 ∙ bottom in
+    let n_is : n ≡ x.num = to_z-of_z w32 c.in-Ok-try_from-2.n (search rules)
+    ∙ c.in-Ok-try_from-2.ensures.1 ∙ top in
     let result_is : to_z w128 (of_z w128 c.short_product.result) ≡ n *ℤ pos (common / d) =
     to_z-of_z w128 c.short_product.result (search rules) ∙ c.short_product.ensures in
     subst (λ (z : ℤ). IsRatio x z c.args.denominator) (sym result_is)

@@ -16,8 +16,12 @@ returns-clause-shift c =
 
 pub returns-in_err-change-clause-wide : goal.returns-in_err-change-clause-wide
 returns-in_err-change-clause-wide c =
-    on_err c.from_residual.result (IsWideChange c.args.x c.args.value c.args.bound)
-    (c.neg.result, negation_value c.args.x c.neg.result c.neg.ensures, inl c.in_err-change.ensures.wide)
+    on_err c.from_residual.result (IsWideChange c.args.x c.args.value c.args.bound) (
+      c.neg.result,
+      negation_value c.args.x c.neg.result c.neg.ensures,
+      inl
+          c.in_err-change.ensures.wide,
+    )
 
 pub returns-in_err-shift-clause-wide : goal.returns-in_err-shift-clause-wide
 returns-in_err-shift-clause-wide c =
@@ -27,7 +31,8 @@ returns-in_err-shift-clause-wide c =
       m_is,
       inr (
         c.in_ok-change.change,
-        sum_value c.args.value c.neg.result c.in_ok-change.change c.in_ok-change.ensures.value ∙ ap (λ w. rational c.args.value +ℚ w) m_is,
+        sum_value c.args.value c.neg.result c.in_ok-change.change c.in_ok-change.ensures.value
+            ∙ ap (λ w. rational c.args.value +ℚ w) m_is,
         c.in_err-shift.ensures.wide,
       ),
     )
@@ -36,5 +41,7 @@ pub returns-clause-narrow : goal.returns-clause-narrow
 returns-clause-narrow c =
     let change = c.in_ok-change.change in
     let m_is = negation_value c.args.x c.neg.result c.neg.ensures in
-    narrow_change c.args.x c.args.value c.args.bound c.neg.result change m_is c.in_ok-change.ensures.fits
-    (sum_value c.args.value c.neg.result change c.in_ok-change.ensures.value ∙ ap (λ w. rational c.args.value +ℚ w) m_is) c.in_ok-shift.ensures.fits
+    narrow_change c.args.x c.args.value c.args.bound c.neg.result change m_is
+    c.in_ok-change.ensures.fits
+    (sum_value c.args.value c.neg.result change c.in_ok-change.ensures.value
+    ∙ ap (λ w. rational c.args.value +ℚ w) m_is) c.in_ok-shift.ensures.fits

@@ -13,7 +13,9 @@ pub returns-then-num-eq0-clause-sum : goal.returns-then-num-eq0-clause-sum
 returns-then-num-eq0-clause-sum c = λ cs r h.
     let m = c.args.multiplier in
     let none : m.num ≡ pos 0 =
-    sym (read_part m.num m.lowest.num_fits) ∙ ap (λ (z : ℤ). to_z w128 (of_z w128 z)) (sym c.num.ensures) ∙ ap (to_z w128) c.if-num-eq0.true in
+    sym (read_part m.num m.lowest.num_fits)
+    ∙ ap (λ (z : ℤ). to_z w128 (of_z w128 z)) (sym c.num.ensures)
+    ∙ ap (to_z w128) c.if-num-eq0.true in
     let w : Weighted = record { multiplier = m; constraint = c.args.constraint.now } in
     (cs, r, h, constraint_left_out c.args.problem.now cs r w none)
 
@@ -27,7 +29,8 @@ returns-then-is_equation-clause-sum c = λ cs r h.
       s,
       parts,
       constraint_added c.args.problem.now cs r w ds s
-          (subst (λ (es : List Entry). IsAdded cs r w.multiplier es k.right ds s) c.as_slice.ensures added) (λ some wide. some (inr equal)),
+          (subst (λ (es : List Entry). IsAdded cs r w.multiplier es k.right ds s) c.as_slice.ensures
+          added) (λ some wide. some (inr equal)),
     )
 
 pub returns-clause-sum : goal.returns-clause-sum
@@ -39,12 +42,20 @@ returns-clause-sum c = λ cs r h.
       s,
       parts,
       constraint_added c.args.problem.now cs r w ds s
-          (subst (λ (es : List Entry). IsAdded cs r w.multiplier es k.right ds s) c.as_slice.ensures added)
+          (subst (λ (es : List Entry). IsAdded cs r w.multiplier es k.right ds s) c.as_slice.ensures
+          added)
           (λ some wide. c.in_ok-piece.ensures.narrow wide),
     )
 
 pub returns-clause-slack : goal.returns-clause-slack
 returns-clause-slack c =
-    let some : numerator c.args.multiplier ≡ pos 0 → ⊥ = λ none. c.if-num-eq0.false (ap (of_z w128) (c.num.ensures ∙ none)) in
-    let unequal : c.args.constraint.now.sense ≡ Equal → ⊥ = λ equal. let t = c.is_equation.ensures.1 equal in absurd (cc) in
-    inr (λ passed. ⊎_elim some unequal passed, c.in_ok-piece.piece, c.in_ok-piece.ensures.slack, c.in_ok-push.ensures.items)
+    let some : numerator c.args.multiplier ≡ pos 0 →
+    ⊥ = λ none. c.if-num-eq0.false (ap (of_z w128) (c.num.ensures ∙ none)) in
+    let unequal : c.args.constraint.now.sense ≡ Equal → ⊥ = λ equal. let t =
+    c.is_equation.ensures.1 equal in absurd (cc) in
+    inr (
+      λ passed. ⊎_elim some unequal passed,
+      c.in_ok-piece.piece,
+      c.in_ok-piece.ensures.slack,
+      c.in_ok-push.ensures.items,
+    )

@@ -16,7 +16,9 @@ pub returns-then-num-eq0-clause-sum : goal.returns-then-num-eq0-clause-sum
 returns-then-num-eq0-clause-sum c =
     let m = c.args.multiplier in
     let none : m.num ≡ pos 0 =
-    sym (read_part m.num m.lowest.num_fits) ∙ ap (λ (z : ℤ). to_z w128 (of_z w128 z)) (sym c.num.ensures) ∙ ap (to_z w128) c.if-num-eq0.true in
+    sym (read_part m.num m.lowest.num_fits)
+    ∙ ap (λ (z : ℤ). to_z w128 (of_z w128 z)) (sym c.num.ensures)
+    ∙ ap (to_z w128) c.if-num-eq0.true in
     λ (point : List Rational).
     let k = c.args.constraint.now in
     let old = c.args.made.now.sum in
@@ -25,9 +27,16 @@ returns-then-num-eq0-clause-sum c =
 
 pub returns-clause-slack : goal.returns-clause-slack
 returns-clause-slack c =
-    let some : numerator c.args.multiplier ≡ pos 0 → ⊥ = λ none. c.if-num-eq0.false (ap (of_z w128) (c.num.ensures ∙ none)) in
-    let unequal : c.args.constraint.now.sense ≡ Equal → ⊥ = λ equal. let t = c.is_equation.ensures.1 equal in absurd (cc) in
-    inr (λ passed. ⊎_elim some unequal passed, c.in_ok-piece.piece, c.in_ok-piece.ensures.slack, c.in_ok-push.ensures.items)
+    let some : numerator c.args.multiplier ≡ pos 0 →
+    ⊥ = λ none. c.if-num-eq0.false (ap (of_z w128) (c.num.ensures ∙ none)) in
+    let unequal : c.args.constraint.now.sense ≡ Equal → ⊥ = λ equal. let t =
+    c.is_equation.ensures.1 equal in absurd (cc) in
+    inr (
+      λ passed. ⊎_elim some unequal passed,
+      c.in_ok-piece.piece,
+      c.in_ok-piece.ensures.slack,
+      c.in_ok-push.ensures.items,
+    )
 
 pub returns-in_err-add-clause-wide : goal.returns-in_err-add-clause-wide
 returns-in_err-add-clause-wide c = λ fault.
@@ -36,19 +45,24 @@ returns-in_err-add-clause-wide c = λ fault.
     let sum = c.args.made.now.sum in
     record {
       named = λ none. c.if-num-eq0.false (ap (of_z w128) (c.num.ensures ∙ none));
-      wide = inl (subst (λ (es : List Entry). IsWideWithin sum.coefficients.items m es ⊎ IsWideAt sum.right m k.right) c.as_slice.ensures
+      wide = inl (subst (λ (es : List Entry). IsWideWithin sum.coefficients.items m es
+          ⊎ IsWideAt sum.right m k.right) c.as_slice.ensures
           c.in_err-add.ensures.wide);
     }
 
 pub returns-in_err-piece-clause-wide : goal.returns-in_err-piece-clause-wide
 returns-in_err-piece-clause-wide c = λ fault.
-    let some : numerator c.args.multiplier ≡ pos 0 → ⊥ = λ none. c.if-num-eq0.false (ap (of_z w128) (c.num.ensures ∙ none)) in
-    let unequal : c.args.constraint.now.sense ≡ Equal → ⊥ = λ equal. let t = c.is_equation.ensures.1 equal in absurd (cc) in
+    let some : numerator c.args.multiplier ≡ pos 0 →
+    ⊥ = λ none. c.if-num-eq0.false (ap (of_z w128) (c.num.ensures ∙ none)) in
+    let unequal : c.args.constraint.now.sense ≡ Equal → ⊥ = λ equal. let t =
+    c.is_equation.ensures.1 equal in absurd (cc) in
     record {
       named = some;
       wide = inr (
         λ passed. ⊎_elim some unequal passed,
-        c.in_err-piece.ensures.wide (handed_on c.from_residual-in_err-piece.result _ _ c.from_residual-in_err-piece.ensures.1 fault),
+        c.in_err-piece.ensures.wide
+            (handed_on c.from_residual-in_err-piece.result _ _
+            c.from_residual-in_err-piece.ensures.1 fault),
       );
     }
 
@@ -67,7 +81,8 @@ returns-then-is_equation-clause-narrow c w =
     let sum = c.args.made.now.sum in
     let equal : k.sense ≡ Equal = c.is_equation.ensures.0 c.if-is_equation.true in
     ⊎_elim
-    (subst (λ (es : List Entry). IsWideWithin sum.coefficients.items m es ⊎ IsWideAt sum.right m k.right → ⊥) c.as_slice.ensures
+    (subst (λ (es : List Entry). IsWideWithin sum.coefficients.items m es
+    ⊎ IsWideAt sum.right m k.right → ⊥) c.as_slice.ensures
     c.in_ok-add.ensures.narrow)
     (λ a. a.0 (inr equal)) w.wide
 
@@ -77,6 +92,7 @@ returns-clause-narrow c w =
     let k = c.args.constraint.now in
     let sum = c.args.made.now.sum in
     ⊎_elim
-    (subst (λ (es : List Entry). IsWideWithin sum.coefficients.items m es ⊎ IsWideAt sum.right m k.right → ⊥) c.as_slice.ensures
+    (subst (λ (es : List Entry). IsWideWithin sum.coefficients.items m es
+    ⊎ IsWideAt sum.right m k.right → ⊥) c.as_slice.ensures
     c.in_ok-add.ensures.narrow)
     (λ a. c.in_ok-piece.ensures.narrow a.1) w.wide

@@ -15,7 +15,13 @@ pub loop-constraint-init : goal.loop-constraint-init
 loop-constraint-init c =
     let (cs, r, parts, none) = c.in_ok-sum.ensures in
     record {
-      sum = (cs, r, parts, none_is_aggregate c.args.problem.now _ cs r (ap (λ xs. length xs) c.as_slice-columns.ensures) none);
+      sum = (
+        cs,
+        r,
+        parts,
+        none_is_aggregate c.args.problem.now _ cs r
+            (ap (λ xs. length xs) c.as_slice-columns.ensures) none,
+      );
       slacks = c.new.ensures.items;
       narrow = narrow_sum_of_none c.args.problem.now;
     }
@@ -27,24 +33,35 @@ loop-constraint-preserved c =
     let cs = c.args.constraints.now in
     let done = c.loop-constraint.yielded in
     let pair : Bor Constraint × Bor Frac = (c.in-Some.constraint, c.in-Some.multiplier) in
-    let turn = zip_turn cs ms done c.into_iter-constraint-iterator.result c.loop-constraint.constraint-iterator c.next.new.self c.next.result
-    (search rules) (search rules) c.loop-constraint.yielded_by pair c.in-Some.is c.next.ensures.steps in
-    let w : Weighted = record { multiplier = c.in-Some.multiplier.now; constraint = c.in-Some.constraint.now } in
+    let turn = zip_turn cs ms done c.into_iter-constraint-iterator.result
+    c.loop-constraint.constraint-iterator c.next.new.self c.next.result
+    (search rules) (search rules) c.loop-constraint.yielded_by pair c.in-Some.is
+    c.next.ensures.steps in
+    let w : Weighted = record {
+      multiplier = c.in-Some.multiplier.now;
+      constraint =
+          c.in-Some.constraint.now;
+    } in
     let ws = take (length done) (weighted ms cs) in
     let vs = take (length (done ++ pair ∷ [])) (weighted ms cs) in
-    let next : vs ≡ ws ++ w ∷ [] = ap (λ n. take n (weighted ms cs)) (length-append done (pair ∷ []))
-    ∙ weighted_next ms cs (length done) w.multiplier w.constraint turn.1 turn.0 (turn.3 w.multiplier) (turn.2 w.constraint) in
+    let next : vs ≡ ws ++ w ∷ [] =
+    ap (λ n. take n (weighted ms cs)) (length-append done (pair ∷ []))
+    ∙ weighted_next ms cs (length done) w.multiplier w.constraint turn.1 turn.0
+    (turn.3 w.multiplier) (turn.2 w.constraint) in
     let (xs, r, parts, sum) = c.loop-constraint.invariant.sum in
     let (ds, s, new_parts, added) = c.in_ok-add_over_one.ensures.sum xs r parts in
     record {
       sum = (ds, s, new_parts, aggregate_with p ws vs w xs ds r s next sum added);
-      slacks = made_next HasNoSlack (IsSlack p) ws vs w c.loop-constraint.made.slacks.items c.add_over_one.new.made.slacks.items next
+      slacks = made_next HasNoSlack (IsSlack p) ws vs w c.loop-constraint.made.slacks.items
+          c.add_over_one.new.made.slacks.items next
           c.loop-constraint.invariant.slacks c.in_ok-add_over_one.ensures.slack;
-      narrow = narrow_sum_with p ws vs w xs r next sum c.loop-constraint.invariant.narrow added.fits;
+      narrow = narrow_sum_with p ws vs w xs r next sum c.loop-constraint.invariant.narrow
+          added.fits;
     }
 
 -- all constraints were gone over
-all_taken : (c : In_ok-sum-2) → take (length c.loop-constraint.yielded) (weighted c.args.multipliers.now c.args.constraints.now)
+all_taken : (c : In_ok-sum-2) →
+    take (length c.loop-constraint.yielded) (weighted c.args.multipliers.now c.args.constraints.now)
     ≡ weighted c.args.multipliers.now c.args.constraints.now
 all_taken c =
     let ms = c.args.multipliers.now in
@@ -52,7 +69,8 @@ all_taken c =
     let done = c.loop-constraint.yielded in
     let end : length cs ≤ length done =
     subst (λ n. length cs ≤ n)
-    (sym (zip_end cs ms done c.into_iter-constraint-iterator.result c.loop-constraint.constraint-iterator c.next.new.self c.next.result
+    (sym (zip_end cs ms done c.into_iter-constraint-iterator.result
+    c.loop-constraint.constraint-iterator c.next.new.self c.next.result
     (search rules) (search rules) c.loop-constraint.yielded_by c.in-None.is c.next.ensures.steps))
     (le-min (omega arith) (omega (arith, c.requires))) in
     weighted_all_taken ms cs (length done) end
@@ -62,14 +80,20 @@ returns-clause-sum c =
     let p = c.args.problem.now in
     let (cs, r, parts, sum) = c.loop-constraint.invariant.sum in
     let same = c.in_ok-sum-2.ensures cs r parts in
-    subst (λ (ws : List Weighted). IsAggregate p ws c.in_ok-sum-2.sum.coefficients.items c.in_ok-sum-2.sum.right) (all_taken c)
-    (subst₂ (λ (xs : List Frac) (x : Frac). IsAggregate p (take (length c.loop-constraint.yielded) (weighted c.args.multipliers.now c.args.constraints.now)) xs x) (sym same.0) (sym same.1) sum)
+    subst (λ (ws : List Weighted). IsAggregate p ws c.in_ok-sum-2.sum.coefficients.items
+    c.in_ok-sum-2.sum.right) (all_taken c)
+    (subst₂ (λ (xs : List Frac) (x : Frac). IsAggregate p
+    (take (length c.loop-constraint.yielded)
+    (weighted c.args.multipliers.now c.args.constraints.now)) xs x) (sym same.0)
+    (sym same.1) sum)
 
 pub returns-clause-slacks : goal.returns-clause-slacks
 returns-clause-slacks c =
-    subst (λ (ws : List Weighted). AreMadeOf HasNoSlack (IsSlack c.args.problem.now) ws c.loop-constraint.made.slacks.items) (all_taken c)
+    subst (λ (ws : List Weighted). AreMadeOf HasNoSlack
+    (IsSlack c.args.problem.now) ws c.loop-constraint.made.slacks.items) (all_taken c)
     c.loop-constraint.invariant.slacks
 
 pub returns-clause-narrow : goal.returns-clause-narrow
 returns-clause-narrow c =
-    subst (λ (ws : List Weighted). IsWideSum c.args.problem.now ws → ⊥) (all_taken c) c.loop-constraint.invariant.narrow
+    subst (λ (ws : List Weighted). IsWideSum c.args.problem.now ws → ⊥)
+    (all_taken c) c.loop-constraint.invariant.narrow

@@ -9,6 +9,7 @@ abbrev pub invariant-loop-constraint : goal.invariant-loop-constraint
 invariant-loop-constraint l = record {
   sum : (cs : List Frac) × (r : Frac) × HasParts l.made.sum cs r
       × IsAggregate l.problem (take (length l.yielded) (weighted l.multipliers l.constraints)) cs r;
-  slacks : AreMadeOf HasNoSlack (IsSlack l.problem) (take (length l.yielded) (weighted l.multipliers l.constraints)) l.made.slacks.items;
+  slacks : AreMadeOf HasNoSlack (IsSlack l.problem)
+      (take (length l.yielded) (weighted l.multipliers l.constraints)) l.made.slacks.items;
   narrow : IsWideSum l.problem (take (length l.yielded) (weighted l.multipliers l.constraints)) → ⊥;
 }

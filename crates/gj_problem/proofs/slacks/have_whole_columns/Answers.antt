@@ -8,7 +8,8 @@ use Rattle.gj_problem.proofs.slacks.have_whole_columns.Goals as goal
 pub loop-entry-preserved : goal.loop-entry-preserved
 loop-entry-preserved c =
     let P : Entry → Type 0 = λ e. IsWholeColumn c.args.problem.now e.column in
-    All-more P c.args.entries.now c.loop-entry.entry-index c.entry-item.result c.loop-entry-test.true c.loop-entry.invariant
+    All-more P c.args.entries.now c.loop-entry.entry-index c.entry-item.result
+    c.loop-entry-test.true c.loop-entry.invariant
     (subst P c.entry-item.is (c.is_whole_column.ensures.0 c.if-not-is_whole_column.false))
 
 pub returns-then-not-is_whole_column : goal.returns-then-not-is_whole_column
@@ -16,12 +17,14 @@ returns-then-not-is_whole_column c =
     let P : Entry → Type 0 = λ e. IsWholeColumn c.args.problem.now e.column in (
       λ t. absurd (cc),
       λ all. let t = c.is_whole_column.ensures.1 (subst P (sym c.entry-item.is)
-          (All-get_or P c.args.entries.now c.loop-entry.entry-index c.entry-item.result c.loop-entry-test.true all)) in absurd (cc),
+          (All-get_or P c.args.entries.now c.loop-entry.entry-index c.entry-item.result
+          c.loop-entry-test.true all)) in absurd (cc),
     )
 
 pub returns : goal.returns
 returns c =
     let P : Entry → Type 0 = λ e. IsWholeColumn c.args.problem.now e.column in (
-      λ t. subst (All P) (take_all c.loop-entry.entry-index c.args.entries.now c.loop-entry-test.false) c.loop-entry.invariant,
+      λ t. subst (All P) (take_all c.loop-entry.entry-index c.args.entries.now
+          c.loop-entry-test.false) c.loop-entry.invariant,
       λ all. search rules,
     )

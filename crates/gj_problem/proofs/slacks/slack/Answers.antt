@@ -17,13 +17,17 @@ returns-clause-slack c =
     let n = c.in_ok-scale.ensures.scale.0 in
     let factor = c.with_sign-factor.result in
     let entries_are = c.as_slice-entries.ensures in
-    let factor_is : rational factor ≡ whole (signed k.sense n) = c.with_sign-factor.ensures n c.in_ok-scale.ensures.scale.2 in
+    let factor_is : rational factor ≡ whole (signed k.sense n) =
+    c.with_sign-factor.ensures n c.in_ok-scale.ensures.scale.2 in
     record {
-      is_whole = subst (λ (es : List Entry). IsTrue c.have_whole_columns-is_whole.result ↔ All (λ e. IsWholeColumn c.args.problem.now e.column) es)
+      is_whole = subst (λ (es : List Entry). IsTrue c.have_whole_columns-is_whole.result
+          ↔ All (λ e. IsWholeColumn c.args.problem.now e.column) es)
           entries_are c.have_whole_columns-is_whole.ensures;
       scale = n;
-      scale_is = subst (λ (es : List Entry). IsScale k.right es c.have_whole_columns-is_whole.result n) entries_are c.in_ok-scale.ensures.scale.1;
-      slack_is = subst₂ (λ f (es : List Entry). IsMultiple f es k.right c.in_ok-inequality.inequality) factor_is entries_are
+      scale_is = subst (λ (es : List Entry). IsScale k.right es c.have_whole_columns-is_whole.result
+          n) entries_are c.in_ok-scale.ensures.scale.1;
+      slack_is = subst₂ (λ f (es : List Entry). IsMultiple f es k.right
+          c.in_ok-inequality.inequality) factor_is entries_are
           c.in_ok-inequality.ensures.is;
       entry_is = ap (λ f. f *ℚ rational c.in_ok-entry.entry) (sym factor_is)
           ∙ quotient_value c.neg.result factor c.in_ok-entry.entry c.in_ok-entry.ensures.value
@@ -36,9 +40,11 @@ returns-in_err-scale-clause-wide c = λ fault.
     let is_whole = c.have_whole_columns-is_whole.result in
     let entries_are = c.as_slice-entries.ensures in (
       is_whole,
-      subst (λ (es : List Entry). IsTrue is_whole ↔ All (λ e. IsWholeColumn c.args.problem.now e.column) es) entries_are
+      subst (λ (es : List Entry). IsTrue is_whole
+          ↔ All (λ e. IsWholeColumn c.args.problem.now e.column) es) entries_are
           c.have_whole_columns-is_whole.ensures,
-      inl (subst (λ (es : List Entry). IsWideScale k.right es is_whole) entries_are c.in_err-scale.ensures.wide),
+      inl (subst (λ (es : List Entry). IsWideScale k.right es is_whole) entries_are
+          c.in_err-scale.ensures.wide),
     )
 
 pub returns-in_err-entry-clause-wide : goal.returns-in_err-entry-clause-wide
@@ -48,11 +54,13 @@ returns-in_err-entry-clause-wide c = λ fault.
     let is_whole = c.have_whole_columns-is_whole.result in
     let entries_are = c.as_slice-entries.ensures in (
       is_whole,
-      subst (λ (es : List Entry). IsTrue is_whole ↔ All (λ e. IsWholeColumn c.args.problem.now e.column) es) entries_are
+      subst (λ (es : List Entry). IsTrue is_whole
+          ↔ All (λ e. IsWholeColumn c.args.problem.now e.column) es) entries_are
           c.have_whole_columns-is_whole.ensures,
       inr (record {
         scale = n;
-        scale_is = subst (λ (es : List Entry). IsScale k.right es is_whole n) entries_are c.in_ok-scale.ensures.scale.1;
+        scale_is = subst (λ (es : List Entry). IsScale k.right es is_whole n) entries_are
+            c.in_ok-scale.ensures.scale.1;
         factor = c.with_sign-factor.result;
         factor_is = c.with_sign-factor.ensures n c.in_ok-scale.ensures.scale.2;
         turned = c.neg.result;
@@ -69,17 +77,21 @@ returns-in_err-inequality-clause-wide c = λ fault.
     let factor = c.with_sign-factor.result in
     let entries_are = c.as_slice-entries.ensures in (
       is_whole,
-      subst (λ (es : List Entry). IsTrue is_whole ↔ All (λ e. IsWholeColumn c.args.problem.now e.column) es) entries_are
+      subst (λ (es : List Entry). IsTrue is_whole
+          ↔ All (λ e. IsWholeColumn c.args.problem.now e.column) es) entries_are
           c.have_whole_columns-is_whole.ensures,
       inr (record {
         scale = n;
-        scale_is = subst (λ (es : List Entry). IsScale k.right es is_whole n) entries_are c.in_ok-scale.ensures.scale.1;
+        scale_is = subst (λ (es : List Entry). IsScale k.right es is_whole n) entries_are
+            c.in_ok-scale.ensures.scale.1;
         factor = factor;
         factor_is = c.with_sign-factor.ensures n c.in_ok-scale.ensures.scale.2;
         turned = c.neg.result;
         turned_is = negation_value c.args.multiplier c.neg.result c.neg.ensures;
-        wide = inr (subst (λ (es : List Entry). IsWideMultiple factor k.right es) entries_are (c.in_err-inequality.ensures.wide
-            (handed_on c.from_residual-in_err-inequality.result _ _ c.from_residual-in_err-inequality.ensures.1 fault)));
+        wide = inr (subst (λ (es : List Entry). IsWideMultiple factor k.right es) entries_are
+            (c.in_err-inequality.ensures.wide
+            (handed_on c.from_residual-in_err-inequality.result _ _
+            c.from_residual-in_err-inequality.ensures.1 fault)));
       }),
     )
 
@@ -90,12 +102,17 @@ returns-clause-narrow c =
     let is_whole = c.have_whole_columns-is_whole.result in
     let factor = c.with_sign-factor.result in
     let entries_are = c.as_slice-entries.ensures in
-    narrow_slack c.args.problem.now (record { multiplier = c.args.multiplier; constraint = k }) is_whole n factor c.neg.result
-    (subst (λ (es : List Entry). IsTrue is_whole ↔ All (λ e. IsWholeColumn c.args.problem.now e.column) es) entries_are
+    narrow_slack c.args.problem.now (record { multiplier = c.args.multiplier; constraint = k })
+    is_whole n factor c.neg.result
+    (subst (λ (es : List Entry). IsTrue is_whole
+    ↔ All (λ e. IsWholeColumn c.args.problem.now e.column) es) entries_are
     c.have_whole_columns-is_whole.ensures)
-    (subst (λ (es : List Entry). IsScale k.right es is_whole n) entries_are c.in_ok-scale.ensures.scale.1)
+    (subst (λ (es : List Entry). IsScale k.right es is_whole n) entries_are
+    c.in_ok-scale.ensures.scale.1)
     (c.with_sign-factor.ensures n c.in_ok-scale.ensures.scale.2)
     (negation_value c.args.multiplier c.neg.result c.neg.ensures)
-    (subst (λ (es : List Entry). IsWideScale k.right es is_whole → ⊥) entries_are c.in_ok-scale.ensures.narrow)
+    (subst (λ (es : List Entry). IsWideScale k.right es is_whole →
+    ⊥) entries_are c.in_ok-scale.ensures.narrow)
     c.in_ok-entry.ensures.fits
-    (subst (λ (es : List Entry). All (FitsProduct factor) (numbers_of k.right es)) entries_are c.in_ok-inequality.ensures.fits)
+    (subst (λ (es : List Entry). All (FitsProduct factor) (numbers_of k.right es)) entries_are
+    c.in_ok-inequality.ensures.fits)

@@ -8,5 +8,6 @@ returns c = (
   c.in_ok-cut.ensures.is,
   c.in_ok-cut.ensures.holds,
   c.in_ok-push_cut.ensures
-      ∙ ap (λ (names : List (List ℕ)). c.args.out.now.items ++ cut_lines names c.in_ok-cut.cut) c.as_slice.ensures,
+      ∙ ap (λ (names : List (List ℕ)). c.args.out.now.items ++ cut_lines names c.in_ok-cut.cut)
+      c.as_slice.ensures,
 )

@@ -16,14 +16,17 @@ pub loop-request-preserved : goal.loop-request-preserved
 loop-request-preserved c = record {
   count = c.in_ok-push_request.ensures.count ∙ c.loop-request.invariant.count;
   leads = one_answered _ _ _ _ _ _ _ _ c.request-item.result _ _ c.loop-request.invariant.leads
-      (next_item _ c.loop-request.request-index c.request-item.result c.loop-request-test.true c.request-item.is)
+      (next_item _ c.loop-request.request-index c.request-item.result c.loop-request-test.true
+      c.request-item.is)
       c.in_ok-push_request.ensures.step;
 }
 
 pub returns : goal.returns
 returns c =
-    subst (λ (rs : List Request). IsAnswered c.args.rule.now c.args.task.now c.args.out.now.items rs c.loop-request.out.items) c.as_slice-request-items.ensures
-    (all_answered _ _ _ _ _ _ _ c.loop-request.invariant.leads (drop_all _ _ c.loop-request-test.false))
+    subst (λ (rs : List Request). IsAnswered c.args.rule.now c.args.task.now c.args.out.now.items rs
+    c.loop-request.out.items) c.as_slice-request-items.ensures
+    (all_answered _ _ _ _ _ _ _ c.loop-request.invariant.leads
+    (drop_all _ _ c.loop-request-test.false))
 
 pub push_request-requires-clause-grid : goal.push_request-requires-clause-grid
 push_request-requires-clause-grid c = c.requires.ready.grid
@@ -35,5 +38,6 @@ pub push_request-requires-clause-multipliers : goal.push_request-requires-clause
 push_request-requires-clause-multipliers c =
     let n = length c.args.task.now.problem.constraints in
     subst (HasMultipliers n) (sym c.request-item.is)
-    (subst (λ (rs : List Request). All (HasMultipliers n) rs) (sym c.as_slice-request-items.ensures) c.requires.ready.multipliers
+    (subst (λ (rs : List Request). All (HasMultipliers n) rs)
+    (sym c.as_slice-request-items.ensures) c.requires.ready.multipliers
     c.loop-request.request-index c.request-item.result c.loop-request-test.true)

@@ -11,7 +11,8 @@ returns-in_ok-push_answer-in-Sum-clause-step c =
       refl,
       (
         cut,
-        subst₂ (λ (ms : List Frac) (ups : List Bool). IsAnswer c.args.rule.now c.args.task.now ms ups cut) c.as_slice.ensures
+        subst₂ (λ (ms : List Frac) (ups : List Bool). IsAnswer c.args.rule.now c.args.task.now ms
+            ups cut) c.as_slice.ensures
             c.as_slice-in-Sum.ensures.value answer,
         holds,
         pushed,
@@ -21,4 +22,5 @@ returns-in_ok-push_answer-in-Sum-clause-step c =
 pub push_answer-requires-clause-multipliers : goal.push_answer-requires-clause-multipliers
 push_answer-requires-clause-multipliers c =
     ap length c.as_slice.ensures
-    ∙ subst (HasMultipliers (length c.args.task.now.problem.constraints)) c.in-Sum.is c.requires.multipliers
+    ∙ subst (HasMultipliers (length c.args.task.now.problem.constraints)) c.in-Sum.is
+    c.requires.multipliers

@@ -9,13 +9,16 @@ use Rattle.gj_problem_text.proofs.input.input_behind.Goals as goal
 
 -- the slice behind the function is the rest
 whole : (text : List ℕ) (n : ℕ) → take (length text - n) (drop n text) ≡ drop n text
-whole text n = let long = length-drop n text in take_all (length text - n) (drop n text) (omega arith)
+whole text n = let long = length-drop n text in
+    take_all (length text - n) (drop n text) (omega arith)
 
 pub returns-in-Ok-clause-found : goal.returns-in-Ok-clause-found
 returns-in-Ok-clause-found c =
     let text = c.args.bytes.now in
-    behind_read text c.requires.begins c.args.shape (drop c.args.len text) c.requires.function c.in-Ok.task
-    (subst (λ (t : List ℕ). (end : List ℕ) × unruled_text.Reads t c.in-Ok.task end) (whole text c.args.len) c.in-Ok.ensures.found)
+    behind_read text c.requires.begins c.args.shape (drop c.args.len text) c.requires.function
+    c.in-Ok.task
+    (subst (λ (t : List ℕ). (end : List ℕ) × unruled_text.Reads t c.in-Ok.task end)
+    (whole text c.args.len) c.in-Ok.ensures.found)
 
 pub returns-in-Err-Refused-clause-refused : goal.returns-in-Err-Refused-clause-refused
 returns-in-Err-Refused-clause-refused c =
@@ -24,7 +27,8 @@ returns-in-Err-Refused-clause-refused c =
     let reason = c.in-Err-Refused.reason in
     rw c.in-Err-Refused.field-0-is
     (first_fault_of safe_input safe_input_is_exact text left _ reason
-    (behind_fault text c.requires.begins c.args.shape (drop c.args.len text) c.requires.function (Refused left reason)
+    (behind_fault text c.requires.begins c.args.shape (drop c.args.len text) c.requires.function
+    (Refused left reason)
     (subst (λ (t : List ℕ). IsFaultOf unruled_text t (Refused left reason)) (whole text c.args.len)
     (rw c.in-Err-Refused.field-0-is at c.in-Err-Refused.ensures.fault)))
     (rw c.in-Err-Refused.field-0-is at c.line_number.ensures))

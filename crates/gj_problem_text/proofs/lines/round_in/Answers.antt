@@ -4,9 +4,11 @@ use Rattle.gj_problem_text.proofs.lines.round_in.Goals as goal
 
 pub returns-in_default-count_of-clause-broken : goal.returns-in_default-count_of-clause-broken
 returns-in_default-count_of-clause-broken c =
-    rw c.in-Some.ensures.found (no_round c.in-Some.word.now (λ n some. c.in_default-count_of.ensures.none n))
+    rw c.in-Some.ensures.found
+    (no_round c.in-Some.word.now (λ n some. c.in_default-count_of.ensures.none n))
 
 pub returns-then-grid-eq0-clause-broken : goal.returns-then-grid-eq0-clause-broken
 returns-then-grid-eq0-clause-broken c =
     rw c.in-Some.ensures.found
-    (zero_is_no_round c.in-Some.word.now c.in-Some-count_of.grid c.in-Some-count_of.ensures.found (omega (arith, c.if-grid-eq0.true)))
+    (zero_is_no_round c.in-Some.word.now c.in-Some-count_of.grid c.in-Some-count_of.ensures.found
+    (omega (arith, c.if-grid-eq0.true)))

@@ -7,7 +7,8 @@ use Rattle.gj_problem_text.proofs.print.push_inequality.Goals as goal
 pub returns : goal.returns
 returns c =
     c.in_ok-push_terms.ensures
-    ∙ ap₂ (λ (xs : List ℕ) (es : List Entry). xs ++ flat_map (cut_term_line c.args.names.now) es) c.in_ok-push_right_side.ensures
+    ∙ ap₂ (λ (xs : List ℕ) (es : List Entry). xs ++ flat_map (cut_term_line c.args.names.now) es)
+    c.in_ok-push_right_side.ensures
     c.as_slice.ensures
     ∙ append_assoc c.args.out.now.items (line_of cut_form c.args.cut.now.right)
     (flat_map (cut_term_line c.args.names.now) c.args.cut.now.entries)

@@ -5,4 +5,5 @@ use Rattle.gj_problem_text.proofs.print.push_terms.Given as goal
 
 abbrev pub invariant-loop-entry : goal.invariant-loop-entry
 invariant-loop-entry l =
-    ArePrinted (cut_term_line l.names) l.initial.out.items l.entries l.out.items (drop l.entry-index l.entries)
+    ArePrinted (cut_term_line l.names) l.initial.out.items l.entries l.out.items
+    (drop l.entry-index l.entries)

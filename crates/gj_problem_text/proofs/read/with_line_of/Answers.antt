@@ -19,6 +19,7 @@ pub returns-clause-broken : goal.returns-clause-broken
 returns-clause-broken c =
     let told = line_told c.in_ok-told.told in
     let breaks = (task_rule c.args.task.now).Breaks (word_texts c.args.line.now) in
-    IfErr-weaker c.with_line.result (IsRefusedFor (Refuses c.args.task.now told)) (IsRefusedFor breaks)
+    IfErr-weaker c.with_line.result (IsRefusedFor (Refuses c.args.task.now told))
+    (IsRefusedFor breaks)
     (λ (e : LineFault) h. refused_for (Refuses c.args.task.now told) breaks e
     (λ r k. inr (told, c.in_ok-told.ensures.told, k)) h) c.with_line.ensures.refused

@@ -5,5 +5,9 @@ pub returns-in_default-bound_of-clause-refused : goal.returns-in_default-bound_o
 returns-in_default-bound_of-clause-refused c =
     inr (
       c.in_ok-kept.ensures.found.1,
-      inr ((c.in-Some.lower, c.in-Some.ensures.found), inl (c.in_default-bound_of.ensures.none, refl)),
+      inr (
+        (c.in-Some.lower, c.in-Some.ensures.found),
+        inl
+            (c.in_default-bound_of.ensures.none, refl),
+      ),
     )

@@ -7,4 +7,5 @@ pub returns-in-Some-clause-found : goal.returns-in-Some-clause-found
 returns-in-Some-clause-found c =
     let printed = c.in-Some.ensures in
     let q = c.args.order in
-    rw printed.0 (line_is_read (cover_form q) (cover_is_clear q c.requires) c.in-Some.line _ printed.1)
+    rw printed.0 (line_is_read (cover_form q) (cover_is_clear q c.requires) c.in-Some.line _
+    printed.1)

@@ -8,12 +8,14 @@ use Rattle.gj_proof.proofs.cover_lines.cover_lines_at.Goals as goal
 
 pub loop-preserved : goal.loop-preserved
 loop-preserved c =
-    times_on (form_part (cover_form c.args.order)) c.args.order c.loop.counter _ _ _ c.loop.invariant (omega arith) _ _ c.in_ok-line.line
+    times_on (form_part (cover_form c.args.order)) c.args.order c.loop.counter _ _ _
+    c.loop.invariant (omega arith) _ _ c.in_ok-line.line
     c.in_ok-line.ensures.found c.in_ok-push.ensures.items
 
 pub returns-in_err-line-clause-fault : goal.returns-in_err-line-clause-fault
 returns-in_err-line-clause-fault c =
     let p = err_from_is_err_and c.from_residual.result c.from_residual.ensures.1 in
     passed_on (IsFaultOf (covered_part c.args.order) c.args.text.now) _ _ _ p.1 p.2
-    (times_at_fault (form_part (cover_form c.args.order)) c.args.order c.loop.counter _ _ _ c.loop.invariant (omega arith) _
+    (times_at_fault (form_part (cover_form c.args.order)) c.args.order c.loop.counter _ _ _
+    c.loop.invariant (omega arith) _
     c.in_err-line.ensures.fault)

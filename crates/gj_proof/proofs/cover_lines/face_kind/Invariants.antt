@@ -5,4 +5,5 @@ use Rattle.gj_proof.proofs.cover_lines.face_kind.Given as goal
 
 -- the word is of none of the kinds before this one
 abbrev pub invariant-loop-kind : goal.invariant-loop-kind
-invariant-loop-kind l = (k : ℕ) → k < l.kind-index → l.word ≡ face_word (get_or l.kind-items k Vertex) → ⊥
+invariant-loop-kind l = (k : ℕ) → k < l.kind-index →
+    l.word ≡ face_word (get_or l.kind-items k Vertex) → ⊥

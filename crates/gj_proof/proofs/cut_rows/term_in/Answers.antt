@@ -7,5 +7,7 @@ use Rattle.gj_proof.proofs.cut_rows.term_in.Goals as goal
 pub returns-in-Err-clause-fault : goal.returns-in-Err-clause-fault
 returns-in-Err-clause-fault c =
     let fault = c.in-Err.ensures.fault in
-    no_such_numbers term_form _ _ (record { name = c.in-Some.word.now; entry = zero_fraction; cut = zero_fraction }) _
-    c.in-Some.ensures.found refl c.in_ok-name.ensures.found.1 fault.0 (no_term_numbers _ _ _ fault.1)
+    no_such_numbers term_form _ _
+    (record { name = c.in-Some.word.now; entry = zero_fraction; cut = zero_fraction }) _
+    c.in-Some.ensures.found refl c.in_ok-name.ensures.found.1 fault.0
+    (no_term_numbers _ _ _ fault.1)

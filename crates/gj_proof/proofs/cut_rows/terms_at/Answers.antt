@@ -13,7 +13,8 @@ pub loop-terms-preserved : goal.loop-terms-preserved
 loop-terms-preserved c =
     let begins = simp c.in-Some.is at c.in_ok-term.ensures.begins in
     let found = simp c.in-Some.is at c.in_ok-term.ensures.found in
-    while_on (form_part term_form) BeginsTerm _ _ _ _ _ c.in-Some.term c.loop-terms.invariant begins found c.in_ok-push.ensures.items
+    while_on (form_part term_form) BeginsTerm _ _ _ _ _ c.in-Some.term c.loop-terms.invariant begins
+    found c.in_ok-push.ensures.items
 
 pub loop-terms-smaller : goal.loop-terms-smaller
 loop-terms-smaller c =

@@ -6,7 +6,8 @@ use Rattle.gj_proof.proofs.CutTexts.{BeginsTerm}
 use Rattle.gj_proof.proofs.cut_rows.terms_at.Given as goal
 
 abbrev pub invariant-loop-terms : goal.invariant-loop-terms
-invariant-loop-terms l = LeadsOn (next_while BeginsTerm (form_part term_form)) [] l.text l.terms.items l.rest
+invariant-loop-terms l = LeadsOn (next_while BeginsTerm (form_part term_form))
+    [] l.text l.terms.items l.rest
 
 abbrev pub decreases-loop-terms : goal.decreases-loop-terms
 decreases-loop-terms l = length l.rest

@@ -12,7 +12,8 @@ returns-in_err-x-clause-none c = rw c.from_residual.ensures (no_whole _ c.in_err
 pub returns-then-den-ne1-clause-none : goal.returns-then-den-ne1-clause-none
 returns-then-den-ne1-clause-none c =
     not_over_one _ c.in_ok-x.x c.in_ok-x.ensures.found
-    (λ is. let den : c.den.result ≡ pos 1 = c.den.ensures ∙ is in c.if-den-ne1.true (rw den (omega arith)))
+    (λ is. let den : c.den.result ≡ pos 1 = c.den.ensures ∙ is in
+    c.if-den-ne1.true (rw den (omega arith)))
 
 pub returns-clause-found : goal.returns-clause-found
 returns-clause-found c =

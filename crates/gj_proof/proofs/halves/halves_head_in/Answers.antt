@@ -6,5 +6,6 @@ use Rattle.gj_proof.proofs.halves.halves_head_in.Goals as goal
 
 pub returns-in-None-clause-fault : goal.returns-in-None-clause-fault
 returns-in-None-clause-fault c =
-    no_such_numbers halves_form _ _ (record { order = 0; scale = pos 0 }) _ c.in-Some.ensures.found refl tt refl
+    no_such_numbers halves_form _ _ (record { order = 0; scale = pos 0 }) _ c.in-Some.ensures.found
+    refl tt refl
     (no_halves _ _ c.in-None.ensures.none)

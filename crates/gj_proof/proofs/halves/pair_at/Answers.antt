@@ -5,4 +5,5 @@ use Rattle.gj_proof.proofs.halves.pair_at.Goals as goal
 
 pub returns-in-Some-clause-found : goal.returns-in-Some-clause-found
 returns-in-Some-clause-found c =
-    let printed = c.in-Some.ensures in rw printed.0 (line_is_read pair_form pair_is_clear c.in-Some.pair _ (printed.1, printed.2))
+    let printed = c.in-Some.ensures in
+    rw printed.0 (line_is_read pair_form pair_is_clear c.in-Some.pair _ (printed.1, printed.2))

@@ -6,4 +6,5 @@ use Rattle.gj_proof.proofs.halves.pair_in.Goals as goal
 
 pub returns-in-None-clause-fault : goal.returns-in-None-clause-fault
 returns-in-None-clause-fault c =
-    no_such_numbers pair_form _ _ (pos 0, pos 0) _ c.in-Some.ensures.found refl tt refl (no_pair _ _ c.in-None.ensures.none)
+    no_such_numbers pair_form _ _ (pos 0, pos 0) _ c.in-Some.ensures.found refl tt refl
+    (no_pair _ _ c.in-None.ensures.none)

@@ -13,7 +13,8 @@ loop-preserved c =
     let fit = c.in_ok-x.ensures.found.3 in
     let x = within_bits c.in_ok-x.x c.in_ok-x.x refl fit.1.0 in
     let y = within_bits c.in_ok-x.y c.in_ok-x.y refl fit.1.1 in
-    pairs_on c.args.count c.loop.counter _ _ _ _ _ _ _ (c.in_ok-x.x, c.in_ok-x.y) c.loop.invariant (omega arith) c.in_ok-x.ensures.found
+    pairs_on c.args.count c.loop.counter _ _ _ _ _ _ _ (c.in_ok-x.x, c.in_ok-x.y) c.loop.invariant
+    (omega arith) c.in_ok-x.ensures.found
     (c.in_ok-push.ensures.items ∙ ap (λ (n : ℤ). c.loop.first.items ++ n ∷ []) x)
     (c.in_ok-push-2.ensures.items ∙ ap (λ (n : ℤ). c.loop.second.items ++ n ∷ []) y)
 
@@ -21,8 +22,10 @@ pub returns-in_err-x-clause-fault : goal.returns-in_err-x-clause-fault
 returns-in_err-x-clause-fault c =
     let p = err_from_is_err_and c.from_residual.result c.from_residual.ensures.1 in
     passed_on (IsFaultOf (pairs_part c.args.count) c.args.text.now) _ _ _ p.1 p.2
-    (times_at_fault (form_part pair_form) c.args.count c.loop.counter _ _ _ c.loop.invariant.leaves (omega arith) _ c.in_err-x.ensures.fault)
+    (times_at_fault (form_part pair_form) c.args.count c.loop.counter _ _ _ c.loop.invariant.leaves
+    (omega arith) _ c.in_err-x.ensures.fault)
 
 pub returns-clause-found : goal.returns-clause-found
 returns-clause-found c =
-    pairs_end c.args.count c.loop.counter _ _ _ _ c.loop.invariant (let over = c.loop-test.false in omega arith)
+    pairs_end c.args.count c.loop.counter _ _ _ _ c.loop.invariant (let over = c.loop-test.false in
+    omega arith)

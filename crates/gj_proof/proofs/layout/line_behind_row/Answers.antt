@@ -12,7 +12,8 @@ returns-in-Cut c =
     let some = c.lines_with_terms.ensures in
     let all = length-row 0 c.args.row.now in
     record {
-      number = IfOk-weaker c.line_below.result _ _ (λ n is. omega arith) c.line_below.ensures.number;
+      number = IfOk-weaker c.line_below.result _ _
+          (λ n is. omega arith) c.line_below.ensures.number;
       memory = on_err_weaker c.line_below.result (λ high. omega arith) c.line_below.ensures.memory;
     }
 
@@ -21,6 +22,8 @@ returns-in-Skip c =
     let none = ap (λ l. length (terms_of l)) c.in-Skip.is in
     let all = length-row 0 c.args.row.now in
     record {
-      number = IfOk-weaker c.line_below-in-Skip.result _ _ (λ n is. omega arith) c.line_below-in-Skip.ensures.number;
-      memory = on_err_weaker c.line_below-in-Skip.result (λ high. omega arith) c.line_below-in-Skip.ensures.memory;
+      number = IfOk-weaker c.line_below-in-Skip.result _ _
+          (λ n is. omega arith) c.line_below-in-Skip.ensures.number;
+      memory = on_err_weaker c.line_below-in-Skip.result
+          (λ high. omega arith) c.line_below-in-Skip.ensures.memory;
     }

@@ -11,14 +11,16 @@ use Rattle.gj_proof.proofs.pivot_rows.groups_at.Goals as goal
 
 pub loop-alloc-preserved : goal.loop-alloc-preserved
 loop-alloc-preserved c =
-    until_on (group_part c.args.order) BeginsEnd _ _ _ _ _ _ c.loop-alloc.invariant (λ is. false≢true (c.loop-alloc-test.ensures.1 is))
+    until_on (group_part c.args.order) BeginsEnd _ _ _ _ _ _ c.loop-alloc.invariant
+    (λ is. false≢true (c.loop-alloc-test.ensures.1 is))
     c.in_ok-row.ensures.found c.in_ok-push.ensures.items
 
 pub loop-alloc-smaller : goal.loop-alloc-smaller
 loop-alloc-smaller c = shorter_behind_group _ _ _ c.in_ok-row.row c.in_ok-row.ensures.found
 
 pub returns-clause-found : goal.returns-clause-found
-returns-clause-found c = until_end (group_part c.args.order) BeginsEnd _ _ _ c.loop-alloc.invariant (c.loop-alloc-test.ensures.0 refl)
+returns-clause-found c = until_end (group_part c.args.order) BeginsEnd _ _ _ c.loop-alloc.invariant
+    (c.loop-alloc-test.ensures.0 refl)
 
 pub returns-in_err-row-clause-fault : goal.returns-in_err-row-clause-fault
 returns-in_err-row-clause-fault c =

@@ -6,4 +6,5 @@ use Rattle.gj_proof.proofs.read.claim_at.Goals as goal
 
 pub returns-in-Cut-clause-fault : goal.returns-in-Cut-clause-fault
 returns-in-Cut-clause-fault c =
-    subst (λ (w : ClaimWord). IfErr c.cut_at.result (IsFaultOf (claim_part w) c.args.text.now)) (sym c.in-Cut.is) c.cut_at.ensures.fault
+    subst (λ (w : ClaimWord). IfErr c.cut_at.result (IsFaultOf (claim_part w) c.args.text.now))
+    (sym c.in-Cut.is) c.cut_at.ensures.fault

@@ -8,7 +8,8 @@ use Rattle.gj_proof.proofs.read.claim_word_of.Goals.{else-eq-via-then-eq+else-eq
 use Rattle.gj_proof.proofs.read.claim_word_of.Goals as goal
 
 abbrev word_at : ℕ → ClaimWord
-word_at i = get_or (Minimal ∷ NotMinimal ∷ Cut ∷ Extreme Whole ∷ Extreme Residues ∷ NotExtreme ∷ []) i Minimal
+word_at i = get_or (Minimal ∷ NotMinimal ∷ Cut ∷ Extreme Whole ∷ Extreme Residues ∷ NotExtreme ∷ [])
+    i Minimal
 
 every_word : (P : ClaimWord → Type 0) → ((i : ℕ) → i < 6 → P (word_at i)) → (w : ClaimWord) → P w
 every_word P h Minimal = h 0 (lit< tt)
@@ -27,7 +28,8 @@ IsOther field numbers w = field ≡ claim_word_text w → numbers_of_word w ≡ 
 
 pub loop-word-preserved : goal.loop-word-preserved
 loop-word-preserved c =
-    below_more (λ k. IsOther c.in_ok-field.field.now c.args.numbers (word_at k)) c.loop-word.word-index c.loop-word.invariant
+    below_more (λ k. IsOther c.in_ok-field.field.now c.args.numbers (word_at k))
+    c.loop-word.word-index c.loop-word.invariant
     (elim c.else-eq.branch [
       | else-eq-via-then-eq+else-eq-2 w ↦ λ is of. search rules
       | else-eq-via-else-eq w ↦ λ is of. search rules
@@ -35,5 +37,6 @@ loop-word-preserved c =
 
 pub returns-clause-none : goal.returns-clause-none
 returns-clause-none c = λ (w, is, of).
-    every_word (IsOther c.in_ok-field.field.now c.args.numbers) (λ i below. c.loop-word.invariant i (omega arith)) w
+    every_word (IsOther c.in_ok-field.field.now c.args.numbers)
+    (λ i below. c.loop-word.invariant i (omega arith)) w
     (one_field _ _ _ c.in_ok-field.ensures.found is) of

@@ -9,7 +9,8 @@ use Rattle.gj_proof.proofs.read.not_minimal_at.Goals as goal
 
 pub returns-in_err-violation-clause-fault : goal.returns-in_err-violation-clause-fault
 returns-in_err-violation-clause-fault c =
-    let p = err_from_is_err_and c.from_residual-in_err-violation.result c.from_residual-in_err-violation.ensures.1 in
+    let p = err_from_is_err_and c.from_residual-in_err-violation.result
+    c.from_residual-in_err-violation.ensures.1 in
     passed_on (IsFaultOf (claim_part NotMinimal) c.args.text.now) _ _ _ p.1 p.2
     (fault_in_violation _ _ _ _ c.in_ok-shape.ensures.found c.in_err-violation.ensures.fault)
 

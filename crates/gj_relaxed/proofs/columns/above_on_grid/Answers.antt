@@ -12,15 +12,19 @@ use Rattle.gj_relaxed.proofs.columns.above_on_grid.Goals as goal
 
 pub returns-in_err-below_on_grid-clause-wide : goal.returns-in_err-below_on_grid-clause-wide
 returns-in_err-below_on_grid-clause-wide c =
-    on_err c.from_residual.result (IsWideLifted c.args.grid c.args.x)
-    (c.neg.result, negation_value c.args.x c.neg.result c.neg.ensures, c.in_err-below_on_grid.ensures.wide)
+    on_err c.from_residual.result (IsWideLifted c.args.grid c.args.x) (
+      c.neg.result,
+      negation_value c.args.x c.neg.result c.neg.ensures,
+      c.in_err-below_on_grid.ensures.wide,
+    )
 
 pub returns-clause-above : goal.returns-clause-above
 returns-clause-above c =
     let z = c.in_ok-below_on_grid.field-0 in
     let y = c.neg-2.result in
     subst₂ (IsBelowOnGrid c.args.grid) (negation_value c.args.x c.neg.result c.neg.ensures)
-    (sym (ap neg_ℚ (negation_value z y c.neg-2.ensures) ∙ double_neg (rational z))) c.in_ok-below_on_grid.ensures.value
+    (sym (ap neg_ℚ (negation_value z y c.neg-2.ensures) ∙ double_neg (rational z)))
+    c.in_ok-below_on_grid.ensures.value
 
 pub returns-clause-narrow : goal.returns-clause-narrow
 returns-clause-narrow c (k, k_is, wide) =

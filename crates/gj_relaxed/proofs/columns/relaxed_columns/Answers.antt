@@ -27,19 +27,24 @@ loop-column-preserved c =
     let i = c.loop-column.column-index in
     let column = c.column-item.result in
     record {
-      made = subst (λ (made : List Column). AllZip (IsRelaxedColumn c.args.grid) (take (i + 1) cs) made) (sym {A = List Column} c.in_ok-push.ensures.items)
-          (all_zip_more (IsRelaxedColumn c.args.grid) cs c.loop-column.made.items i column c.in_ok-relaxed_column.field-0 c.loop-column-test.true
+      made = subst (λ (made : List Column). AllZip (IsRelaxedColumn c.args.grid)
+          (take (i + 1) cs) made) (sym {A = List Column} c.in_ok-push.ensures.items)
+          (all_zip_more (IsRelaxedColumn c.args.grid) cs c.loop-column.made.items i column
+          c.in_ok-relaxed_column.field-0 c.loop-column-test.true
           c.column-item.is c.loop-column.invariant.made c.in_ok-relaxed_column.ensures.column);
-      narrow = narrow_next_column c.args.grid cs i column c.loop-column-test.true c.column-item.is c.loop-column.invariant.narrow
+      narrow = narrow_next_column c.args.grid cs i column c.loop-column-test.true c.column-item.is
+          c.loop-column.invariant.narrow
           c.in_ok-relaxed_column.ensures.narrow;
     }
 
 pub returns-clause-columns : goal.returns-clause-columns
 returns-clause-columns c =
     subst (λ (cs : List Column). AllZip (IsRelaxedColumn c.args.grid) cs c.loop-column.made.items)
-    (take_all c.loop-column.column-index c.args.columns.now c.loop-column-test.false) c.loop-column.invariant.made
+    (take_all c.loop-column.column-index c.args.columns.now c.loop-column-test.false)
+    c.loop-column.invariant.made
 
 pub returns-clause-narrow : goal.returns-clause-narrow
 returns-clause-narrow c =
     subst (λ (cs : List Column). AreWideColumns c.args.grid cs → ⊥)
-    (take_all c.loop-column.column-index c.args.columns.now c.loop-column-test.false) c.loop-column.invariant.narrow
+    (take_all c.loop-column.column-index c.args.columns.now c.loop-column-test.false)
+    c.loop-column.invariant.narrow

@@ -21,12 +21,16 @@ returns-clause-is g c =
     let p = c.args.problem.now in
     let ms = c.args.multipliers.now in
     let ups = c.args.at_upper.now in
-    let IsCut : RuleKind → SafeCut → Type 0 = λ kind. IsRelaxedCutOf n (IsOfProblem (IsOfRelaxedRow Kept n (IsCutOfRow kind up down))) p ms ups in
-    IfOk-weaker c.relaxed_cut.result (IsCut c.new.result.kind) (IsFunctionRelaxedCutOf c.args.shape n p ms ups)
+    let IsCut : RuleKind → SafeCut →
+    Type 0 = λ kind. IsRelaxedCutOf n
+    (IsOfProblem (IsOfRelaxedRow Kept n (IsCutOfRow kind up down))) p ms ups in
+    IfOk-weaker c.relaxed_cut.result (IsCut c.new.result.kind)
+    (IsFunctionRelaxedCutOf c.args.shape n p ms ups)
     (λ (cut : SafeCut) h. (
       up,
       down,
-      subst₂ (λ (u d : Frac). AreSlopesAtZero c.args.shape u d) (sym c.new-2.ensures.up) (sym c.new-2.ensures.down) c.requires.slopes,
+      subst₂ (λ (u d : Frac). AreSlopesAtZero c.args.shape u d) (sym c.new-2.ensures.up)
+          (sym c.new-2.ensures.down) c.requires.slopes,
       subst (λ (kind : RuleKind). IsCut kind cut) c.new.ensures.kind h,
     )) c.relaxed_cut.ensures.is
 
@@ -36,8 +40,10 @@ returns-clause-holds g c =
     let p = c.args.problem.now in
     let ms = c.args.multipliers.now in
     let ups = c.args.at_upper.now in
-    IfOk-weaker c.relaxed_cut.result (IsFunctionRelaxedCutOf f c.args.grid p ms ups) (SafeCutHolds p)
-    (λ (cut : SafeCut). function_relaxed_holds f c.args.grid p ms ups cut c.requires.bounds c.requires.minimal c.requires.jumps_not c.requires.at_upper)
+    IfOk-weaker c.relaxed_cut.result (IsFunctionRelaxedCutOf f c.args.grid p ms ups)
+    (SafeCutHolds p)
+    (λ (cut : SafeCut). function_relaxed_holds f c.args.grid p ms ups cut c.requires.bounds
+    c.requires.minimal c.requires.jumps_not c.requires.at_upper)
     (returns-clause-is g c)
 
 pub returns-clause-terms : goal.returns-clause-terms
@@ -46,7 +52,8 @@ returns-clause-terms g c =
     let p = c.args.problem.now in
     let ms = c.args.multipliers.now in
     let ups = c.args.at_upper.now in
-    IfOk-weaker c.relaxed_cut.result (IsFunctionRelaxedCutOf f c.args.grid p ms ups) (SafeCutHasTerms p)
+    IfOk-weaker c.relaxed_cut.result (IsFunctionRelaxedCutOf f c.args.grid p ms ups)
+    (SafeCutHasTerms p)
     (λ (cut : SafeCut). function_relaxed_terms f c.args.grid p ms ups cut) (returns-clause-is g c)
 
 pub returns-clause-narrow : goal.returns-clause-narrow
@@ -59,12 +66,16 @@ returns-clause-narrow g c =
     let ms = c.args.multipliers.now in
     let ups = c.args.at_upper.now in
     let IsCut : RuleKind → Frac → Frac → SafeCut → Type 0 =
-    λ kind u d. IsRelaxedCutOf n (IsOfProblem (IsOfRelaxedRow Kept n (IsCutOfRow kind u d))) p ms ups in
-    IfOk-weaker c.relaxed_cut.result (TellsWide (IsCut c.new.result.kind up down)) (TellsWide (IsFunctionRelaxedCutOf f n p ms ups))
+    λ kind u d. IsRelaxedCutOf n (IsOfProblem (IsOfRelaxedRow Kept n (IsCutOfRow kind u d))) p ms
+    ups in
+    IfOk-weaker c.relaxed_cut.result (TellsWide (IsCut c.new.result.kind up down))
+    (TellsWide (IsFunctionRelaxedCutOf f n p ms ups))
     (λ (cut : SafeCut) tells (other, below, slopes, wide).
     let here : AreSlopesAtZero f up down =
-    subst₂ (λ (u d : Frac). AreSlopesAtZero f u d) (sym c.new-2.ensures.up) (sym c.new-2.ensures.down) c.requires.slopes in
+    subst₂ (λ (u d : Frac). AreSlopesAtZero f u d) (sym c.new-2.ensures.up)
+    (sym c.new-2.ensures.down) c.requires.slopes in
     tells (subst (λ (k : RuleKind). IsCut k up down Wide) (sym c.new.ensures.kind)
-    (subst₂ (λ (u d : Frac). IsCut (Table f) u d Wide) (one_up_at_zero f other up below down c.requires.bounds slopes here)
+    (subst₂ (λ (u d : Frac). IsCut (Table f) u d Wide)
+    (one_up_at_zero f other up below down c.requires.bounds slopes here)
     (one_down_at_zero f other up below down c.requires.bounds slopes here) wide)))
     c.relaxed_cut.ensures.narrow

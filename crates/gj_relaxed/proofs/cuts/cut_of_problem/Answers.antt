@@ -19,10 +19,15 @@ returns-in-Row-clause-cut g c =
     let row = c.in-Row.row in
     let pieces = row.slacks.items ++ row.bounds.items in
     let IsOfRow = IsOfRelaxedRow c.args.to c.args.grid (g.C.RowCut.is_cut c.args.by.now) in
-    let is : IsRow p ms ups pieces row.right = subst (λ (made : MadeRow). IsMadeRow p ms ups made) c.in-Row.is c.in_ok-row.ensures.row in
-    IfOk-weaker c.cut_of_row_on_grid.result (IsOfRow (length p.columns) pieces row.right) (IsOfProblem IsOfRow p ms ups)
-    (of_row IsOfRow p ms ups pieces row.right is (λ j (rs, right', relaxed, h). g.met.C.RowCut.never_free c.args.by.now (length p.columns) rs right' j h))
-    (subst (λ (cs : List Column). IfOk c.cut_of_row_on_grid.result (IsOfRow (length cs) pieces row.right)) c.as_slice.ensures
+    let is : IsRow p ms ups pieces row.right =
+    subst (λ (made : MadeRow). IsMadeRow p ms ups made) c.in-Row.is c.in_ok-row.ensures.row in
+    IfOk-weaker c.cut_of_row_on_grid.result (IsOfRow (length p.columns) pieces row.right)
+    (IsOfProblem IsOfRow p ms ups)
+    (of_row IsOfRow p ms ups pieces row.right is
+    (λ j (rs, right', relaxed, h). g.met.C.RowCut.never_free c.args.by.now
+    (length p.columns) rs right' j h))
+    (subst (λ (cs : List Column). IfOk c.cut_of_row_on_grid.result
+    (IsOfRow (length cs) pieces row.right)) c.as_slice.ensures
     c.cut_of_row_on_grid.ensures.cut)
 
 pub returns-in-Row-clause-wide : goal.returns-in-Row-clause-wide
@@ -37,12 +42,15 @@ returns-in-Row-clause-wide g c = λ fault.
       row.right,
       subst (λ (made : MadeRow). IsMadeRow p ms ups made) c.in-Row.is c.in_ok-row.ensures.row,
       subst
-          (λ (cs : List Column). IsOfRelaxedRow c.args.to c.args.grid (g.C.RowCut.is_cut c.args.by.now) (length cs) pieces row.right Wide)
+          (λ (cs : List Column). IsOfRelaxedRow c.args.to c.args.grid
+          (g.C.RowCut.is_cut c.args.by.now) (length cs) pieces row.right Wide)
           c.as_slice.ensures (c.cut_of_row_on_grid.ensures.wide fault),
     )
 
 pub returns-in_err-row-clause-wide : goal.returns-in_err-row-clause-wide
-returns-in_err-row-clause-wide g c = λ fault. inl (c.in_err-row.ensures.wide (handed_on c.from_residual.result _ _ c.from_residual.ensures.1 fault))
+returns-in_err-row-clause-wide g c =
+    λ fault. inl (c.in_err-row.ensures.wide
+    (handed_on c.from_residual.result _ _ c.from_residual.ensures.1 fault))
 
 pub returns-in-Row-clause-narrow : goal.returns-in-Row-clause-narrow
 returns-in-Row-clause-narrow g c =
@@ -52,9 +60,12 @@ returns-in-Row-clause-narrow g c =
     let row = c.in-Row.row in
     let pieces = row.slacks.items ++ row.bounds.items in
     let IsOfRow = IsOfRelaxedRow c.args.to c.args.grid (g.C.RowCut.is_cut c.args.by.now) in
-    let is : IsRow p ms ups pieces row.right = subst (λ (made : MadeRow). IsMadeRow p ms ups made) c.in-Row.is c.in_ok-row.ensures.row in
-    on_ok_weaker c.cut_of_row_on_grid.result (narrow_of_row IsOfRow p ms ups c.in_ok-row.ensures.narrow pieces row.right is)
-    (subst (λ (cs : List Column). OnOk c.cut_of_row_on_grid.result (IsOfRow (length cs) pieces row.right Wide → ⊥)) c.as_slice.ensures
+    let is : IsRow p ms ups pieces row.right =
+    subst (λ (made : MadeRow). IsMadeRow p ms ups made) c.in-Row.is c.in_ok-row.ensures.row in
+    on_ok_weaker c.cut_of_row_on_grid.result
+    (narrow_of_row IsOfRow p ms ups c.in_ok-row.ensures.narrow pieces row.right is)
+    (subst (λ (cs : List Column). OnOk c.cut_of_row_on_grid.result
+    (IsOfRow (length cs) pieces row.right Wide → ⊥)) c.as_slice.ensures
     c.cut_of_row_on_grid.ensures.narrow)
 
 pub returns-in-Free-clause-narrow : goal.returns-in-Free-clause-narrow
@@ -62,5 +73,6 @@ returns-in-Free-clause-narrow g c =
     let p = c.args.problem.now in
     let ms = c.args.multipliers.now in
     let ups = c.args.at_upper.now in
-    narrow_of_free (IsOfRelaxedRow c.args.to c.args.grid (g.C.RowCut.is_cut c.args.by.now)) p ms ups c.in_ok-row.ensures.narrow c.in-Free.column
+    narrow_of_free (IsOfRelaxedRow c.args.to c.args.grid (g.C.RowCut.is_cut c.args.by.now)) p ms ups
+    c.in_ok-row.ensures.narrow c.in-Free.column
     (subst (λ (made : MadeRow). IsMadeRow p ms ups made) c.in-Free.is c.in_ok-row.ensures.row)

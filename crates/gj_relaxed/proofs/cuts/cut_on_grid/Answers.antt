@@ -19,9 +19,13 @@ returns-in-Problem-clause-cut g c =
     let p' = c.in-Problem.relaxed in
     let ms' = c.in-Problem.kept.items in
     let IsCut = IsOfProblem (IsOfRelaxedRow c.args.to n (g.C.RowCut.is_cut c.args.by.now)) in
-    let is : IsRelaxedProblem n p ms p' ms' = subst (λ (made : RelaxedProblem). IsRelaxedOf n p ms made) c.in-Problem.is c.in_ok-relaxed.ensures.relaxed in
-    IfOk-weaker c.cut_of_problem.result (IsCut p' ms' ups) (IsRelaxedCutOf n IsCut p ms ups) (of_relaxed_problem n IsCut p p' ms ms' ups is)
-    (subst (λ (xs : List Frac). IfOk c.cut_of_problem.result (IsCut p' xs ups)) c.as_slice.ensures.value c.cut_of_problem.ensures.cut)
+    let is : IsRelaxedProblem n p ms p' ms' =
+    subst (λ (made : RelaxedProblem). IsRelaxedOf n p ms made) c.in-Problem.is
+    c.in_ok-relaxed.ensures.relaxed in
+    IfOk-weaker c.cut_of_problem.result (IsCut p' ms' ups) (IsRelaxedCutOf n IsCut p ms ups)
+    (of_relaxed_problem n IsCut p p' ms ms' ups is)
+    (subst (λ (xs : List Frac). IfOk c.cut_of_problem.result (IsCut p' xs ups))
+    c.as_slice.ensures.value c.cut_of_problem.ensures.cut)
 
 pub returns-in-Problem-clause-wide : goal.returns-in-Problem-clause-wide
 returns-in-Problem-clause-wide g c = λ fault.
@@ -33,8 +37,10 @@ returns-in-Problem-clause-wide g c = λ fault.
     inr (
       p',
       c.in-Problem.kept.items,
-      subst (λ (made : RelaxedProblem). IsRelaxedOf n p ms made) c.in-Problem.is c.in_ok-relaxed.ensures.relaxed,
-      subst (λ (xs : List Frac). IsCut p' xs c.args.at_upper.now Wide) c.as_slice.ensures.value (c.cut_of_problem.ensures.wide fault),
+      subst (λ (made : RelaxedProblem). IsRelaxedOf n p ms made) c.in-Problem.is
+          c.in_ok-relaxed.ensures.relaxed,
+      subst (λ (xs : List Frac). IsCut p' xs c.args.at_upper.now Wide) c.as_slice.ensures.value
+          (c.cut_of_problem.ensures.wide fault),
     )
 
 pub returns-in-Problem-clause-narrow : goal.returns-in-Problem-clause-narrow
@@ -46,15 +52,22 @@ returns-in-Problem-clause-narrow g c =
     let p' = c.in-Problem.relaxed in
     let ms' = c.in-Problem.kept.items in
     let IsCut = IsOfProblem (IsOfRelaxedRow c.args.to n (g.C.RowCut.is_cut c.args.by.now)) in
-    let is : IsRelaxedProblem n p ms p' ms' = subst (λ (made : RelaxedProblem). IsRelaxedOf n p ms made) c.in-Problem.is c.in_ok-relaxed.ensures.relaxed in
-    on_ok_weaker c.cut_of_problem.result (narrow_of_relaxed_problem n IsCut p ms ups c.in_ok-relaxed.ensures.narrow p' ms' is)
-    (subst (λ (xs : List Frac). OnOk c.cut_of_problem.result (IsCut p' xs ups Wide → ⊥)) c.as_slice.ensures.value c.cut_of_problem.ensures.narrow)
+    let is : IsRelaxedProblem n p ms p' ms' =
+    subst (λ (made : RelaxedProblem). IsRelaxedOf n p ms made) c.in-Problem.is
+    c.in_ok-relaxed.ensures.relaxed in
+    on_ok_weaker c.cut_of_problem.result
+    (narrow_of_relaxed_problem n IsCut p ms ups c.in_ok-relaxed.ensures.narrow p' ms' is)
+    (subst (λ (xs : List Frac). OnOk c.cut_of_problem.result (IsCut p' xs ups Wide → ⊥))
+    c.as_slice.ensures.value c.cut_of_problem.ensures.narrow)
 
 pub returns-in-Free-clause-narrow : goal.returns-in-Free-clause-narrow
 returns-in-Free-clause-narrow g c =
     let n = c.args.grid in
     let p = c.args.problem.now in
     let ms = c.args.multipliers.now in
-    narrow_of_free_side n (IsOfProblem (IsOfRelaxedRow c.args.to n (g.C.RowCut.is_cut c.args.by.now))) p ms c.args.at_upper.now
+    narrow_of_free_side n
+    (IsOfProblem (IsOfRelaxedRow c.args.to n (g.C.RowCut.is_cut c.args.by.now))) p ms
+    c.args.at_upper.now
     c.in_ok-relaxed.ensures.narrow c.in-Free.column
-    (subst (λ (made : RelaxedProblem). IsRelaxedOf n p ms made) c.in-Free.is c.in_ok-relaxed.ensures.relaxed)
+    (subst (λ (made : RelaxedProblem). IsRelaxedOf n p ms made) c.in-Free.is
+    c.in_ok-relaxed.ensures.relaxed)

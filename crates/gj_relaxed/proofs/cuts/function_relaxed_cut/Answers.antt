@@ -12,12 +12,14 @@ pub returns-clause-is : goal.returns-clause-is
 returns-clause-is c =
     subst
     (λ (f : FunctionData).
-    IsFunctionRelaxedCutOf f c.args.grid c.args.problem.now c.args.multipliers.now c.args.at_upper.now c.in_ok-cut.cut)
+    IsFunctionRelaxedCutOf f c.args.grid c.args.problem.now c.args.multipliers.now
+    c.args.at_upper.now c.in_ok-cut.cut)
     c.in_ok-kept.ensures c.in_ok-cut.ensures.is
 
 pub returns-clause-narrow : goal.returns-clause-narrow
 returns-clause-narrow c =
     subst
     (λ (f : FunctionData).
-    TellsWide (IsFunctionRelaxedCutOf f c.args.grid c.args.problem.now c.args.multipliers.now c.args.at_upper.now) c.in_ok-cut.cut)
+    TellsWide (IsFunctionRelaxedCutOf f c.args.grid c.args.problem.now c.args.multipliers.now
+    c.args.at_upper.now) c.in_ok-cut.cut)
     c.in_ok-kept.ensures c.in_ok-cut.ensures.narrow

@@ -19,12 +19,14 @@ returns-in_err-add-clause-wide c =
     let s = c.args.piece.now in
     let sum = c.args.sum.now in
     let rise = c.in_ok-rise.rise in
-    on_err c.from_residual-in_err-add.result (IsWideRise sum.coefficients.items sum.right s c.args.entry)
+    on_err c.from_residual-in_err-add.result
+    (IsWideRise sum.coefficients.items sum.right s c.args.entry)
     (inr (
       rise,
       difference_value c.args.entry s.entry rise c.in_ok-rise.ensures.value,
       λ none. c.if-num-ne0.true (ap (of_z w128) (c.num.ensures ∙ none)),
-      subst (λ (es : List Entry). IsWideWithin sum.coefficients.items rise es ⊎ IsWideAt sum.right rise s.inequality.right) c.as_slice.ensures
+      subst (λ (es : List Entry). IsWideWithin sum.coefficients.items rise es
+          ⊎ IsWideAt sum.right rise s.inequality.right) c.as_slice.ensures
           c.in_err-add.ensures.wide,
     ))
 
@@ -37,7 +39,8 @@ returns-in_ok-add-clause-rise c =
       adds = λ point.
           subst
           (λ (es : List Entry). sum_surplus_at point c.add.new.self
-          ≡ sum_surplus_at point c.args.sum.now +ℚ rational rise *ℚ (sum_at point es -ℚ rational s.inequality.right)) c.as_slice.ensures
+          ≡ sum_surplus_at point c.args.sum.now +ℚ rational rise
+          *ℚ (sum_at point es -ℚ rational s.inequality.right)) c.as_slice.ensures
           (c.in_ok-add.ensures.added point)
           ∙ ap (λ w. sum_surplus_at point c.args.sum.now +ℚ w *ℚ surplus_at point s.inequality)
           (difference_value c.args.entry s.entry rise c.in_ok-rise.ensures.value);
@@ -51,7 +54,8 @@ returns-in_ok-add-clause-narrow c =
     narrow_rise sum.coefficients.items sum.right c.args.entry rise s c.in_ok-rise.ensures.fits
     (difference_value c.args.entry s.entry rise c.in_ok-rise.ensures.value)
     (λ some.
-    subst (λ (es : List Entry). IsWideWithin sum.coefficients.items rise es ⊎ IsWideAt sum.right rise s.inequality.right → ⊥) c.as_slice.ensures
+    subst (λ (es : List Entry). IsWideWithin sum.coefficients.items rise es
+    ⊎ IsWideAt sum.right rise s.inequality.right → ⊥) c.as_slice.ensures
     c.in_ok-add.ensures.narrow)
 
 pub returns-else-num-ne0-clause-rise : goal.returns-else-num-ne0-clause-rise
@@ -59,11 +63,14 @@ returns-else-num-ne0-clause-rise c =
     let s = c.args.piece.now in
     let rise = c.in_ok-rise.rise in
     let none : numerator rise ≡ pos 0 =
-    sym (read_part rise.num rise.lowest.num_fits) ∙ ap (λ (z : ℤ). to_z w128 (of_z w128 z)) (sym c.num.ensures) ∙ ap (to_z w128) c.if-num-ne0.false in
+    sym (read_part rise.num rise.lowest.num_fits)
+    ∙ ap (λ (z : ℤ). to_z w128 (of_z w128 z)) (sym c.num.ensures)
+    ∙ ap (to_z w128) c.if-num-ne0.false in
     record {
       count = refl;
       adds = λ point.
-          none_weighted rise (sum_surplus_at point c.args.sum.now) (surplus_at point s.inequality) none
+          none_weighted rise (sum_surplus_at point c.args.sum.now)
+          (surplus_at point s.inequality) none
           ∙ ap (λ w. sum_surplus_at point c.args.sum.now +ℚ w *ℚ surplus_at point s.inequality)
           (difference_value c.args.entry s.entry rise c.in_ok-rise.ensures.value);
     }
@@ -74,6 +81,9 @@ returns-else-num-ne0-clause-narrow c =
     let sum = c.args.sum.now in
     let rise = c.in_ok-rise.rise in
     let none : numerator rise ≡ pos 0 =
-    sym (read_part rise.num rise.lowest.num_fits) ∙ ap (λ (z : ℤ). to_z w128 (of_z w128 z)) (sym c.num.ensures) ∙ ap (to_z w128) c.if-num-ne0.false in
+    sym (read_part rise.num rise.lowest.num_fits)
+    ∙ ap (λ (z : ℤ). to_z w128 (of_z w128 z)) (sym c.num.ensures)
+    ∙ ap (to_z w128) c.if-num-ne0.false in
     narrow_rise sum.coefficients.items sum.right c.args.entry rise s c.in_ok-rise.ensures.fits
-    (difference_value c.args.entry s.entry rise c.in_ok-rise.ensures.value) (λ some. absurd (some none))
+    (difference_value c.args.entry s.entry rise c.in_ok-rise.ensures.value)
+    (λ some. absurd (some none))

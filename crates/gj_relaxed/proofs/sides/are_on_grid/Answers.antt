@@ -9,7 +9,8 @@ use Rattle.gj_relaxed.proofs.sides.are_on_grid.Goals as goal
 pub loop-entry-preserved : goal.loop-entry-preserved
 loop-entry-preserved c =
     let P : Entry → Type 0 = λ e. IsGridValue c.args.grid (rational e.value) in
-    All-more P c.args.entries.now c.loop-entry.entry-index c.entry-item.result c.loop-entry-test.true c.loop-entry.invariant
+    All-more P c.args.entries.now c.loop-entry.entry-index c.entry-item.result
+    c.loop-entry-test.true c.loop-entry.invariant
     (subst P c.entry-item.is (c.is_grid_value.ensures.0 c.if-not-is_grid_value.false))
 
 pub returns-then-not-is_grid_value : goal.returns-then-not-is_grid_value
@@ -17,12 +18,14 @@ returns-then-not-is_grid_value c =
     let P : Entry → Type 0 = λ e. IsGridValue c.args.grid (rational e.value) in (
       λ t. absurd (cc),
       λ all. let t = c.is_grid_value.ensures.1 (subst P (sym c.entry-item.is)
-          (All-get_or P c.args.entries.now c.loop-entry.entry-index c.entry-item.result c.loop-entry-test.true all)) in absurd (cc),
+          (All-get_or P c.args.entries.now c.loop-entry.entry-index c.entry-item.result
+          c.loop-entry-test.true all)) in absurd (cc),
     )
 
 pub returns : goal.returns
 returns c =
     let P : Entry → Type 0 = λ e. IsGridValue c.args.grid (rational e.value) in (
-      λ t. subst (All P) (take_all c.loop-entry.entry-index c.args.entries.now c.loop-entry-test.false) c.loop-entry.invariant,
+      λ t. subst (All P) (take_all c.loop-entry.entry-index c.args.entries.now
+          c.loop-entry-test.false) c.loop-entry.invariant,
       λ all. search rules,
     )

@@ -14,6 +14,8 @@ loop-entry-preserved c =
     let e = c.entry-item.result in
     let made : Entry = record { column = e.column; value = c.with_sign.result } in
     let Times : Entry → Entry → Type 0 = IsTimes (whole (sign_of c.args.is_turned)) in
-    subst (λ (fs : List Entry). AllZip Times (take (i + 1) es) fs) (sym {A = List Entry} c.in_ok-push.ensures.items)
-    (all_zip_more Times es c.loop-entry.entries.items i e made c.loop-entry-test.true c.entry-item.is c.loop-entry.invariant
+    subst (λ (fs : List Entry). AllZip Times (take (i + 1) es) fs)
+    (sym {A = List Entry} c.in_ok-push.ensures.items)
+    (all_zip_more Times es c.loop-entry.entries.items i e made c.loop-entry-test.true
+    c.entry-item.is c.loop-entry.invariant
     (refl, c.with_sign.ensures))

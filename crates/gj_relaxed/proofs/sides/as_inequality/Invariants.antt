@@ -6,4 +6,6 @@ use Rattle.gj_relaxed.specs.RelaxedSteps.{sign_of}
 use Rattle.gj_relaxed.proofs.sides.as_inequality.Given as goal
 
 abbrev pub invariant-loop-entry : goal.invariant-loop-entry
-invariant-loop-entry l = AllZip (IsTimes (whole (sign_of l.is_turned))) (take l.entry-index l.entry-items) l.entries.items
+invariant-loop-entry l =
+    AllZip (IsTimes (whole (sign_of l.is_turned)))
+    (take l.entry-index l.entry-items) l.entries.items

@@ -10,9 +10,14 @@ pub returns-in-Ok : goal.returns-in-Ok
 returns-in-Ok c =
     let n = c.args.grid in
     let x = c.args.x in
-    let d_is : c.in-Ok.den ≡ unsigned_abs x.den = c.in-Ok.ensures.1 ∙ ap unsigned_abs (read_den x c.den.result c.den.ensures) in (
-      λ none. grid_if_divides n x (subst (λ (d : ℕ). d ∣ n) d_is (dvd_of_mod-eq-zero c.in-Ok.den (eqb-true (n % c.in-Ok.den) 0 none))),
-      λ on. eq-eqb (n % c.in-Ok.den) 0 (mod-eq-zero_of_dvd c.in-Ok.den (subst (λ (d : ℕ). d ∣ n) (sym d_is) (divides_if_grid n x on))),
+    let d_is : c.in-Ok.den ≡ unsigned_abs x.den = c.in-Ok.ensures.1
+    ∙ ap unsigned_abs (read_den x c.den.result c.den.ensures) in (
+      λ none. grid_if_divides n x
+          (subst (λ (d : ℕ). d ∣ n) d_is
+          (dvd_of_mod-eq-zero c.in-Ok.den (eqb-true (n % c.in-Ok.den) 0 none))),
+      λ on. eq-eqb (n % c.in-Ok.den) 0
+          (mod-eq-zero_of_dvd c.in-Ok.den
+          (subst (λ (d : ℕ). d ∣ n) (sym d_is) (divides_if_grid n x on))),
     )
 
 pub returns-in-Err : goal.returns-in-Err

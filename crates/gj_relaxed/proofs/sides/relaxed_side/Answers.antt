@@ -17,11 +17,16 @@ returns-clause-side c =
     let w : Weighted = record { multiplier = c.args.multiplier; constraint = k } in
     let given = c.in_ok-given.given in
     let off_grid : IsOnGrid n k → ⊥ = λ on. let t = c.is_on_grid.ensures.1 on in absurd (cc) in
-    let given_is : IsSide w given = subst (λ (z : ℤ). IsMultiple (whole z) k.entries k.right given) c.is_turned-is_turned.ensures c.in_ok-given.ensures in
+    let given_is : IsSide w given =
+    subst (λ (z : ℤ). IsMultiple (whole z) k.entries k.right given)
+    c.is_turned-is_turned.ensures c.in_ok-given.ensures in
     let m_is : rational c.with_sign.result ≡ whole (side w) *ℚ rational w.multiplier =
-    c.with_sign.ensures ∙ ap (λ (z : ℤ). whole z *ℚ rational w.multiplier) c.is_turned-is_turned.ensures in
-    IfOk-weaker c.rounded_side.result (IsRoundedSide p n given c.with_sign.result) (IsRelaxedOrFree p n w)
-    (λ s h. side_made p n w given c.with_sign.result s c.requires.named off_grid given_is m_is h) c.rounded_side.ensures.rounded
+    c.with_sign.ensures ∙ ap (λ (z : ℤ). whole z *ℚ rational w.multiplier)
+    c.is_turned-is_turned.ensures in
+    IfOk-weaker c.rounded_side.result (IsRoundedSide p n given c.with_sign.result)
+    (IsRelaxedOrFree p n w)
+    (λ s h. side_made p n w given c.with_sign.result s c.requires.named off_grid given_is m_is h)
+    c.rounded_side.ensures.rounded
 
 pub returns-clause-wide : goal.returns-clause-wide
 returns-clause-wide c = λ fault.
@@ -31,7 +36,8 @@ returns-clause-wide c = λ fault.
       named = c.requires.named;
       off_grid = λ on. let t = c.is_on_grid.ensures.1 on in absurd (cc);
       given = given;
-      given_is = subst (λ (z : ℤ). IsMultiple (whole z) k.entries k.right given) c.is_turned-is_turned.ensures c.in_ok-given.ensures;
+      given_is = subst (λ (z : ℤ). IsMultiple (whole z) k.entries k.right given)
+          c.is_turned-is_turned.ensures c.in_ok-given.ensures;
       wide = c.rounded_side.ensures.wide fault;
     }
 
@@ -44,5 +50,6 @@ returns-clause-narrow c =
     let given = c.in_ok-given.given in
     on_ok_weaker c.rounded_side.result
     (narrow_side p n w given
-    (subst (λ (z : ℤ). IsMultiple (whole z) k.entries k.right given) c.is_turned-is_turned.ensures c.in_ok-given.ensures))
+    (subst (λ (z : ℤ). IsMultiple (whole z) k.entries k.right given) c.is_turned-is_turned.ensures
+    c.in_ok-given.ensures))
     c.rounded_side.ensures.narrow

@@ -18,21 +18,30 @@ returns-in_err-column-clause-wide c = λ fault.
     let cs = c.as_slice-constraints.result.now in
     let done = c.loop-constraint.yielded in
     let pair : Bor Constraint × Bor Frac = (c.in-Some.constraint, c.in-Some.multiplier) in
-    let turn = zip_turn cs ms done c.into_iter-constraint-iterator.result c.loop-constraint.constraint-iterator c.next.new.self c.next.result
-    (search rules) (search rules) c.loop-constraint.yielded_by pair c.in-Some.is c.next.ensures.steps in
-    let w : Weighted = record { multiplier = c.in-Some.multiplier.now; constraint = c.in-Some.constraint.now } in
+    let turn = zip_turn cs ms done c.into_iter-constraint-iterator.result
+    c.loop-constraint.constraint-iterator c.next.new.self c.next.result
+    (search rules) (search rules) c.loop-constraint.yielded_by pair c.in-Some.is
+    c.next.ensures.steps in
+    let w : Weighted = record {
+      multiplier = c.in-Some.multiplier.now;
+      constraint =
+          c.in-Some.constraint.now;
+    } in
     let i = length done in
     let ws = weighted ms c.args.problem.now.constraints in
     record {
       before = take i ws;
       next = w;
       after = drop (i + 1) ws;
-      place = subst (λ (ks : List Constraint). weighted ms ks ≡ take i (weighted ms ks) ++ w ∷ drop (i + 1) (weighted ms ks))
+      place = subst (λ (ks : List Constraint). weighted ms ks ≡ take i (weighted ms ks) ++ w ∷ drop
+          (i + 1) (weighted ms ks))
           c.as_slice-constraints.ensures
-          (weighted_split ms cs i w.multiplier w.constraint turn.1 turn.0 (turn.3 w.multiplier) (turn.2 w.constraint));
+          (weighted_split ms cs i w.multiplier w.constraint turn.1 turn.0 (turn.3 w.multiplier)
+          (turn.2 w.constraint));
       made = weighted_of c.loop-constraint.made;
       made_are = c.loop-constraint.invariant.are;
-      wide = c.in_err-column.ensures.wide (handed_on c.from_residual.result _ _ c.from_residual.ensures.1 fault);
+      wide = c.in_err-column.ensures.wide
+          (handed_on c.from_residual.result _ _ c.from_residual.ensures.1 fault);
     }
 
 pub returns-in-Some-2-clause-sides : goal.returns-in-Some-2-clause-sides
@@ -41,18 +50,26 @@ returns-in-Some-2-clause-sides c =
     let cs = c.as_slice-constraints.result.now in
     let done = c.loop-constraint.yielded in
     let pair : Bor Constraint × Bor Frac = (c.in-Some.constraint, c.in-Some.multiplier) in
-    let turn = zip_turn cs ms done c.into_iter-constraint-iterator.result c.loop-constraint.constraint-iterator c.next.new.self c.next.result
-    (search rules) (search rules) c.loop-constraint.yielded_by pair c.in-Some.is c.next.ensures.steps in
-    let w : Weighted = record { multiplier = c.in-Some.multiplier.now; constraint = c.in-Some.constraint.now } in
+    let turn = zip_turn cs ms done c.into_iter-constraint-iterator.result
+    c.loop-constraint.constraint-iterator c.next.new.self c.next.result
+    (search rules) (search rules) c.loop-constraint.yielded_by pair c.in-Some.is
+    c.next.ensures.steps in
+    let w : Weighted = record {
+      multiplier = c.in-Some.multiplier.now;
+      constraint =
+          c.in-Some.constraint.now;
+    } in
     let i = length done in
     let ws = weighted ms c.args.problem.now.constraints in
     record {
       before = take i ws;
       next = w;
       after = drop (i + 1) ws;
-      place = subst (λ (ks : List Constraint). weighted ms ks ≡ take i (weighted ms ks) ++ w ∷ drop (i + 1) (weighted ms ks))
+      place = subst (λ (ks : List Constraint). weighted ms ks ≡ take i (weighted ms ks) ++ w ∷ drop
+          (i + 1) (weighted ms ks))
           c.as_slice-constraints.ensures
-          (weighted_split ms cs i w.multiplier w.constraint turn.1 turn.0 (turn.3 w.multiplier) (turn.2 w.constraint));
+          (weighted_split ms cs i w.multiplier w.constraint turn.1 turn.0 (turn.3 w.multiplier)
+          (turn.2 w.constraint));
       made = weighted_of c.loop-constraint.made;
       made_are = c.loop-constraint.invariant.are;
       free = MatchOption-at_some _ _ c.in-Some-2.column c.in-Some-2.is c.in_ok-column.ensures.next;
@@ -60,8 +77,10 @@ returns-in-Some-2-clause-sides c =
 
 pub loop-constraint-init : goal.loop-constraint-init
 loop-constraint-init c = record {
-  count = ap (λ (ms : List Frac). length ms) c.new-2.ensures.items ∙ sym (ap (λ (cs : List Constraint). length cs) c.new.ensures.items);
-  are = ap₂ (λ (ms : List Frac) (cs : List Constraint). weighted ms cs) c.new-2.ensures.items c.new.ensures.items;
+  count = ap (λ (ms : List Frac). length ms) c.new-2.ensures.items
+      ∙ sym (ap (λ (cs : List Constraint). length cs) c.new.ensures.items);
+  are = ap₂ (λ (ms : List Frac) (cs : List Constraint). weighted ms cs) c.new-2.ensures.items
+      c.new.ensures.items;
   narrow = narrow_no_side c.args.problem.now c.args.grid;
 }
 
@@ -73,21 +92,32 @@ loop-constraint-preserved c =
     let cs = c.as_slice-constraints.result.now in
     let done = c.loop-constraint.yielded in
     let pair : Bor Constraint × Bor Frac = (c.in-Some.constraint, c.in-Some.multiplier) in
-    let turn = zip_turn cs ms done c.into_iter-constraint-iterator.result c.loop-constraint.constraint-iterator c.next.new.self c.next.result
-    (search rules) (search rules) c.loop-constraint.yielded_by pair c.in-Some.is c.next.ensures.steps in
-    let w : Weighted = record { multiplier = c.in-Some.multiplier.now; constraint = c.in-Some.constraint.now } in
+    let turn = zip_turn cs ms done c.into_iter-constraint-iterator.result
+    c.loop-constraint.constraint-iterator c.next.new.self c.next.result
+    (search rules) (search rules) c.loop-constraint.yielded_by pair c.in-Some.is
+    c.next.ensures.steps in
+    let w : Weighted = record {
+      multiplier = c.in-Some.multiplier.now;
+      constraint =
+          c.in-Some.constraint.now;
+    } in
     let ws = take (length done) (weighted ms p.constraints) in
     let vs = take (length (done ++ pair ∷ [])) (weighted ms p.constraints) in
-    let next : vs ≡ ws ++ w ∷ [] = ap (λ i. take i (weighted ms p.constraints)) (length-append done (pair ∷ []))
-    ∙ subst (λ (ks : List Constraint). take (length done + 1) (weighted ms ks) ≡ take (length done) (weighted ms ks) ++ w ∷ [])
+    let next : vs ≡ ws ++ w ∷ [] =
+    ap (λ i. take i (weighted ms p.constraints)) (length-append done (pair ∷ []))
+    ∙ subst (λ (ks : List Constraint). take (length done + 1) (weighted ms ks)
+    ≡ take (length done) (weighted ms ks) ++ w ∷ [])
     c.as_slice-constraints.ensures
-    (weighted_next ms cs (length done) w.multiplier w.constraint turn.1 turn.0 (turn.3 w.multiplier) (turn.2 w.constraint)) in
+    (weighted_next ms cs (length done) w.multiplier w.constraint turn.1 turn.0 (turn.3 w.multiplier)
+    (turn.2 w.constraint)) in
     let made = MatchOption-at_none _ _ c.in_default.is c.in_ok-column.ensures.next in
     record {
       count = made.0;
-      are = made_next IsUnnamed (IsRelaxedConstraint p n) ws vs w (weighted_of c.loop-constraint.made) (weighted_of c.add_side.new.made) next
+      are = made_next IsUnnamed (IsRelaxedConstraint p n) ws vs w
+          (weighted_of c.loop-constraint.made) (weighted_of c.add_side.new.made) next
           c.loop-constraint.invariant.are made.1;
-      narrow = narrow_side_with p n ws vs w next c.loop-constraint.invariant.narrow c.in_ok-column.ensures.narrow;
+      narrow = narrow_side_with p n ws vs w next c.loop-constraint.invariant.narrow
+          c.in_ok-column.ensures.narrow;
     }
 
 pub returns-clause-sides : goal.returns-clause-sides
@@ -96,15 +126,19 @@ returns-clause-sides c =
     let ms = c.args.multipliers.now in
     let cs = c.as_slice-constraints.result.now in
     let done = c.loop-constraint.yielded in
-    let same : length cs ≡ length p.constraints = ap (λ (ks : List Constraint). length ks) c.as_slice-constraints.ensures in
+    let same : length cs ≡ length p.constraints =
+    ap (λ (ks : List Constraint). length ks) c.as_slice-constraints.ensures in
     let end : length cs ≤ length done =
     subst (λ i. length cs ≤ i)
-    (sym (zip_end cs ms done c.into_iter-constraint-iterator.result c.loop-constraint.constraint-iterator c.next.new.self c.next.result
+    (sym (zip_end cs ms done c.into_iter-constraint-iterator.result
+    c.loop-constraint.constraint-iterator c.next.new.self c.next.result
     (search rules) (search rules) c.loop-constraint.yielded_by c.in-None.is c.next.ensures.steps))
     (le-min (omega arith) (omega (arith, same, c.requires.multipliers))) in (
       c.loop-constraint.invariant.count,
-      subst (λ (ws : List Weighted). AreRelaxed p c.args.grid ws (weighted_of c.loop-constraint.made))
-          (weighted_all_taken ms p.constraints (length done) (omega (arith, same, end))) c.loop-constraint.invariant.are,
+      subst (λ (ws : List Weighted). AreRelaxed p c.args.grid ws
+          (weighted_of c.loop-constraint.made))
+          (weighted_all_taken ms p.constraints (length done) (omega (arith, same, end)))
+          c.loop-constraint.invariant.are,
     )
 
 pub returns-clause-narrow : goal.returns-clause-narrow
@@ -113,14 +147,17 @@ returns-clause-narrow c wide =
     let ms = c.args.multipliers.now in
     let cs = c.as_slice-constraints.result.now in
     let done = c.loop-constraint.yielded in
-    let same : length cs ≡ length p.constraints = ap (λ (ks : List Constraint). length ks) c.as_slice-constraints.ensures in
+    let same : length cs ≡ length p.constraints =
+    ap (λ (ks : List Constraint). length ks) c.as_slice-constraints.ensures in
     let end : length cs ≤ length done =
     subst (λ i. length cs ≤ i)
-    (sym (zip_end cs ms done c.into_iter-constraint-iterator.result c.loop-constraint.constraint-iterator c.next.new.self c.next.result
+    (sym (zip_end cs ms done c.into_iter-constraint-iterator.result
+    c.loop-constraint.constraint-iterator c.next.new.self c.next.result
     (search rules) (search rules) c.loop-constraint.yielded_by c.in-None.is c.next.ensures.steps))
     (le-min (omega arith) (omega (arith, same, c.requires.multipliers))) in
     c.loop-constraint.invariant.narrow
-    (subst (HasWideSide p c.args.grid) (sym (weighted_all_taken ms p.constraints (length done) (omega (arith, same, end))))
+    (subst (HasWideSide p c.args.grid)
+    (sym (weighted_all_taken ms p.constraints (length done) (omega (arith, same, end))))
     (wide_at_side p c.args.grid ms wide))
 
 pub returns-in-Some-2-clause-narrow : goal.returns-in-Some-2-clause-narrow
@@ -129,14 +166,23 @@ returns-in-Some-2-clause-narrow c =
     let cs = c.as_slice-constraints.result.now in
     let done = c.loop-constraint.yielded in
     let pair : Bor Constraint × Bor Frac = (c.in-Some.constraint, c.in-Some.multiplier) in
-    let turn = zip_turn cs ms done c.into_iter-constraint-iterator.result c.loop-constraint.constraint-iterator c.next.new.self c.next.result
-    (search rules) (search rules) c.loop-constraint.yielded_by pair c.in-Some.is c.next.ensures.steps in
-    let w : Weighted = record { multiplier = c.in-Some.multiplier.now; constraint = c.in-Some.constraint.now } in
+    let turn = zip_turn cs ms done c.into_iter-constraint-iterator.result
+    c.loop-constraint.constraint-iterator c.next.new.self c.next.result
+    (search rules) (search rules) c.loop-constraint.yielded_by pair c.in-Some.is
+    c.next.ensures.steps in
+    let w : Weighted = record {
+      multiplier = c.in-Some.multiplier.now;
+      constraint =
+          c.in-Some.constraint.now;
+    } in
     let i = length done in
     let ws = weighted ms c.args.problem.now.constraints in
-    narrow_sides_to_free c.args.problem.now c.args.grid ms (take i ws) (drop (i + 1) ws) w c.in-Some-2.column
-    (subst (λ (ks : List Constraint). weighted ms ks ≡ take i (weighted ms ks) ++ w ∷ drop (i + 1) (weighted ms ks))
+    narrow_sides_to_free c.args.problem.now c.args.grid ms (take i ws)
+    (drop (i + 1) ws) w c.in-Some-2.column
+    (subst (λ (ks : List Constraint). weighted ms ks ≡ take i (weighted ms ks) ++ w ∷ drop (i + 1)
+    (weighted ms ks))
     c.as_slice-constraints.ensures
-    (weighted_split ms cs i w.multiplier w.constraint turn.1 turn.0 (turn.3 w.multiplier) (turn.2 w.constraint)))
+    (weighted_split ms cs i w.multiplier w.constraint turn.1 turn.0 (turn.3 w.multiplier)
+    (turn.2 w.constraint)))
     c.loop-constraint.invariant.narrow c.in_ok-column.ensures.narrow
     (MatchOption-at_some _ _ c.in-Some-2.column c.in-Some-2.is c.in_ok-column.ensures.next)

@@ -8,6 +8,8 @@ use Rattle.gj_relaxed.proofs.sides.relaxed_sides.Given as goal
 abbrev pub invariant-loop-constraint : goal.invariant-loop-constraint
 invariant-loop-constraint l = record {
   count : HasMultipliers l.made;
-  are : AreRelaxed l.problem l.grid (take (length l.yielded) (weighted l.multipliers l.problem.constraints)) (weighted_of l.made);
-  narrow : HasWideSide l.problem l.grid (take (length l.yielded) (weighted l.multipliers l.problem.constraints)) → ⊥;
+  are : AreRelaxed l.problem l.grid
+      (take (length l.yielded) (weighted l.multipliers l.problem.constraints)) (weighted_of l.made);
+  narrow : HasWideSide l.problem l.grid
+      (take (length l.yielded) (weighted l.multipliers l.problem.constraints)) → ⊥;
 }

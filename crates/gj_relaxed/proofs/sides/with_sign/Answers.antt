@@ -7,8 +7,10 @@ use Rattle.gj_relaxed.proofs.sides.with_sign.Goals as goal
 
 pub returns-then-is_turned : goal.returns-then-is_turned
 returns-then-is_turned c =
-    negation_value c.args.x c.neg.result c.neg.ensures ∙ ap (λ (b : Bool). whole (sign_of b) *ℚ rational c.args.x) (sym c.if-is_turned.true)
+    negation_value c.args.x c.neg.result c.neg.ensures
+    ∙ ap (λ (b : Bool). whole (sign_of b) *ℚ rational c.args.x) (sym c.if-is_turned.true)
 
 pub returns-else-is_turned : goal.returns-else-is_turned
 returns-else-is_turned c =
-    sym (one_mul_q (rational c.args.x)) ∙ ap (λ (b : Bool). whole (sign_of b) *ℚ rational c.args.x) (sym c.if-is_turned.false)
+    sym (one_mul_q (rational c.args.x)) ∙ ap (λ (b : Bool). whole (sign_of b) *ℚ rational c.args.x)
+    (sym c.if-is_turned.false)

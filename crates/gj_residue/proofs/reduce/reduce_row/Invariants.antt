@@ -10,7 +10,9 @@ use Rattle.gj_residue.proofs.reduce.reduce_row.Given as goal
 abbrev pub invariant-loop-column : goal.invariant-loop-column
 invariant-loop-column l = record {
   behind : IsBehind
-      (insertion_by (modulo modulus) (kept_residues l.log l.rows) (range_with_len 0 (length l.initial.row)) (numbers_of l.initial.row))
-      l.reduce.items (rest (modulo modulus) (kept_residues l.log l.rows) (length l.initial.row) l.column (numbers_of l.row));
+      (insertion_by (modulo modulus) (kept_residues l.log l.rows)
+      (range_with_len 0 (length l.initial.row)) (numbers_of l.initial.row))
+      l.reduce.items (rest (modulo modulus) (kept_residues l.log l.rows)
+      (length l.initial.row) l.column (numbers_of l.row));
   below : AreResidues l.row;
 }

@@ -7,7 +7,8 @@ use Rattle.gj_residue.proofs.settling.insert_all.Given as goal
 
 abbrev pub invariant-loop-alloc : goal.invariant-loop-alloc
 invariant-loop-alloc g l = record {
-  come : AreToCome whole_numbers l.columns (g.R.RowSource.left l.fn.rows) l.basis (g.R.RowSource.left l.rows);
+  come : AreToCome whole_numbers l.columns (g.R.RowSource.left l.fn.rows) l.basis
+      (g.R.RowSource.left l.rows);
   entries : All (All Fits) (g.R.RowSource.left l.rows);
   same : g.R.RowSource.all l.rows ≡ g.R.RowSource.all l.fn.rows;
 }

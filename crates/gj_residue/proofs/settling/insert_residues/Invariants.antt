@@ -6,7 +6,8 @@ use Rattle.gj_residue.proofs.settling.insert_residues.Given as goal
 
 abbrev pub invariant-loop-alloc : goal.invariant-loop-alloc
 invariant-loop-alloc g l = record {
-  come : AreToCome (modulo modulus) l.columns (g.R.RowSource.left l.fn.rows) l.basis (g.R.RowSource.left l.rows);
+  come : AreToCome (modulo modulus) l.columns (g.R.RowSource.left l.fn.rows) l.basis
+      (g.R.RowSource.left l.rows);
   same : g.R.RowSource.all l.rows ≡ g.R.RowSource.all l.fn.rows;
 }
 

@@ -5,7 +5,8 @@ use Rattle.gj_row.proofs.fields.behind_parts_of_commas.Given as goal
 
 abbrev pub invariant-loop-left : goal.invariant-loop-left
 invariant-loop-left l = record {
-  count : position_or_len (λ b. not (is_comma b)) l.line + length l.left ≡ length l.line + position_or_len (λ b. not (is_comma b)) l.left;
+  count : position_or_len (λ b. not (is_comma b)) l.line + length l.left
+      ≡ length l.line + position_or_len (λ b. not (is_comma b)) l.left;
   shorter : length l.left ≤ length l.line;
 }
 

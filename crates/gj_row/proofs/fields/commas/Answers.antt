@@ -6,16 +6,21 @@ use Rattle.gj_row.proofs.fields.commas.Goals as goal
 
 -- what the commas of a front and those of a back are together, and that they are no more than the
 -- bytes
-counted : (bs front back : List ℕ) (few : ℕ) → front ≡ take 240 bs → back ≡ drop 240 bs → few ≡ count_by is_comma front →
+counted : (bs front back : List ℕ) (few : ℕ) → front ≡ take 240 bs → back ≡ drop 240 bs →
+    few ≡ count_by is_comma front →
     (few + count_by is_comma back ≡ count_by is_comma bs) × (few + length back ≤ length bs)
 counted bs front back few f b is =
     let whole = take-append-drop 240 bs in
-    let all : count_by is_comma bs ≡ count_by is_comma (take 240 bs) + count_by is_comma (drop 240 bs) =
-    ap (count_by is_comma) (sym whole) ∙ sum_by-append (λ c. cond (is_comma c) 1 0) (take 240 bs) (drop 240 bs) in
+    let all : count_by is_comma bs ≡ count_by is_comma (take 240 bs) + count_by is_comma
+    (drop 240 bs) =
+    ap (count_by is_comma) (sym whole) ∙ sum_by-append (λ c. cond (is_comma c) 1 0) (take 240 bs)
+    (drop 240 bs) in
     let long : length bs ≡ length (take 240 bs) + length (drop 240 bs) =
     ap length (sym whole) ∙ length-append (take 240 bs) (drop 240 bs) in
-    let first : count_by is_comma front ≡ count_by is_comma (take 240 bs) = ap (count_by is_comma) f in
-    let second : count_by is_comma back ≡ count_by is_comma (drop 240 bs) = ap (count_by is_comma) b in
+    let first : count_by is_comma front ≡ count_by is_comma (take 240 bs) =
+    ap (count_by is_comma) f in
+    let second : count_by is_comma back ≡ count_by is_comma (drop 240 bs) =
+    ap (count_by is_comma) b in
     let end : length back ≡ length (drop 240 bs) = ap length b in
     let most = count_by-le-length is_comma (take 240 bs) in
     (omega (arith, all, first, second, is), omega (arith, long, first, end, is, most))
@@ -23,9 +28,11 @@ counted bs front back few f b is =
 pub overflow_add-count : goal.overflow_add-count
 overflow_add-count c =
     let held = c.loop-left.invariant in
-    let s = counted c.loop-left.left.now c.split_at.result.0.now c.split_at.result.1.now c.commas_in_part-few.result
+    let s = counted c.loop-left.left.now c.split_at.result.0.now c.split_at.result.1.now
+    c.commas_in_part-few.result
     c.split_at.ensures.front c.split_at.ensures.back c.commas_in_part-few.ensures in
-    let within : c.loop-left.count + c.commas_in_part-few.result ≤ length c.args.line.now = omega (arith, s.1, held.within) in
+    let within : c.loop-left.count + c.commas_in_part-few.result ≤ length c.args.line.now =
+    omega (arith, s.1, held.within) in
     search rules
 
 pub loop-left-smaller : goal.loop-left-smaller
@@ -36,7 +43,8 @@ loop-left-smaller c =
 pub loop-left-preserved : goal.loop-left-preserved
 loop-left-preserved c =
     let held = c.loop-left.invariant in
-    let s = counted c.loop-left.left.now c.split_at.result.0.now c.split_at.result.1.now c.commas_in_part-few.result
+    let s = counted c.loop-left.left.now c.split_at.result.0.now c.split_at.result.1.now
+    c.commas_in_part-few.result
     c.split_at.ensures.front c.split_at.ensures.back c.commas_in_part-few.ensures in
     record {
       count = omega (arith, s.0, held.count);

@@ -8,4 +8,5 @@ returns c =
     let field = c.args.field.now in
     take_rest field c.unwrap_or.result
     ∙ ap (λ n. drop n field)
-    (c.unwrap_or.ensures ∙ ap (λ o. unwrap_or o (length field)) c.first_visible.ensures ∙ position_unwrapped _ field)
+    (c.unwrap_or.ensures ∙ ap (λ o. unwrap_or o (length field)) c.first_visible.ensures
+    ∙ position_unwrapped _ field)

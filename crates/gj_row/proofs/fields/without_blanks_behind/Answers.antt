@@ -9,5 +9,6 @@ returns c =
     let field = c.args.field.now in
     ap (λ n. take (length field - n) field)
     (c.unwrap_or.ensures ∙ ap (unwrap_or c.last_visible.result) (sym (length-reverse field))
-    ∙ ap (λ o. unwrap_or o (length (reverse field))) c.last_visible.ensures ∙ position_unwrapped _ (reverse field))
+    ∙ ap (λ o. unwrap_or o (length (reverse field))) c.last_visible.ensures
+    ∙ position_unwrapped _ (reverse field))
     ∙ take_from_end field _

@@ -14,4 +14,5 @@ pub returns : goal.returns
 returns c =
     let at : field_at (fields_of c.args.fields.now) c.args.place ≡ Some c.in-Some.field.now =
     sym c.get.ensures.value ∙ ap (option_map (λ s. s.now)) c.in-Some.is in
-    field_in word_of (fields_of c.args.fields.now) c.args.place c.in-Some.field.now at ∙ ap Some (sym c.word_of.ensures)
+    field_in word_of (fields_of c.args.fields.now) c.args.place c.in-Some.field.now at
+    ∙ ap Some (sym c.word_of.ensures)

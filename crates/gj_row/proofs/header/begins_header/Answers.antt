@@ -6,7 +6,8 @@ use Rattle.gj_row.proofs.header.begins_header.Goals as goal
 
 pub returns-then-has_word : goal.returns-then-has_word
 returns-then-has_word c = (
-  λ t. first_two _ _ (words_in c.args.fields.now) (c.if-has_word.ensures.0 refl) (c.has_word-then-has_word.ensures.0 t),
+  λ t. first_two _ _ (words_in c.args.fields.now) (c.if-has_word.ensures.0 refl)
+      (c.has_word-then-has_word.ensures.0 t),
   λ h. c.has_word-then-has_word.ensures.1 (ap (λ l. slice_get l 1) h.1),
 )
 

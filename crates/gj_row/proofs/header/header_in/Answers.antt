@@ -30,7 +30,8 @@ returns-in_err-name-clause-refused c =
     let Has = λ (e : RowReason). (rows : List (List (List ℕ))) → HasHeaderFault (words ∷ rows) e in
     handed_on c.from_residual-in_err-name.result fault Has c.from_residual-in_err-name.ensures.1
     (names_weaker (BreaksName (bytes_of c.loop-place.names.keys) w) Has fault
-    (λ e breaks rows. column_fault words rows e (take (place - 2) (drop 2 words)) _ w (c.if-not-begins_header.ensures.0 refl) few
+    (λ e breaks rows. column_fault words rows e (take (place - 2) (drop 2 words)) _ w
+    (c.if-not-begins_header.ensures.0 refl) few
     (parted_behind 2 words place w c.word_at.ensures from) (subst AreNames so_far.read so_far.names)
     (subst (λ names. BreaksName names w e) (so_far.kept ∙ so_far.read) breaks))
     c.in_err-name.ensures.refused)
@@ -47,9 +48,11 @@ loop-place-preserved c =
     c.in_ok-push.ensures.items ∙ ap (λ name. columns ++ name ∷ []) c.in_ok-name.ensures.name in
     let new = subst (λ names. IsNewName names w) so_far.kept c.in_ok-name.ensures.new in
     record {
-      read = pushed ∙ ap (λ l. l ++ w ∷ []) so_far.read ∙ sym (taken_behind 2 words place w c.word_at.ensures from);
+      read = pushed ∙ ap (λ l. l ++ w ∷ []) so_far.read
+          ∙ sym (taken_behind 2 words place w c.word_at.ensures from);
       names = subst AreNames (sym pushed) (names_with columns w so_far.names new);
-      kept = c.in_ok-name.ensures.kept ∙ ap (λ l. l ++ c.word_at.result.now ∷ []) so_far.kept ∙ sym pushed;
+      kept = c.in_ok-name.ensures.kept ∙ ap (λ l. l ++ c.word_at.result.now ∷ []) so_far.kept
+          ∙ sym pushed;
     }
 
 pub returns : goal.returns
@@ -58,9 +61,12 @@ returns c =
     let so_far = c.loop-place.invariant in
     let begins = c.if-not-begins_header.ensures.0 refl in
     let count = length-map (fields_of c.args.fields.now) word_of in
-    let past : length words ≤ c.loop-place.place = omega (arith, c.len-place-end.ensures, c.loop-place-test.false) in
-    let all : c.loop-place.columns.items ≡ drop 2 words = so_far.read ∙ all_behind 2 words c.loop-place.place past in
-    let begin : words ≡ header_of c.loop-place.columns.items = behind_header words begins ∙ ap header_of (sym all) in
+    let past : length words ≤ c.loop-place.place =
+    omega (arith, c.len-place-end.ensures, c.loop-place-test.false) in
+    let all : c.loop-place.columns.items ≡ drop 2 words = so_far.read
+    ∙ all_behind 2 words c.loop-place.place past in
+    let begin : words ≡ header_of c.loop-place.columns.items = behind_header words begins
+    ∙ ap header_of (sym all) in
     let wide = ap length begin in
     record {
       begins = begin;

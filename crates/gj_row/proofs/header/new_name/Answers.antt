@@ -7,8 +7,11 @@ use Rattle.gj_row.proofs.header.new_name.Goals as goal
 pub returns-then-not-branch-clause-refused : goal.returns-then-not-branch-clause-refused
 returns-then-not-branch-clause-refused c =
     let keys = c.args.names.now.keys in
-    let old = not_false _ (sym c.in_ok-insert.ensures.added ∙ c.if-not-branch.true) in
-    (c.in-Ok.ensures.valid, subst (Contains (bytes_of keys)) c.in_ok-bytes.ensures.ok (stands_already keys c.in_ok-bytes.bytes old))
+    let old = not_false _ (sym c.in_ok-insert.ensures.added ∙ c.if-not-branch.true) in (
+      c.in-Ok.ensures.valid,
+      subst (Contains (bytes_of keys)) c.in_ok-bytes.ensures.ok
+          (stands_already keys c.in_ok-bytes.bytes old),
+    )
 
 pub returns-clause-new : goal.returns-clause-new
 returns-clause-new c =
@@ -16,7 +19,8 @@ returns-clause-new c =
     let new = not_true _ (sym c.in_ok-insert.ensures.added ∙ c.if-not-branch.false) in
     record {
       valid = c.in-Ok.ensures.valid;
-      differs = subst (λ w. Contains (bytes_of keys) w → ⊥) c.in_ok-bytes.ensures.ok (stands_not keys c.in_ok-bytes.bytes new);
+      differs = subst (λ w. Contains (bytes_of keys) w → ⊥) c.in_ok-bytes.ensures.ok
+          (stands_not keys c.in_ok-bytes.bytes new);
     }
 
 pub returns-clause-kept : goal.returns-clause-kept

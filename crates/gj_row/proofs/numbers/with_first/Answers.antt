@@ -13,11 +13,14 @@ returns-in_err-multiple-clause-refused c =
     let count = c.args.used + length c.args.entries.now.items in
     let number = c.entry_number-number.result in
     let field = c.first_field.result.0.now in
-    let found = subst (λ w. IfSome number (SpellsEntry w)) c.word_of.ensures c.entry_number-number.ensures.found in
-    let none = subst (λ w. IfNone number ((x : Frac) → SpellsEntry w x → ⊥)) c.word_of.ensures c.entry_number-number.ensures.none in
+    let found = subst (λ w. IfSome number (SpellsEntry w)) c.word_of.ensures
+    c.entry_number-number.ensures.found in
+    let none = subst (λ w. IfNone number ((x : Frac) → SpellsEntry w x → ⊥)) c.word_of.ensures
+    c.entry_number-number.ensures.none in
     let fault = c.in_err-multiple.field-0.0 in
     handed_on c.from_residual.result fault (StopsAtFirst line scale count) c.from_residual.ensures.1
-    (names_weaker (StopsEntry (λ x. number ≡ Some x) scale count) (StopsAtFirst line scale count) fault
+    (names_weaker (StopsEntry (λ x. number ≡ Some x) scale count)
+    (StopsAtFirst line scale count) fault
     (λ e stops. record {
       field = field;
       behind = _;
@@ -30,7 +33,8 @@ pub returns-clause-found : goal.returns-clause-found
 returns-clause-found c =
     let number = c.entry_number-number.result in
     let field = c.first_field.result.0.now in
-    let spelled = subst (λ w. IfSome number (SpellsEntry w)) c.word_of.ensures c.entry_number-number.ensures.found in
+    let spelled = subst (λ w. IfSome number (SpellsEntry w)) c.word_of.ensures
+    c.entry_number-number.ensures.found in
     let found = c.in_ok-multiple.ensures.found in (
       found.0,
       record {

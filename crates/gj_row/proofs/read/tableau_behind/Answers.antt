@@ -12,8 +12,10 @@ returns-in-Err-clause-refused c =
     let fields = c.args.fields.now in
     let records = c.args.records.now in
     rw c.in_record.ensures
-    (names_record (λ e. (rows : List (List (List ℕ))) → HasHeaderFault (words_of_fields fields ∷ rows) e)
-    (λ n e. HoldsBehindFirst (fields_in fields) records (λ text. IsFirstFaultOfTableau text n e)) c.in-Err.fault 1
+    (names_record (λ e. (rows : List (List (List ℕ))) →
+    HasHeaderFault (words_of_fields fields ∷ rows) e)
+    (λ n e. HoldsBehindFirst (fields_in fields) records (λ text. IsFirstFaultOfTableau text n e))
+    c.in-Err.fault 1
     (λ e fault text stands. header_fault text records (fields_in fields) e stands fault)
     c.in-Err.ensures.refused)
 
@@ -29,9 +31,12 @@ returns-in_err-rows-clause-refused c =
     let records = c.args.records.now in
     let header = c.in-Ok.ensures in
     rw (p.1, p.2)
-    (records_weaker (λ n e. HoldsBehindHeader columns names records (λ text. IsFirstFaultOfTableau text n e))
-    (λ n e. HoldsBehindFirst (fields_in fields) records (λ text. IsFirstFaultOfTableau text n e)) c.in_err-rows.field-0.0
-    (λ n e fault text stands. fault text (behind_header text records (fields_in fields) c.in-Ok.header.columns.items names columns
+    (records_weaker (λ n e. HoldsBehindHeader columns names records
+    (λ text. IsFirstFaultOfTableau text n e))
+    (λ n e. HoldsBehindFirst (fields_in fields) records (λ text. IsFirstFaultOfTableau text n e))
+    c.in_err-rows.field-0.0
+    (λ n e fault text stands. fault text
+    (behind_header text records (fields_in fields) c.in-Ok.header.columns.items names columns
     c.deref.ensures.value stands header.begins header.few header.names header.kept))
     c.in_err-rows.ensures.refused)
 
@@ -45,5 +50,6 @@ returns-clause-found c = λ text stands.
     let rows = c.in_ok-rows.rows.items in
     rw (c.of.ensures, c.of-2.ensures)
     (subst (λ cs. IsTableauText text (tableau_of cs rows)) c.deref.ensures.value
-    (c.in_ok-rows.ensures.found text (behind_header text records (fields_in fields) columns names c.deref.result.now
+    (c.in_ok-rows.ensures.found text
+    (behind_header text records (fields_in fields) columns names c.deref.result.now
     c.deref.ensures.value stands header.begins header.few header.names header.kept)))

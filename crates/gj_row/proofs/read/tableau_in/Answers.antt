@@ -10,11 +10,15 @@ returns c =
     let text = c.args.bytes.now in
     let start = c.in_ok-records.ensures in
     let records = c.in_ok-records.records in record {
-      found = IfOk-weaker c.tableau_from.result (λ t. HoldsOfText records (λ text. IsTableauText text t)) (IsTableauText text)
+      found = IfOk-weaker c.tableau_from.result
+          (λ t. HoldsOfText records (λ text. IsTableauText text t)) (IsTableauText text)
           (λ t read. read text start) c.tableau_from.ensures.found;
-      refused = IfErr-weaker c.tableau_from.result (NamesRecord (λ n e. HoldsOfText records (λ text. IsFirstFaultOfTableau text n e)))
+      refused = IfErr-weaker c.tableau_from.result
+          (NamesRecord (λ n e. HoldsOfText records (λ text. IsFirstFaultOfTableau text n e)))
           (NamesRecord (IsFirstFaultOfTableau text))
-          (λ fault. records_weaker (λ n e. HoldsOfText records (λ text. IsFirstFaultOfTableau text n e)) (IsFirstFaultOfTableau text) fault
+          (λ fault. records_weaker
+          (λ n e. HoldsOfText records (λ text. IsFirstFaultOfTableau text n e))
+          (IsFirstFaultOfTableau text) fault
           (λ n e first. first text start))
           c.tableau_from.ensures.refused;
     }

@@ -14,7 +14,8 @@ pub returns-in_err-start-clause-none : goal.returns-in_err-start-clause-none
 returns-in_err-start-clause-none c =
     let text = c.args.text.now in
     if_none c.from_residual.result
-    (all_ends text (no_place (λ b. not (is_line_end b)) text (sym c.line_start.ensures ∙ c.in_err-start.was)))
+    (all_ends text (no_place (λ b. not (is_line_end b)) text
+    (sym c.line_start.ensures ∙ c.in_err-start.was)))
 
 pub returns-clause-some : goal.returns-clause-some
 returns-clause-some c =
@@ -24,5 +25,6 @@ returns-clause-some c =
     let end = c.unwrap_or-end.result in
     first_line_at text left (take end left) (take (length left - end) (drop end left)) start end
     (sym c.line_start.ensures ∙ c.in_ok-start.was) (take_rest text start)
-    (c.unwrap_or-end.ensures ∙ ap (λ o. unwrap_or o (length left)) c.line_end.ensures ∙ position_unwrapped is_line_end left)
+    (c.unwrap_or-end.ensures ∙ ap (λ o. unwrap_or o (length left)) c.line_end.ensures
+    ∙ position_unwrapped is_line_end left)
     refl (take_rest left end)

@@ -8,7 +8,9 @@ use Rattle.gj_rule.proofs.evaluators.gmic_value_in_128_bits.Goals as goal
 pub product-part-requires-clause-n_small : goal.product-part-requires-clause-n_small
 product-part-requires-clause-n_small c =
     let rest = c.fract-rest.result in
-    let fine : unsigned_abs rest.den ≤ 2 ^ 62 = rest_fine c.args.x rest (rest_parts c.args.x rest c.fract-rest.ensures.value) c.requires.x_fine in
+    let fine : unsigned_abs rest.den ≤ 2 ^ 62 =
+    rest_fine c.args.x rest (rest_parts c.args.x rest c.fract-rest.ensures.value)
+    c.requires.x_fine in
     let low = c.fract-rest.ensures.not_negative in
     let high = c.fract-rest.ensures.below_one in
     let num = reads_as c.num.result rest.num c.num.ensures rest.lowest.num_fits in

@@ -9,7 +9,8 @@ product_is : goal.returns-clause-value
 product_is c =
     let n : to_z w128 (of_z w128 c.from.result) ≡ c.args.n = search rules in
     let m : to_z w128 (of_z w128 c.from-2.result) ≡ c.args.m = search rules in
-    let fits = fits_signed_mul w128 c.args.n c.args.m (2 ^ 62) (2 ^ 62) c.requires.n_small c.requires.m_small (omega arith) in
+    let fits = fits_signed_mul w128 c.args.n c.args.m (2 ^ 62)
+    (2 ^ 62) c.requires.n_small c.requires.m_small (omega arith) in
     simp (n, m) (to_z-of_z w128 (c.args.n *ℤ c.args.m) fits)
 
 pub overflow_mul-result : goal.overflow_mul-result

@@ -11,7 +11,8 @@ reduced-requires-clause-zero c none =
     let m = to_z-of_z w128 c.args.m c.ranges.m in
     let is : c.product-2.result ≡ c.args.d *ℤ c.args.m = simp (d, m) at c.product-2.ensures.value in
     let read = to_z-of_z w128 c.product-2.result (search rules) in
-    mul_some_z c.args.d c.args.m c.requires.d_some c.requires.m_some (ap unsigned_abs (sym (read ∙ is)) ∙ none)
+    mul_some_z c.args.d c.args.m c.requires.d_some c.requires.m_some
+    (ap unsigned_abs (sym (read ∙ is)) ∙ none)
 
 pub reduced-requires-clause-num_fits : goal.reduced-requires-clause-num_fits
 reduced-requires-clause-num_fits c =

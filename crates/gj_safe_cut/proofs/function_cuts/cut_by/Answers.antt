@@ -17,7 +17,8 @@ safe_cut-requires-clause-slopes g c =
     let down = c.new-slopes.result.down in
     subst (λ (k : RuleKind). AreSlopesOfKind k up down) (sym c.new-rule.ensures.kind) (
       c.requires.jumps_not,
-      subst₂ (λ (u d : Frac). AreSlopesAtZero c.args.shape u d) (sym c.new-slopes.ensures.up) (sym c.new-slopes.ensures.down)
+      subst₂ (λ (u d : Frac). AreSlopesAtZero c.args.shape u d) (sym c.new-slopes.ensures.up)
+          (sym c.new-slopes.ensures.down)
           c.requires.slopes,
     )
 
@@ -33,7 +34,8 @@ returns-clause-is g c =
     (λ (cut : SafeCut) h. (
       up,
       down,
-      subst₂ (λ (u d : Frac). AreSlopesAtZero c.args.shape u d) (sym c.new-slopes.ensures.up) (sym c.new-slopes.ensures.down)
+      subst₂ (λ (u d : Frac). AreSlopesAtZero c.args.shape u d) (sym c.new-slopes.ensures.up)
+          (sym c.new-slopes.ensures.down)
           c.requires.slopes,
       subst (λ (k : RuleKind). IsSafeCutOf k up down p ms ups cut) c.new-rule.ensures.kind h,
     )) c.safe_cut.ensures.is
@@ -41,8 +43,10 @@ returns-clause-is g c =
 pub returns-clause-holds : goal.returns-clause-holds
 returns-clause-holds g c =
     let p = c.args.problem.now in
-    IfOk-weaker c.safe_cut.result (λ (cut : SafeCut). IsMinimalKind c.new-rule.result.kind → SafeCutHolds p cut) (SafeCutHolds p)
-    (λ (cut : SafeCut) h. h (subst IsMinimalKind (sym c.new-rule.ensures.kind) c.requires.minimal)) c.safe_cut.ensures.holds
+    IfOk-weaker c.safe_cut.result (λ (cut : SafeCut). IsMinimalKind c.new-rule.result.kind →
+    SafeCutHolds p cut) (SafeCutHolds p)
+    (λ (cut : SafeCut) h. h (subst IsMinimalKind (sym c.new-rule.ensures.kind) c.requires.minimal))
+    c.safe_cut.ensures.holds
 
 pub returns-clause-narrow : goal.returns-clause-narrow
 returns-clause-narrow g c =
@@ -52,11 +56,15 @@ returns-clause-narrow g c =
     let p = c.args.problem.now in
     let ms = c.args.multipliers.now in
     let ups = c.args.at_upper.now in
-    IfOk-weaker c.safe_cut.result (TellsWide (IsSafeCutOf c.new-rule.result.kind up down p ms ups)) (TellsWide (IsFunctionSafeCutOf f p ms ups))
+    IfOk-weaker c.safe_cut.result (TellsWide (IsSafeCutOf c.new-rule.result.kind up down p ms ups))
+    (TellsWide (IsFunctionSafeCutOf f p ms ups))
     (λ (cut : SafeCut) tells (other, below, slopes, wide).
     let here : AreSlopesAtZero f up down =
-    subst₂ (λ (u d : Frac). AreSlopesAtZero f u d) (sym c.new-slopes.ensures.up) (sym c.new-slopes.ensures.down) c.requires.slopes in
-    tells (subst (λ (k : RuleKind). IsSafeCutOf k up down p ms ups Wide) (sym c.new-rule.ensures.kind)
-    (subst₂ (λ (u d : Frac). IsSafeCutOf (Table f) u d p ms ups Wide) (one_up_at_zero f other up below down c.requires.bounds slopes here)
+    subst₂ (λ (u d : Frac). AreSlopesAtZero f u d) (sym c.new-slopes.ensures.up)
+    (sym c.new-slopes.ensures.down) c.requires.slopes in
+    tells (subst (λ (k : RuleKind). IsSafeCutOf k up down p ms ups Wide)
+    (sym c.new-rule.ensures.kind)
+    (subst₂ (λ (u d : Frac). IsSafeCutOf (Table f) u d p ms ups Wide)
+    (one_up_at_zero f other up below down c.requires.bounds slopes here)
     (one_down_at_zero f other up below down c.requires.bounds slopes here) wide)))
     c.safe_cut.ensures.narrow

@@ -11,12 +11,14 @@ pub returns-clause-is : goal.returns-clause-is
 returns-clause-is c =
     subst
     (λ (f : FunctionData).
-    IsFunctionSafeCutOf f c.args.problem.now c.args.multipliers.now c.args.at_upper.now c.in_ok-cut.cut)
+    IsFunctionSafeCutOf f c.args.problem.now c.args.multipliers.now c.args.at_upper.now
+    c.in_ok-cut.cut)
     c.in_ok-kept.ensures c.in_ok-cut.ensures.is
 
 pub returns-clause-narrow : goal.returns-clause-narrow
 returns-clause-narrow c =
     subst
     (λ (f : FunctionData).
-    TellsWide (IsFunctionSafeCutOf f c.args.problem.now c.args.multipliers.now c.args.at_upper.now) c.in_ok-cut.cut)
+    TellsWide (IsFunctionSafeCutOf f c.args.problem.now c.args.multipliers.now c.args.at_upper.now)
+    c.in_ok-cut.cut)
     c.in_ok-kept.ensures c.in_ok-cut.ensures.narrow

@@ -17,10 +17,13 @@ returns-in-Row-clause-cut c =
     let ups = c.args.at_upper.now in
     let row = c.in-Row.row in
     let pieces = row.slacks.items ++ row.bounds.items in
-    let is : IsRow p ms ups pieces row.right = subst (λ (made : MadeRow). IsMadeRow p ms ups made) c.in-Row.is c.in_ok-row.ensures.row in
-    IfOk-weaker c.gmic_cut_of_row.result (IsGmicCutOfRow (length p.columns) pieces row.right) (IsGmicSafeCutOf p ms ups)
+    let is : IsRow p ms ups pieces row.right =
+    subst (λ (made : MadeRow). IsMadeRow p ms ups made) c.in-Row.is c.in_ok-row.ensures.row in
+    IfOk-weaker c.gmic_cut_of_row.result (IsGmicCutOfRow (length p.columns) pieces row.right)
+    (IsGmicSafeCutOf p ms ups)
     (of_row IsGmicCutOfRow p ms ups pieces row.right is (λ j h. h))
-    (subst (λ (cs : List Column). IfOk c.gmic_cut_of_row.result (IsGmicCutOfRow (length cs) pieces row.right)) c.as_slice.ensures
+    (subst (λ (cs : List Column). IfOk c.gmic_cut_of_row.result
+    (IsGmicCutOfRow (length cs) pieces row.right)) c.as_slice.ensures
     c.gmic_cut_of_row.ensures.cut)
 
 pub returns-in-Row-clause-wide : goal.returns-in-Row-clause-wide
@@ -34,11 +37,14 @@ returns-in-Row-clause-wide c = λ fault.
       pieces,
       row.right,
       subst (λ (made : MadeRow). IsMadeRow p ms ups made) c.in-Row.is c.in_ok-row.ensures.row,
-      subst (λ (cs : List Column). IsGmicCutOfRow (length cs) pieces row.right Wide) c.as_slice.ensures (c.gmic_cut_of_row.ensures.wide fault),
+      subst (λ (cs : List Column). IsGmicCutOfRow (length cs) pieces row.right Wide)
+          c.as_slice.ensures (c.gmic_cut_of_row.ensures.wide fault),
     )
 
 pub returns-in_err-row-clause-wide : goal.returns-in_err-row-clause-wide
-returns-in_err-row-clause-wide c = λ fault. inl (c.in_err-row.ensures.wide (handed_on c.from_residual.result _ _ c.from_residual.ensures.1 fault))
+returns-in_err-row-clause-wide c =
+    λ fault. inl (c.in_err-row.ensures.wide
+    (handed_on c.from_residual.result _ _ c.from_residual.ensures.1 fault))
 
 pub returns-in-Row-clause-narrow : goal.returns-in-Row-clause-narrow
 returns-in-Row-clause-narrow c =
@@ -47,9 +53,12 @@ returns-in-Row-clause-narrow c =
     let ups = c.args.at_upper.now in
     let row = c.in-Row.row in
     let pieces = row.slacks.items ++ row.bounds.items in
-    let is : IsRow p ms ups pieces row.right = subst (λ (made : MadeRow). IsMadeRow p ms ups made) c.in-Row.is c.in_ok-row.ensures.row in
-    on_ok_weaker c.gmic_cut_of_row.result (narrow_of_row IsGmicCutOfRow p ms ups c.in_ok-row.ensures.narrow pieces row.right is)
-    (subst (λ (cs : List Column). OnOk c.gmic_cut_of_row.result (IsGmicCutOfRow (length cs) pieces row.right Wide → ⊥)) c.as_slice.ensures
+    let is : IsRow p ms ups pieces row.right =
+    subst (λ (made : MadeRow). IsMadeRow p ms ups made) c.in-Row.is c.in_ok-row.ensures.row in
+    on_ok_weaker c.gmic_cut_of_row.result
+    (narrow_of_row IsGmicCutOfRow p ms ups c.in_ok-row.ensures.narrow pieces row.right is)
+    (subst (λ (cs : List Column). OnOk c.gmic_cut_of_row.result
+    (IsGmicCutOfRow (length cs) pieces row.right Wide → ⊥)) c.as_slice.ensures
     c.gmic_cut_of_row.ensures.narrow)
 
 pub returns-in-Free-clause-narrow : goal.returns-in-Free-clause-narrow

@@ -32,7 +32,8 @@ returns-in_err-cut-clause-wide c = λ fault.
       c.slopes.ensures,
       side.0,
       subst (λ (f : Frac). HasPart (Gmic f) c.args.row.now.right) (sym c.of-place.ensures) side.1,
-      c.in_err-cut.ensures.wide (handed_on c.from_residual.result _ _ c.from_residual.ensures.1 fault),
+      c.in_err-cut.ensures.wide
+          (handed_on c.from_residual.result _ _ c.from_residual.ensures.1 fault),
     )
 
 pub returns-clause-narrow : goal.returns-clause-narrow
@@ -41,9 +42,14 @@ returns-clause-narrow c (g, up, down, slopes, not_whole, part, wide) =
     let side = c.in-Some.ensures.side in
     let n = c.args.columns in
     let pieces = c.args.row.now.slacks.items ++ c.args.row.now.bounds.items in
-    let here : HasPart (Gmic f) c.args.row.now.right = subst (λ (x : Frac). HasPart (Gmic x) c.args.row.now.right) (sym c.of-place.ensures) side.1 in
+    let here : HasPart (Gmic f) c.args.row.now.right =
+    subst (λ (x : Frac). HasPart (Gmic x) c.args.row.now.right)
+    (sym c.of-place.ensures) side.1 in
     let inside = part_inside c.args.row.now.right f here side.0 in
-    let same = one_part_and_slopes c.args.row.now.right f g c.slopes.result.up up c.slopes.result.down down side.0 here part c.slopes.ensures slopes in
-    let by_f = subst (λ (x : Frac). IsWideCut (IsGmicValue x) (HasNoValue (IsGmicValue x)) up down n pieces) same.0 wide in
+    let same = one_part_and_slopes c.args.row.now.right f g c.slopes.result.up up
+    c.slopes.result.down down side.0 here part c.slopes.ensures slopes in
+    let by_f = subst (λ (x : Frac). IsWideCut (IsGmicValue x)
+    (HasNoValue (IsGmicValue x)) up down n pieces) same.0 wide in
     c.in_ok-cut.ensures.narrow (one_kind_value (Gmic f) inside)
-    (subst₂ (λ (u d : Frac). IsWideCut (IsGmicValue f) (HasNoValue (IsGmicValue f)) u d n pieces) same.1 same.2 by_f)
+    (subst₂ (λ (u d : Frac). IsWideCut (IsGmicValue f) (HasNoValue (IsGmicValue f)) u d n pieces)
+    same.1 same.2 by_f)

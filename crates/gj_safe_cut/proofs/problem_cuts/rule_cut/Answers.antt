@@ -20,10 +20,14 @@ returns-in-Row-clause-is g c =
     let down = c.args.slopes.now.down in
     let row = c.in-Row.row in
     let pieces = row.slacks.items ++ row.bounds.items in
-    let is : IsRow p ms ups pieces row.right = subst (λ (made : MadeRow). IsMadeRow p ms ups made) c.in-Row.is c.in_ok-row.ensures.row in
-    IfOk-weaker c.rule_cut_of_row.result (IsCutOfRow kind up down (length p.columns) pieces row.right) (IsSafeCutOf kind up down p ms ups)
+    let is : IsRow p ms ups pieces row.right =
+    subst (λ (made : MadeRow). IsMadeRow p ms ups made) c.in-Row.is c.in_ok-row.ensures.row in
+    IfOk-weaker c.rule_cut_of_row.result
+    (IsCutOfRow kind up down (length p.columns) pieces row.right)
+    (IsSafeCutOf kind up down p ms ups)
     (of_row (IsCutOfRow kind up down) p ms ups pieces row.right is (λ j h. h))
-    (subst (λ (cs : List Column). IfOk c.rule_cut_of_row.result (IsCutOfRow kind up down (length cs) pieces row.right)) c.as_slice.ensures
+    (subst (λ (cs : List Column). IfOk c.rule_cut_of_row.result
+    (IsCutOfRow kind up down (length cs) pieces row.right)) c.as_slice.ensures
     c.rule_cut_of_row.ensures.is)
 
 pub returns-in-Row-clause-wide : goal.returns-in-Row-clause-wide
@@ -37,12 +41,15 @@ returns-in-Row-clause-wide g c = λ fault.
       pieces,
       row.right,
       subst (λ (made : MadeRow). IsMadeRow p ms ups made) c.in-Row.is c.in_ok-row.ensures.row,
-      subst (λ (cs : List Column). IsCutOfRow c.args.rule.now.kind c.args.slopes.now.up c.args.slopes.now.down (length cs) pieces row.right Wide)
+      subst (λ (cs : List Column). IsCutOfRow c.args.rule.now.kind c.args.slopes.now.up
+          c.args.slopes.now.down (length cs) pieces row.right Wide)
           c.as_slice.ensures (c.rule_cut_of_row.ensures.wide fault),
     )
 
 pub returns-in_err-row-clause-wide : goal.returns-in_err-row-clause-wide
-returns-in_err-row-clause-wide g c = λ fault. inl (c.in_err-row.ensures.wide (handed_on c.from_residual.result _ _ c.from_residual.ensures.1 fault))
+returns-in_err-row-clause-wide g c =
+    λ fault. inl (c.in_err-row.ensures.wide
+    (handed_on c.from_residual.result _ _ c.from_residual.ensures.1 fault))
 
 pub returns-in-Row-clause-narrow : goal.returns-in-Row-clause-narrow
 returns-in-Row-clause-narrow g c =
@@ -51,9 +58,14 @@ returns-in-Row-clause-narrow g c =
     let ups = c.args.at_upper.now in
     let row = c.in-Row.row in
     let pieces = row.slacks.items ++ row.bounds.items in
-    let is : IsRow p ms ups pieces row.right = subst (λ (made : MadeRow). IsMadeRow p ms ups made) c.in-Row.is c.in_ok-row.ensures.row in
-    on_ok_weaker c.rule_cut_of_row.result (narrow_of_row (IsCutOfRow c.args.rule.now.kind c.args.slopes.now.up c.args.slopes.now.down) p ms ups c.in_ok-row.ensures.narrow pieces row.right is)
-    (subst (λ (cs : List Column). OnOk c.rule_cut_of_row.result (IsCutOfRow c.args.rule.now.kind c.args.slopes.now.up c.args.slopes.now.down (length cs) pieces row.right Wide → ⊥)) c.as_slice.ensures
+    let is : IsRow p ms ups pieces row.right =
+    subst (λ (made : MadeRow). IsMadeRow p ms ups made) c.in-Row.is c.in_ok-row.ensures.row in
+    on_ok_weaker c.rule_cut_of_row.result
+    (narrow_of_row (IsCutOfRow c.args.rule.now.kind c.args.slopes.now.up c.args.slopes.now.down)
+    p ms ups c.in_ok-row.ensures.narrow pieces row.right is)
+    (subst (λ (cs : List Column). OnOk c.rule_cut_of_row.result
+    (IsCutOfRow c.args.rule.now.kind c.args.slopes.now.up c.args.slopes.now.down
+    (length cs) pieces row.right Wide → ⊥)) c.as_slice.ensures
     c.rule_cut_of_row.ensures.narrow)
 
 pub returns-in-Free-clause-narrow : goal.returns-in-Free-clause-narrow
@@ -61,5 +73,6 @@ returns-in-Free-clause-narrow g c =
     let p = c.args.problem.now in
     let ms = c.args.multipliers.now in
     let ups = c.args.at_upper.now in
-    narrow_of_free (IsCutOfRow c.args.rule.now.kind c.args.slopes.now.up c.args.slopes.now.down) p ms ups c.in_ok-row.ensures.narrow c.in-Free.column
+    narrow_of_free (IsCutOfRow c.args.rule.now.kind c.args.slopes.now.up c.args.slopes.now.down) p
+    ms ups c.in_ok-row.ensures.narrow c.in-Free.column
     (subst (λ (made : MadeRow). IsMadeRow p ms ups made) c.in-Free.is c.in_ok-row.ensures.row)

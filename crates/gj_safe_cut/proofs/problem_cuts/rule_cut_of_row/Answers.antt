@@ -15,18 +15,23 @@ returns-in_err-cut-in-AtPlace-clause-wide g c = λ fault.
     let kind = c.args.rule.now.kind in
     let row = c.args.row.now in
     let side : IsRightSide kind row.right AtPlace =
-    subst (λ (s : RightSide). IsRightSide kind row.right s) c.in-AtPlace.is c.right_side.ensures.side in (
+    subst (λ (s : RightSide). IsRightSide kind row.right s) c.in-AtPlace.is
+    c.right_side.ensures.side in (
       side.0,
       side.1,
-      subst₂ (λ (up down : Frac). IsWideCut (IsKindValue kind) IsTooFine up down c.args.columns (row.slacks.items ++ row.bounds.items))
+      subst₂ (λ (up down : Frac). IsWideCut (IsKindValue kind) IsTooFine up down c.args.columns
+          (row.slacks.items ++ row.bounds.items))
           c.up.ensures.value c.down.ensures.value
-          (c.in_err-cut-in-AtPlace.ensures.wide (handed_on c.from_residual.result _ _ c.from_residual.ensures.1 fault)),
+          (c.in_err-cut-in-AtPlace.ensures.wide
+          (handed_on c.from_residual.result _ _ c.from_residual.ensures.1 fault)),
     )
 
 pub returns-in_ok-cut-in-AtPlace-clause-narrow : goal.returns-in_ok-cut-in-AtPlace-clause-narrow
 returns-in_ok-cut-in-AtPlace-clause-narrow g c wide =
     let kind = c.args.rule.now.kind in
     let row = c.args.row.now in
-    c.in_ok-cut-in-AtPlace.ensures.narrow (one_kind_value kind (usable_from kind (c.right_side.ensures.bounds c.in-AtPlace.is)))
-    (subst₂ (λ (up down : Frac). IsWideCut (IsKindValue kind) IsTooFine up down c.args.columns (row.slacks.items ++ row.bounds.items))
+    c.in_ok-cut-in-AtPlace.ensures.narrow
+    (one_kind_value kind (usable_from kind (c.right_side.ensures.bounds c.in-AtPlace.is)))
+    (subst₂ (λ (up down : Frac). IsWideCut (IsKindValue kind) IsTooFine up down c.args.columns
+    (row.slacks.items ++ row.bounds.items))
     (sym c.up.ensures.value) (sym c.down.ensures.value) wide.2)

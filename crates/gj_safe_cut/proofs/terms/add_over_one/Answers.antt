@@ -17,7 +17,8 @@ loop-piece-init g c = λ cs r h. (
   record {
     count = refl;
     added = none_added _ (surplus_of cs r);
-    fit = λ one. narrow_adding_none (g.V.Values.has_value c.args.values.now) (g.V.Values.is_out c.args.values.now) c.args.slopes.up c.args.slopes.down
+    fit = λ one. narrow_adding_none (g.V.Values.has_value c.args.values.now)
+        (g.V.Values.is_out c.args.values.now) c.args.slopes.up c.args.slopes.down
         one (length cs) (surplus_of cs r);
   },
 )
@@ -31,17 +32,23 @@ loop-piece-preserved g c = λ cs r h.
     let (ds, t, parts, so_far) = c.loop-piece.invariant cs r h in
     let (es, u, new_parts, more) = c.in_ok-add.ensures ds t parts in
     let added : IsAdded ds t k s.inequality.entries s.inequality.right es u =
-    subst (λ (entries : List Entry). IsAdded ds t k entries s.inequality.right es u) c.as_slice.ensures more in (
+    subst (λ (entries : List Entry). IsAdded ds t k entries s.inequality.right es u)
+    c.as_slice.ensures more in (
       es,
       u,
       new_parts,
       record {
         count = added.count ∙ so_far.count;
-        added = one_added _ ps i s k (surplus_of cs r) (surplus_of ds t) (surplus_of es u) c.loop-piece-test.true c.piece-item.is so_far.added
+        added = one_added _ ps i s k (surplus_of cs r) (surplus_of ds t)
+            (surplus_of es u) c.loop-piece-test.true c.piece-item.is so_far.added
             c.in_ok-coefficient.ensures.coefficient added.adds;
-        fit = λ one. narrow_adding_next (g.V.Values.has_value c.args.values.now) (g.V.Values.is_out c.args.values.now) c.args.slopes.up
-            c.args.slopes.down one ps i s k (length cs) (surplus_of cs r) ds t c.loop-piece-test.true c.piece-item.is so_far.added so_far.count
-            (so_far.fit one) c.in_ok-coefficient.ensures.narrow c.in_ok-coefficient.ensures.coefficient
+        fit = λ one. narrow_adding_next (g.V.Values.has_value c.args.values.now)
+            (g.V.Values.is_out c.args.values.now) c.args.slopes.up
+            c.args.slopes.down one ps i s k (length cs)
+            (surplus_of cs r) ds t c.loop-piece-test.true c.piece-item.is so_far.added
+            so_far.count
+            (so_far.fit one) c.in_ok-coefficient.ensures.narrow
+            c.in_ok-coefficient.ensures.coefficient
             (⊎_elim added.entries_fit added.right_fits);
       },
     )
@@ -53,7 +60,8 @@ returns g c = λ cs r h.
       t,
       parts,
       subst
-          (λ (ps : List Piece). AreTermsAdded (g.V.Values.has_value c.args.values.now) (g.V.Values.is_out c.args.values.now) c.args.slopes.up
+          (λ (ps : List Piece). AreTermsAdded (g.V.Values.has_value c.args.values.now)
+          (g.V.Values.is_out c.args.values.now) c.args.slopes.up
           c.args.slopes.down ps cs r ds t)
           (take_all c.loop-piece.piece-index c.args.pieces.now c.loop-piece-test.false) added,
     )

@@ -25,9 +25,11 @@ returns-clause-cut g c =
     let (ds, s, middle_parts, one) = c.in_ok-add_over_one.ensures cs r parts in
     let (es, t, last_parts, two) = c.in_ok-add_over_one-2.ensures ds s middle_parts in
     let first : AreTermsAdded V Out up down ps cs r ds s =
-    subst (λ (xs : List Piece). AreTermsAdded V Out up down xs cs r ds s) c.as_slice.ensures.value one in
+    subst (λ (xs : List Piece). AreTermsAdded V Out up down xs cs r ds s) c.as_slice.ensures.value
+    one in
     let second : AreTermsAdded V Out up down qs ds s es t =
-    subst (λ (xs : List Piece). AreTermsAdded V Out up down xs ds s es t) c.as_slice-2.ensures.value two in
+    subst (λ (xs : List Piece). AreTermsAdded V Out up down xs ds s es t) c.as_slice-2.ensures.value
+    two in
     let made = c.in_ok-cut.ensures es t last_parts in
     let ks = first.added.coefficients in
     let ls = second.added.coefficients in (
@@ -36,10 +38,14 @@ returns-clause-cut g c =
       λ (point : List Rational).
           let a = combined_at point ks ps in
           let b = combined_at point ls qs in
-          against_one a b (surplus_of cs r point) (surplus_of ds s point) (surplus_of es t point) (surplus_at point c.in_ok-cut.cut)
-          (start.starts point) (first.added.adds point) (second.added.adds point) (made.surplus point)
-          ∙ ap (λ w. w -ℚ whole (pos 1)) (sym (combined_joined R point ps qs ks ls first.added.given)),
-      subst (λ (n : ℕ). AreTermsWithin 0 n c.in_ok-cut.cut.entries) (second.count ∙ first.count ∙ none.count) made.terms,
+          against_one a b (surplus_of cs r point) (surplus_of ds s point) (surplus_of es t point)
+          (surplus_at point c.in_ok-cut.cut)
+          (start.starts point) (first.added.adds point) (second.added.adds point)
+          (made.surplus point)
+          ∙ ap (λ w. w -ℚ whole (pos 1))
+          (sym (combined_joined R point ps qs ks ls first.added.given)),
+      subst (λ (n : ℕ). AreTermsWithin 0 n c.in_ok-cut.cut.entries) (second.count ∙ first.count
+          ∙ none.count) made.terms,
     )
 
 pub returns-clause-narrow : goal.returns-clause-narrow
@@ -55,12 +61,16 @@ returns-clause-narrow g c one_value =
     let (ds, s, middle_parts, one) = c.in_ok-add_over_one.ensures cs r parts in
     let (es, t, last_parts, two) = c.in_ok-add_over_one-2.ensures ds s middle_parts in
     let first : AreTermsAdded V Out up down ps cs r ds s =
-    subst (λ (xs : List Piece). AreTermsAdded V Out up down xs cs r ds s) c.as_slice.ensures.value one in
+    subst (λ (xs : List Piece). AreTermsAdded V Out up down xs cs r ds s) c.as_slice.ensures.value
+    one in
     let second : AreTermsAdded V Out up down qs ds s es t =
-    subst (λ (xs : List Piece). AreTermsAdded V Out up down xs ds s es t) c.as_slice-2.ensures.value two in
+    subst (λ (xs : List Piece). AreTermsAdded V Out up down xs ds s es t) c.as_slice-2.ensures.value
+    two in
     let made = c.in_ok-cut.ensures es t last_parts in
     ⊎_elim
-    (narrow_joined V Out up down one_value c.args.columns (length cs) ps qs (surplus_of cs r) (surplus_of ds s) start first.added
+    (narrow_joined V Out up down one_value c.args.columns (length cs) ps qs (surplus_of cs r)
+    (surplus_of ds s) start first.added
     (first.fit one_value)
-    (subst (λ (n : ℕ). IsWideAdding V Out up down qs n (surplus_of ds s) → ⊥) first.count (second.fit one_value)))
+    (subst (λ (n : ℕ). IsWideAdding V Out up down qs n (surplus_of ds s) → ⊥) first.count
+    (second.fit one_value)))
     (subst (λ (n : ℕ). 2 ^ 32 < n → ⊥) (second.count ∙ first.count ∙ none.count) made.few)

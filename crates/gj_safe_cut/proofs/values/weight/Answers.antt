@@ -14,9 +14,11 @@ returns-then-num-lt0-clause-weight c =
     let sign = reads_as c.num.result x.num c.num.ensures x.lowest.num_fits in
     let here = c.if-num-lt0.true in
     IfOk-weaker c.checked_mul.result
-    (λ w. SameValue (fraction_of w) (product_of (fraction_of c.args.slopes.down) (fraction_of c.neg.result)))
+    (λ w. SameValue (fraction_of w)
+    (product_of (fraction_of c.args.slopes.down) (fraction_of c.neg.result)))
     (IsWeight c.args.slopes.up c.args.slopes.down x)
-    (λ w is. falling_weight c.args.slopes.up c.args.slopes.down x c.neg.result w (omega (arith, ints)) (turned_parts x c.neg.result c.neg.ensures) is)
+    (λ w is. falling_weight c.args.slopes.up c.args.slopes.down x c.neg.result w
+    (omega (arith, ints)) (turned_parts x c.neg.result c.neg.ensures) is)
     c.checked_mul.ensures.value
 
 pub returns-then-num-lt0-clause-wide : goal.returns-then-num-lt0-clause-wide
@@ -28,7 +30,9 @@ returns-then-num-lt0-clause-wide c =
     on_err_weaker c.checked_mul.result
     (λ wide (w : Frac) is. wide (
       w,
-      subst₂ (λ n d. SameValue (fraction_of w) (product_of (fraction_of c.args.slopes.down) (record { top = n; bottom = d }))) (sym parts.0)
+      subst₂ (λ n d. SameValue (fraction_of w)
+          (product_of (fraction_of c.args.slopes.down) (record { top = n; bottom = d })))
+          (sym parts.0)
           (sym parts.1) (is.falls (omega (arith, ints))),
     ))
     c.checked_mul.ensures.wide
@@ -38,5 +42,6 @@ returns-else-num-lt0-clause-wide c =
     let x = c.args.c in
     let sign = reads_as c.num.result x.num c.num.ensures x.lowest.num_fits in
     let here = c.if-num-lt0.false in
-    on_err_weaker c.checked_mul-else-num-lt0.result (λ wide (w : Frac) is. wide (w, is.rises (omega (arith, ints))))
+    on_err_weaker c.checked_mul-else-num-lt0.result
+    (λ wide (w : Frac) is. wide (w, is.rises (omega (arith, ints))))
     c.checked_mul-else-num-lt0.ensures.wide

@@ -13,10 +13,12 @@ returns-in_err-small_denominator-clause-none c =
 
 pub returns-then-multiple-from-clause-none : goal.returns-then-multiple-from-clause-none
 returns-then-multiple-from-clause-none c = λ m few lcm.
-    let is = subst (λ d. IsLcm c.args.order d c.lcm-multiple.result) c.in_ok-small_denominator.ensures.1 c.lcm-multiple.ensures in
+    let is = subst (λ d. IsLcm c.args.order d c.lcm-multiple.result)
+    c.in_ok-small_denominator.ensures.1 c.lcm-multiple.ensures in
     let at_most = lcm_at_most _ _ m _ c.requires (denominator_some c.args.x) lcm is in
     omega (arith, c.if-multiple-from.true, c.from.ensures)
 
 pub returns-clause-least : goal.returns-clause-least
 returns-clause-least c =
-    subst (λ d. IsLcm c.args.order d c.lcm-multiple.result) c.in_ok-small_denominator.ensures.1 c.lcm-multiple.ensures
+    subst (λ d. IsLcm c.args.order d c.lcm-multiple.result) c.in_ok-small_denominator.ensures.1
+    c.lcm-multiple.ensures

@@ -9,13 +9,15 @@ loop-i-init c = least_of_none
 
 pub returns-clause-least : goal.returns-clause-least
 returns-clause-least c =
-    let all = before_all c.args.left.now c.args.value.now c.args.right.now c.loop-i.i c.requires.value_length
+    let all = before_all c.args.left.now c.args.value.now c.args.right.now c.loop-i.i
+    c.requires.value_length
     c.requires.right_length c.loop-i-test.false in
     subst (λ xs. AreWithinBoundsOver xs c.loop-i.scale) all c.loop-i.invariant
 
 pub returns-in-Err-clause-fault : goal.returns-in-Err-clause-fault
 returns-in-Err-clause-fault c =
-    let at : StandAt c.args.left.now c.args.value.now c.args.right.now c.loop-i.i c.index-left-i.result c.index-value-i.result
+    let at : StandAt c.args.left.now c.args.value.now c.args.right.now c.loop-i.i
+    c.index-left-i.result c.index-value-i.result
     c.index-right-i.result =
     record {
       value_length = c.requires.value_length;
@@ -25,11 +27,13 @@ returns-in-Err-clause-fault c =
       value_is = c.index-value-i.is;
       right_is = c.index-right-i.is;
     } in
-    rw c.at.ensures (fault_in _ _ _ c.loop-i.i _ _ _ _ at (c.in-Err.ensures.fault _ c.loop-i.invariant))
+    rw c.at.ensures (fault_in _ _ _ c.loop-i.i _ _ _ _ at
+    (c.in-Err.ensures.fault _ c.loop-i.invariant))
 
 pub loop-i-preserved : goal.loop-i-preserved
 loop-i-preserved c =
-    let at : StandAt c.args.left.now c.args.value.now c.args.right.now c.loop-i.i c.index-left-i.result c.index-value-i.result
+    let at : StandAt c.args.left.now c.args.value.now c.args.right.now c.loop-i.i
+    c.index-left-i.result c.index-value-i.result
     c.index-right-i.result =
     record {
       value_length = c.requires.value_length;
@@ -39,5 +43,6 @@ loop-i-preserved c =
       value_is = c.index-value-i.is;
       right_is = c.index-right-i.is;
     } in
-    subst (λ xs. AreWithinBoundsOver xs c.in-Ok.multiple) (sym (before_next _ _ _ c.loop-i.i _ _ _ at))
+    subst (λ xs. AreWithinBoundsOver xs c.in-Ok.multiple)
+    (sym (before_next _ _ _ c.loop-i.i _ _ _ at))
     (c.in-Ok.ensures.least _ c.loop-i.invariant)

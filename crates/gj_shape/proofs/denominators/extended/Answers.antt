@@ -5,8 +5,11 @@ use Rattle.gj_lemmas.specs.Divisors.{IsLcm}
 use Rattle.gj_shape.proofs.denominators.extended.Goals as goal
 
 pub returns-in_default-clause-fault : goal.returns-in_default-clause-fault
-returns-in_default-clause-fault c =
-    (c.if-not-is_small.ensures.0 refl, λ m low high a b. let less = le_of_dvd low b in c.in_default.ensures (omega arith))
+returns-in_default-clause-fault c = (
+  c.if-not-is_small.ensures.0 refl,
+  λ m low high a b. let less = le_of_dvd low b in
+      c.in_default.ensures (omega arith),
+)
 
 pub returns-then-multiple-from-clause-fault : goal.returns-then-multiple-from-clause-fault
 returns-then-multiple-from-clause-fault c = (
@@ -21,6 +24,7 @@ returns-then-multiple-from-clause-fault c = (
 pub returns-clause-least : goal.returns-clause-least
 returns-clause-least c = record {
   small = c.if-not-is_small.ensures.0 refl;
-  least = subst (λ n. IsLcm c.args.scale n c.lcm-multiple.result) c.in-Some.ensures.1 c.lcm-multiple.ensures;
+  least = subst (λ n. IsLcm c.args.scale n c.lcm-multiple.result) c.in-Some.ensures.1
+      c.lcm-multiple.ensures;
   high = omega (arith, c.if-multiple-from.false);
 }

@@ -3,11 +3,13 @@ use Rattle.gj_shape.proofs.LeastDenominator.{extended_some, least_with_three, re
 use Rattle.gj_shape.proofs.denominators.with_point_by_parts.Goals as goal
 
 pub extended-requires-2 : goal.extended-requires-2
-extended-requires-2 c = record { low = extended_some _ _ _ c.in_ok-with_left.ensures.least c.requires }
+extended-requires-2 c =
+    record { low = extended_some _ _ _ c.in_ok-with_left.ensures.least c.requires }
 
 pub extended-requires-3 : goal.extended-requires-3
 extended-requires-3 c = record {
-  low = extended_some _ _ _ c.in_ok-with_value.ensures.least (extended_some _ _ _ c.in_ok-with_left.ensures.least c.requires);
+  low = extended_some _ _ _ c.in_ok-with_value.ensures.least
+      (extended_some _ _ _ c.in_ok-with_left.ensures.least c.requires);
 }
 
 pub returns-in_err-with_left-clause-fault : goal.returns-in_err-with_left-clause-fault
@@ -17,17 +19,21 @@ returns-in_err-with_left-clause-fault c =
 
 pub returns-in_err-with_value-clause-fault : goal.returns-in_err-with_value-clause-fault
 returns-in_err-with_value-clause-fault c =
-    let p = err_from_is_err_and c.from_residual-in_err-with_value.result c.from_residual-in_err-with_value.ensures.1 in
-    rw (p.1, p.2) (refused_value _ _ _ _ _ _ c.in_ok-with_left.ensures.least c.in_err-with_value.ensures.fault)
+    let p = err_from_is_err_and c.from_residual-in_err-with_value.result
+    c.from_residual-in_err-with_value.ensures.1 in
+    rw (p.1, p.2) (refused_value _ _ _ _ _ _ c.in_ok-with_left.ensures.least
+    c.in_err-with_value.ensures.fault)
 
 pub returns-clause-least : goal.returns-clause-least
 returns-clause-least c =
     IfOk-weaker c.extended-3.result _ _
-    (λ m h. least_with_three _ _ _ m _ _ _ c.in_ok-with_left.ensures.least c.in_ok-with_value.ensures.least h)
+    (λ m h. least_with_three _ _ _ m _ _ _ c.in_ok-with_left.ensures.least
+    c.in_ok-with_value.ensures.least h)
     c.extended-3.ensures.least
 
 pub returns-clause-fault : goal.returns-clause-fault
 returns-clause-fault c =
     IfErr-weaker c.extended-3.result _ _
-    (λ e h. refused_right _ _ _ _ _ _ e c.in_ok-with_left.ensures.least c.in_ok-with_value.ensures.least h)
+    (λ e h. refused_right _ _ _ _ _ _ e c.in_ok-with_left.ensures.least
+    c.in_ok-with_value.ensures.least h)
     c.extended-3.ensures.fault

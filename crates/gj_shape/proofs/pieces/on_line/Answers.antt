@@ -7,7 +7,8 @@ use mir.Syntax.{w128}
 pub returns : goal.returns
 returns c =
     let a = c.args in
-    let sum : to_z w128 (of_z w128 (to_z w128 (of_z w128 c.weighted.result) +ℤ to_z w128 (of_z w128 c.weighted-2.result)))
+    let sum : to_z w128 (of_z w128
+    (to_z w128 (of_z w128 c.weighted.result) +ℤ to_z w128 (of_z w128 c.weighted-2.result)))
     ≡ c.weighted.result +ℤ c.weighted-2.result = omega (arith, ints) in
     let start : to_z w64 (of_z w64 a.start) ≡ a.start = to_z-of_z w64 a.start (search rules) in
     let end : to_z w64 (of_z w64 a.end) ≡ a.end = to_z-of_z w64 a.end (search rules) in

@@ -12,12 +12,14 @@ pub overflow_cast-result : goal.overflow_cast-result
 overflow_cast-result c =
     let (p, below, is) = c.requires.place in
     let place : to_z w64 (of_z w64 c.numerator_over.result) ≡ pos p =
-    to_z-of_z w64 c.numerator_over.result (search rules) ∙ c.numerator_over.ensures ∙ sym (numerator_from_over c.args.q c.args.x (pos p) is) in
+    to_z-of_z w64 c.numerator_over.result (search rules) ∙ c.numerator_over.ensures
+    ∙ sym (numerator_from_over c.args.q c.args.x (pos p) is) in
     omega (arith, ints)
 
 pub returns : goal.returns
 returns c =
     let (p, below, is) = c.requires.place in
     let place : to_z w64 (of_z w64 c.numerator_over.result) ≡ pos p =
-    to_z-of_z w64 c.numerator_over.result (search rules) ∙ c.numerator_over.ensures ∙ sym (numerator_from_over c.args.q c.args.x (pos p) is) in
+    to_z-of_z w64 c.numerator_over.result (search rules) ∙ c.numerator_over.ensures
+    ∙ sym (numerator_from_over c.args.q c.args.x (pos p) is) in
     subst (λ z. IsRatio c.args.x (pos (unsigned_abs z)) (pos c.args.q)) (sym place) is

@@ -8,7 +8,8 @@ use Rattle.gj_shape.proofs.BreakPieces.{line_more, no_line_yet, IsLineSoFar}
 use Rattle.gj_shape.proofs.pieces.push_line.Goals as goal
 
 pub numerator_over-end-requires-clause-small : goal.numerator_over-end-requires-clause-small
-numerator_over-end-requires-clause-small c = All-head IsSmall c.args.w [] (All-tail IsSmall c.args.u (c.args.w ∷ []) c.requires.within.small)
+numerator_over-end-requires-clause-small c =
+    All-head IsSmall c.args.w [] (All-tail IsSmall c.args.u (c.args.w ∷ []) c.requires.within.small)
 
 pub loop-i-init : goal.loop-i-init
 loop-i-init c = no_line_yet _ _ _ _
@@ -21,12 +22,16 @@ loop-i-preserved c =
     let i = c.loop-i.i in
     let s = c.scale_of-scale.result in
     let e = c.scale_of-scale.ensures in
-    let scale : IsScaleOf u w s = record { low = e.low; high = e.high; first = e.first; second = e.second } in
+    let scale : IsScaleOf u w s =
+    record { low = e.low; high = e.high; first = e.first; second = e.second } in
     let start : to_z w64 (of_z w64 c.numerator_over-start.result) ≡ numerator_over s u =
     to_z-of_z w64 c.numerator_over-start.result (search rules) ∙ c.numerator_over-start.ensures in
     let end : to_z w64 (of_z w64 c.numerator_over-end.result) ≡ numerator_over s w =
     to_z-of_z w64 c.numerator_over-end.result (search rules) ∙ c.numerator_over-end.ensures in
-    let over : IsRatio c.on_line-x.result (pos (n - i) *ℤ numerator_over s u +ℤ pos i *ℤ numerator_over s w) (pos (s * n)) =
-    subst₂ (λ y z. IsRatio c.on_line-x.result (pos (n - i) *ℤ y +ℤ pos i *ℤ z) (pos (s * n))) start end c.on_line-x.ensures in
+    let over : IsRatio c.on_line-x.result
+    (pos (n - i) *ℤ numerator_over s u +ℤ pos i *ℤ numerator_over s w) (pos (s * n)) =
+    subst₂ (λ y z. IsRatio c.on_line-x.result (pos (n - i) *ℤ y +ℤ pos i *ℤ z) (pos (s * n))) start
+    end c.on_line-x.ensures in
     let on = line_over_scale u w c.on_line-x.result s n i scale c.requires.some over in
-    subst (IsLineSoFar _ u w n _) (sym c.in_ok-push.ensures.items) (line_more _ u w n i _ c.on_line-x.result c.loop-i.invariant on)
+    subst (IsLineSoFar _ u w n _) (sym c.in_ok-push.ensures.items)
+    (line_more _ u w n i _ c.on_line-x.result c.loop-i.invariant on)

@@ -12,5 +12,6 @@ returns-clause-fault c =
     IfErr-weaker c.new.result _ _
     (λ e h.
     fault_as _ _ _ _ _ _ _ _ _ _ e refl refl (c.as_slice.ensures.value ∙ l.left ∙ ap lefts all)
-    (c.as_slice-2.ensures.value ∙ l.value ∙ ap values all) (c.as_slice-3.ensures.value ∙ l.right ∙ ap rights all) h)
+    (c.as_slice-2.ensures.value ∙ l.value ∙ ap values all) (c.as_slice-3.ensures.value ∙ l.right
+    ∙ ap rights all) h)
     c.new.ensures.fault

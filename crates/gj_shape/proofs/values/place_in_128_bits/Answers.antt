@@ -11,12 +11,17 @@ returns-clause-congruent c =
     let order = c.args.order in
     let steps = c.args.steps in
     let number : to_z w128 (of_z w128 c.args.n) ≡ c.args.n = to_z-of_z w128 c.args.n c.ranges.n in
-    let same : pos (unsigned_abs (to_z w128 (of_z w128 c.rem_euclid-place.result))) ≡ c.rem_euclid-place.result = omega (arith, ints) in
-    let fits : FitsSigned w128 (pos order *ℤ pos steps) = fits_signed_mul w128 (pos order) (pos steps) (2 ^ 32) (2 ^ 64) (omega arith) (omega arith) (omega arith) in
-    let product : c.from.result * c.from-2.result ≡ order * steps = ap₂ (λ a b. a * b) c.from.ensures c.from-2.ensures in
+    let same : pos (unsigned_abs (to_z w128 (of_z w128 c.rem_euclid-place.result)))
+    ≡ c.rem_euclid-place.result = omega (arith, ints) in
+    let fits : FitsSigned w128 (pos order *ℤ pos steps) =
+    fits_signed_mul w128 (pos order) (pos steps) (2 ^ 32) (2 ^ 64) (omega arith) (omega arith)
+    (omega arith) in
+    let product : c.from.result * c.from-2.result ≡ order * steps =
+    ap₂ (λ a b. a * b) c.from.ensures c.from-2.ensures in
     let period : to_z w128 (c.from.result * c.from-2.result) ≡ pos (order * steps) =
     ap (to_z w128) product ∙ to_z-of_z w128 (pos (order * steps)) fits in
     let rest : c.rem_euclid-place.result ≡ int_rem_euclid c.args.n (pos (order * steps)) =
     c.rem_euclid-place.ensures.value ∙ ap₂ int_rem_euclid number period in
-    congruent_to_parts c.args.n order steps c.from-steps.result _ (mul-pos c.requires.order c.requires.steps) c.from-steps.ensures
+    congruent_to_parts c.args.n order steps c.from-steps.result _
+    (mul-pos c.requires.order c.requires.steps) c.from-steps.ensures
     (same ∙ rest)

@@ -13,7 +13,8 @@ use Rattle.gj_sparse_elim.proofs.left.signed_entries.Goals.{then-row-found-ne0+i
 
 pub loop-found-init : goal.loop-found-init
 loop-found-init c = record {
-  gathered = gathered_start (signed_row c.args.is_negative c.args.row.now) c.new-entries.result.items
+  gathered = gathered_start (signed_row c.args.is_negative c.args.row.now)
+      c.new-entries.result.items
       c.new-entries.ensures.items;
   within = omega arith;
 }
@@ -37,7 +38,8 @@ loop-found-preserved c =
             (read_fitting w.signed.result (subst Fits (sym number)
             (signed_fits c.args.is_negative x (c.requires.small c.in-Some.found))) ∙ number)
             (some_small (get_or c.args.row.now c.in-Some.found (pos 0)) w.if-row-found-ne0.true)
-            (c.requires.small c.in-Some.found) (ap (λ v. v.items) w.entries-is ∙ w.in_ok-push.ensures.items)
+            (c.requires.small c.in-Some.found) (ap (λ v. v.items) w.entries-is
+            ∙ w.in_ok-push.ensures.items)
         | else-row-found-ne0 w ↦
             let none = zero_small (get_or c.args.row.now c.in-Some.found (pos 0)) (search rules)
             w.if-row-found-ne0.false in

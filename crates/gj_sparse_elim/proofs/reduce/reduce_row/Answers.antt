@@ -14,7 +14,8 @@ reduce_exactly-requires-clause-fits c =
     subst (λ (xs : List ℤ). All Fits xs) (sym c.spread.ensures)
     (dense_fits (length c.args.row.now) c.args.given.now c.requires.sparse)
 
-pub returns-then-bound-ge-GREATEST_BOUND-clause-left : goal.returns-then-bound-ge-GREATEST_BOUND-clause-left
+pub returns-then-bound-ge-GREATEST_BOUND-clause-left :
+    goal.returns-then-bound-ge-GREATEST_BOUND-clause-left
 returns-then-bound-ge-GREATEST_BOUND-clause-left c =
     let done = c.in_ok-left.ensures.done (inserted (length c.args.row.now)
     (kept_sparse (length c.args.row.now) c.args.log.now c.args.rows.now)
@@ -29,7 +30,8 @@ returns-then-bound-ge-GREATEST_BOUND-clause-left c =
       kept = c.in_ok-wide_left.ensures;
     }
 
-pub returns-then-bound-ge-GREATEST_BOUND-clause-narrow : goal.returns-then-bound-ge-GREATEST_BOUND-clause-narrow
+pub returns-then-bound-ge-GREATEST_BOUND-clause-narrow :
+    goal.returns-then-bound-ge-GREATEST_BOUND-clause-narrow
 returns-then-bound-ge-GREATEST_BOUND-clause-narrow c =
     (c.in_ok-left.ensures.done (inserted (length c.args.row.now)
     (kept_sparse (length c.args.row.now) c.args.log.now c.args.rows.now)
@@ -49,7 +51,8 @@ returns-in_err-left-clause-wide c = λ e.
     c.spread.new.row c.args.reduce.now.items
     c.spread.auto.row c.spread.ensures c.requires.empty)
 
-pub returns-in_ok-wide_left-in-Column-clause-left : goal.returns-in_ok-wide_left-in-Column-clause-left
+pub returns-in_ok-wide_left-in-Column-clause-left :
+    goal.returns-in_ok-wide_left-in-Column-clause-left
 returns-in_ok-wide_left-in-Column-clause-left c =
     let done = c.in_ok-left-in-Column.ensures.done (inserted (length c.args.row.now)
     (kept_sparse (length c.args.row.now) c.args.log.now c.args.rows.now)
@@ -69,7 +72,8 @@ returns-in_ok-wide_left-in-Column-clause-left c =
       kept = c.in_ok-wide_left-in-Column.ensures;
     }
 
-pub returns-in_ok-wide_left-in-Column-clause-narrow : goal.returns-in_ok-wide_left-in-Column-clause-narrow
+pub returns-in_ok-wide_left-in-Column-clause-narrow :
+    goal.returns-in_ok-wide_left-in-Column-clause-narrow
 returns-in_ok-wide_left-in-Column-clause-narrow c =
     (c.in_ok-left-in-Column.ensures.done (inserted (length c.args.row.now)
     (kept_sparse (length c.args.row.now) c.args.log.now c.args.rows.now)

@@ -6,5 +6,6 @@ use Rattle.gj_system.proofs.codes.push_codes.Given as goal
 
 abbrev pub invariant-loop-c : goal.invariant-loop-c
 invariant-loop-c l =
-    (l.codes.items ≡ l.fn.codes.items ++ codes_before (component_in l.component) l.columns l.c-index)
+    (l.codes.items ≡ l.fn.codes.items ++ codes_before
+    (component_in l.component) l.columns l.c-index)
     × (l.code ≡ packed (rises_at (component_in l.component) l.columns l.c-index))

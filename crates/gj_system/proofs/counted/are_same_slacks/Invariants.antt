@@ -3,5 +3,6 @@ use Rattle.gj_system.proofs.counted.are_same_slacks.Given as goal
 
 abbrev pub invariant-loop-c : goal.invariant-loop-c
 invariant-loop-c l =
-    (c : ℕ) → c < l.c → pos (get_or l.first c 0) +ℤ pos (get_or l.second c 0) -ℤ pos (get_or l.third c 0)
+    (c : ℕ) → c < l.c → pos (get_or l.first c 0) +ℤ pos (get_or l.second c 0) -ℤ pos
+    (get_or l.third c 0)
     ≡ pos (get_or l.fourth c 0) +ℤ pos (get_or l.fifth c 0) -ℤ pos (get_or l.sixth c 0)

@@ -7,4 +7,5 @@ use Rattle.gj_system.proofs.counted.counts_of.Given as goal
 abbrev pub invariant-loop-c : goal.invariant-loop-c
 invariant-loop-c l =
     (l.count.items ≡ rises_at (component_in l.component) l.columns l.c-index)
-    × (l.counts.items ≡ flat_map (rises_at (component_in l.component) l.columns) (range_with_len 0 (l.c-index + 1)))
+    × (l.counts.items ≡ flat_map (rises_at (component_in l.component) l.columns)
+    (range_with_len 0 (l.c-index + 1)))

@@ -9,5 +9,6 @@ returns-clause-halves c = function_finer_halves
 
 pub returns-clause-deny : goal.returns-clause-deny
 returns-clause-deny c = λ f d m c a b l continuous d_some m_some h.
-    halves_deny (table f (d * m)) (f.order * (d * m)) (f.place * (d * m)) (f.scale * (d * m)) c (filling a m) (filling b m)
+    halves_deny (table f (d * m)) (f.order * (d * m)) (f.place * (d * m)) (f.scale * (d * m)) c
+    (filling a m) (filling b m)
     (function_finer_halves f d m c a b l continuous d_some m_some h)

@@ -9,5 +9,8 @@ returns-clause-triangular c n rows columns = (elimination_has whole_sound n rows
 
 pub returns-clause-same : goal.returns-clause-same
 returns-clause-same c n rows w columns len =
-    let same = (elimination_has whole_sound n rows columns).same w in
-    (λ all. (same.before (tt, len) all).1, λ all. same.onward (All-nil (λ k. Solves w k.entries), all))
+    let same = (elimination_has whole_sound n rows columns).same w in (
+      λ all. (same.before (tt, len) all).1,
+      λ all. same.onward
+          (All-nil (λ k. Solves w k.entries), all),
+    )

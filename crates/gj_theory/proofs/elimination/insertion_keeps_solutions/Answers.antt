@@ -9,4 +9,5 @@ returns-clause-triangular c n number kept row h len =
 
 pub returns-clause-same : goal.returns-clause-same
 returns-clause-same c n number kept row w h len =
-    both_ways ((inserted_leaves whole_sound n kept row h len).solutions number (inserted n kept row).reduce w)
+    both_ways ((inserted_leaves whole_sound n kept row h len).solutions number
+    (inserted n kept row).reduce w)

@@ -5,7 +5,8 @@ use Rattle.gj_theory.proofs.Triangular.{rank_at_most}
 use Rattle.gj_theory.proofs.residues.elimination_modulo_leaves_only_zero.Goals as goal
 
 pub returns-clause-triangular : goal.returns-clause-triangular
-returns-clause-triangular c m n rows some columns = (elimination_has (modulo_sound m some) n rows columns).triangular
+returns-clause-triangular c m n rows some columns =
+    (elimination_has (modulo_sound m some) n rows columns).triangular
 
 pub returns-clause-rank : goal.returns-clause-rank
 returns-clause-rank c = rank_at_most

@@ -11,7 +11,8 @@ pub returns-clause-rising : goal.returns-clause-rising
 returns-clause-rising c f a minimal same = rising_lower f a (minimal_values f minimal) same
 
 pub returns-clause-falling : goal.returns-clause-falling
-returns-clause-falling c f a l minimal same = falling_upper f a (order_some f l) (minimal_values f minimal) same
+returns-clause-falling c f a l minimal same =
+    falling_upper f a (order_some f l) (minimal_values f minimal) same
 
 pub returns-clause-joined : goal.returns-clause-joined
 returns-clause-joined c f a l minimal two = elim ((rises_and_falls f l minimal two).each a) [
@@ -25,8 +26,10 @@ returns-clause-covered c f a l minimal two =
 
 pub returns-clause-one_component : goal.returns-clause-one_component
 returns-clause-one_component c f a b l minimal two same =
-    alike_in_component f a b (order_some f l) (minimal_values f minimal) (rises_and_falls f l minimal two) same
+    alike_in_component f a b (order_some f l) (minimal_values f minimal)
+    (rises_and_falls f l minimal two) same
 
 pub returns-clause-two_components : goal.returns-clause-two_components
 returns-clause-two_components c f lines l minimal two cover =
-    two_components f lines (order_some f l) (minimal_values f minimal) (rises_and_falls f l minimal two) cover
+    two_components f lines (order_some f l) (minimal_values f minimal)
+    (rises_and_falls f l minimal two) cover

@@ -12,5 +12,6 @@ returns-in_ok-worded_line-in-Ok c =
       rules = rules;
       holds = meaning_of_rules c.args.proof.now c.requires c.claim.ensures.has_text rules;
       spelled = c.in_ok-worded_line-in-Ok.ensures
-          ∙ ap (λ w. line (codes "accepted " ++ w)) (c.word.ensures ∙ ap claim_word c.claim.ensures.claim);
+          ∙ ap (λ w. line (codes "accepted " ++ w))
+          (c.word.ensures ∙ ap claim_word c.claim.ensures.claim);
     }

@@ -8,5 +8,6 @@ returns-in_ok-worded_line-in-Ok c = record {
   rules = c.in-Ok.ensures.ok;
   holds = c.in-Ok.ensures.holds c.requires;
   spelled = c.in_ok-worded_line-in-Ok.ensures
-      ∙ ap (λ w. line (codes "accepted " ++ w)) (c.word.ensures ∙ ap claim_word c.claim.ensures.claim);
+      ∙ ap (λ w. line (codes "accepted " ++ w))
+      (c.word.ensures ∙ ap claim_word c.claim.ensures.claim);
 }

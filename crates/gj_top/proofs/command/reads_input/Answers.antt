@@ -6,4 +6,6 @@ pub returns-in-Demo : goal.returns-in-Demo
 returns-in-Demo c = rw c.in-Demo.is refl
 
 pub returns-in_default : goal.returns-in_default
-returns-in_default c = sym (others_read c.args.request.command c.args.request.json c.args.request.jumps c.in_default.not-Demo)
+returns-in_default c =
+    sym (others_read c.args.request.command c.args.request.json c.args.request.jumps
+    c.in_default.not-Demo)

@@ -26,12 +26,16 @@ loop-multiplier-preserved c =
     let ms = c.args.multipliers.now in
     let m = c.multiplier-item.result in
     let more : take (i + 1) ms ≡ take i ms ++ m ∷ [] =
-    take_more ms i m c.loop-multiplier-test.true ∙ ap (λ (z : Multiplier). take i ms ++ z ∷ []) (sym c.multiplier-item.is) in
-    subst (All (λ (n : Multiplier). IsLeftOut c.args.constraints c.args.shown.now n.line → ⊥)) (sym more)
-    (All-push (λ (n : Multiplier). IsLeftOut c.args.constraints c.args.shown.now n.line → ⊥) (take i ms) m c.loop-multiplier.invariant
+    take_more ms i m c.loop-multiplier-test.true
+    ∙ ap (λ (z : Multiplier). take i ms ++ z ∷ []) (sym c.multiplier-item.is) in
+    subst (All (λ (n : Multiplier). IsLeftOut c.args.constraints c.args.shown.now n.line → ⊥))
+    (sym more)
+    (All-push (λ (n : Multiplier). IsLeftOut c.args.constraints c.args.shown.now n.line → ⊥)
+    (take i ms) m c.loop-multiplier.invariant
     (λ left. let yes = c.is_left_out.ensures.1 left in let no = c.if-is_left_out.false in cc))
 
 pub returns : goal.returns
 returns c =
     subst (All (λ (n : Multiplier). IsLeftOut c.args.constraints c.args.shown.now n.line → ⊥))
-    (take_all c.loop-multiplier.multiplier-index c.args.multipliers.now c.loop-multiplier-test.false) c.loop-multiplier.invariant
+    (take_all c.loop-multiplier.multiplier-index c.args.multipliers.now
+    c.loop-multiplier-test.false) c.loop-multiplier.invariant

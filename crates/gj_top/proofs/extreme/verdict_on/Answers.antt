@@ -5,7 +5,8 @@ use Rattle.gj_top.proofs.extreme.verdict_on.Goals as goal
 
 pub jump_text-requires : goal.jump_text-requires
 jump_text-requires c =
-    (c.in-Err-NotContinuous.ensures.not_continuous c.in-Err-NotContinuous.index (cc (c.in-Err-NotContinuous.field-0-is))).1
+    (c.in-Err-NotContinuous.ensures.not_continuous c.in-Err-NotContinuous.index
+    (cc (c.in-Err-NotContinuous.field-0-is))).1
 
 pub returns-in_ok-proof_text-in-Ok : goal.returns-in_ok-proof_text-in-Ok
 returns-in_ok-proof_text-in-Ok c =
@@ -21,7 +22,8 @@ returns-in_ok-proof_text-in-Ok c =
 
 pub returns-in_ok-jump_text-in-Err-NotContinuous : goal.returns-in_ok-jump_text-in-Err-NotContinuous
 returns-in_ok-jump_text-in-Err-NotContinuous c = (
-  (c.in-Err-NotContinuous.ensures.not_continuous c.in-Err-NotContinuous.index (cc (c.in-Err-NotContinuous.field-0-is))).0,
+  (c.in-Err-NotContinuous.ensures.not_continuous c.in-Err-NotContinuous.index
+      (cc (c.in-Err-NotContinuous.field-0-is))).0,
   c.in_ok-jump_text-in-Err-NotContinuous.ensures,
 )
 

@@ -16,6 +16,7 @@ returns-in_ok-write_breaks-in-Ok c =
         points_are = points;
         fill_in = c.in-Ok.ensures.fill_in points.rise points.fall points.greatest;
         spelled = c.in_ok-write_breaks-in-Ok.ensures
-            ∙ ap (λ (pairs : List (Frac × Frac)). canonical_breaks_text filled.f (map even_break pairs)) c.as_slice.ensures;
+            ∙ ap (λ (pairs : List (Frac × Frac)). canonical_breaks_text filled.f
+            (map even_break pairs)) c.as_slice.ensures;
       },
     )

@@ -9,5 +9,7 @@ returns-in-Ok c = input_of_whole c.args.input.now c.in-Ok.shape c.in-Ok.ensures.
 
 pub returns-in-Err-Refused : goal.returns-in-Err-Refused
 returns-in-Err-Refused c =
-    refused_at (IsFirstFaultOfWhole c.args.input.now) RefusesFunctionText c.args.input.now c.in-Err-Refused.at_line c.in-Err-Refused.reason
-    c.refused.result (rw c.in-Err-Refused.field-0-is at c.in-Err-Refused.ensures.refused) (λ text h. h) c.refused.ensures
+    refused_at (IsFirstFaultOfWhole c.args.input.now) RefusesFunctionText c.args.input.now
+    c.in-Err-Refused.at_line c.in-Err-Refused.reason
+    c.refused.result (rw c.in-Err-Refused.field-0-is at c.in-Err-Refused.ensures.refused)
+    (λ text h. h) c.refused.ensures

@@ -16,13 +16,16 @@ use Rattle.gj_top.proofs.laws.two_slopes_are_called_extreme.Goals as goal
 
 -- what holds of each reply to an input in the form holds of its answer, if the input is within the
 -- limit
-answered : (task : Task) (input text : List ℕ) (s : Status) (Called : Type 0) → IsSound task → IsInForm task input →
-    length input ≤ input_limit → ((e : End) → IsReply task input e text → (e ≡ end.Done) × Called) → IsAnswerTo task input s text →
+answered : (task : Task) (input text : List ℕ) (s : Status) (Called : Type 0) → IsSound task →
+    IsInForm task input →
+    length input ≤ input_limit → ((e : End) → IsReply task input e text → (e ≡ end.Done) × Called) →
+    IsAnswerTo task input s text →
     (s ≡ Done) × Called
 answered task input text s Called sound form short called (too_long a) =
     let long = a.long in
     absurd (omega arith)
-answered task input text s Called sound form short called (refused a) = absurd (sound.form input text form.0 form.1 a.refused)
+answered task input text s Called sound form short called (refused a) =
+    absurd (sound.form input text form.0 form.1 a.refused)
 answered task input text s Called sound form short called (replied a) =
     let (ended, here) = called a.end a.reply in
     (a.status_is ∙ ap status_of ended, here)
@@ -32,5 +35,6 @@ returns-clause-reply c = λ json f input text e. two_slope_reply json f input te
 
 pub returns-clause-answer : goal.returns-clause-answer
 returns-clause-answer c = λ json f input text s spelled minimal two short.
-    answered (extreme json) input text s (CallsExtreme json f text) (extreme_sound json) (f, spelled) short
+    answered (extreme json) input text s (CallsExtreme json f text) (extreme_sound json)
+    (f, spelled) short
     (λ e. two_slope_reply json f input text e spelled minimal two)

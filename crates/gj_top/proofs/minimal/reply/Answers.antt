@@ -11,6 +11,7 @@ returns c =
     record {
       thing = f;
       spelled = c.in_ok-function_of.ensures;
-      replied = told c.args.json (IsProofText claim) (IsVerdict f) (λ text. verdict_of_claim f claim text c.minimality_proof-proof.ensures.claim)
+      replied = told c.args.json (IsProofText claim) (IsVerdict f)
+          (λ text. verdict_of_claim f claim text c.minimality_proof-proof.ensures.claim)
           c.in_ok-proof_text.field-0.items c.in_ok-proof_text.ensures;
     }

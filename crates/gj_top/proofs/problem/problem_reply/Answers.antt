@@ -7,12 +7,14 @@ use Rattle.gj_top.specs.Objection.{IsObjection}
 use Rattle.gj_top.specs.Problem.{IsProblemReply}
 use Rattle.gj_top.proofs.problem.problem_reply.Goals as goal
 
-objected : (asked : SafeInput) (e : End) (text : List ℕ) → IsObjection asked.rule e text → IsProblemReply asked e text
+objected : (asked : SafeInput) (e : End) (text : List ℕ) → IsObjection asked.rule e text →
+    IsProblemReply asked e text
 objected asked Done text h = absurd h
 objected asked e text h = h
 
 pub returns-in-Some : goal.returns-in-Some
-returns-in-Some c = objected _ c.in-Some.objection.end c.in-Some.objection.text.items (rw c.in-Some.is at c.in_ok-objection.ensures.some)
+returns-in-Some c = objected _ c.in-Some.objection.end c.in-Some.objection.text.items
+    (rw c.in-Some.is at c.in_ok-objection.ensures.some)
 
 pub cuts_text-requires-clause-makes : goal.cuts_text-requires-clause-makes
 cuts_text-requires-clause-makes c =

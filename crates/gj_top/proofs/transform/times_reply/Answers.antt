@@ -8,6 +8,7 @@ returns c =
     record {
       thing = c.in_ok-shape.shape;
       spelled = c.in_ok-shape.ensures;
-      replied = times_made c.args.n c.args.j c.in_ok-shape.shape c.times.result reply.end reply.text.items made.times made.within made.minimal
+      replied = times_made c.args.n c.args.j c.in_ok-shape.shape c.times.result reply.end
+          reply.text.items made.times made.within made.minimal
           made.limit made.order c.in_ok-made_or_fault.ensures;
     }

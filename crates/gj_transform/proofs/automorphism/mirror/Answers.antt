@@ -20,12 +20,18 @@ returns-clause-mirror c =
     let place = ap₂ (λ q k. q - k) order c.place.ensures.value in
     let backwards = c.order-order.result - 1 in
     let one : backwards + 1 ≡ f.order = omega arith in
-    let are : AreTaken (exchanged f) f.order backwards c.in_ok-right.right.items c.in_ok-value.value.items c.in_ok-left.left.items = record {
-      left_is = taken_as _ _ _ _ backwards _ c.right_numerators.ensures.value order c.in_ok-right.ensures;
-      value_is = taken_as _ _ _ _ backwards _ c.value_numerators.ensures.value order c.in_ok-value.ensures;
-      right_is = taken_as _ _ _ _ backwards _ c.left_numerators.ensures.value order c.in_ok-left.ensures;
+    let are : AreTaken (exchanged f) f.order backwards c.in_ok-right.right.items
+    c.in_ok-value.value.items c.in_ok-left.left.items = record {
+      left_is = taken_as _ _ _ _ backwards _ c.right_numerators.ensures.value order
+          c.in_ok-right.ensures;
+      value_is = taken_as _ _ _ _ backwards _ c.value_numerators.ensures.value order
+          c.in_ok-value.ensures;
+      right_is = taken_as _ _ _ _ backwards _ c.left_numerators.ensures.value order
+          c.in_ok-left.ensures;
     } in
-    subst (IsMirrorOf f) (sym (c.from_numerators.ensures ∙ function_as order place scale refl refl refl)) (mirror_made f backwards _ _ _ limits one are)
+    subst (IsMirrorOf f)
+    (sym (c.from_numerators.ensures ∙ function_as order place scale refl refl refl))
+    (mirror_made f backwards _ _ _ limits one are)
 
 pub from_numerators-requires : goal.from_numerators-requires
 from_numerators-requires c =
@@ -38,17 +44,23 @@ from_numerators-requires c =
     let place = ap₂ (λ q k. q - k) order c.place.ensures.value in
     let backwards = c.order-order.result - 1 in
     let one : backwards + 1 ≡ f.order = omega arith in
-    let are : AreTaken (exchanged f) f.order backwards c.in_ok-right.right.items c.in_ok-value.value.items c.in_ok-left.left.items = record {
-      left_is = taken_as _ _ _ _ backwards _ c.right_numerators.ensures.value order c.in_ok-right.ensures;
-      value_is = taken_as _ _ _ _ backwards _ c.value_numerators.ensures.value order c.in_ok-value.ensures;
-      right_is = taken_as _ _ _ _ backwards _ c.left_numerators.ensures.value order c.in_ok-left.ensures;
+    let are : AreTaken (exchanged f) f.order backwards c.in_ok-right.right.items
+    c.in_ok-value.value.items c.in_ok-left.left.items = record {
+      left_is = taken_as _ _ _ _ backwards _ c.right_numerators.ensures.value order
+          c.in_ok-right.ensures;
+      value_is = taken_as _ _ _ _ backwards _ c.value_numerators.ensures.value order
+          c.in_ok-value.ensures;
+      right_is = taken_as _ _ _ _ backwards _ c.left_numerators.ensures.value order
+          c.in_ok-left.ensures;
     } in
-    subst IsWithinBounds (sym (function_as order place scale refl refl refl)) (mirror_within f backwards _ _ _ limits one are)
+    subst IsWithinBounds (sym (function_as order place scale refl refl refl))
+    (mirror_within f backwards _ _ _ limits one are)
 
 pub returns-clause-values : goal.returns-clause-values
 returns-clause-values c =
     let within : IsWithinBounds c.from_numerators.result = search rules in
-    mirror_values c.args.shape.now c.from_numerators.result c.order-order.ensures.limits within (returns-clause-mirror c)
+    mirror_values c.args.shape.now c.from_numerators.result c.order-order.ensures.limits within
+    (returns-clause-mirror c)
 
 pub returns-clause-minimal : goal.returns-clause-minimal
 returns-clause-minimal c =
@@ -65,5 +77,8 @@ returns-clause-extreme c =
     let g = c.from_numerators.result in
     let limits = c.order-order.ensures.limits in
     let within : IsWithinBounds g = search rules in
-    let mirror = returns-clause-mirror c in
-    (mirror_extreme f g limits within mirror, mirror_extreme g f within limits (mirror_back f g mirror))
+    let mirror = returns-clause-mirror c in (
+      mirror_extreme f g limits within mirror,
+      mirror_extreme g f within limits
+          (mirror_back f g mirror),
+    )

@@ -9,5 +9,6 @@ pub loop-i-preserved : goal.loop-i-preserved
 loop-i-preserved c =
     let xs = c.args.entries.now in
     let i = c.loop-i.i in
-    entries_pushed (λ j. at xs (j * c.args.factor)) i _ _ _ c.loop-i.invariant c.in_ok-push.ensures.items
+    entries_pushed (λ j. at xs (j * c.args.factor)) i _ _ _ c.loop-i.invariant
+    c.in_ok-push.ensures.items
     (rest_read xs xs (i * c.args.factor) _ _ refl refl refl (search rules))

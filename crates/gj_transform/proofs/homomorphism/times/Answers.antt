@@ -14,8 +14,10 @@ pub returns-clause-limit : goal.returns-clause-limit
 returns-clause-limit c =
     let f = c.args.shape.now in
     let limits = c.order.ensures.limits in
-    let below : c.args.n ≤ 1000 / f.order = subst (λ q. c.args.n ≤ 1000 / q) c.order.ensures.value c.if-n-order.false in
-    let fits = order_fits f.order f.place c.args.n (limits.order_low, limits.order_high) (limits.place_low, limits.place_high) c.requires.some below in
+    let below : c.args.n ≤ 1000 / f.order =
+    subst (λ q. c.args.n ≤ 1000 / q) c.order.ensures.value c.if-n-order.false in
+    let fits = order_fits f.order f.place c.args.n (limits.order_low, limits.order_high)
+    (limits.place_low, limits.place_high) c.requires.some below in
     (λ e. cc, λ wide. absurd (omega (arith, wide, fits.0.1)))
 
 pub returns-clause-times : goal.returns-clause-times
@@ -26,12 +28,14 @@ returns-clause-times c =
     ap unsigned_abs (to_z-of_z w128 _ (search rules) ∙ c.common_denominator.ensures.value) in
     let count = ap (λ q. q * n) c.order-2.ensures.value in
     let place = ap₂ (λ k q. k + c.args.j * q) c.place.ensures.value c.order-3.ensures.value in
-    let are : AreTaken f (f.order * n) 1 c.in_ok-left.left.items c.in_ok-value.value.items c.in_ok-right.right.items = record {
+    let are : AreTaken f (f.order * n) 1 c.in_ok-left.left.items c.in_ok-value.value.items
+    c.in_ok-right.right.items = record {
       left_is = taken_as _ _ _ _ 1 _ c.left_numerators.ensures.value count c.in_ok-left.ensures;
       value_is = taken_as _ _ _ _ 1 _ c.value_numerators.ensures.value count c.in_ok-value.ensures;
       right_is = taken_as _ _ _ _ 1 _ c.right_numerators.ensures.value count c.in_ok-right.ensures;
     } in
-    subst (IsTimesOf f n c.args.j) (sym (c.from_numerators.ensures ∙ function_as count place scale refl refl refl))
+    subst (IsTimesOf f n c.args.j)
+    (sym (c.from_numerators.ensures ∙ function_as count place scale refl refl refl))
     (times_made f n c.args.j _ _ _ c.order.ensures.limits c.requires.some are)
 
 pub from_numerators-requires : goal.from_numerators-requires
@@ -43,20 +47,24 @@ from_numerators-requires c =
     ap unsigned_abs (to_z-of_z w128 _ (search rules) ∙ c.common_denominator.ensures.value) in
     let count = ap (λ q. q * n) c.order-2.ensures.value in
     let place = ap₂ (λ k q. k + c.args.j * q) c.place.ensures.value c.order-3.ensures.value in
-    let are : AreTaken f (f.order * n) 1 c.in_ok-left.left.items c.in_ok-value.value.items c.in_ok-right.right.items = record {
+    let are : AreTaken f (f.order * n) 1 c.in_ok-left.left.items c.in_ok-value.value.items
+    c.in_ok-right.right.items = record {
       left_is = taken_as _ _ _ _ 1 _ c.left_numerators.ensures.value count c.in_ok-left.ensures;
       value_is = taken_as _ _ _ _ 1 _ c.value_numerators.ensures.value count c.in_ok-value.ensures;
       right_is = taken_as _ _ _ _ 1 _ c.right_numerators.ensures.value count c.in_ok-right.ensures;
     } in
-    let below : n ≤ 1000 / f.order = subst (λ q. n ≤ 1000 / q) c.order.ensures.value c.if-n-order.false in
-    let fits = order_fits f.order f.place n (limits.order_low, limits.order_high) (limits.place_low, limits.place_high) c.requires.some below in
+    let below : n ≤ 1000 / f.order =
+    subst (λ q. n ≤ 1000 / q) c.order.ensures.value c.if-n-order.false in
+    let fits = order_fits f.order f.place n (limits.order_low, limits.order_high)
+    (limits.place_low, limits.place_high) c.requires.some below in
     subst IsWithinBounds (sym (function_as count place scale refl refl refl))
     (times_within f n c.args.j _ _ _ limits c.requires.below fits.0.1 are)
 
 pub returns-clause-values : goal.returns-clause-values
 returns-clause-values c =
     let within : IsWithinBounds c.from_numerators.result = search rules in
-    times_values c.args.shape.now c.from_numerators.result c.args.n c.args.j c.order.ensures.limits within c.requires.some (returns-clause-times c)
+    times_values c.args.shape.now c.from_numerators.result c.args.n c.args.j c.order.ensures.limits
+    within c.requires.some (returns-clause-times c)
 
 pub returns-clause-minimal : goal.returns-clause-minimal
 returns-clause-minimal c =

@@ -10,7 +10,8 @@ returns-then-order-lt2-clause-none c =
     elim c.then-order-lt2.branch [
       | then-order-lt2-via-then-order-lt2 w ↦ inl w.if-order-lt2.true
       | then-order-lt2-via-else-order-lt2+then-order-ne0 w ↦
-          inr (λ divides. w.if-order-ne0.true (ap (λ q. q % d) w.order.ensures.value ∙ mod-eq-zero_of_dvd d divides))
+          inr (λ divides. w.if-order-ne0.true (ap (λ q. q % d) w.order.ensures.value
+          ∙ mod-eq-zero_of_dvd d divides))
     ]
 
 pub returns-clause-some : goal.returns-clause-some

@@ -16,7 +16,9 @@ returns c =
     let longest = before + 32 * length c.args.faces.now in
     let zeros = replicate (longest - vec_len c.args.out.now) 0 in
     let kept = take_all longest old (omega arith) in
-    lines_behind before lines.result c.resize.new.self.len _ old zeros whole lines.new.text _ c.truncate.new.self.items _
+    lines_behind before lines.result c.resize.new.self.len _ old zeros whole lines.new.text _
+    c.truncate.new.self.items _
     (omega arith)
     (c.deref_mut.ensures.value ∙ c.in_ok-resize.ensures.items ∙ ap (λ xs. xs ++ zeros) kept)
-    lines.ensures.within (omega (arith, all, part, c.in_ok-resize.ensures.len)) c.truncate.ensures.items lines.ensures.written
+    lines.ensures.within (omega (arith, all, part, c.in_ok-resize.ensures.len))
+    c.truncate.ensures.items lines.ensures.written

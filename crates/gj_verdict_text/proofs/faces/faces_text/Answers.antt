@@ -11,9 +11,13 @@ returns c =
     let second = c.push_maximal_faces.new.out.items in
     let third = c.push_cover_lines.new.out.items in
     let fourth = c.push_uncovered_lines.new.out.items in
-    text_of_faces f c.order.result c.order-2.result c.in_ok-cover.cover c.in_ok-text.text.items first second third fourth
-    c.extend_from_slice.new.self.items c.order.ensures.value c.order-2.ensures.value c.in_ok-cover.ensures c.in_ok-text.ensures.items
+    text_of_faces f c.order.result c.order-2.result c.in_ok-cover.cover c.in_ok-text.text.items
+    first second third fourth
+    c.extend_from_slice.new.self.items c.order.ensures.value c.order-2.ensures.value
+    c.in_ok-cover.ensures c.in_ok-text.ensures.items
     c.in_ok-push_order_line.ensures c.in_ok-push_maximal_faces.ensures
-    (c.in_ok-push_cover_lines.ensures ∙ ap (λ xs. second ++ flat_map cover_line xs) c.as_slice.ensures)
-    (subst (λ xs. ArePushed xs c.order-2.result third fourth) c.as_slice-2.ensures c.in_ok-push_uncovered_lines.ensures)
+    (c.in_ok-push_cover_lines.ensures
+    ∙ ap (λ xs. second ++ flat_map cover_line xs) c.as_slice.ensures)
+    (subst (λ xs. ArePushed xs c.order-2.result third fourth) c.as_slice-2.ensures
+    c.in_ok-push_uncovered_lines.ensures)
     c.in_ok-extend_from_slice.ensures.items

@@ -18,17 +18,21 @@ push_face_lines-requires-clause-faces c =
     let starts = c.starts_of.result in
     let ends = c.as_slice.result.now in
     subst (All (HasPieces starts ends)) (sym c.as_slice-in-loop-a.ensures.value)
-    (row_has_pieces c.args.shape.now c.loop-a.a starts ends c.clear.new.self.items c.push_maximal_row.new.faces.items
+    (row_has_pieces c.args.shape.now c.loop-a.a starts ends c.clear.new.self.items
+    c.push_maximal_row.new.faces.items
     c.clear.ensures.items c.in_ok-push_maximal_row.ensures c.starts_of.ensures.row
     (ap length c.as_slice.ensures.value ∙ c.loop-a.invariant.count))
 
 pub loop-a-preserved : goal.loop-a-preserved
 loop-a-preserved c = record {
-  pushed = one_row_pushed c.args.shape.now c.loop-a.a c.args.out.now.items c.loop-a.out.items c.push_face_lines.new.out.items
-      c.clear.new.self.items c.push_maximal_row.new.faces.items c.loop-a.invariant.pushed c.clear.ensures.items
+  pushed = one_row_pushed c.args.shape.now c.loop-a.a c.args.out.now.items c.loop-a.out.items
+      c.push_face_lines.new.out.items
+      c.clear.new.self.items c.push_maximal_row.new.faces.items c.loop-a.invariant.pushed
+      c.clear.ensures.items
       c.in_ok-push_maximal_row.ensures
       (c.in_ok-push_face_lines.ensures
-      ∙ ap (λ xs. c.loop-a.out.items ++ flat_map (λ face. line (face_text face)) xs) c.as_slice-in-loop-a.ensures.value);
+      ∙ ap (λ xs. c.loop-a.out.items ++ flat_map (λ face. line (face_text face)) xs)
+      c.as_slice-in-loop-a.ensures.value);
   ends = c.loop-a.invariant.ends;
   count = c.loop-a.invariant.count;
   limits = c.loop-a.invariant.limits;

@@ -13,10 +13,13 @@ loop-interval-preserved c =
     let old = c.args.out.now.items in
     elim c.if-is_none.branch [
       | then-is_none+in_ok-push_count_line w ↦
-          one_pushed component c.loop-interval.interval old c.loop-interval.out.items c.if-is_none.out.items c.loop-interval.invariant
-          (without_number _ w.if-is_none.ensures) (ap (λ o. o.items) w.out-is ∙ w.in_ok-push_count_line.ensures)
+          one_pushed component c.loop-interval.interval old c.loop-interval.out.items
+          c.if-is_none.out.items c.loop-interval.invariant
+          (without_number _ w.if-is_none.ensures) (ap (λ o. o.items) w.out-is
+          ∙ w.in_ok-push_count_line.ensures)
       | else-is_none w ↦
           none_more component c.loop-interval.interval old c.if-is_none.out.items
-          (subst (λ o. ArePushed component c.loop-interval.interval old o.items) (sym w.out-is) c.loop-interval.invariant)
+          (subst (λ o. ArePushed component c.loop-interval.interval old o.items)
+          (sym w.out-is) c.loop-interval.invariant)
           (with_number _ w.if-is_none.ensures)
     ]

@@ -14,7 +14,8 @@ returns-in-Some c =
         found.first,
         found.shown,
         (point_rules c.args.shape c.in-Some.violation).0
-            (meets_point c.args.shape c.in-Some.violation found.points.0 found.points.2 found.points.3 found.shown),
+            (meets_point c.args.shape c.in-Some.violation found.points.0 found.points.2
+            found.points.3 found.shown),
       );
       bounded = subst IsBounded (sym c.of-in-Some.ensures.claim) found.limits;
     }

@@ -5,10 +5,13 @@ use Rattle.gj_words.specs.Parser.{bare_app, first_rule, name_rule, second_rule}
 use Rattle.gj_words.proofs.line.our_command.Goals as goal
 
 pub returns-in_err-arg : goal.returns-in_err-arg
-returns-in_err-arg c = rw (err_from_is_err_and c.from_residual.result c.from_residual.ensures.1).1 tt
+returns-in_err-arg c =
+    rw (err_from_is_err_and c.from_residual.result c.from_residual.ensures.1).1 tt
 
 pub returns-in_err-arg-2 : goal.returns-in_err-arg-2
-returns-in_err-arg-2 c = rw (err_from_is_err_and c.from_residual-in_err-arg-2.result c.from_residual-in_err-arg-2.ensures.1).1 tt
+returns-in_err-arg-2 c =
+    rw (err_from_is_err_and c.from_residual-in_err-arg-2.result
+    c.from_residual-in_err-arg-2.ensures.1).1 tt
 
 pub returns : goal.returns
 returns c =
@@ -20,4 +23,5 @@ returns c =
     = c.in_ok-arg.ensures.shape (search rules) ∙ ap₂ with_rule bare_is name_is in
     let two : app_of c.in_ok-arg-2.field-0 ≡ with_rule (with_rule bare_app name_rule) first_rule
     = c.in_ok-arg-2.ensures.shape (search rules) ∙ ap₂ with_rule one first_is in
-    IfOk-weaker c.arg-3.result _ _ (λ r adds. adds.shape (search rules) ∙ ap₂ with_rule two second_is) c.arg-3.ensures
+    IfOk-weaker c.arg-3.result _ _ (λ r adds. adds.shape (search rules)
+    ∙ ap₂ with_rule two second_is) c.arg-3.ensures

@@ -11,4 +11,5 @@ returns c =
     let next = c.requires.next in
     let high = c.ranges.self in
     let next_high = c.ranges.next in
-    middle_test w128 c.args.before c.args.self c.args.next c.ranges.before c.ranges.self c.ranges.next (omega (arith, ints)) (omega (arith, ints))
+    middle_test w128 c.args.before c.args.self c.args.next c.ranges.before c.ranges.self
+    c.ranges.next (omega (arith, ints)) (omega (arith, ints))

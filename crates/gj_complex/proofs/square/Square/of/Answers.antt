@@ -26,16 +26,28 @@ returns c =
       around_next = search rules;
     } in
     limits_from square c.args.shape.now c.args.a c.args.b (record {
-      right_first = to_z-of_z w64 c.right_numerator.result (search rules) ∙ c.right_numerator.ensures.value;
-      value_first = to_z-of_z w64 c.value_numerator.result (search rules) ∙ c.value_numerator.ensures.value;
-      left_first = to_z-of_z w64 c.left_numerator.result (search rules) ∙ c.left_numerator.ensures.value;
-      right_second = to_z-of_z w64 c.right_numerator-2.result (search rules) ∙ c.right_numerator-2.ensures.value;
-      value_second = to_z-of_z w64 c.value_numerator-2.result (search rules) ∙ c.value_numerator-2.ensures.value;
-      left_second = to_z-of_z w64 c.left_numerator-2.result (search rules) ∙ c.left_numerator-2.ensures.value;
-      value_sum = to_z-of_z w64 c.value_numerator-3.result (search rules) ∙ c.value_numerator-3.ensures.value;
-      right_sum = to_z-of_z w64 c.right_numerator-3.result (search rules) ∙ c.right_numerator-3.ensures.value;
-      left_next = to_z-of_z w64 c.left_numerator-3.result (search rules) ∙ c.left_numerator-3.ensures.value;
-      value_next = to_z-of_z w64 c.value_numerator-4.result (search rules) ∙ c.value_numerator-4.ensures.value;
-      right_next = to_z-of_z w64 c.right_numerator-4.result (search rules) ∙ c.right_numerator-4.ensures.value;
-      left_last = to_z-of_z w64 c.left_numerator-4.result (search rules) ∙ c.left_numerator-4.ensures.value;
+      right_first = to_z-of_z w64 c.right_numerator.result (search rules)
+          ∙ c.right_numerator.ensures.value;
+      value_first = to_z-of_z w64 c.value_numerator.result (search rules)
+          ∙ c.value_numerator.ensures.value;
+      left_first = to_z-of_z w64 c.left_numerator.result (search rules)
+          ∙ c.left_numerator.ensures.value;
+      right_second = to_z-of_z w64 c.right_numerator-2.result (search rules)
+          ∙ c.right_numerator-2.ensures.value;
+      value_second = to_z-of_z w64 c.value_numerator-2.result (search rules)
+          ∙ c.value_numerator-2.ensures.value;
+      left_second = to_z-of_z w64 c.left_numerator-2.result (search rules)
+          ∙ c.left_numerator-2.ensures.value;
+      value_sum = to_z-of_z w64 c.value_numerator-3.result (search rules)
+          ∙ c.value_numerator-3.ensures.value;
+      right_sum = to_z-of_z w64 c.right_numerator-3.result (search rules)
+          ∙ c.right_numerator-3.ensures.value;
+      left_next = to_z-of_z w64 c.left_numerator-3.result (search rules)
+          ∙ c.left_numerator-3.ensures.value;
+      value_next = to_z-of_z w64 c.value_numerator-4.result (search rules)
+          ∙ c.value_numerator-4.ensures.value;
+      right_next = to_z-of_z w64 c.right_numerator-4.result (search rules)
+          ∙ c.right_numerator-4.ensures.value;
+      left_last = to_z-of_z w64 c.left_numerator-4.result (search rules)
+          ∙ c.left_numerator-4.ensures.value;
     })

@@ -10,17 +10,21 @@ returns-then-line-clause-progress c =
     let q = c.args.table.now.order in
     let T = IsTightInTable c.args.table.now in
     let new : Progress = record {
-      component = with_item c.args.self.now.component c.args.line.interval (Some c.unwrap_or-number.result);
+      component = with_item c.args.self.now.component c.args.line.interval
+          (Some c.unwrap_or-number.result);
       free = c.remove.new.self;
       near = c.or-self.result;
       lines = c.push.new.self;
       count = c.args.self.now.count;
       searched = c.args.self.now.searched;
     } in
-    let more = line_more q T c.args.self.now new c.args.line c.unwrap_or-number.result c.index.result.now
-    c.requires.progress c.requires.next c.index.ensures c.unwrap_or-number.ensures c.in_ok-push.ensures.items refl
+    let more = line_more q T c.args.self.now new c.args.line c.unwrap_or-number.result
+    c.index.result.now
+    c.requires.progress c.requires.next c.index.ensures c.unwrap_or-number.ensures
+    c.in_ok-push.ensures.items refl
     c.remove.ensures c.args.joined.now c.requires.joined c.or-self.ensures in
-    joined_on q T c.args.self.now new c.args.line c.unwrap_or-number.result c.requires.progress c.requires.next more
+    joined_on q T c.args.self.now new c.args.line c.unwrap_or-number.result c.requires.progress
+    c.requires.next more
     c.if-line.true refl refl
 
 pub returns-then-line-clause-fewer : goal.returns-then-line-clause-fewer
@@ -28,17 +32,21 @@ returns-then-line-clause-fewer c =
     let q = c.args.table.now.order in
     let T = IsTightInTable c.args.table.now in
     let new : Progress = record {
-      component = with_item c.args.self.now.component c.args.line.interval (Some c.unwrap_or-number.result);
+      component = with_item c.args.self.now.component c.args.line.interval
+          (Some c.unwrap_or-number.result);
       free = c.remove.new.self;
       near = c.or-self.result;
       lines = c.push.new.self;
       count = c.args.self.now.count;
       searched = c.args.self.now.searched;
     } in
-    let more = line_more q T c.args.self.now new c.args.line c.unwrap_or-number.result c.index.result.now
-    c.requires.progress c.requires.next c.index.ensures c.unwrap_or-number.ensures c.in_ok-push.ensures.items refl
+    let more = line_more q T c.args.self.now new c.args.line c.unwrap_or-number.result
+    c.index.result.now
+    c.requires.progress c.requires.next c.index.ensures c.unwrap_or-number.ensures
+    c.in_ok-push.ensures.items refl
     c.remove.ensures c.args.joined.now c.requires.joined c.or-self.ensures in
-    let less = fewer q T c.args.self.now new c.args.line c.unwrap_or-number.result c.requires.progress c.requires.next more in
+    let less = fewer q T c.args.self.now new c.args.line c.unwrap_or-number.result
+    c.requires.progress c.requires.next more in
     omega (arith, less)
 
 pub returns-clause-progress : goal.returns-clause-progress
@@ -46,17 +54,21 @@ returns-clause-progress c =
     let q = c.args.table.now.order in
     let T = IsTightInTable c.args.table.now in
     let new : Progress = record {
-      component = with_item c.args.self.now.component c.args.line.interval (Some c.unwrap_or-number.result);
+      component = with_item c.args.self.now.component c.args.line.interval
+          (Some c.unwrap_or-number.result);
       free = c.remove.new.self;
       near = c.or-self.result;
       lines = c.push.new.self;
       count = c.args.self.now.count + 1;
       searched = c.args.line.interval;
     } in
-    let more = line_more q T c.args.self.now new c.args.line c.unwrap_or-number.result c.index.result.now
-    c.requires.progress c.requires.next c.index.ensures c.unwrap_or-number.ensures c.in_ok-push.ensures.items refl
+    let more = line_more q T c.args.self.now new c.args.line c.unwrap_or-number.result
+    c.index.result.now
+    c.requires.progress c.requires.next c.index.ensures c.unwrap_or-number.ensures
+    c.in_ok-push.ensures.items refl
     c.remove.ensures c.args.joined.now c.requires.joined c.or-self.ensures in
-    opened_on q T c.args.self.now new c.args.line c.unwrap_or-number.result c.requires.progress c.requires.next more
+    opened_on q T c.args.self.now new c.args.line c.unwrap_or-number.result c.requires.progress
+    c.requires.next more
     c.if-line.false refl refl
 
 pub returns-clause-fewer : goal.returns-clause-fewer
@@ -64,15 +76,19 @@ returns-clause-fewer c =
     let q = c.args.table.now.order in
     let T = IsTightInTable c.args.table.now in
     let new : Progress = record {
-      component = with_item c.args.self.now.component c.args.line.interval (Some c.unwrap_or-number.result);
+      component = with_item c.args.self.now.component c.args.line.interval
+          (Some c.unwrap_or-number.result);
       free = c.remove.new.self;
       near = c.or-self.result;
       lines = c.push.new.self;
       count = c.args.self.now.count + 1;
       searched = c.args.line.interval;
     } in
-    let more = line_more q T c.args.self.now new c.args.line c.unwrap_or-number.result c.index.result.now
-    c.requires.progress c.requires.next c.index.ensures c.unwrap_or-number.ensures c.in_ok-push.ensures.items refl
+    let more = line_more q T c.args.self.now new c.args.line c.unwrap_or-number.result
+    c.index.result.now
+    c.requires.progress c.requires.next c.index.ensures c.unwrap_or-number.ensures
+    c.in_ok-push.ensures.items refl
     c.remove.ensures c.args.joined.now c.requires.joined c.or-self.ensures in
-    let less = fewer q T c.args.self.now new c.args.line c.unwrap_or-number.result c.requires.progress c.requires.next more in
+    let less = fewer q T c.args.self.now new c.args.line c.unwrap_or-number.result
+    c.requires.progress c.requires.next more in
     omega (arith, less)

@@ -15,5 +15,6 @@ returns c =
       count = 0;
       searched = 0;
     } in
-    begun c.args.table.now.order c.order-order.result (IsTightInTable c.args.table.now) p c.order-order.ensures.value
+    begun c.args.table.now.order c.order-order.result
+    (IsTightInTable c.args.table.now) p c.order-order.ensures.value
     none c.below.ensures c.empty.ensures c.new.ensures.items refl refl

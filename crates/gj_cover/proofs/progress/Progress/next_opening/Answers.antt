@@ -39,8 +39,10 @@ loop-interval-preserved c =
     let x = c.loop-interval.interval in
     let within : x < length p.component.items = omega arith in
     let is = read p.component.items x c.index.result.now within c.index.ensures in
-    searched_more t.order (IsTightInTable t) p.component.items x c.loop-interval.invariant (elim c.if-is_none.branch [
+    searched_more t.order (IsTightInTable t) p.component.items x c.loop-interval.invariant
+    (elim c.if-is_none.branch [
       | then-is_none+in_default w ↦ λ none. w.in_default.ensures.none
       | else-is_none w ↦ λ none covered.
-          has_number c.index.result.now c.is_none.result c.is_none.ensures w.if-is_none.false (sym is ∙ none)
+          has_number c.index.result.now c.is_none.result c.is_none.ensures w.if-is_none.false
+          (sym is ∙ none)
     ])

@@ -8,10 +8,12 @@ new-found-requires c = c.requires.uncovered.within c.args.start c.requires.start
 pub reach-requires-clause-within : goal.reach-requires-clause-within
 reach-requires-clause-within c =
     let x = c.in-Some.interval in
-    (c.loop-interval.invariant.led x (c.loop-interval.invariant.waiting x c.in-Some.ensures.found)).0
+    (c.loop-interval.invariant.led x
+    (c.loop-interval.invariant.waiting x c.in-Some.ensures.found)).0
 
 pub reach-requires-clause-reached : goal.reach-requires-clause-reached
-reach-requires-clause-reached c = c.loop-interval.invariant.waiting c.in-Some.interval c.in-Some.ensures.found
+reach-requires-clause-reached c =
+    c.loop-interval.invariant.waiting c.in-Some.interval c.in-Some.ensures.found
 
 pub reach-requires-clause-waits : goal.reach-requires-clause-waits
 reach-requires-clause-waits c = c.in-Some.ensures.found
@@ -19,8 +21,10 @@ reach-requires-clause-waits c = c.in-Some.ensures.found
 pub loop-interval-preserved : goal.loop-interval-preserved
 loop-interval-preserved c =
     let t = c.args.table.now in
-    reached_on t.order (IsTightInTable t) c.args.free.now c.args.start c.in-Some.interval c.loop-interval.found c.reach.new.self
-    c.requires.uncovered c.requires.start c.loop-interval.invariant c.in-Some.ensures.found c.reach.ensures
+    reached_on t.order (IsTightInTable t) c.args.free.now c.args.start c.in-Some.interval
+    c.loop-interval.found c.reach.new.self
+    c.requires.uncovered c.requires.start c.loop-interval.invariant c.in-Some.ensures.found
+    c.reach.ensures
 
 pub loop-interval-smaller : goal.loop-interval-smaller
 loop-interval-smaller c = c.reach.ensures.fewer
@@ -28,5 +32,6 @@ loop-interval-smaller c = c.reach.ensures.fewer
 pub returns : goal.returns
 returns c =
     let t = c.args.table.now in
-    reached_all t.order (IsTightInTable t) c.args.start c.loop-interval.found (c.requires.uncovered.within c.args.start c.requires.start)
+    reached_all t.order (IsTightInTable t) c.args.start c.loop-interval.found
+    (c.requires.uncovered.within c.args.start c.requires.start)
     c.loop-interval.invariant c.in_default.ensures

@@ -8,4 +8,5 @@ pub returns : goal.returns
 returns c =
     let r : Reached = record { reached = c.insert.new.self; waiting = c.insert.new.self } in
     reached_start c.args.table.now.order (IsTightInTable c.args.table.now) c.args.start r c.requires
-    (λ i. c.insert.ensures i ∙ ap (λ x. x || eqb i c.args.start) (c.empty-reached.ensures i)) (λ i. refl)
+    (λ i. c.insert.ensures i ∙ ap (λ x. x || eqb i c.args.start) (c.empty-reached.ensures i))
+    (λ i. refl)

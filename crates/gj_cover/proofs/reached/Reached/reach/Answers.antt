@@ -11,7 +11,8 @@ returns c =
     let old = c.args.self.now in
     let new : Reached = record { reached = c.or-self.result; waiting = c.remove.new.self } in
     let few = t.few.1 in
-    looked_at t.order (IsTightInTable t) c.args.interval c.args.free.now c.joined.result c.and_not-more.result old new
+    looked_at t.order (IsTightInTable t) c.args.interval c.args.free.now c.joined.result
+    c.and_not-more.result old new
     (let low : c.args.interval < 1024 = omega (arith, c.requires.within, few) in low)
     c.requires.reached c.requires.waits c.joined.ensures.within c.joined.ensures.joined
     (λ i. c.and_not-more.ensures i ∙ ap (λ x. x && not (has old.reached i)) (c.and.ensures i))

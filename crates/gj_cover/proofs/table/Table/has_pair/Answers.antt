@@ -11,6 +11,7 @@ returns c =
     let i = c.args.i in
     let j = c.args.j in
     let in' : i < length t.rows.items = omega (arith, c.requires.first, t.rows_length) in
-    let at = c.contains.ensures ∙ sym (row_has t.rows.items i j c.index.result.now in' c.index.ensures)
+    let at = c.contains.ensures
+    ∙ sym (row_has t.rows.items i j c.index.result.now in' c.index.ensures)
     ∙ read_tight t i j c.requires.first c.requires.second in
     (λ h. sym at ∙ h, λ h. at ∙ h)

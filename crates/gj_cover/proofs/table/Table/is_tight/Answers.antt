@@ -10,5 +10,6 @@ returns c =
     let t = c.args.self.now in
     let j = c.wrapped.result in
     let at = c.contains.ensures ∙ c.row.ensures j c.wrapped.ensures.below
-    ∙ same_tight t c.args.i j c.args.i c.args.j refl (ap (λ n. n % t.order) c.wrapped.ensures.value ∙ mod-mod c.args.j t.order) in
+    ∙ same_tight t c.args.i j c.args.i c.args.j refl (ap (λ n. n % t.order) c.wrapped.ensures.value
+    ∙ mod-mod c.args.j t.order) in
     (λ h. sym at ∙ h, λ h. at ∙ h)

@@ -10,5 +10,7 @@ unfolding is_tight_in
 returns c b below =
     let t = c.args.self.now in
     let a = c.wrapped.result in
-    sym (row_has t.rows.items a b c.index.result.now (let in' : a < length t.rows.items = omega (arith, c.wrapped.ensures.below, t.rows_length) in in') c.index.ensures)
-    ∙ ap (λ n. in_row t.rows.items n b) c.wrapped.ensures.value ∙ ap (in_row t.rows.items (c.args.a % t.order)) (sym (mod-eq_of_lt below))
+    sym (row_has t.rows.items a b c.index.result.now (let in' : a < length t.rows.items =
+    omega (arith, c.wrapped.ensures.below, t.rows_length) in in') c.index.ensures)
+    ∙ ap (λ n. in_row t.rows.items n b) c.wrapped.ensures.value
+    ∙ ap (in_row t.rows.items (c.args.a % t.order)) (sym (mod-eq_of_lt below))

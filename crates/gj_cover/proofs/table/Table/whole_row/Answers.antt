@@ -30,4 +30,5 @@ returns-clause-within c b past =
     let t = c.args.self.now in
     let a = c.wrapped.result in
     let in' : a < length t.rows.items = omega (arith, c.wrapped.ensures.below, t.rows_length) in
-    sym (row_has t.rows.items a b c.index.result.now in' c.index.ensures) ∙ c.requires.sides.round.within a b c.wrapped.ensures.below past
+    sym (row_has t.rows.items a b c.index.result.now in' c.index.ensures)
+    ∙ c.requires.sides.round.within a b c.wrapped.ensures.below past

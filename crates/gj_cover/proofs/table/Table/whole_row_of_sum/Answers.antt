@@ -16,8 +16,10 @@ returns c a b a_within b_below e =
     let first_below = mod-lt a {m = q} some in
     let sum : (a % q + b) % q ≡ c.args.sum % q = same_sum q (a % q) b a b (mod-mod a q) refl ∙ e in
     let same : row ≡ (place + (q - (a % q + b) % q)) % q =
-    c.wrapped.ensures.value ∙ ap (λ n. (place + (q - n)) % q) (c.wrapped-sum.ensures.value ∙ sym sum) in
+    c.wrapped.ensures.value
+    ∙ ap (λ n. (place + (q - n)) % q) (c.wrapped-sum.ensures.value ∙ sym sum) in
     c.whole_row.ensures.tells a a_within ∙ same_tight t row a row (a % q) refl (sym (mod-mod a q))
     ∙ sym (read_tight t row (a % q) c.wrapped.ensures.below first_below)
-    ∙ ap (λ n. in_row t.rows.items n (a % q)) same ∙ c.requires.sides.sums_are (a % q) b first_below b_below
+    ∙ ap (λ n. in_row t.rows.items n (a % q)) same
+    ∙ c.requires.sides.sums_are (a % q) b first_below b_below
     ∙ read_tight t (a % q) b first_below b_below ∙ same_tight t (a % q) b a b (mod-mod a q) refl

@@ -15,24 +15,32 @@ use Rattle.gj_elim.proofs.basis.Basis.kernel.Goals as goal
 
 -- the free column, if there is one, by the log as the code reads it
 free_read : (n : ℕ) (log read : List LogRow) (rows : List (List ℤ)) (o : Option ℕ) →
-    ((rs : List (List ℤ)) → length read ≡ length rs → o ≡ free_column n (kept_rows read rs)) → read ≡ log → length log ≡ length rows →
+    ((rs : List (List ℤ)) → length read ≡ length rs → o ≡ free_column n (kept_rows read rs)) →
+    read ≡ log → length log ≡ length rows →
     o ≡ free_column n (kept_rows log rows)
-free_read n log read rows o is same lines = is rows (ap length same ∙ lines) ∙ ap (λ ls. free_column n (kept_rows ls rows)) same
+free_read n log read rows o is same lines = is rows (ap length same ∙ lines)
+    ∙ ap (λ ls. free_column n (kept_rows ls rows)) same
 
 -- the kept row with its pivot at a column before the free one
-record IsRowRead (n : ℕ) (log : List LogRow) (rows : List (List ℤ)) (c : ℕ) (e : List ℤ) : Type 0 where
+record IsRowRead (n : ℕ) (log : List LogRow) (rows : List (List ℤ)) (c : ℕ) (e : List ℤ) :
+    Type 0 where
   here : IsRowAt (kept_rows log rows) c e
   pivot : IsPivotRow n c e
   within : c < length e
   fits : All Fits e
 
-row_there_read : (n : ℕ) (log : List LogRow) (rows : List (List ℤ)) (places : List (Option ℕ)) (free c i : ℕ) (x : Option ℕ) (y e : List ℤ) →
-    length log ≡ length rows → AreTriangular n (kept_rows log rows) → All (All Fits) rows → ArePlaces n log places →
-    Some free ≡ free_column n (kept_rows log rows) → c < free → x ≡ get_or places c x → x ≡ Some i → y ≡ get_or rows i y → e ≡ y →
+row_there_read : (n : ℕ) (log : List LogRow) (rows : List (List ℤ)) (places : List (Option ℕ))
+    (free c i : ℕ) (x : Option ℕ) (y e : List ℤ) →
+    length log ≡ length rows → AreTriangular n (kept_rows log rows) → All (All Fits) rows →
+    ArePlaces n log places →
+    Some free ≡ free_column n (kept_rows log rows) → c < free → x ≡ get_or places c x → x ≡ Some i →
+    y ≡ get_or rows i y → e ≡ y →
     IsRowRead n log rows c e
-row_there_read n log rows places free c i x y e lines triangular fits are free_is before x_is is y_is e_is =
+row_there_read n log rows places free c i x y e lines triangular fits are free_is before x_is is
+    y_is e_is =
     let below = free_below (kept_rows log rows) n free free_is in
-    let (inside, at) = place_found log rows c i lines (place_read n log places c x (Some i) are (omega arith) x_is is) in
+    let (inside, at) = place_found log rows c i lines
+    (place_read n log places c x (Some i) are (omega arith) x_is is) in
     let read = row_read rows i y e (omega arith) y_is e_is in
     let here = entries_at (kept_rows log rows) c (get_or rows i []) e read at in
     let pivot = pivot_row n (kept_rows log rows) c e triangular here in
@@ -47,8 +55,10 @@ row_there_read n log rows places free c i x y e lines triangular fits are free_i
 pub returns-in_default : goal.returns-in_default
 returns-in_default c =
     let s = c.self.inside in
-    let free_is = free_read s.columns s.log.items _ s.rows.items None c.in_default.ensures c.as_slice.ensures.value c.self.invariant.lines in
-    let no = no_kernel c.args.self.now (kept_rows s.log.items s.rows.items) s.columns (ap (λ d. d.kept) c.self.view_is)
+    let free_is = free_read s.columns s.log.items _ s.rows.items None c.in_default.ensures
+    c.as_slice.ensures.value c.self.invariant.lines in
+    let no = no_kernel c.args.self.now (kept_rows s.log.items s.rows.items) s.columns
+    (ap (λ d. d.kept) c.self.view_is)
     (ap (λ d. d.columns) c.self.view_is) c.self.invariant.triangular free_is in
     record {
       none = (λ e. no.full, λ full. refl);
@@ -61,7 +71,8 @@ returns-in_default c =
 
 pub loop-column-init : goal.loop-column-init
 loop-column-init c =
-    solved_start (kept_rows c.self.inside.log.items c.self.inside.rows.items) c.self.inside.columns c.in-Some.free c.in_ok-numbers.numbers.items c.in_ok-numbers.ensures
+    solved_start (kept_rows c.self.inside.log.items c.self.inside.rows.items) c.self.inside.columns
+    c.in-Some.free c.in_ok-numbers.numbers.items c.in_ok-numbers.ensures
 
 pub index-requires : goal.index-requires
 index-requires c =
@@ -69,16 +80,20 @@ index-requires c =
     let columns = c.self.invariant.places.columns_are in
     let len = s.places.ok.0 in
     let below = free_below (kept_rows s.log.items s.rows.items) s.columns c.in-Some.free
-    (free_read s.columns s.log.items _ s.rows.items _ c.in-Some.ensures c.as_slice.ensures.value c.self.invariant.lines) in
+    (free_read s.columns s.log.items _ s.rows.items _ c.in-Some.ensures c.as_slice.ensures.value
+    c.self.invariant.lines) in
     omega arith
 
 pub index-requires-in-Some-index : goal.index-requires-in-Some-index
 index-requires-in-Some-index c =
     let s = c.self.inside in
     let below = free_below (kept_rows s.log.items s.rows.items) s.columns c.in-Some.free
-    (free_read s.columns s.log.items _ s.rows.items _ c.in-Some.ensures c.as_slice.ensures.value c.self.invariant.lines) in
-    let (inside, at) = place_found s.log.items s.rows.items (c.loop-column.column - 1) c.in-Some-index.place c.self.invariant.lines
-    (place_read s.columns s.log.items s.places.items (c.loop-column.column - 1) c.index.result.now (Some c.in-Some-index.place)
+    (free_read s.columns s.log.items _ s.rows.items _ c.in-Some.ensures c.as_slice.ensures.value
+    c.self.invariant.lines) in
+    let (inside, at) = place_found s.log.items s.rows.items
+    (c.loop-column.column - 1) c.in-Some-index.place c.self.invariant.lines
+    (place_read s.columns s.log.items s.places.items (c.loop-column.column - 1) c.index.result.now
+    (Some c.in-Some-index.place)
     c.self.invariant.places (omega arith) c.index.ensures c.in-Some-index.is) in
     let lines = c.self.invariant.lines in
     let len = s.rows.ok.0 in
@@ -87,12 +102,17 @@ index-requires-in-Some-index c =
 pub solve_at-requires : goal.solve_at-requires
 solve_at-requires c =
     let s = c.self.inside in
-    let free_is = free_read s.columns s.log.items _ s.rows.items _ c.in-Some.ensures c.as_slice.ensures.value c.self.invariant.lines in
-    let row = row_there_read s.columns s.log.items s.rows.items s.places.items c.in-Some.free (c.loop-column.column - 1) c.in-Some-index.place
-    _ _ c.as_slice-in-Some-index.result.now c.self.invariant.lines c.self.invariant.triangular c.self.invariant.fits c.self.invariant.places
-    free_is (omega arith) c.index.ensures c.in-Some-index.is c.index-in-Some-index.ensures c.as_slice-in-Some-index.ensures in
+    let free_is = free_read s.columns s.log.items _ s.rows.items _ c.in-Some.ensures
+    c.as_slice.ensures.value c.self.invariant.lines in
+    let row = row_there_read s.columns s.log.items s.rows.items s.places.items c.in-Some.free
+    (c.loop-column.column - 1) c.in-Some-index.place
+    _ _ c.as_slice-in-Some-index.result.now c.self.invariant.lines c.self.invariant.triangular
+    c.self.invariant.fits c.self.invariant.places
+    free_is (omega arith) c.index.ensures c.in-Some-index.is c.index-in-Some-index.ensures
+    c.as_slice-in-Some-index.ensures in
     record {
-      columns = row.pivot.columns ∙ sym (ap length c.as_mut_slice.ensures.value ∙ c.loop-column.invariant.columns);
+      columns = row.pivot.columns
+          ∙ sym (ap length c.as_mut_slice.ensures.value ∙ c.loop-column.invariant.columns);
       within = row.within;
       fits = row.fits;
       positive = row.pivot.positive;
@@ -102,54 +122,77 @@ pub loop-column-preserved-in-Continue-branch-2 : goal.loop-column-preserved-in-C
 loop-column-preserved-in-Continue-branch-2 c =
     let s = c.self.inside in
     let row_now = c.as_slice-in-Some-index.result.now in
-    let free_is = free_read s.columns s.log.items _ s.rows.items _ c.in-Some.ensures c.as_slice.ensures.value c.self.invariant.lines in
-    let row = row_there_read s.columns s.log.items s.rows.items s.places.items c.in-Some.free (c.loop-column.column - 1) c.in-Some-index.place
-    _ _ row_now c.self.invariant.lines c.self.invariant.triangular c.self.invariant.fits c.self.invariant.places
-    free_is (omega arith) c.index.ensures c.in-Some-index.is c.index-in-Some-index.ensures c.as_slice-in-Some-index.ensures in
+    let free_is = free_read s.columns s.log.items _ s.rows.items _ c.in-Some.ensures
+    c.as_slice.ensures.value c.self.invariant.lines in
+    let row = row_there_read s.columns s.log.items s.rows.items s.places.items c.in-Some.free
+    (c.loop-column.column - 1) c.in-Some-index.place
+    _ _ row_now c.self.invariant.lines c.self.invariant.triangular c.self.invariant.fits
+    c.self.invariant.places
+    free_is (omega arith) c.index.ensures c.in-Some-index.is c.index-in-Some-index.ensures
+    c.as_slice-in-Some-index.ensures in
     let next : c.loop-column.column ≡ c.loop-column.column - 1 + 1 = omega arith in
-    let before = subst (λ (m : ℕ). IsSolvedTo (kept_rows s.log.items s.rows.items) s.columns c.in-Some.free m c.loop-column.numbers.items)
+    let before = subst (λ (m : ℕ). IsSolvedTo (kept_rows s.log.items s.rows.items) s.columns
+    c.in-Some.free m c.loop-column.numbers.items)
     next c.loop-column.invariant in
     let held = with_items_is c.loop-column.numbers c.solve_at.new.numbers
-    (c.solve_at.auto.numbers ∙ ap length c.as_mut_slice.ensures.value ∙ sym c.loop-column.numbers.ok.0) in
-    solved_more (kept_rows s.log.items s.rows.items) s.columns c.in-Some.free (c.loop-column.column - 1) c.loop-column.numbers.items _
+    (c.solve_at.auto.numbers ∙ ap length c.as_mut_slice.ensures.value
+    ∙ sym c.loop-column.numbers.ok.0) in
+    solved_more (kept_rows s.log.items s.rows.items) s.columns c.in-Some.free
+    (c.loop-column.column - 1) c.loop-column.numbers.items _
     row_now before row.here
-    (subst (λ (w : List ℤ). Passes (marked_in_solving row_now (c.loop-column.column - 1) w) → ⊥) c.as_mut_slice.ensures.value
+    (subst (λ (w : List ℤ). Passes (marked_in_solving row_now (c.loop-column.column - 1) w) →
+    ⊥) c.as_mut_slice.ensures.value
     c.in_ok-solve_at.ensures.narrow)
-    (held ∙ c.in_ok-solve_at.ensures.value ∙ ap (solved_at row_now (c.loop-column.column - 1)) c.as_mut_slice.ensures.value)
+    (held ∙ c.in_ok-solve_at.ensures.value
+    ∙ ap (solved_at row_now (c.loop-column.column - 1)) c.as_mut_slice.ensures.value)
 
 pub returns-in_err-solve_at-clause-wide : goal.returns-in_err-solve_at-clause-wide
 returns-in_err-solve_at-clause-wide c =
     let s = c.self.inside in
     let row_now = c.as_slice-in-Some-index.result.now in
-    let free_is = free_read s.columns s.log.items _ s.rows.items _ c.in-Some.ensures c.as_slice.ensures.value c.self.invariant.lines in
-    let row = row_there_read s.columns s.log.items s.rows.items s.places.items c.in-Some.free (c.loop-column.column - 1) c.in-Some-index.place
-    _ _ row_now c.self.invariant.lines c.self.invariant.triangular c.self.invariant.fits c.self.invariant.places
-    free_is (omega arith) c.index.ensures c.in-Some-index.is c.index-in-Some-index.ensures c.as_slice-in-Some-index.ensures in
+    let free_is = free_read s.columns s.log.items _ s.rows.items _ c.in-Some.ensures
+    c.as_slice.ensures.value c.self.invariant.lines in
+    let row = row_there_read s.columns s.log.items s.rows.items s.places.items c.in-Some.free
+    (c.loop-column.column - 1) c.in-Some-index.place
+    _ _ row_now c.self.invariant.lines c.self.invariant.triangular c.self.invariant.fits
+    c.self.invariant.places
+    free_is (omega arith) c.index.ensures c.in-Some-index.is c.index-in-Some-index.ensures
+    c.as_slice-in-Some-index.ensures in
     let next : c.loop-column.column ≡ c.loop-column.column - 1 + 1 = omega arith in
-    let before = subst (λ (m : ℕ). IsSolvedTo (kept_rows s.log.items s.rows.items) s.columns c.in-Some.free m c.loop-column.numbers.items)
+    let before = subst (λ (m : ℕ). IsSolvedTo (kept_rows s.log.items s.rows.items) s.columns
+    c.in-Some.free m c.loop-column.numbers.items)
     next c.loop-column.invariant in
-    λ e. solved_wide c.args.self.now (kept_rows s.log.items s.rows.items) s.columns c.in-Some.free (c.loop-column.column - 1)
-    c.loop-column.numbers.items row_now (ap (λ d. d.kept) c.self.view_is) (ap (λ d. d.columns) c.self.view_is)
+    λ e. solved_wide c.args.self.now (kept_rows s.log.items s.rows.items) s.columns c.in-Some.free
+    (c.loop-column.column - 1)
+    c.loop-column.numbers.items row_now (ap (λ d. d.kept) c.self.view_is)
+    (ap (λ d. d.columns) c.self.view_is)
     free_is before row.here
-    (subst (λ (w : List ℤ). Passes (marked_in_solving row_now (c.loop-column.column - 1) w)) c.as_mut_slice.ensures.value
+    (subst (λ (w : List ℤ). Passes (marked_in_solving row_now (c.loop-column.column - 1) w))
+    c.as_mut_slice.ensures.value
     c.in_err-solve_at.ensures.wide)
 
 pub loop-column-preserved : goal.loop-column-preserved
 loop-column-preserved c =
     let s = c.self.inside in
-    let free_is = free_read s.columns s.log.items _ s.rows.items _ c.in-Some.ensures c.as_slice.ensures.value c.self.invariant.lines in
+    let free_is = free_read s.columns s.log.items _ s.rows.items _ c.in-Some.ensures
+    c.as_slice.ensures.value c.self.invariant.lines in
     let below = free_below (kept_rows s.log.items s.rows.items) s.columns c.in-Some.free free_is in
     let none = place_none s.log.items s.rows.items (c.loop-column.column - 1) c.self.invariant.lines
-    (place_read s.columns s.log.items s.places.items (c.loop-column.column - 1) c.index.result.now None c.self.invariant.places (omega arith)
+    (place_read s.columns s.log.items s.places.items (c.loop-column.column - 1) c.index.result.now
+    None c.self.invariant.places (omega arith)
     c.index.ensures c.in_default-index.is) in
-    absurd (row_there (kept_rows s.log.items s.rows.items) s.columns c.in-Some.free (c.loop-column.column - 1) free_is (omega arith) none)
+    absurd (row_there (kept_rows s.log.items s.rows.items) s.columns c.in-Some.free
+    (c.loop-column.column - 1) free_is (omega arith) none)
 
 pub returns : goal.returns
 returns c =
     let s = c.self.inside in
-    let free_is = free_read s.columns s.log.items _ s.rows.items _ c.in-Some.ensures c.as_slice.ensures.value c.self.invariant.lines in
-    let end = solved_end c.args.self.now (kept_rows s.log.items s.rows.items) s.columns c.in-Some.free c.loop-column.column
-    c.loop-column.numbers.items (ap (λ d. d.kept) c.self.view_is) (ap (λ d. d.columns) c.self.view_is) c.self.invariant.triangular free_is
+    let free_is = free_read s.columns s.log.items _ s.rows.items _ c.in-Some.ensures
+    c.as_slice.ensures.value c.self.invariant.lines in
+    let end = solved_end c.args.self.now (kept_rows s.log.items s.rows.items) s.columns
+    c.in-Some.free c.loop-column.column
+    c.loop-column.numbers.items (ap (λ d. d.kept) c.self.view_is)
+    (ap (λ d. d.columns) c.self.view_is) c.self.invariant.triangular free_is
     c.loop-column.invariant (omega arith) in
     record {
       none = (λ e. absurd cc, λ full. absurd (end.some full));

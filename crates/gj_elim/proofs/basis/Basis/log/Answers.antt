@@ -5,5 +5,6 @@ use Rattle.gj_elim.proofs.basis.Basis.log.Goals as goal
 
 pub returns : goal.returns
 returns c =
-    c.as_slice.ensures.value ∙ log_of_kept c.self.inside.log.items c.self.inside.rows.items c.self.invariant.lines
+    c.as_slice.ensures.value
+    ∙ log_of_kept c.self.inside.log.items c.self.inside.rows.items c.self.invariant.lines
     ∙ ap (λ b. map log_row b.kept) c.self.view_is

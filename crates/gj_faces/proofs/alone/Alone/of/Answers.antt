@@ -38,7 +38,8 @@ alone_of c = record {
   upper = c.and-upper.result;
 }
 
-vertex_at : (c : goal.After-or-11) (b : ℕ) → has c.and_not-vertex.result b ≡ flag Vertex (around_of c b)
+vertex_at : (c : goal.After-or-11) (b : ℕ) →
+    has c.and_not-vertex.result b ≡ flag Vertex (around_of c b)
 unfolding around_of
 vertex_at c b =
     let or' = c.or.ensures b in
@@ -49,7 +50,8 @@ vertex_at c b =
     let without_vertex' = c.and_not-vertex.ensures b in
     cc
 
-horizontal_at : (c : goal.After-or-11) (b : ℕ) → has c.and_not-horizontal.result b ≡ flag Horizontal (around_of c b)
+horizontal_at : (c : goal.After-or-11) (b : ℕ) →
+    has c.and_not-horizontal.result b ≡ flag Horizontal (around_of c b)
 unfolding around_of
 horizontal_at c b =
     let and_low' = c.and-low.ensures b in
@@ -57,7 +59,8 @@ horizontal_at c b =
     let without_horizontal' = c.and_not-horizontal.ensures b in
     cc
 
-vertical_at : (c : goal.After-or-11) (b : ℕ) → has c.and_not-vertical.result b ≡ flag Vertical (around_of c b)
+vertical_at : (c : goal.After-or-11) (b : ℕ) →
+    has c.and_not-vertical.result b ≡ flag Vertical (around_of c b)
 unfolding around_of
 vertical_at c b =
     let and' = c.and.ensures b in
@@ -65,7 +68,8 @@ vertical_at c b =
     let without_vertical' = c.and_not-vertical.ensures b in
     cc
 
-diagonal_at : (c : goal.After-or-11) (b : ℕ) → has c.and_not-diagonal.result b ≡ flag Diagonal (around_of c b)
+diagonal_at : (c : goal.After-or-11) (b : ℕ) →
+    has c.and_not-diagonal.result b ≡ flag Diagonal (around_of c b)
 unfolding around_of
 diagonal_at c b =
     let and_high' = c.and-high.ensures b in
@@ -136,40 +140,53 @@ tells_at c b below =
     let limits = c.order-period.ensures.limits in
     let period = c.order-period.ensures.value in
     let few = limits.order_high in
-    let middle = row_of_index f c.args.pairs.now a a c.row-middle.result.now limits c.requires.pairs (sym (mod-eq_of_lt c.requires.within))
+    let middle = row_of_index f c.args.pairs.now a a c.row-middle.result.now limits c.requires.pairs
+    (sym (mod-eq_of_lt c.requires.within))
     c.row-middle.ensures.tells in
-    let east = row_of_index f c.args.pairs.now (a + 1) c.wrapped-2.result c.row-east.result.now limits c.requires.pairs
+    let east = row_of_index f c.args.pairs.now (a + 1) c.wrapped-2.result c.row-east.result.now
+    limits c.requires.pairs
     (c.wrapped-2.ensures.value ∙ ap (λ q. (a + 1) % q) period) c.row-east.ensures.tells in
-    let west = row_of_index f c.args.pairs.now (a + (f.order - 1)) c.wrapped.result c.row-west.result.now limits c.requires.pairs
+    let west = row_of_index f c.args.pairs.now
+    (a + (f.order - 1)) c.wrapped.result c.row-west.result.now limits c.requires.pairs
     (c.wrapped.ensures.value ∙ ap (λ q. (a + (q - 1)) % q) period) c.row-west.ensures.tells in
-    let after : (row : IndexSet) → has row (if b + 1 == c.order-period.result then 0 else b + 1) ≡ has row (if b + 1 == f.order then 0 else b + 1) =
+    let after : (row : IndexSet) → has row (if b + 1 == c.order-period.result then 0 else b + 1)
+    ≡ has row (if b + 1 == f.order then 0 else b + 1) =
     λ row. ap (λ q. has row (if b + 1 == q then 0 else b + 1)) period in
-    let behind : (row : IndexSet) → has row (if b == 0 then c.order-period.result - 1 else b - 1) ≡ has row (if b == 0 then f.order - 1 else b - 1) =
+    let behind : (row : IndexSet) → has row (if b == 0 then c.order-period.result - 1 else b - 1)
+    ≡ has row (if b == 0 then f.order - 1 else b - 1) =
     λ row. ap (λ q. has row (if b == 0 then q - 1 else b - 1)) period in
     let inside : b < 1024 = omega arith in
     record {
       middle = middle b below;
       east = east b below;
       west = west b below;
-      north = next_in_row f a b c.row-middle.result.now (has c.turned_down-north.result b) limits below middle
+      north = next_in_row f a b c.row-middle.result.now (has c.turned_down-north.result b) limits
+          below middle
           (c.turned_down-north.ensures b ∙ after c.row-middle.result.now);
-      south = previous_in_row f a b c.row-middle.result.now (has c.turned_up-south.result b) limits below middle
+      south = previous_in_row f a b c.row-middle.result.now (has c.turned_up-south.result b) limits
+          below middle
           (c.turned_up-south.ensures b ∙ in_limit b _ inside ∙ behind c.row-middle.result.now);
-      north_west = next_in_row f (a + (f.order - 1)) b c.row-west.result.now (has c.turned_down-north_west.result b) limits below west
+      north_west = next_in_row f (a + (f.order - 1)) b c.row-west.result.now
+          (has c.turned_down-north_west.result b) limits below west
           (c.turned_down-north_west.ensures b ∙ after c.row-west.result.now);
-      south_east = previous_in_row f (a + 1) b c.row-east.result.now (has c.turned_up-south_east.result b) limits below east
+      south_east = previous_in_row f (a + 1) b c.row-east.result.now
+          (has c.turned_up-south_east.result b) limits below east
           (c.turned_up-south_east.ensures b ∙ in_limit b _ inside ∙ behind c.row-east.result.now);
-      north_east = next_in_row f (a + 1) b c.row-east.result.now (has c.turned_down-north_east.result b) limits below east
+      north_east = next_in_row f (a + 1) b c.row-east.result.now
+          (has c.turned_down-north_east.result b) limits below east
           (c.turned_down-north_east.ensures b ∙ after c.row-east.result.now);
     }
 
-none_from : (c : goal.After-or-11) (b : ℕ) → c.args.shape.now.order ≤ b → any_flag (around_of c b) ≡ false
+none_from : (c : goal.After-or-11) (b : ℕ) → c.args.shape.now.order ≤ b →
+    any_flag (around_of c b) ≡ false
 unfolding around_of
 none_from c b past =
     let order = c.requires.pairs.order in
-    no_flag (around_of c b) (c.row-middle.ensures.within b (omega arith)) (c.row-east.ensures.within b (omega arith))
+    no_flag (around_of c b) (c.row-middle.ensures.within b (omega arith))
+    (c.row-east.ensures.within b (omega arith))
 
 pub returns : goal.returns
 unfolding alone_of
 returns c =
-    all_flags c.args.shape.now c.args.a (alone_of c) (around_of c) c.order-period.ensures.limits (flags_at c) (tells_at c) (none_from c)
+    all_flags c.args.shape.now c.args.a (alone_of c) (around_of c) c.order-period.ensures.limits
+    (flags_at c) (tells_at c) (none_from c)

@@ -15,4 +15,5 @@ invariant_of-result c =
     }
 
 pub returns : goal.returns
-returns c = all_rows_tell c.args.shape.now _ c.order-order.ensures.limits c.in_ok-rows.ensures c.order-order.ensures.value
+returns c = all_rows_tell c.args.shape.now _ c.order-order.ensures.limits c.in_ok-rows.ensures
+    c.order-order.ensures.value

@@ -8,13 +8,15 @@ use lib.Signed.{lt_z}
 use mir.Syntax.{w128}
 
 -- what the tests of the signs say
-is_negative : (z : ℤ) → unsigned_abs z < 2 ^ 127 → lt_z (to_z w128 (of_z w128 z)) (pos 0) ≡ true → z <ℤ pos 0
+is_negative : (z : ℤ) → unsigned_abs z < 2 ^ 127 → lt_z (to_z w128 (of_z w128 z)) (pos 0) ≡ true →
+    z <ℤ pos 0
 is_negative z h e =
     let read = read_part z h in
     let below = lt-true z (pos 0) (simp read at e) in
     omega (arith, ints)
 
-not_negative : (z : ℤ) → unsigned_abs z < 2 ^ 127 → lt_z (to_z w128 (of_z w128 z)) (pos 0) ≡ false → pos 0 ≤ℤ z
+not_negative : (z : ℤ) → unsigned_abs z < 2 ^ 127 → lt_z (to_z w128 (of_z w128 z)) (pos 0) ≡ false →
+    pos 0 ≤ℤ z
 not_negative z h e =
     let read = read_part z h in
     let above = lt-false z (pos 0) (simp read at e) in
@@ -52,4 +54,5 @@ returns-in-false-false c =
     c.compare_sizes-in-false-false.ensures
     ∙ sym (cmp_not_negative x.num x.den y.num y.den
     (not_negative x.num x.lowest.num_fits c.in-false-false.is-0)
-    (not_negative y.num y.lowest.num_fits c.in-false-false.is-1) x.lowest.positive y.lowest.positive)
+    (not_negative y.num y.lowest.num_fits c.in-false-false.is-1) x.lowest.positive
+    y.lowest.positive)

@@ -22,4 +22,5 @@ invariant_of-result c =
     let den = read_part c.args.self.den c.args.self.lowest.den_fits in
     let fits = c.args.self.lowest.num_fits in
     let turned = to_z-of_z w128 (pos 0 -ℤ c.args.self.num) (omega (arith, ints)) in
-    simp (num, den, turned) (record { lowest = lowest_turned c.args.self.num c.args.self.den c.args.self.lowest })
+    simp (num, den, turned)
+    (record { lowest = lowest_turned c.args.self.num c.args.self.den c.args.self.lowest })

@@ -9,38 +9,50 @@ use mir.Syntax.{w128}
 pub total-requires : goal.total-requires
 total-requires c =
     let (g, h) = gcd_exists (unsigned_abs c.args.self.den) (unsigned_abs c.args.other.den) in
-    let first = to_z-of_z w128 c.over_common_denominator-first.result.first (search rules) ∙ c.over_common_denominator-first.ensures.first g h in
-    let second = to_z-of_z w128 c.over_common_denominator-first.result.second (search rules) ∙ c.over_common_denominator-first.ensures.second g h in
+    let first = to_z-of_z w128 c.over_common_denominator-first.result.first (search rules)
+    ∙ c.over_common_denominator-first.ensures.first g h in
+    let second = to_z-of_z w128 c.over_common_denominator-first.result.second (search rules)
+    ∙ c.over_common_denominator-first.ensures.second g h in
     simp (first, second) ((c.requires g h).total)
 
 pub reduced-requires-clause-zero : goal.reduced-requires-clause-zero
 reduced-requires-clause-zero c =
     let (g, h) = gcd_exists (unsigned_abs c.args.self.den) (unsigned_abs c.args.other.den) in
-    let bottom = to_z-of_z w128 c.over_common_denominator-first.result.bottom (search rules) ∙ c.over_common_denominator-first.ensures.bottom g h in
+    let bottom = to_z-of_z w128 c.over_common_denominator-first.result.bottom (search rules)
+    ∙ c.over_common_denominator-first.ensures.bottom g h in
     simp bottom (common_some c.args.self c.args.other g h)
 
 pub reduced-requires-clause-num_fits : goal.reduced-requires-clause-num_fits
 reduced-requires-clause-num_fits c =
     let (g, h) = gcd_exists (unsigned_abs c.args.self.den) (unsigned_abs c.args.other.den) in
-    let first = to_z-of_z w128 c.over_common_denominator-first.result.first (search rules) ∙ c.over_common_denominator-first.ensures.first g h in
-    let second = to_z-of_z w128 c.over_common_denominator-first.result.second (search rules) ∙ c.over_common_denominator-first.ensures.second g h in
-    let total = to_z-of_z w128 c.total.result (search rules) ∙ simp (first, second) at c.total.ensures in
+    let first = to_z-of_z w128 c.over_common_denominator-first.result.first (search rules)
+    ∙ c.over_common_denominator-first.ensures.first g h in
+    let second = to_z-of_z w128 c.over_common_denominator-first.result.second (search rules)
+    ∙ c.over_common_denominator-first.ensures.second g h in
+    let total = to_z-of_z w128 c.total.result (search rules)
+    ∙ simp (first, second) at c.total.ensures in
     simp total ((c.requires g h).total)
 
 pub reduced-requires-clause-den_fits : goal.reduced-requires-clause-den_fits
 reduced-requires-clause-den_fits c =
     let (g, h) = gcd_exists (unsigned_abs c.args.self.den) (unsigned_abs c.args.other.den) in
-    let bottom = to_z-of_z w128 c.over_common_denominator-first.result.bottom (search rules) ∙ c.over_common_denominator-first.ensures.bottom g h in
+    let bottom = to_z-of_z w128 c.over_common_denominator-first.result.bottom (search rules)
+    ∙ c.over_common_denominator-first.ensures.bottom g h in
     simp bottom ((c.requires g h).bottom)
 
 pub returns : goal.returns
 returns c =
     let (g, h) = gcd_exists (unsigned_abs c.args.self.den) (unsigned_abs c.args.other.den) in
-    let first = to_z-of_z w128 c.over_common_denominator-first.result.first (search rules) ∙ c.over_common_denominator-first.ensures.first g h in
-    let second = to_z-of_z w128 c.over_common_denominator-first.result.second (search rules) ∙ c.over_common_denominator-first.ensures.second g h in
-    let bottom = to_z-of_z w128 c.over_common_denominator-first.result.bottom (search rules) ∙ c.over_common_denominator-first.ensures.bottom g h in
-    let total = to_z-of_z w128 c.total.result (search rules) ∙ simp (first, second) at c.total.ensures in
-    sum_is c.args.self c.args.other g c.reduced.result.num c.reduced.result.den h (simp (total, bottom) at c.reduced.ensures)
+    let first = to_z-of_z w128 c.over_common_denominator-first.result.first (search rules)
+    ∙ c.over_common_denominator-first.ensures.first g h in
+    let second = to_z-of_z w128 c.over_common_denominator-first.result.second (search rules)
+    ∙ c.over_common_denominator-first.ensures.second g h in
+    let bottom = to_z-of_z w128 c.over_common_denominator-first.result.bottom (search rules)
+    ∙ c.over_common_denominator-first.ensures.bottom g h in
+    let total = to_z-of_z w128 c.total.result (search rules)
+    ∙ simp (first, second) at c.total.ensures in
+    sum_is c.args.self c.args.other g c.reduced.result.num c.reduced.result.den h
+    (simp (total, bottom) at c.reduced.ensures)
 
 pub over_common_denominator-first-requires : goal.over_common_denominator-first-requires
 over_common_denominator-first-requires c = sum_together c.args.self c.args.other c.requires

@@ -12,8 +12,10 @@ returns-in_ok-row-in-Start-clause-told c =
     let t = at c.self.inside.values.items in
     let n = length c.self.inside.values.items in
     let k = c.self.inside.place in
-    let whole : c.len-order.result ≡ length c.self.inside.values.items = omega (arith, c.len-order.ensures, c.self.inside.values.ok.0) in
-    let left : c.args.self.now.left ≡ upcoming_rows t n k c.self.inside.upcoming = sym (ap (λ (r : RowsToCome). r.left) c.self.view_is) in
+    let whole : c.len-order.result ≡ length c.self.inside.values.items =
+    omega (arith, c.len-order.ensures, c.self.inside.values.ok.0) in
+    let left : c.args.self.now.left ≡ upcoming_rows t n k c.self.inside.upcoming =
+    sym (ap (λ (r : RowsToCome). r.left) c.self.view_is) in
     let start : c.self.inside.upcoming ≡ Start = c.in-Start.is in
     left ∙ ap (upcoming_rows t n k) start
     ∙ ap (λ (row : List ℤ). row ∷ entry_row n k ∷ rows_from t n 1)
@@ -24,23 +26,28 @@ returns-in_ok-row-in-Place-clause-told c =
     let t = at c.self.inside.values.items in
     let n = length c.self.inside.values.items in
     let k = c.self.inside.place in
-    let whole : c.len-order.result ≡ length c.self.inside.values.items = omega (arith, c.len-order.ensures, c.self.inside.values.ok.0) in
-    let left : c.args.self.now.left ≡ upcoming_rows t n k c.self.inside.upcoming = sym (ap (λ (r : RowsToCome). r.left) c.self.view_is) in
+    let whole : c.len-order.result ≡ length c.self.inside.values.items =
+    omega (arith, c.len-order.ensures, c.self.inside.values.ok.0) in
+    let left : c.args.self.now.left ≡ upcoming_rows t n k c.self.inside.upcoming =
+    sym (ap (λ (r : RowsToCome). r.left) c.self.view_is) in
     let place : c.self.inside.upcoming ≡ Place = c.in-Place.is in
     left ∙ ap (upcoming_rows t n k) place
     ∙ ap₂ (λ (row : List ℤ) (rows : List (List ℤ)). row ∷ rows)
-    (sym (c.in_ok-row-in-Place.ensures ∙ ap (λ (m : ℕ). entry_row m k) whole)) (pairs_begin t n 1 (omega arith))
+    (sym (c.in_ok-row-in-Place.ensures ∙ ap (λ (m : ℕ). entry_row m k) whole))
+    (pairs_begin t n 1 (omega arith))
 
 pub returns-in_ok-row-in-Pair-clause-told : goal.returns-in_ok-row-in-Pair-clause-told
 returns-in_ok-row-in-Pair-clause-told c =
     let t = at c.self.inside.values.items in
     let n = length c.self.inside.values.items in
-    let whole : c.len-order.result ≡ length c.self.inside.values.items = omega (arith, c.len-order.ensures, c.self.inside.values.ok.0) in
+    let whole : c.len-order.result ≡ length c.self.inside.values.items =
+    omega (arith, c.len-order.ensures, c.self.inside.values.ok.0) in
     let left : c.args.self.now.left ≡ upcoming_rows t n c.self.inside.place c.self.inside.upcoming =
     sym (ap (λ (r : RowsToCome). r.left) c.self.view_is) in
     let pair : c.self.inside.upcoming ≡ Pair c.in-Pair.a c.in-Pair.from = c.in-Pair.is in
     let next : IsNextPair t n c.in-Pair.a c.in-Pair.from (Some (c.in-Some.a, c.in-Some.b)) =
-    subst (λ (ys : List ℤ). IsNextPair (at ys) (length ys) c.in-Pair.a c.in-Pair.from (Some (c.in-Some.a, c.in-Some.b)))
+    subst (λ (ys : List ℤ). IsNextPair (at ys) (length ys) c.in-Pair.a c.in-Pair.from
+    (Some (c.in-Some.a, c.in-Some.b)))
     c.as_slice.ensures.value c.in-Some.ensures in
     left ∙ ap (upcoming_rows t n c.self.inside.place) pair ∙ next.3
     ∙ ap (λ (row : List ℤ). row ∷ pair_rows t n c.in-Some.a (c.in-Some.b + 1))
@@ -50,9 +57,17 @@ pub row_of_pair-requires : goal.row_of_pair-requires
 row_of_pair-requires c =
     let t = at c.self.inside.values.items in
     let n = length c.self.inside.values.items in
-    let whole : c.len-order.result ≡ length c.self.inside.values.items = omega (arith, c.len-order.ensures, c.self.inside.values.ok.0) in
+    let whole : c.len-order.result ≡ length c.self.inside.values.items =
+    omega (arith, c.len-order.ensures, c.self.inside.values.ok.0) in
     let next : IsNextPair t n c.in-Pair.a c.in-Pair.from (Some (c.in-Some.a, c.in-Some.b)) =
-    subst (λ (ys : List ℤ). IsNextPair (at ys) (length ys) c.in-Pair.a c.in-Pair.from (Some (c.in-Some.a, c.in-Some.b)))
+    subst (λ (ys : List ℤ). IsNextPair (at ys) (length ys) c.in-Pair.a c.in-Pair.from
+    (Some (c.in-Some.a, c.in-Some.b)))
     c.as_slice.ensures.value c.in-Some.ensures in
     let few = c.self.invariant.few in
-    record { some = next.0; ordered = next.1; within = omega (arith, next.2); short = omega (arith, few) }
+    record {
+      some = next.0;
+      ordered = next.1;
+      within = omega (arith, next.2);
+      short =
+          omega (arith, few);
+    }

@@ -47,7 +47,8 @@ returns-clause-from c =
     let t = c.args.shape.now in
     let open' = is_open t.order p.component.items p.free p.near c.and.result c.in-Some.interval
     c.requires.progress.free c.and.ensures c.in-Some.ensures in
-    next_from t.order (IsTightAt t) p.lines.items p.component.items p.free c.joined_next-joined.result
+    next_from t.order (IsTightAt t) p.lines.items p.component.items p.free
+    c.joined_next-joined.result
     c.and_not.result c.in-Some.interval c.in-Some-first.from
     c.requires.progress.numbers c.requires.progress.free open'.0 open'.1
     c.joined_next-joined.ensures.least.within c.joined_next-joined.ensures.least.joined

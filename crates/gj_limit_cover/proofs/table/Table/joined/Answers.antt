@@ -29,7 +29,8 @@ pub returns-clause-within : goal.returns-clause-within
 returns-clause-within c j e =
     let f = c.args.shape.now in
     joined_below f.order (IsTightAt f) c.args.i j (has c.or.result j)
-    (has (get_or c.args.self.now.linked.items c.args.i no_set) j) (has c.linking_below-linking.result
+    (has (get_or c.args.self.now.linked.items c.args.i no_set) j)
+    (has c.linking_below-linking.result
     j)
     (is c j) (c.requires.table.linked.each c.args.i j c.requires.within)
     (linking c j) e
@@ -38,7 +39,8 @@ pub returns-clause-joined : goal.returns-clause-joined
 returns-clause-joined c j below =
     let f = c.args.shape.now in
     both_ways f.order (IsTightAt f) c.args.i j (has c.or.result j)
-    (has (get_or c.args.self.now.linked.items c.args.i no_set) j) (has c.linking_below-linking.result
+    (has (get_or c.args.self.now.linked.items c.args.i no_set) j)
+    (has c.linking_below-linking.result
     j)
     below (is c j) (c.requires.table.linked.each c.args.i j c.requires.within)
     (linking c j)
@@ -48,7 +50,8 @@ returns-clause-set c free near =
     let f = c.args.shape.now in
     let told = λ (j : ℕ) (below : j < f.order).
     both_ways f.order (IsTightAt f) c.args.i j (has c.or.result j)
-    (has (get_or c.args.self.now.linked.items c.args.i no_set) j) (has c.linking_below-linking.result
+    (has (get_or c.args.self.now.linked.items c.args.i no_set) j)
+    (has c.linking_below-linking.result
     j)
     below (is c j) (c.requires.table.linked.each c.args.i j c.requires.within)
     (linking c j) in

@@ -11,5 +11,6 @@ invariant-loop-name l = record {
   count : l.self.basis.inserted ≤ l.fn.self.basis.inserted + l.name-index;
   to_come : (f : FunctionData) (rest : List LimitRow) → IsSystemOf f l.system →
       AreToCome f l.system.component (columns_in l.system) l.fn.self (l.names ++ rest) →
-      AreToCome f l.system.component (columns_in l.system) l.self (drop l.name-index l.names ++ rest);
+      AreToCome f l.system.component (columns_in l.system) l.self
+      (drop l.name-index l.names ++ rest);
 }

@@ -29,7 +29,8 @@ returns-in_ok-add_number-in-F-clause-six c =
     let r = c.args.self.now in
     let row = c.add_number.new.entries.items in
     at_most_six (columns_for (length r.component) r.count) row
-    c.in_ok-add_number-in-F.ensures.sparse (one_light c.clear.new.self.items row c.clear.ensures.items
+    c.in_ok-add_number-in-F.ensures.sparse
+    (one_light c.clear.new.self.items row c.clear.ensures.items
     c.in_ok-add_number-in-F.ensures.light)
 
 pub returns-in_ok-add_number-in-F-clause-small : goal.returns-in_ok-add_number-in-F-clause-small

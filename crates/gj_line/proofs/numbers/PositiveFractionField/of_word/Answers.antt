@@ -7,13 +7,16 @@ use Rattle.gj_line.proofs.SpelledNumbers.{zero}
 use Rattle.gj_line.proofs.numbers.PositiveFractionField.of_word.Goals as goal
 
 pub returns-in_default-clause-fault : goal.returns-in_default-clause-fault
-returns-in_default-clause-fault c = inr (refl, (zero, refl, tt), λ x h k. c.in_default.ensures.none x h)
+returns-in_default-clause-fault c =
+    inr (refl, (zero, refl, tt), λ x h k. c.in_default.ensures.none x h)
 
 pub returns-then-not-is_positive-clause-fault : goal.returns-then-not-is_positive-clause-fault
 returns-then-not-is_positive-clause-fault c =
     inr (
       refl,
       (zero, refl, tt),
-      λ x h k. false≢true (c.if-not-is_positive.ensures.1 (subst (λ (y : Frac). pos 0 <ℤ numerator y)
-          (one_fraction c.args.spelling c.args.word.now x c.in-Some.x h c.in-Some.ensures.found) k)),
+      λ x h k. false≢true (c.if-not-is_positive.ensures.1
+          (subst (λ (y : Frac). pos 0 <ℤ numerator y)
+          (one_fraction c.args.spelling c.args.word.now x c.in-Some.x h c.in-Some.ensures.found)
+          k)),
     )

@@ -6,4 +6,5 @@ use Rattle.gj_loops.proofs.index_set.IndexSet.contains.Goals as goal
 
 pub returns : goal.returns
 unfolding has
-returns c = ap (λ n. n == 1) (shr_and_one (get_or c.args.self.now.words (c.args.i / 64) 0) (c.args.i % 64))
+returns c = ap (λ n. n == 1)
+    (shr_and_one (get_or c.args.self.now.words (c.args.i / 64) 0) (c.args.i % 64))

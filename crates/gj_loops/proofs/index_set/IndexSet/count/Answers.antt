@@ -8,7 +8,8 @@ pub overflow_add-count : goal.overflow_add-count
 overflow_add-count c =
     let words = c.args.self.now.words in
     let before = counted_at_most (bit_of c.args.self.now.words) (64 * c.loop-word.word-index) in
-    let here = ones-le 64 (get_or c.args.self.now.words c.loop-word.word-index 0) c.loop-word-test.element_fits.fits in
+    let here = ones-le 64 (get_or c.args.self.now.words c.loop-word.word-index 0)
+    c.loop-word-test.element_fits.fits in
     record { fits = omega (arith, before, here) }
 
 pub loop-word-init : goal.loop-word-init
@@ -16,7 +17,8 @@ loop-word-init c = sym (counted_none (bit_of c.args.self.now.words))
 
 pub loop-word-preserved : goal.loop-word-preserved
 loop-word-preserved c =
-    counted_words c.args.self.now.words c.loop-word.word-index c.loop-word.count c.loop-word-test.element_fits.fits c.loop-word.invariant
+    counted_words c.args.self.now.words c.loop-word.word-index c.loop-word.count
+    c.loop-word-test.element_fits.fits c.loop-word.invariant
 
 pub returns : goal.returns
 unfolding has

@@ -9,7 +9,8 @@ pub returns : goal.returns
 unfolding has
 returns c i =
     elim (cases_lt i 1024) [
-      | inl below ↦ c.window.ensures i below ∙ bit_of-low c.args.self.now.words (i + c.args.s) (omega arith)
+      | inl below ↦ c.window.ensures i below
+          ∙ bit_of-low c.args.self.now.words (i + c.args.s) (omega arith)
       | inr past ↦ bit_of_past c.window.result.words i (omega arith)
           ∙ sym (bit_of_past c.args.self.now.words (i + c.args.s) (omega arith))
     ]

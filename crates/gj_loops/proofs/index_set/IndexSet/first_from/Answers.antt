@@ -15,10 +15,12 @@ pub loop-word-preserved : goal.loop-word-preserved
 loop-word-preserved c =
     let words = c.args.self.now.words in
     let none : IsRest c.args.self.now.words c.args.from c.loop-word.place 0 =
-    subst (IsRest words c.args.from c.loop-word.place) c.loop-word-test.true c.loop-word.invariant.0 in
+    subst (IsRest words c.args.from c.loop-word.place) c.loop-word-test.true
+    c.loop-word.invariant.0 in
     let place_fits = none.within in
     let fits : Fits w64 (get_or c.args.self.now.words (c.loop-word.place + 1) 0) = search rules in (
-      rest_goes_on words c.args.from c.loop-word.place none (omega arith) c.loop-word.invariant.1 fits.fits,
+      rest_goes_on words c.args.from c.loop-word.place none
+          (omega arith) c.loop-word.invariant.1 fits.fits,
       omega arith,
     )
 
@@ -27,8 +29,10 @@ unfolding has
 returns-then-place-eq-WORDS c =
     let words = c.args.self.now.words in
     let none : IsRest c.args.self.now.words c.args.from c.loop-word.place 0 =
-    subst (IsRest words c.args.from c.loop-word.place) c.loop-word-test.true c.loop-word.invariant.0 in
+    subst (IsRest words c.args.from c.loop-word.place) c.loop-word-test.true
+    c.loop-word.invariant.0 in
     rest_ends words c.args.from c.loop-word.place none (omega arith)
 
 pub returns : goal.returns
-returns c = first_of_rest c.args.self.now c.args.from c.loop-word.place c.loop-word.word (omega arith) c.loop-word.invariant.0 (omega arith)
+returns c = first_of_rest c.args.self.now c.args.from c.loop-word.place c.loop-word.word
+    (omega arith) c.loop-word.invariant.0 (omega arith)

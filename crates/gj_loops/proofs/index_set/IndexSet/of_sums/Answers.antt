@@ -12,7 +12,8 @@ loop-place-preserved g c =
     let said = TellsSum g.L.Lane.number c.args.values.now c.args.first c.args.sums.now c.args.n in (
       length-set words place c.sums_word.result ∙ long,
       word_more said words place c.sums_word.result (omega arith) c.loop-place.invariant.1
-          (λ b inside e below. c.sums_word.ensures b e inside c.requires.first_in_range (c.requires.values_in_range _ e below)
+          (λ b inside e below. c.sums_word.ensures b e inside c.requires.first_in_range
+          (c.requires.values_in_range _ e below)
           (c.requires.sums_in_range _ e below)),
     )
 
@@ -24,5 +25,7 @@ returns g c b e =
     let values = c.args.values.now in
     let sums = c.args.sums.now in
     let masked = c.and.ensures b ∙ ap (λ t. bit_of words b && t) (c.below.ensures b) in
-    words_masked (λ i. number (get_or values i e) +ℤ number c.args.first ≡ number (get_or sums i e)) words c.loop-place.place c.args.n b
-    (has c.and.result b) (omega arith) (λ k j before inside below. c.loop-place.invariant.1 k j before inside e below) masked
+    words_masked (λ i. number (get_or values i e) +ℤ number c.args.first ≡ number (get_or sums i e))
+    words c.loop-place.place c.args.n b
+    (has c.and.result b) (omega arith)
+    (λ k j before inside below. c.loop-place.invariant.1 k j before inside e below) masked

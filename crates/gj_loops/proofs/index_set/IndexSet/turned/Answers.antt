@@ -11,6 +11,8 @@ returns c i =
     let both = has c.both_up_and_down.result i in
     let within = c.below-within.ensures in
     turned_bits p i s n both (has c.and.result i) c.requires.period
-    (c.both_up_and_down.ensures i ∙ ap₂ (λ (x y : Bool). (nat_lt i 1024 && (nat_le s i && (p (i - s) && x))) || (p (i + (n - s)) && y))
+    (c.both_up_and_down.ensures i
+    ∙ ap₂ (λ (x y : Bool). (nat_lt i 1024 && (nat_le s i && (p (i - s) && x)))
+    || (p (i + (n - s)) && y))
     (within (i - s)) (within (i + (n - s))))
     (c.and.ensures i ∙ ap (λ b. both && b) (within i)) c.requires.step

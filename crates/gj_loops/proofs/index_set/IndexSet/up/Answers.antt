@@ -11,7 +11,9 @@ returns c i =
     let words = c.args.self.now.words in
     let moved = nat_le c.args.s i && bit_of words (i - c.args.s) in
     elim (cases_lt i 1024) [
-      | inl below ↦ c.window.ensures i below ∙ bit_of-high 1 words i c.args.s (omega arith) c.requires
+      | inl below ↦ c.window.ensures i below
+          ∙ bit_of-high 1 words i c.args.s (omega arith) c.requires
           ∙ sym (in_limit i moved below)
-      | inr past ↦ bit_of_past c.window.result.words i (omega arith) ∙ sym (and_left _ moved (le-ltb i 1024 past))
+      | inr past ↦ bit_of_past c.window.result.words i (omega arith)
+          ∙ sym (and_left _ moved (le-ltb i 1024 past))
     ]

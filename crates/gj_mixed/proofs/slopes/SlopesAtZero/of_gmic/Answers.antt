@@ -35,9 +35,11 @@ returns-clause-up c =
     let p = reads_as c.num.result f.num c.num.ensures f.lowest.num_fits in
     let inside = c.requires.0 in
     let fine = c.requires.1 in
-    slope_over c.quotient.result f.den f.num (omega (arith, ints, inside.0, inside.1)) inside.0 (omega (arith, ints))
+    slope_over c.quotient.result f.den f.num (omega (arith, ints, inside.0, inside.1)) inside.0
+    (omega (arith, ints))
     (omega (arith, ints, inside.0, inside.1))
-    (subst₂ (IsRatio c.quotient.result) (ap (λ z. pos 1 *ℤ z) d ∙ one_mul_z f.den) (ap (λ z. pos 1 *ℤ z) p ∙ one_mul_z f.num) c.quotient.ensures)
+    (subst₂ (IsRatio c.quotient.result) (ap (λ z. pos 1 *ℤ z) d ∙ one_mul_z f.den)
+    (ap (λ z. pos 1 *ℤ z) p ∙ one_mul_z f.num) c.quotient.ensures)
 
 pub returns-clause-down : goal.returns-clause-down
 returns-clause-down c =
@@ -49,7 +51,9 @@ returns-clause-down c =
     let rest : read (read c.den-d.result -ℤ read c.num-2.result) ≡ f.den -ℤ f.num =
     reads_as (read c.den-d.result -ℤ read c.num-2.result) (f.den -ℤ f.num) (ap₂ (λ a b. a -ℤ b) d p)
     (omega (arith, ints, inside.0, inside.1)) in
-    slope_over c.quotient-2.result f.den (f.den -ℤ f.num) (omega (arith, ints, inside.0, inside.1)) (omega (arith, ints, inside.1))
+    slope_over c.quotient-2.result f.den (f.den -ℤ f.num) (omega (arith, ints, inside.0, inside.1))
+    (omega (arith, ints, inside.1))
     (omega (arith, ints)) (omega (arith, ints, inside.0, inside.1))
-    (subst₂ (IsRatio c.quotient-2.result) (ap (λ z. pos 1 *ℤ z) d ∙ one_mul_z f.den) (ap (λ z. pos 1 *ℤ z) rest ∙ one_mul_z (f.den -ℤ f.num))
+    (subst₂ (IsRatio c.quotient-2.result) (ap (λ z. pos 1 *ℤ z) d ∙ one_mul_z f.den)
+    (ap (λ z. pos 1 *ℤ z) rest ∙ one_mul_z (f.den -ℤ f.num))
     c.quotient-2.ensures)

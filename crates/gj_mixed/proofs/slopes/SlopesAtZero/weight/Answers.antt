@@ -9,8 +9,10 @@ pub mul-requires : goal.mul-requires
 mul-requires c =
     let (n, d) = turned_parts c.args.c c.neg.result c.neg.ensures in
     let (n_small, d_small) = row_parts c.args.c c.requires.range in
-    let falling = slope_product c.args.self.down c.neg.result c.requires.down (rw n (omega (arith, ints))) (rw d d_small) in
-    let rising = slope_product c.args.self.up c.neg.result c.requires.up (rw n (omega (arith, ints))) (rw d d_small) in
+    let falling = slope_product c.args.self.down c.neg.result c.requires.down
+    (rw n (omega (arith, ints))) (rw d d_small) in
+    let rising = slope_product c.args.self.up c.neg.result c.requires.up
+    (rw n (omega (arith, ints))) (rw d d_small) in
     search rules
 
 pub mul-requires-else-num-lt0 : goal.mul-requires-else-num-lt0
@@ -23,4 +25,5 @@ returns-then-num-lt0 c =
     let x = c.args.c in
     let sign = reads_as c.num.result x.num c.num.ensures x.lowest.num_fits in
     let here = c.if-num-lt0.true in
-    falling_weight c.args.self.up c.args.self.down x c.neg.result c.mul.result (omega (arith, ints)) (turned_parts x c.neg.result c.neg.ensures) c.mul.ensures
+    falling_weight c.args.self.up c.args.self.down x c.neg.result c.mul.result (omega (arith, ints))
+    (turned_parts x c.neg.result c.neg.ensures) c.mul.ensures

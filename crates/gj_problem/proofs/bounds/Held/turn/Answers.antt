@@ -16,9 +16,11 @@ pub returns-clause-right : goal.returns-clause-right
 returns-clause-right c = λ (done : IsTrue true).
     let s = c.in-Some.piece in
     let old = c.args.bounds.now in
-    right_kept (rational old.right) (rational c.in_ok-bounds.field-0) old.pieces.items c.push.new.self.items s c.in_ok-push.ensures.items
+    right_kept (rational old.right) (rational c.in_ok-bounds.field-0) old.pieces.items
+    c.push.new.self.items s c.in_ok-push.ensures.items
     (c.in_ok-bounds.ensures.value
-    ∙ ap (λ w. rational old.right +ℚ w *ℚ rational s.inequality.right) (negation_value s.entry c.neg.result c.neg.ensures)
+    ∙ ap (λ w. rational old.right +ℚ w *ℚ rational s.inequality.right)
+    (negation_value s.entry c.neg.result c.neg.ensures)
     ∙ minus_times (rational old.right) (rational s.entry) (rational s.inequality.right))
 
 pub returns-clause-next : goal.returns-clause-next
@@ -26,7 +28,8 @@ returns-clause-next c = λ (done : IsTrue true).
     let h : Held = c.args.self in
     let kept : IsLeftOut h → ⊥ = λ passed. let t = c.is_left_out.ensures.1 passed in absurd (cc) in
     let turned : IsTurned h c.in-Some.piece =
-    subst (λ (made : Option Piece). MatchOption made ((h.column.lower ≡ None) × (h.column.upper ≡ None)) (IsTurned h)) c.in-Some.is
+    subst (λ (made : Option Piece). MatchOption made
+    ((h.column.lower ≡ None) × (h.column.upper ≡ None)) (IsTurned h)) c.in-Some.is
     c.in_ok-piece.ensures in
     inr (kept, c.in-Some.piece, turned, c.in_ok-push.ensures.items)
 
@@ -36,7 +39,8 @@ returns-in_err-bounds-clause-wide c = λ fault.
     record {
       kept = λ passed. let t = c.is_left_out.ensures.1 passed in absurd (cc);
       piece = c.in-Some.piece;
-      turned = subst (λ (made : Option Piece). MatchOption made ((h.column.lower ≡ None) × (h.column.upper ≡ None)) (IsTurned h)) c.in-Some.is
+      turned = subst (λ (made : Option Piece). MatchOption made
+          ((h.column.lower ≡ None) × (h.column.upper ≡ None)) (IsTurned h)) c.in-Some.is
           c.in_ok-piece.ensures;
       against = c.neg.result;
       against_is = negation_value c.in-Some.piece.entry c.neg.result c.neg.ensures;
@@ -48,6 +52,8 @@ returns-clause-narrow c =
     let h : Held = c.args.self in
     let s = c.in-Some.piece in
     let turned : IsTurned h s =
-    subst (λ (made : Option Piece). MatchOption made ((h.column.lower ≡ None) × (h.column.upper ≡ None)) (IsTurned h)) c.in-Some.is
+    subst (λ (made : Option Piece). MatchOption made
+    ((h.column.lower ≡ None) × (h.column.upper ≡ None)) (IsTurned h)) c.in-Some.is
     c.in_ok-piece.ensures in
-    narrow_turn h c.args.bounds.now.right s c.neg.result turned (negation_value s.entry c.neg.result c.neg.ensures) c.in_ok-bounds.ensures.narrow
+    narrow_turn h c.args.bounds.now.right s c.neg.result turned
+    (negation_value s.entry c.neg.result c.neg.ensures) c.in_ok-bounds.ensures.narrow

@@ -10,6 +10,8 @@ invariant-loop-entry l = record {
   right : l.self.right ≡ l.initial.self.right;
   count : length l.self.coefficients.items ≡ length l.initial.self.coefficients.items;
   added : (point : List Rational) → dot l.self.coefficients.items point
-      ≡ dot l.initial.self.coefficients.items point +ℚ rational l.factor *ℚ sum_at point (take l.entry-index l.entries);
-  narrow : IsWideWithin l.initial.self.coefficients.items l.factor (take l.entry-index l.entries) → ⊥;
+      ≡ dot l.initial.self.coefficients.items point +ℚ rational l.factor *ℚ sum_at point
+      (take l.entry-index l.entries);
+  narrow : IsWideWithin l.initial.self.coefficients.items l.factor (take l.entry-index l.entries) →
+      ⊥;
 }

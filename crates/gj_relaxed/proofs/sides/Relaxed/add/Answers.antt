@@ -7,4 +7,5 @@ pub returns-clause-added : goal.returns-clause-added
 returns-clause-added c =
     let old = c.args.self.now in
     ap₂ weighted c.in_ok-push-2.ensures.items c.in_ok-push.ensures.items
-    ∙ weighted_added old.multipliers.items old.constraints.items c.args.multiplier c.args.constraint c.requires
+    ∙ weighted_added old.multipliers.items old.constraints.items c.args.multiplier c.args.constraint
+    c.requires

@@ -11,7 +11,9 @@ returns-clause-only c = λ t h.
     let text = c.args.bytes.now in
     let result = c.tableau_in.result in
     MatchResult-from_both result (λ read. read ≡ t) IsMemoryFault
-    (IfOk-weaker result (IsTableauText text) (λ read. read ≡ t) (λ read spelled. one_tableau (records_of text) read t spelled h)
+    (IfOk-weaker result (IsTableauText text) (λ read. read ≡ t)
+    (λ read spelled. one_tableau (records_of text) read t spelled h)
     c.tableau_in.ensures.found)
-    (IfErr-weaker result (NamesRecord (IsFirstFaultOfTableau text)) IsMemoryFault (λ fault first. only_memory text t fault h first)
+    (IfErr-weaker result (NamesRecord (IsFirstFaultOfTableau text)) IsMemoryFault
+    (λ fault first. only_memory text t fault h first)
     c.tableau_in.ensures.refused)

@@ -9,16 +9,19 @@ false_is_not_true h = search rules
 pub returns-then-is_in_range-clause-value : goal.returns-then-is_in_range-clause-value
 returns-then-is_in_range-clause-value g c =
     let rest = c.fract-rest.result in
-    value_of_part c.args.self.now.kind c.args.x rest c.at.result (rest_parts c.args.x rest c.fract-rest.ensures.value)
+    value_of_part c.args.self.now.kind c.args.x rest c.at.result
+    (rest_parts c.args.x rest c.fract-rest.ensures.value)
     c.fract-rest.ensures.not_negative c.fract-rest.ensures.below_one c.at.ensures.value
 
 pub returns-else-is_in_range-clause-wide : goal.returns-else-is_in_range-clause-wide
 returns-else-is_in_range-clause-wide g c = λ fine.
     let rest = c.fract-rest.result in
-    false_is_not_true (c.if-is_in_range.ensures.1 (part_in_range c.args.x rest (rest_parts c.args.x rest c.fract-rest.ensures.value)
+    false_is_not_true (c.if-is_in_range.ensures.1
+    (part_in_range c.args.x rest (rest_parts c.args.x rest c.fract-rest.ensures.value)
     c.fract-rest.ensures.not_negative c.fract-rest.ensures.below_one fine))
 
 pub returns-then-is_in_range-clause-narrow : goal.returns-then-is_in_range-clause-narrow
 returns-then-is_in_range-clause-narrow g c coarse =
     let rest = c.fract-rest.result in
-    coarse (fine_from_part c.args.x rest (rest_parts c.args.x rest c.fract-rest.ensures.value) (c.if-is_in_range.ensures.0 (search rules)))
+    coarse (fine_from_part c.args.x rest (rest_parts c.args.x rest c.fract-rest.ensures.value)
+    (c.if-is_in_range.ensures.0 (search rules)))

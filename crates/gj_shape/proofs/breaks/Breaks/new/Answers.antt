@@ -8,9 +8,11 @@ use mir.Syntax.{w128}
 
 pub invariant_of-result : goal.invariant_of-result
 invariant_of-result c =
-    let den : unsigned_abs (to_z w128 (of_z w128 c.den.result)) ≡ unsigned_abs (denominator c.args.place) =
+    let den : unsigned_abs (to_z w128 (of_z w128 c.den.result))
+    ≡ unsigned_abs (denominator c.args.place) =
     ap unsigned_abs (to_z-of_z w128 c.den.result (search rules) ∙ c.den.ensures) in
     record {
-      breaks = rw (den, c.new.ensures.items) (breaks_of_none c.args.place c.requires.inside c.requires.few);
+      breaks = rw (den, c.new.ensures.items)
+          (breaks_of_none c.args.place c.requires.inside c.requires.few);
       least = rw c.new.ensures.items least_of_none;
     }

@@ -25,7 +25,8 @@ from_breaks-requires-clause-place c =
 
 pub from_breaks-requires-clause-on_grid : goal.from_breaks-requires-clause-on_grid
 from_breaks-requires-clause-on_grid c =
-    subst (AreOnGrid c.self.inside.order) (sym c.as_slice.ensures.value) (breaks_on_grid _ c.self.invariant.breaks)
+    subst (AreOnGrid c.self.inside.order) (sym c.as_slice.ensures.value)
+    (breaks_on_grid _ c.self.invariant.breaks)
 
 pub returns-clause-given : goal.returns-clause-given
 returns-clause-given c =
@@ -47,5 +48,6 @@ returns-clause-given c =
 pub returns-clause-fault : goal.returns-clause-fault
 returns-clause-fault c =
     rw (← c.self.view_is)
-    (subst (λ bs. IfErr c.from_breaks.result (IsTooFineOf (AreListsOfBreaks c.self.inside.order bs))) c.as_slice.ensures.value
+    (subst (λ bs. IfErr c.from_breaks.result
+    (IsTooFineOf (AreListsOfBreaks c.self.inside.order bs))) c.as_slice.ensures.value
     c.from_breaks.ensures.fault)

@@ -8,7 +8,8 @@ pub returns-in_err-scale-clause-fault : goal.returns-in_err-scale-clause-fault
 returns-in_err-scale-clause-fault c =
     let p = err_from_is_err_and c.from_residual.result c.from_residual.ensures.1 in
     rw (p.1, p.2, ← c.self.view_is)
-    (point_refused _ _ _ c.args.point _ c.in_err-scale.field-0.0 c.self.invariant c.in_err-scale.ensures.fault)
+    (point_refused _ _ _ c.args.point _ c.in_err-scale.field-0.0 c.self.invariant
+    c.in_err-scale.ensures.fault)
 
 pub invariant_of-self-2 : goal.invariant_of-self-2
 invariant_of-self-2 c =
@@ -45,7 +46,8 @@ returns-clause-small c =
       c.push_reserved-3.ensures.items,
       c.reserve-3.ensures.items,
     )
-    (kept_fractions _ _ _ _ (kept_more _ _ _ c.args.point _ _ c.self.invariant c.in_ok-scale.ensures.least)).small
+    (kept_fractions _ _ _ _
+    (kept_more _ _ _ c.args.point _ _ c.self.invariant c.in_ok-scale.ensures.least)).small
 
 pub returns-clause-common : goal.returns-clause-common
 returns-clause-common c =
@@ -57,4 +59,6 @@ returns-clause-common c =
       c.push_reserved-3.ensures.items,
       c.reserve-3.ensures.items,
     )
-    (within_of_least _ _ (kept_fractions _ _ _ _ (kept_more _ _ _ c.args.point _ _ c.self.invariant c.in_ok-scale.ensures.least))).common
+    (within_of_least _ _
+    (kept_fractions _ _ _ _
+    (kept_more _ _ _ c.args.point _ _ c.self.invariant c.in_ok-scale.ensures.least))).common

@@ -15,7 +15,8 @@ invariant_of-self-2 c =
       c.push_reserved-3.ensures.items,
       c.reserve-3.ensures.items,
     )
-    (kept_more _ _ _ (even_point c.args.value) _ _ c.self.invariant (least_with_three _ _ _ _ _ _ _ goes goes goes))
+    (kept_more _ _ _ (even_point c.args.value) _ _ c.self.invariant
+    (least_with_three _ _ _ _ _ _ _ goes goes goes))
 
 pub returns-clause-ok : goal.returns-clause-ok
 returns-clause-ok c =
@@ -27,7 +28,8 @@ returns-clause-ok c =
       c.push_reserved-3.ensures.items,
       c.reserve-3.ensures.items,
     )
-    (points_more _ _ _ (even_point c.args.value) c.self.invariant.value_length c.self.invariant.right_length
+    (points_more _ _ _ (even_point c.args.value) c.self.invariant.value_length
+    c.self.invariant.right_length
     ∙ ap (λ points. points ++ even_point c.args.value ∷ []) c.self.view_is)
 
 pub returns-clause-small : goal.returns-clause-small

@@ -15,7 +15,8 @@ returns c =
     let have = kept_lists _ _ _ _ c.self.invariant in
     IfOk-weaker c.over.result _ _
     (λ f h.
-    given_as _ _ _ _ _ _ _ _ _ _ f refl refl (c.as_slice.ensures.value ∙ sym have.left_are ∙ ap lefts c.self.view_is)
+    given_as _ _ _ _ _ _ _ _ _ _ f refl refl (c.as_slice.ensures.value ∙ sym have.left_are
+    ∙ ap lefts c.self.view_is)
     (c.as_slice-2.ensures.value ∙ sym have.value_are ∙ ap values c.self.view_is)
     (c.as_slice-3.ensures.value ∙ sym have.right_are ∙ ap rights c.self.view_is) h)
     c.over.ensures

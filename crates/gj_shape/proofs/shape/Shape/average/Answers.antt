@@ -15,13 +15,18 @@ returns-clause-average c =
     let second = c.common_denominator-other_scale.ensures.limits in
     let scale : unsigned_abs (to_z w128 (of_z w128 c.common_denominator-scale.result)) ≡ f.scale =
     ap unsigned_abs (to_z-of_z w128 _ (search rules) ∙ c.common_denominator-scale.ensures.value) in
-    let other_scale : unsigned_abs (to_z w128 (of_z w128 c.common_denominator-other_scale.result)) ≡ g.scale =
-    ap unsigned_abs (to_z-of_z w128 _ (search rules) ∙ c.common_denominator-other_scale.ensures.value) in
-    let are : AreHalfSums f g c.in_ok-left.left.items c.in_ok-value.value.items c.in_ok-right.right.items = record {
+    let other_scale : unsigned_abs (to_z w128 (of_z w128 c.common_denominator-other_scale.result))
+    ≡ g.scale =
+    ap unsigned_abs (to_z-of_z w128 _ (search rules)
+    ∙ c.common_denominator-other_scale.ensures.value) in
+    let are : AreHalfSums f g c.in_ok-left.left.items c.in_ok-value.value.items
+    c.in_ok-right.right.items = record {
       lengths = (
         c.in_ok-left.ensures.length ∙ ap length c.left_numerators.ensures.value ∙ first.left_length,
-        c.in_ok-value.ensures.length ∙ ap length c.value_numerators.ensures.value ∙ first.value_length,
-        c.in_ok-right.ensures.length ∙ ap length c.right_numerators.ensures.value ∙ first.right_length,
+        c.in_ok-value.ensures.length ∙ ap length c.value_numerators.ensures.value
+            ∙ first.value_length,
+        c.in_ok-right.ensures.length ∙ ap length c.right_numerators.ensures.value
+            ∙ first.right_length,
       );
       left_is = half_sums_as f g _ _ _ _ _ _ _ scale other_scale c.left_numerators.ensures.value
           c.left_numerators-2.ensures.value c.in_ok-left.ensures.fractions;
@@ -44,13 +49,18 @@ returns-clause-fault c =
     let second = c.common_denominator-other_scale.ensures.limits in
     let scale : unsigned_abs (to_z w128 (of_z w128 c.common_denominator-scale.result)) ≡ f.scale =
     ap unsigned_abs (to_z-of_z w128 _ (search rules) ∙ c.common_denominator-scale.ensures.value) in
-    let other_scale : unsigned_abs (to_z w128 (of_z w128 c.common_denominator-other_scale.result)) ≡ g.scale =
-    ap unsigned_abs (to_z-of_z w128 _ (search rules) ∙ c.common_denominator-other_scale.ensures.value) in
-    let are : AreHalfSums f g c.in_ok-left.left.items c.in_ok-value.value.items c.in_ok-right.right.items = record {
+    let other_scale : unsigned_abs (to_z w128 (of_z w128 c.common_denominator-other_scale.result))
+    ≡ g.scale =
+    ap unsigned_abs (to_z-of_z w128 _ (search rules)
+    ∙ c.common_denominator-other_scale.ensures.value) in
+    let are : AreHalfSums f g c.in_ok-left.left.items c.in_ok-value.value.items
+    c.in_ok-right.right.items = record {
       lengths = (
         c.in_ok-left.ensures.length ∙ ap length c.left_numerators.ensures.value ∙ first.left_length,
-        c.in_ok-value.ensures.length ∙ ap length c.value_numerators.ensures.value ∙ first.value_length,
-        c.in_ok-right.ensures.length ∙ ap length c.right_numerators.ensures.value ∙ first.right_length,
+        c.in_ok-value.ensures.length ∙ ap length c.value_numerators.ensures.value
+            ∙ first.value_length,
+        c.in_ok-right.ensures.length ∙ ap length c.right_numerators.ensures.value
+            ∙ first.right_length,
       );
       left_is = half_sums_as f g _ _ _ _ _ _ _ scale other_scale c.left_numerators.ensures.value
           c.left_numerators-2.ensures.value c.in_ok-left.ensures.fractions;
@@ -61,7 +71,8 @@ returns-clause-fault c =
     } in
     let small = half_sums_small f g _ _ _ first second are in
     IfErr-weaker c.new.result _ _
-    (λ e fault. too_fine_of (AreHalfSums f g) f.order f.place _ _ _ e (first.order_low, first.order_high) (first.place_low, first.place_high)
+    (λ e fault. too_fine_of (AreHalfSums f g) f.order f.place _ _ _ e
+    (first.order_low, first.order_high) (first.place_low, first.place_high)
     are.lengths small.0 small.1 small.2 are
     (fault_as _ _ _ _ _ _ _ _ _ _ e c.order.ensures.value c.place.ensures.value
     c.as_slice.ensures.value c.as_slice-2.ensures.value c.as_slice-3.ensures.value fault))

@@ -8,8 +8,10 @@ returns-then-remainder-eq0 c m below =
     let f = c.args.self.now in
     let i = c.args.index in
     let r = c.args.remainder in
-    let read : to_z w64 (of_z w64 (get_or c.value_numerators.result.now i (pos 0))) ≡ get_or f.value i (pos 0) =
-    to_z-of_z w64 _ (search rules) ∙ ap (λ xs. get_or xs i (pos 0)) c.value_numerators.ensures.value in
+    let read : to_z w64 (of_z w64 (get_or c.value_numerators.result.now i (pos 0)))
+    ≡ get_or f.value i (pos 0) =
+    to_z-of_z w64 _ (search rules)
+    ∙ ap (λ xs. get_or xs i (pos 0)) c.value_numerators.ensures.value in
     let limits = c.value_numerators.ensures.limits in
     let within : i < length f.value = omega (arith, limits.value_length, c.requires.index) in
     entry_of_list f f.value m i r c.if-remainder-eq0.true within ∙ ap (λ z. pos m *ℤ z) (sym read)
@@ -20,10 +22,14 @@ returns c m below =
     let f = c.args.self.now in
     let i = c.args.index in
     let r = c.args.remainder in
-    let start : to_z w64 (of_z w64 (get_or c.right_numerators.result.now i (pos 0))) ≡ get_or f.right i (pos 0) =
-    to_z-of_z w64 _ (search rules) ∙ ap (λ xs. get_or xs i (pos 0)) c.right_numerators.ensures.value in
-    let behind : c.place_behind-next.result ≡ (i + 1) % f.order = c.place_behind-next.ensures ∙ ap (λ n. (i + 1) % n) c.order.ensures.value in
-    let end : to_z w64 (of_z w64 (get_or c.left_numerators.result.now c.place_behind-next.result (pos 0))) ≡ get_or f.left
+    let start : to_z w64 (of_z w64 (get_or c.right_numerators.result.now i (pos 0)))
+    ≡ get_or f.right i (pos 0) =
+    to_z-of_z w64 _ (search rules)
+    ∙ ap (λ xs. get_or xs i (pos 0)) c.right_numerators.ensures.value in
+    let behind : c.place_behind-next.result ≡ (i + 1) % f.order = c.place_behind-next.ensures
+    ∙ ap (λ n. (i + 1) % n) c.order.ensures.value in
+    let end : to_z w64 (of_z w64
+    (get_or c.left_numerators.result.now c.place_behind-next.result (pos 0))) ≡ get_or f.left
     ((i + 1) % f.order) (pos 0) =
     to_z-of_z w64 _ (search rules)
     ∙ ap₂ (λ xs n. get_or xs n (pos 0)) c.left_numerators.ensures.value behind in

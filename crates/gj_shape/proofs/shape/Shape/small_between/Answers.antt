@@ -7,10 +7,13 @@ pub overflow_add-result : goal.overflow_add-result
 overflow_add-result c =
     let m = c.args.steps in
     let r = c.args.remainder in
-    let start : unsigned_abs (to_z w64 (of_z w64 c.beside-start.result.0)) < 2 ^ 32 = omega (arith, ints) in
-    let end : unsigned_abs (to_z w64 (of_z w64 c.beside-start.result.1)) < 2 ^ 32 = omega (arith, ints) in
+    let start : unsigned_abs (to_z w64 (of_z w64 c.beside-start.result.0)) < 2 ^ 32 =
+    omega (arith, ints) in
+    let end : unsigned_abs (to_z w64 (of_z w64 c.beside-start.result.1)) < 2 ^ 32 =
+    omega (arith, ints) in
     let below = mean_below m r _ _ c.requires.remainder c.ranges.steps.fits start end in
     record {
       fits = subst (λ n. (n - r) * unsigned_abs (to_z w64 (of_z w64 c.beside-start.result.0))
-          + r * unsigned_abs (to_z w64 (of_z w64 c.beside-start.result.1)) < 2 ^ 64) (sym c.from.ensures) below;
+          + r * unsigned_abs (to_z w64 (of_z w64 c.beside-start.result.1)) < 2 ^ 64)
+          (sym c.from.ensures) below;
     }

@@ -9,5 +9,7 @@ returns c =
     let f = c.args.self.now in
     let read : to_z w64 (of_z w64 c.value_numerator.result) ≡ at f.value c.args.i =
     to_z-of_z w64 c.value_numerator.result (search rules) ∙ c.value_numerator.ensures.value in
-    let over = subst (λ n. IsRatio c.ratio.result n (pos c.self.inside.scale)) read c.ratio.ensures in
-    subst (λ (g : FunctionData). IsRatio c.ratio.result (at f.value c.args.i) (pos g.scale)) c.self.view_is over
+    let over = subst (λ n. IsRatio c.ratio.result n (pos c.self.inside.scale)) read
+    c.ratio.ensures in
+    subst (λ (g : FunctionData). IsRatio c.ratio.result (at f.value c.args.i) (pos g.scale))
+    c.self.view_is over

@@ -26,10 +26,12 @@ returns c =
     let numerator : to_z w128 (of_z w128 c.entry_or_value-numerator.result) ≡ table f d place =
     to_z-of_z w128 c.entry_or_value-numerator.result (search rules) ∙ read in
     let congruent : IsCongruent c.args.n (pos place) (f.order * d) =
-    subst₂ (λ n q. IsCongruent n (pos place) (q * d)) (to_z-of_z w128 c.args.n c.ranges.n) c.order.ensures.value
+    subst₂ (λ n q. IsCongruent n (pos place) (q * d))
+    (to_z-of_z w128 c.args.n c.ranges.n) c.order.ensures.value
     c.place_within-index.ensures.congruent in
     let limits = c.order.ensures.limits in
-    let denominator = scaled_read c.common_denominator.result c.from.result f.scale d c.common_denominator.ensures.value c.from.ensures
+    let denominator = scaled_read c.common_denominator.result c.from.result f.scale d
+    c.common_denominator.ensures.value c.from.ensures
     (scale_low f limits) c.requires.few in
     value_from_place f c.args.n d place c.reduced.result limits c.requires.some congruent
     (subst₂ (λ x y. IsRatio c.reduced.result x y) numerator denominator c.reduced.ensures)
@@ -37,21 +39,25 @@ returns c =
 pub overflow_mul-common_denominator : goal.overflow_mul-common_denominator
 overflow_mul-common_denominator c =
     let f = c.args.self.now in
-    scaled_fits c.common_denominator.result c.from.result f.scale c.args.steps c.common_denominator.ensures.value c.from.ensures
+    scaled_fits c.common_denominator.result c.from.result f.scale c.args.steps
+    c.common_denominator.ensures.value c.from.ensures
     (scale_low f c.order.ensures.limits) c.requires.few
 
 pub reduced-requires-clause-zero : goal.reduced-requires-clause-zero
 reduced-requires-clause-zero c =
     let f = c.args.self.now in
     let limits = c.order.ensures.limits in
-    scaled_some c.common_denominator.result c.from.result f.scale c.args.steps c.common_denominator.ensures.value c.from.ensures
+    scaled_some c.common_denominator.result c.from.result f.scale c.args.steps
+    c.common_denominator.ensures.value c.from.ensures
     (scale_low f limits) c.requires.few limits.scale_low c.requires.some
 
 pub reduced-requires-clause-num_fits : goal.reduced-requires-clause-num_fits
-reduced-requires-clause-num_fits c = read_below c.entry_or_value-numerator.result c.entry_or_value-numerator.ensures.fits
+reduced-requires-clause-num_fits c =
+    read_below c.entry_or_value-numerator.result c.entry_or_value-numerator.ensures.fits
 
 pub reduced-requires-clause-den_fits : goal.reduced-requires-clause-den_fits
 reduced-requires-clause-den_fits c =
     let f = c.args.self.now in
-    scaled_below c.common_denominator.result c.from.result f.scale c.args.steps c.common_denominator.ensures.value c.from.ensures
+    scaled_below c.common_denominator.result c.from.result f.scale c.args.steps
+    c.common_denominator.ensures.value c.from.ensures
     (scale_low f c.order.ensures.limits) c.requires.few
