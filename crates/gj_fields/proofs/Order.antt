@@ -1,8 +1,9 @@
 -- The order of a field: an inequality follows from others by sums, with terms that have the same
 -- monomials.
-use Rattle.std.proofs.Common.{◌≡◌, ℕ, zero, suc, ◌+◌, Bool, true, false, ◌⊎◌, inl, inr, ⊎_elim, List, [], ◌∷◌, refl, sym, subst, subst₂, ap, ◌∙◌, add-zero, add-suc}
+use Rattle.std.proofs.Common.{◌≡◌, ℕ, zero, suc, Bool, true, false, ◌⊎◌, inl, inr, ⊎_elim, List, [], ◌∷◌, refl, sym, subst, subst₂, ◌∙◌}
 use Rattle.gj_fields.specs.Fields.{OrderedField, AtMost, number}
 use Rattle.gj_fields.proofs.Ring.{Term, IsSame, value, ring}
+pub use Rattle.gj_fields.proofs.Ring.{number_plus}
 use Rattle.gj_fields.proofs.Ring.Term.{var, nil, unit, neg, ◌⊕◌, ◌⊗◌}
 
 -- a test answers true or false
@@ -68,12 +69,6 @@ module _ {R : Type 0} (K : OrderedField R) where
   number_low (suc n) =
       subst (λ z. AtMost K z (plus (number K n) e)) (K.plus_zero o)
       (add_le o (number K n) o e (number_low n) zero_le_one)
-
-  pub number_plus : (n m : ℕ) → number K (n + m) ≡ plus (number K n) (number K m)
-  number_plus n zero = ap (number K) (add-zero n) ∙ sym (K.plus_zero (number K n))
-  number_plus n (suc m) =
-      ap (number K) (add-suc n m) ∙ ap (λ z. plus z e) (number_plus n m)
-      ∙ K.plus_associates (number K n) (number K m) e
 
 -- the same over terms
 module _ {R : Type 0} (K : OrderedField R) (env : List R) where

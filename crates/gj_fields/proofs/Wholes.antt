@@ -1,10 +1,11 @@
 -- Whole numbers of a field: sums, products and order are those of the whole numbers.
-use Rattle.std.proofs.Common.{◌≡◌, ℕ, zero, suc, ◌+◌, ◌-◌, ◌*◌, ◌≤◌, ℤ, pos, negsuc, ◌+ℤ◌, ◌≤ℤ◌, ⊎_elim, [], ◌∷◌, refl, sym, subst, subst₂, ap, ap₂, ◌∙◌, mul-zero, mul-suc, arith}
+use Rattle.std.proofs.Common.{◌≡◌, ℕ, suc, ◌+◌, ◌-◌, ◌≤◌, ℤ, pos, negsuc, ◌+ℤ◌, ◌≤ℤ◌, ⊎_elim, [], ◌∷◌, refl, sym, subst, subst₂, ap, ◌∙◌, arith}
 use Rattle.std.proofs.lemmas.Bool.{cases_lt}
 use Rattle.std.proofs.lemmas.Int.{ints}
 use Rattle.gj_fields.specs.Fields.{OrderedField, AtMost, number, whole}
-use Rattle.gj_fields.proofs.Ring.{ring, cancel, times_zero}
-use Rattle.gj_fields.proofs.Ring.Term.{var, nil, unit, neg, ◌⊕◌, ◌⊗◌}
+use Rattle.gj_fields.proofs.Ring.{ring}
+pub use Rattle.gj_fields.proofs.Ring.{whole_plus, whole_times, number_times}
+use Rattle.gj_fields.proofs.Ring.Term.{var, nil, unit, neg, ◌⊕◌}
 use Rattle.gj_fields.proofs.Order.{le_of_eq, zero_le_one, number_low, number_plus, by_one, by_two, by_three}
 
 -- the part above 0 and the part below
@@ -48,43 +49,9 @@ module _ {R : Type 0} (K : OrderedField R) where
       let second = number_order m n (le_of_eq K (number K m) (number K n) (sym h)) in
       omega arith
 
-  pub number_times : (n m : ℕ) → number K (n * m) ≡ times (number K n) (number K m)
-  number_times n zero = ap (number K) (mul-zero n) ∙ sym (times_zero K (number K n))
-  number_times n (suc m) =
-      ap (number K) (mul-suc n m) ∙ number_plus K (n * m) n
-      ∙ ap (λ z. plus z (number K n)) (number_times n m)
-      ∙ ring K (number K n ∷ number K m ∷ []) (var 0 ⊗ var 1 ⊕ var 0) (var 0 ⊗ (var 1 ⊕ unit)) refl
-
   pub whole_parts : (z : ℤ) → plus (whole K z) (number K (below z)) ≡ number K (above z)
   whole_parts (pos n) = K.plus_zero (number K n)
   whole_parts (negsuc n) = ring K (number K (suc n) ∷ []) (neg (var 0) ⊕ var 0) nil refl
-
-  pub whole_plus : (x y : ℤ) → whole K (x +ℤ y) ≡ plus (whole K x) (whole K y)
-  whole_plus x y =
-      let z = x +ℤ y in
-      let x_is = parts_are x in
-      let y_is = parts_are y in
-      let z_is = parts_are z in
-      let same : above z + (below x + below y) ≡ above x + above y + below z =
-      omega (arith, ints) in
-      let n = number K in
-      let numbers : plus (n (above z)) (plus (n (below x)) (n (below y)))
-      ≡ plus (plus (n (above x)) (n (above y))) (n (below z)) =
-      sym (number_plus K (above z) (below x + below y)
-      ∙ ap (plus (n (above z))) (number_plus K (below x) (below y)))
-      ∙ ap n same
-      ∙ number_plus K (above x + above y) (below z)
-      ∙ ap (λ w. plus w (n (below z))) (number_plus K (above x) (above y)) in
-      cancel K (whole K z) (plus (whole K x) (whole K y))
-      (plus (n (below z)) (plus (n (below x)) (n (below y))))
-      (ring K (whole K z ∷ n (below z) ∷ n (below x) ∷ n (below y) ∷ [])
-      (var 0 ⊕ (var 1 ⊕ (var 2 ⊕ var 3))) ((var 0 ⊕ var 1) ⊕ (var 2 ⊕ var 3)) refl
-      ∙ ap (λ w. plus w (plus (n (below x)) (n (below y)))) (whole_parts z)
-      ∙ numbers
-      ∙ ap₂ (λ v w. plus (plus v w) (n (below z))) (sym (whole_parts x)) (sym (whole_parts y))
-      ∙ ring K (whole K x ∷ whole K y ∷ n (below x) ∷ n (below y) ∷ n (below z) ∷ [])
-      ((var 0 ⊕ var 2) ⊕ (var 1 ⊕ var 3) ⊕ var 4) ((var 0 ⊕ var 1) ⊕ (var 4 ⊕ (var 2 ⊕ var 3)))
-      refl)
 
   pub whole_mono : (x y : ℤ) → x ≤ℤ y → AtMost K (whole K x) (whole K y)
   whole_mono x y h =

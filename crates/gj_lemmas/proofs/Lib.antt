@@ -1,5 +1,6 @@
 pub mod Integers
 pub mod Lesser
+pub mod Rings
 pub mod Ring
 pub mod Ratios
 pub mod Divisors

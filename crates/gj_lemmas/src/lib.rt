@@ -3,9 +3,10 @@
 //! `specs/` has what contracts above cite: the first element of a list that fails, the greatest
 //! common divisor as a function, and the least common multiple. `proofs/` has the lemmas: laws of
 //! whole numbers (`Integers`), the lesser of two (`Lesser`), identities of sums and products by a
-//! normal form (`Ring`), ratios by cross products (`Ratios`), divisors and lowest terms
-//! (`Divisors`), quotients and remainders (`Quotients`), lists made by ranges (`Lists`), options
-//! and tests (`Choices`), and where the first that fails stands (`FirstThatFails`).
+//! normal form, in each commutative ring (`Rings`) and for whole numbers (`Ring`), ratios by cross
+//! products (`Ratios`), divisors and lowest terms (`Divisors`), quotients and remainders
+//! (`Quotients`), lists made by ranges (`Lists`), options and tests (`Choices`), and where the first
+//! that fails stands (`FirstThatFails`).
 //!
 //! Any crate may cite a lemma; what its contracts promise rests on the definitions alone.
 #![tactic(auto)]

@@ -116,6 +116,12 @@ zero_mul_q x = equal_q _ _
 pub mul_zero_q : (x : Rational) → x *ℚ whole (pos 0) ≡ whole (pos 0)
 mul_zero_q x = mul_comm_q x (whole (pos 0)) ∙ zero_mul_q x
 
+pub add_zero_q : (x : Rational) → x +ℚ whole (pos 0) ≡ x
+add_zero_q x = add_comm_q x (whole (pos 0)) ∙ zero_add_q x
+
+pub mul_one_q : (x : Rational) → x *ℚ whole (pos 1) ≡ x
+mul_one_q x = mul_comm_q x (whole (pos 1)) ∙ one_mul_q x
+
 -- ---- whole numbers
 
 whole_sum : (s b x y : ℤ) → s *ℤ (pos 1 *ℤ pos 1) ≡ (x *ℤ pos 1 +ℤ y *ℤ pos 1) *ℤ b →
@@ -150,23 +156,11 @@ whole_injective x y e = ap (λ q. q.top) e
 
 -- ---- signs
 
+pub add_neg_q : (x : Rational) → x -ℚ x ≡ whole (pos 0)
+add_neg_q x =
+    ap (λ w. w +ℚ neg_ℚ x) (sym (one_mul_q x))
+    ∙ sym (add_mul_q (whole (pos 1)) (whole (negsuc 0)) x)
+    ∙ ap (λ w. w *ℚ x) (sym (whole_add (pos 1) (negsuc 0))) ∙ zero_mul_q x
+
 pub neg_mul_q : (x y : Rational) → neg_ℚ x *ℚ y ≡ neg_ℚ (x *ℚ y)
 neg_mul_q x y = mul_assoc_q (whole (negsuc 0)) x y
-
-pub neg_add_q : (x y : Rational) → neg_ℚ (x +ℚ y) ≡ neg_ℚ x +ℚ neg_ℚ y
-neg_add_q x y = mul_add_q (whole (negsuc 0)) x y
-
--- ---- regrouping
-
-pub add_left_comm_q : (x y z : Rational) → x +ℚ (y +ℚ z) ≡ y +ℚ (x +ℚ z)
-add_left_comm_q x y z = sym (add_assoc_q x y z) ∙ ap (λ w. w +ℚ z) (add_comm_q x y)
-    ∙ add_assoc_q y x z
-
-pub mul_left_comm_q : (x y z : Rational) → x *ℚ (y *ℚ z) ≡ y *ℚ (x *ℚ z)
-mul_left_comm_q x y z = sym (mul_assoc_q x y z) ∙ ap (λ w. w *ℚ z) (mul_comm_q x y)
-    ∙ mul_assoc_q y x z
-
-pub mul_mul_comm_q : (x y z w : Rational) → (x *ℚ y) *ℚ (z *ℚ w) ≡ (x *ℚ z) *ℚ (y *ℚ w)
-mul_mul_comm_q x y z w =
-    mul_assoc_q x y (z *ℚ w) ∙ ap (λ v. x *ℚ v) (mul_left_comm_q y z w)
-    ∙ sym (mul_assoc_q x z (y *ℚ w))

@@ -8,7 +8,8 @@ use Rattle.gj_fields.specs.Fields.{OrderedField, number, whole}
 use Rattle.gj_fields.proofs.Ring.{ring, times_zero}
 use Rattle.gj_fields.proofs.Ring.Term.{var, nil, neg, ◌⊕◌, ◌⊗◌}
 use Rattle.gj_fields.proofs.Order.{le_of_eq}
-use Rattle.gj_fields.proofs.Wholes.{whole_plus, whole_order, number_times}
+use Rattle.gj_fields.proofs.Wholes.{whole_plus, whole_order}
+pub use Rattle.gj_fields.proofs.Wholes.{whole_times}
 
 -- ---- products
 
@@ -19,19 +20,6 @@ module _ {R : Type 0} (K : OrderedField R) where
   whole_negative (pos zero) = ring K [] nil (neg nil) refl
   whole_negative (pos (suc n)) = refl
   whole_negative (negsuc n) = ring K (number K (suc n) ∷ []) (var 0) (neg (neg (var 0))) refl
-
-  pub whole_times : (x y : ℤ) → whole K (x *ℤ y) ≡ times (whole K x) (whole K y)
-  whole_times (pos a) (pos b) = number_times K a b
-  whole_times (pos a) (negsuc b) =
-      whole_negative (pos (a * suc b)) ∙ ap negative (number_times K a (suc b))
-      ∙ ring K (number K a ∷ number K (suc b) ∷ []) (neg (var 0 ⊗ var 1)) (var 0 ⊗ neg (var 1)) refl
-  whole_times (negsuc a) (pos b) =
-      whole_negative (pos (suc a * b)) ∙ ap negative (number_times K (suc a) b)
-      ∙ ring K (number K (suc a) ∷ number K b ∷ []) (neg (var 0 ⊗ var 1)) (neg (var 0) ⊗ var 1) refl
-  whole_times (negsuc a) (negsuc b) =
-      number_times K (suc a) (suc b)
-      ∙ ring K (number K (suc a) ∷ number K (suc b) ∷ []) (var 0 ⊗ var 1)
-      (neg (var 0) ⊗ neg (var 1)) refl
 
   pub whole_injective : (x y : ℤ) → whole K x ≡ whole K y → x ≡ y
   whole_injective x y h =
