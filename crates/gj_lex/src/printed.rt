@@ -6,7 +6,9 @@
 //! value with no digit behind it is always read. So is a fraction whose parts are both so small, if
 //! neither a digit nor a `/` follows.
 ghost use Rattle.std.specs.Prelude.{◌≡◌, ◌≢◌, ◌↔◌, ◌<◌, ◌^◌, ◌++◌, ◌∷◌, ℕ, ℤ, pos, unsigned_abs};
-ghost use Rattle.std.specs.Prelude.{List, length, slice_index, decimal};
+ghost use Rattle.std.specs.Prelude.{◌+◌, ◌*◌, ◌≤◌, List, length, slice_index, decimal, take};
+ghost use Rattle.std.specs.Char.{digit_value};
+ghost use Rattle.std.specs.Str.Parse.{AllDigits, digits_value};
 ghost use Rattle.std.specs.Prelude.{IfSome, IfNone, IsSome, IsTrue};
 ghost use Rattle.std.specs.Fmt.{signed_decimal};
 ghost use Rattle.gj_frac.specs.Fraction.{numerator, denominator};
@@ -14,7 +16,7 @@ ghost use Rattle.gj_frac.specs.Lowest.{IsLowest};
 ghost use Rattle.gj_lex.specs.LeadingText.{BeginsWithNoDigit};
 ghost use Rattle.gj_lex.specs.NumberText.{fraction_text, denominator_text};
 
-use crate::digits::{MOST_DIGITS, leading_value};
+use crate::digits::{MOST_DIGITS, leading_value, leading_value_by_lanes};
 use gj_frac::Frac;
 
 /// What follows the byte, if the text begins with it. It takes no memory.
@@ -31,7 +33,7 @@ pub fn behind_byte(text: &[u8], byte: u8) -> Option<&[u8]>
 
 /// The fraction with whose printed text the text begins, and what follows that. It takes no memory.
 ///
-/// At most 18 digits of the numerator and of the denominator are read.
+/// At most 18 digits of the numerator and of the denominator are read, one by one.
 pub fn printed_fraction(text: &[u8]) -> Option<(Frac, &[u8])>
     ensures small { IfSome result (λ r. (unsigned_abs (numerator r.0) < 10 ^ 18) ×
         (unsigned_abs (denominator r.0) < 10 ^ 18)) }
@@ -44,8 +46,42 @@ pub fn printed_fraction(text: &[u8]) -> Option<(Frac, &[u8])>
         BeginsWithNoDigit rest → slice_index rest 0 ≢ 47 → text.now ≡ fraction_text x ++ rest →
         (r.0 ≡ x) × (r.1.now ≡ rest)) }
 {
-    let (num, rest) = printed_whole(text)?;
-    let (den, rest) = printed_denominator(rest)?;
+    fraction_at(text, false)
+}
+
+/// The same by a look at eight bytes at once, which is faster where most numbers have more than
+/// four digits.
+pub fn printed_long_fraction(text: &[u8]) -> Option<(Frac, &[u8])>
+    ensures small { IfSome result (λ r. (unsigned_abs (numerator r.0) < 10 ^ 18) ×
+        (unsigned_abs (denominator r.0) < 10 ^ 18)) }
+    ensures found { IfSome result (λ r. text.now ≡ fraction_text r.0 ++ r.1.now) }
+    ensures none { IfNone result ((x : Frac) (rest : List ℕ) → unsigned_abs (numerator x) < 10 ^ 18 →
+        unsigned_abs (denominator x) < 10 ^ 18 → BeginsWithNoDigit rest →
+        slice_index rest 0 ≢ 47 → text.now ≢ fraction_text x ++ rest) }
+    ensures only { IfSome result (λ r. (x : Frac) (rest : List ℕ) →
+        unsigned_abs (numerator x) < 10 ^ 18 → unsigned_abs (denominator x) < 10 ^ 18 →
+        BeginsWithNoDigit rest → slice_index rest 0 ≢ 47 → text.now ≡ fraction_text x ++ rest →
+        (r.0 ≡ x) × (r.1.now ≡ rest)) }
+{
+    fraction_at(text, true)
+}
+
+/// The same, with digits read one by one, or by a look at eight bytes at once.
+#[inline(always)]
+fn fraction_at(text: &[u8], at_once: bool) -> Option<(Frac, &[u8])>
+    ensures small { IfSome result (λ r. (unsigned_abs (numerator r.0) < 10 ^ 18) ×
+        (unsigned_abs (denominator r.0) < 10 ^ 18)) }
+    ensures found { IfSome result (λ r. text.now ≡ fraction_text r.0 ++ r.1.now) }
+    ensures none { IfNone result ((x : Frac) (rest : List ℕ) → unsigned_abs (numerator x) < 10 ^ 18 →
+        unsigned_abs (denominator x) < 10 ^ 18 → BeginsWithNoDigit rest →
+        slice_index rest 0 ≢ 47 → text.now ≢ fraction_text x ++ rest) }
+    ensures only { IfSome result (λ r. (x : Frac) (rest : List ℕ) →
+        unsigned_abs (numerator x) < 10 ^ 18 → unsigned_abs (denominator x) < 10 ^ 18 →
+        BeginsWithNoDigit rest → slice_index rest 0 ≢ 47 → text.now ≡ fraction_text x ++ rest →
+        (r.0 ≡ x) × (r.1.now ≡ rest)) }
+{
+    let (num, rest) = whole_at(text, at_once)?;
+    let (den, rest) = denominator_at(rest, at_once)?;
     Some((small_in_lowest_terms(num, den)?, rest))
 }
 
@@ -78,11 +114,25 @@ pub fn printed_whole(text: &[u8]) -> Option<(i64, &[u8])>
         BeginsWithNoDigit rest → text.now ≡ signed_decimal n ++ rest →
         (r.0 ≡ n) × (r.1.now ≡ rest)) }
 {
+    whole_at(text, false)
+}
+
+/// The same, with digits read one by one, or by a look at eight bytes at once.
+#[inline(always)]
+fn whole_at(text: &[u8], at_once: bool) -> Option<(i64, &[u8])>
+    ensures small { IfSome result (λ r. unsigned_abs r.0 < 10 ^ 18) }
+    ensures found { IfSome result (λ r. text.now ≡ signed_decimal r.0 ++ r.1.now) }
+    ensures none { IfNone result ((n : ℤ) (rest : List ℕ) → unsigned_abs n < 10 ^ 18 →
+        BeginsWithNoDigit rest → text.now ≢ signed_decimal n ++ rest) }
+    ensures only { IfSome result (λ r. (n : ℤ) (rest : List ℕ) → unsigned_abs n < 10 ^ 18 →
+        BeginsWithNoDigit rest → text.now ≡ signed_decimal n ++ rest →
+        (r.0 ≡ n) × (r.1.now ≡ rest)) }
+{
     let Some(digits) = behind_byte(text, b'-') else {
-        let (size, rest) = printed_number(text)?;
+        let (size, rest) = number_at(text, at_once)?;
         return Some((size as i64, rest));
     };
-    let (size, rest) = printed_number(digits)?;
+    let (size, rest) = number_at(digits, at_once)?;
     if size == 0 {
         return None;
     }
@@ -91,7 +141,8 @@ pub fn printed_whole(text: &[u8]) -> Option<(i64, &[u8])>
 
 /// The denominator with whose printed text the text begins, and what follows that: 1 if no `/`
 /// stands there.
-fn printed_denominator(text: &[u8]) -> Option<(u64, &[u8])>
+#[inline(always)]
+fn denominator_at(text: &[u8], at_once: bool) -> Option<(u64, &[u8])>
     ensures some { IfSome result (λ r. 0 < r.0) }
     ensures small { IfSome result (λ r. r.0 < 10 ^ 18) }
     ensures printed { IfSome result (λ r. text.now ≡ denominator_text r.0 ++ r.1.now) }
@@ -105,7 +156,7 @@ fn printed_denominator(text: &[u8]) -> Option<(u64, &[u8])>
     let Some(digits) = behind_byte(text, b'/') else {
         return Some((1, text));
     };
-    let (den, rest) = printed_number(digits)?;
+    let (den, rest) = number_at(digits, at_once)?;
     if den < 2 {
         return None;
     }
@@ -124,13 +175,43 @@ pub fn printed_number(text: &[u8]) -> Option<(u64, &[u8])>
     ensures only { IfSome result (λ r. (n : ℕ) (rest : List ℕ) → n < 10 ^ 18 →
         BeginsWithNoDigit rest → text.now ≡ decimal n ++ rest → (r.0 ≡ n) × (r.1.now ≡ rest)) }
 {
+    number_at(text, false)
+}
+
+/// The same, with digits read one by one, or by a look at eight bytes at once.
+#[inline(always)]
+fn number_at(text: &[u8], at_once: bool) -> Option<(u64, &[u8])>
+    ensures small { IfSome result (λ r. r.0 < 10 ^ 18) }
+    ensures printed { IfSome result (λ r. text.now ≡ decimal r.0 ++ r.1.now) }
+    ensures none { IfNone result ((n : ℕ) (rest : List ℕ) → n < 10 ^ 18 → BeginsWithNoDigit rest →
+        text.now ≢ decimal n ++ rest) }
+    ensures only { IfSome result (λ r. (n : ℕ) (rest : List ℕ) → n < 10 ^ 18 →
+        BeginsWithNoDigit rest → text.now ≡ decimal n ++ rest → (r.0 ≡ n) × (r.1.now ≡ rest)) }
+{
     let (front, _) = text.split_at(text.len().min(MOST_DIGITS));
-    let (number, len) = leading_value(front);
+    let (number, len) = front_value(front, at_once);
     let (digits, rest) = text.split_at(len);
     if !is_canonical(digits) {
         return None;
     }
     Some((number, rest))
+}
+
+/// The number that the digits at the front of the bytes spell, and how many these are, read one by
+/// one, or by a look at eight bytes at once.
+#[inline(always)]
+fn front_value(word: &[u8], at_once: bool) -> (u64, usize)
+    requires { length word.now ≤ 18 }
+    ensures digits { AllDigits 10 (take result.1 word.now) }
+    ensures value { result.0 ≡ digits_value 10 (take result.1 word.now) }
+    ensures within { result.1 ≤ length word.now }
+    ensures all { result.1 < length word.now → 10 ≤ digit_value (slice_index word.now result.1) }
+{
+    if at_once {
+        leading_value_by_lanes(0, word)
+    } else {
+        leading_value(word)
+    }
 }
 
 /// Whether there is a digit, and no zero before others.

@@ -2,12 +2,12 @@ use Rattle.std.proofs.Common.{◌≡◌, ◌≤◌, ◌∙◌, ap, subst, take, 
 use Rattle.std.specs.Str.Parse.{AllDigits, digits_value}
 use Rattle.std.proofs.lemmas.List.{take-take, length-take-le}
 use Rattle.gj_lex.proofs.PrintedNumbers.{few_digits_small, number_printed, number_stands, digits_canonical, digits_dropped, digits_spell}
-use Rattle.gj_lex.proofs.printed.printed_number.Goals as goal
+use Rattle.gj_lex.proofs.printed.number_at.Goals as goal
 
 pub returns-then-not-is_canonical-clause-none : goal.returns-then-not-is_canonical-clause-none
 returns-then-not-is_canonical-clause-none c = λ n rest small none is.
-    let lead = c.leading_value-number.ensures in
-    let len = c.leading_value-number.result.1 in
+    let lead = c.front_value-number.ensures in
+    let len = c.front_value-number.result.1 in
     let stands = number_stands _ _ rest c.min.result len n c.split_at.ensures.front c.min.ensures
     lead.digits lead.within lead.all small none is in
     let digits = c.if-not-is_canonical.ensures.1
@@ -16,8 +16,8 @@ returns-then-not-is_canonical-clause-none c = λ n rest small none is.
 
 pub returns-clause-only : goal.returns-clause-only
 returns-clause-only c = λ n rest small none is.
-    let lead = c.leading_value-number.ensures in
-    let len = c.leading_value-number.result.1 in
+    let lead = c.front_value-number.ensures in
+    let len = c.front_value-number.result.1 in
     let stands = number_stands _ _ rest c.min.result len n c.split_at.ensures.front c.min.ensures
     lead.digits lead.within lead.all small none is in
     let same : take len c.split_at.result.0.now ≡ take len c.args.text.now =
@@ -30,8 +30,8 @@ returns-clause-only c = λ n rest small none is.
 
 pub returns-clause-small : goal.returns-clause-small
 returns-clause-small c =
-    let lead = c.leading_value-number.ensures in
-    let len = c.leading_value-number.result.1 in
+    let lead = c.front_value-number.ensures in
+    let len = c.front_value-number.result.1 in
     let few : length (take len c.split_at.result.0.now) ≤ 18 =
     omega (
       arith,
@@ -44,8 +44,8 @@ returns-clause-small c =
 
 pub returns-clause-printed : goal.returns-clause-printed
 returns-clause-printed c =
-    let lead = c.leading_value-number.ensures in
-    let len = c.leading_value-number.result.1 in
+    let lead = c.front_value-number.ensures in
+    let len = c.front_value-number.result.1 in
     let few : length (take len c.split_at.result.0.now) ≤ 18 =
     omega (
       arith,
