@@ -1,5 +1,5 @@
 -- Rows of linked intervals, one after another, and the intervals that are joined to one.
-use Rattle.std.proofs.Common.{◌≡◌, ◌↔◌, ℕ, ◌+◌, ◌<◌, ◌||◌, ◌⊎◌, eqb, cond, Bool, true, false, IsTrue, List, [], ◌∷◌, ◌++◌, inl, inr, sym, ap, subst, ◌∙◌, arith}
+use Rattle.std.proofs.Common.{◌≡◌, ◌↔◌, ℕ, ◌+◌, ◌<◌, ◌||◌, ◌⊎◌, eqb, Bool, true, false, IsTrue, List, [], ◌∷◌, ◌++◌, inl, inr, sym, ap, subst, ◌∙◌, arith}
 use Rattle.std.proofs.lemmas.Bool.{cases_lt, cases_eq, or_cases, or_left, or_right, eq-eqb, ne_eqb}
 use Rattle.std.proofs.lemmas.List.{get_or_append_left, get_or_push, length_push}
 use Rattle.gj_loops.specs.IndexSets.{has, no_set}
@@ -41,26 +41,38 @@ pub linking_none : (q : ℕ) (T : FaceKind → ℕ → ℕ → ℕ → Type 0) (
 linking_none q T i set none k =
     (λ yes'. let no' = none k in absurd (cc (yes', no')), λ (low, l). absurd (omega arith))
 
-pub linking_more : (q : ℕ) (T : FaceKind → ℕ → ℕ → ℕ → Type 0) (i n : ℕ) (old new : ℕ →
-    Bool) (wanted : Bool) →
-    AreLinking q T i n old → ((k : ℕ) → new k ≡ cond (eqb k n) wanted (old k)) →
-    ((wanted ≡ true) ↔ IsLink q T n i) → AreLinking q T i (n + 1) new
-linking_more q T i n old new wanted h is told k = elim (cases_eq k n) [
-  | inl same ↦
-      let here' = is k ∙ ap (λ t. cond t wanted (old k)) (eq-eqb k n same) in (
-        λ yes'. (
-          (let lt : k < n + 1 = omega arith in lt),
-          subst (λ m. IsLink q T m i) (sym same) (told.0 (sym here' ∙ yes')),
-        ),
-        λ (low, l). here' ∙ told.1 (subst (λ m. IsLink q T m i) same l),
-      )
-  | inr other ↦
-      let here' = is k ∙ ap (λ t. cond t wanted (old k)) (ne_eqb k n other) in (
-        λ yes'. let at = (h k).0 (sym here'
-            ∙ yes') in ((let lt : k < n + 1 = omega (arith, at.0) in lt), at.1),
-        λ (low, l). here' ∙ (h k).1 ((let lt : k < n = omega arith in lt), l),
-      )
+-- the next interval is linked, and is put into the set
+pub linking_added : (q : ℕ) (T : FaceKind → ℕ → ℕ → ℕ → Type 0) (i n : ℕ) (old new : ℕ → Bool) →
+    AreLinking q T i n old → ((k : ℕ) → new k ≡ (old k || eqb k n)) → IsLink q T n i →
+    AreLinking q T i (n + 1) new
+linking_added q T i n old new h is link k = elim (cases_eq k n) [
+  | inl same ↦ (
+    λ yes'. (
+      (let lt : k < n + 1 = omega arith in lt),
+      subst (λ m. IsLink q T m i) (sym same) link,
+    ),
+    λ (low, l). is k ∙ or_right (old k) (eqb k n) (eq-eqb k n same),
+  )
+  | inr other ↦ (
+    λ yes'. elim (or_cases (old k) (eqb k n) (sym (is k) ∙ yes')) [
+      | inl e ↦ let at = (h k).0 e in ((let lt : k < n + 1 = omega (arith, at.0) in lt), at.1)
+      | inr e ↦ let no' = ne_eqb k n other in absurd (cc (e, no'))
+    ],
+    λ (low, l). is k ∙ or_left (old k) (eqb k n)
+        ((h k).1 ((let lt : k < n = omega arith in lt), l)),
+  )
 ]
+
+-- it is not
+pub linking_skipped : (q : ℕ) (T : FaceKind → ℕ → ℕ → ℕ → Type 0) (i n : ℕ) (set : ℕ → Bool) →
+    AreLinking q T i n set → (IsLink q T n i → ⊥) → AreLinking q T i (n + 1) set
+linking_skipped q T i n set h none k = (
+  λ yes'. let at = (h k).0 yes' in ((let lt : k < n + 1 = omega (arith, at.0) in lt), at.1),
+  λ (low, l). elim (cases_eq k n) [
+    | inl same ↦ absurd (none (subst (λ m. IsLink q T m i) same l))
+    | inr other ↦ (h k).1 ((let lt : k < n = omega arith in lt), l)
+  ],
+)
 
 pub both_ways : (q : ℕ) (T : FaceKind → ℕ → ℕ → ℕ → Type 0) (i j : ℕ) (x y z : Bool) → j < q →
     x ≡ (y || z) →

@@ -84,8 +84,10 @@ impl Table {
     {
         let mut set = IndexSet::empty();
         for j in 0..end {
-            let is_linked = self.linked[j as usize].contains(i as usize);
-            set.put(j as usize, is_linked);
+            if !self.linked[j as usize].contains(i as usize) {
+                continue;
+            }
+            set.insert(j as usize);
         }
         set
     }

@@ -3,6 +3,7 @@ ghost use Rattle.std.specs.Prelude.{◌≡◌, vec_len};
 ghost use Rattle.gj_shape.specs.Given.{IsOrder};
 
 use crate::row_joins::RowJoins;
+use crate::square_row::{SquareRow, value_row};
 use crate::tight_limits::TightLimits;
 use gj_shape::Shape;
 use std::alloc::{AllocError, Global};
@@ -30,8 +31,12 @@ impl Joins {
     {
         let order = shape.order();
         let mut rows = Vec::with_capacity(alloc, order as usize)?;
+        let mut start = value_row(shape, limits, 0, 0);
         for a in 0..order {
-            rows.push_reserved(RowJoins::of(shape, limits, a));
+            let end = value_row(shape, limits, a, 1);
+            let values = SquareRow { start, end };
+            rows.push_reserved(RowJoins::of(shape, limits, &values, a));
+            start = end;
         }
         Ok(Joins { order, rows })
     }

@@ -9,8 +9,10 @@
 #![tactic(auto)]
 
 mod joins;
+mod jumps;
 mod lanes;
 mod row_joins;
+mod square_row;
 mod terms;
 mod tight_limits;
 

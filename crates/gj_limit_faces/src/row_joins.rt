@@ -5,7 +5,9 @@ ghost use Rattle.gj_shape.specs.Faces.{corners_of};
 ghost use Rattle.gj_jumps.specs.LimitCover.{IsTightAt};
 ghost use Rattle.gj_limit_faces.specs.RowJoins.{AreRowJoins, IsTightAlong};
 ghost use Rattle.gj_limit_faces.specs.TightLimits.{AreTightLimitsOf};
+ghost use Rattle.gj_limit_faces.specs.ValueRows.{AreValueRows};
 
+use crate::square_row::SquareRow;
 use crate::tight_limits::TightLimits;
 use gj_loops::IndexSet;
 use gj_shape::{FaceKind, Shape};
@@ -26,22 +28,23 @@ pub struct RowJoins {
 }
 
 impl RowJoins {
-    /// Those of row a.
-    pub(crate) fn of(shape: &Shape, limits: &TightLimits, a: u32) -> RowJoins
+    /// Those of row a, by what is known of the values.
+    pub(crate) fn of(shape: &Shape, limits: &TightLimits, values: &SquareRow, a: u32) -> RowJoins
         requires limits { AreTightLimitsOf shape.now limits.now }
+        requires values { AreValueRows shape.now a values.now }
         requires within { a < shape.now.order }
         ensures { AreRowJoins shape.now a result }
     {
         let order = shape.order() as usize;
         // the limits at the corners of the lower triangle, and at those of the upper one
-        let first = limits.row(shape, FaceKind::Lower, 0, a);
-        let east = limits.row(shape, FaceKind::Lower, 1, a);
-        let north = limits.row(shape, FaceKind::Lower, 2, a);
-        let upper_east = limits.row(shape, FaceKind::Upper, 0, a);
-        let upper_north = limits.row(shape, FaceKind::Upper, 1, a);
-        let last = limits.row(shape, FaceKind::Upper, 2, a);
-        let level = along(shape, limits, FaceKind::Horizontal, a);
-        let slope = along(shape, limits, FaceKind::Diagonal, a);
+        let first = values.row(shape, limits, FaceKind::Lower, 0, a);
+        let east = values.row(shape, limits, FaceKind::Lower, 1, a);
+        let north = values.row(shape, limits, FaceKind::Lower, 2, a);
+        let upper_east = values.row(shape, limits, FaceKind::Upper, 0, a);
+        let upper_north = values.row(shape, limits, FaceKind::Upper, 1, a);
+        let last = values.row(shape, limits, FaceKind::Upper, 2, a);
+        let level = along(shape, limits, values, FaceKind::Horizontal, a);
+        let slope = along(shape, limits, values, FaceKind::Diagonal, a);
         let bottom = first.and(&east);
         let upper_top = upper_north.and(&last);
         let top = upper_top.turned_up(order);
@@ -61,13 +64,20 @@ impl RowJoins {
 }
 
 /// The indices b below the order for which the slack is 0 at both ends of the edge of this kind.
-fn along(shape: &Shape, limits: &TightLimits, kind: FaceKind, a: u32) -> IndexSet
+fn along(
+    shape: &Shape,
+    limits: &TightLimits,
+    values: &SquareRow,
+    kind: FaceKind,
+    a: u32,
+) -> IndexSet
     requires limits { AreTightLimitsOf shape.now limits.now }
+    requires values { AreValueRows shape.now a values.now }
     requires edge { length (corners_of kind 0 0) ≡ 2 }
     requires within { a < shape.now.order }
     ensures { (b : ℕ) → IsTrue (has result b) ↔
         ((b < shape.now.order) × IsTightAlong (IsTightAt shape.now) kind a b 0 1) }
 {
-    let first = limits.row(shape, kind, 0, a);
-    first.and(&limits.row(shape, kind, 1, a))
+    let first = values.row(shape, limits, kind, 0, a);
+    first.and(&values.row(shape, limits, kind, 1, a))
 }

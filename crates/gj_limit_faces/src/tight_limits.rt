@@ -1,6 +1,7 @@
 //! The limits of the slack that are 0, row by row.
 ghost use Rattle.gj_limit_faces.specs.Lanes.{AreLanesOf};
 
+use crate::jumps::few_jumps;
 use crate::lanes::SideLanes;
 use crate::terms::terms_of;
 use gj_loops::IndexSet;
@@ -10,7 +11,9 @@ use std::alloc::{AllocError, Global};
 /// Where the limits of the slack of a function are 0.
 #[derive(Drop)]
 pub struct TightLimits {
-    lanes: SideLanes,
+    pub(crate) lanes: SideLanes,
+    /// The indices at which the function jumps, if they are few.
+    pub(crate) jumps: Option<Vec<u32>>,
 }
 
 impl TightLimits {
@@ -25,7 +28,8 @@ impl TightLimits {
         ensures { IfOk result (AreTightLimitsOf shape.now) }
     {
         let lanes = SideLanes::of(alloc, shape)?;
-        Ok(TightLimits { lanes })
+        let jumps = few_jumps(alloc, shape)?;
+        Ok(TightLimits { lanes, jumps })
     }
 
     /// The indices b below the order for which the limit of the slack from inside the face of this

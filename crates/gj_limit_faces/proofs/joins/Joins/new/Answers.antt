@@ -8,4 +8,5 @@ loop-a-preserved c = (
       c.of.result
       c.loop-a.invariant.0 c.of.ensures),
   omega (arith, c.loop-a.invariant.1),
+  c.value_row-end.ensures,
 )
