@@ -21,7 +21,7 @@ use Rattle.gj_derivation.specs.StepLists.{with_claims, IsFailure, IsChecked, IsW
 use Rattle.gj_derivation.proofs.ClaimsHold.{claims_hold}
 use Rattle.gj_derivation.proofs.CheckedSteps.{usable_function}
 use Rattle.gj_derivation.proofs.OneBase.{usable_from}
-use Rattle.gj_derivation.proofs.OnePlace.{one_place}
+use Rattle.gj_derivation.proofs.OnePlace.{none_placed, one_place}
 use Rattle.gj_derivation.proofs.OneVerdict.{one_verdict}
 use Rattle.gj_derivation.proofs.ExactVerdicts.{verdict_exact}
 
@@ -313,11 +313,6 @@ module _ (f : Option FunctionData) where
   ready_exact p [] Accepted bounds ready h derivation = inl refl
   ready_exact p [] (Failed failure) bounds ready h derivation =
       absurd (none_placed h.before h.step h.after h.place)
-    where
-      none_placed : (before : List Step) (s : Step) (after : List Step) → [] ≡ before ++ s ∷ after →
-          ⊥
-      none_placed [] s after e = absurd (cc)
-      none_placed (t ∷ before) s after e = absurd (cc)
   ready_exact p (s ∷ steps) c bounds ready h derivation =
       checked_exact p (s ∷ steps) c (usable_for f (s ∷ steps) s steps refl bounds ready) h
       derivation

@@ -20,7 +20,7 @@ ghost use Rattle.gj_derivation.specs.declared.draft.Derived.TheVariants.{All};
 ghost use Rattle.gj_derivation.specs.Derivations.{IsUsable, IsUsableFor, IsReady, IsReadyStep};
 ghost use Rattle.gj_derivation.specs.Derivations.{IsShown, Follows, IsDerivation};
 ghost use Rattle.gj_derivation.specs.Checks.{IsVerdict};
-ghost use Rattle.gj_derivation.specs.StepLists.{IsChecked, IsWideFailure, TellsWide};
+ghost use Rattle.gj_derivation.specs.StepLists.{IsChecked, IsWideFailure, IsWideStep, TellsWide};
 ghost use Rattle.gj_derivation.specs.Drafts.{IsAgainst, IsShownBy, IsDerivedBy, steps_of};
 ghost use Rattle.gj_derivation.specs.Drafts.{begun, TellWide, told_by};
 
@@ -74,12 +74,21 @@ pub fn one_derivation()
         TellWide f grid (begun p) drafts (told_by e) → d ≡ e }
 {}
 
-/// The steps that come back for drafts can be checked, and a check accepts them unless a number
-/// does not fit there.
+/// The steps that come back for drafts can be checked. If `Wide` is told of each draft where a
+/// number does not fit, each number of these steps fits, and a check accepts them: it forms no
+/// other numbers. Without that it accepts them unless a number does not fit there.
 pub fn derived_steps_are_accepted()
     ensures ready { (f : Option FunctionData) (grid : Option ℕ) (p : Problem) (drafts : List Draft)
         (shown : List Shown) → AllOf (λ d. IsReady f d.combination) drafts →
         IsDerivedBy f grid p drafts (All shown) → AllOf (IsReadyStep f) (steps_of shown) }
+    ensures narrow { (f : Option FunctionData) (grid : Option ℕ) (p : Problem)
+        (drafts : List Draft) (shown : List Shown) (i : ℕ) → IfSome f IsUsable →
+        IsDerivedBy f grid p drafts (All shown) → TellWide f grid (begun p) drafts shown →
+        IsWideStep f p (steps_of shown) i → ⊥ }
+    ensures always { (f : Option FunctionData) (grid : Option ℕ) (p : Problem)
+        (drafts : List Draft) (shown : List Shown) (c : Checked) → IfSome f IsUsable →
+        IsDerivedBy f grid p drafts (All shown) → TellWide f grid (begun p) drafts shown →
+        IsChecked f p (steps_of shown) c → c ≡ Accepted }
     ensures accepted { (f : Option FunctionData) (grid : Option ℕ) (p : Problem)
         (drafts : List Draft) (shown : List Shown) (c : Checked) → IfSome f IsUsable →
         IsDerivedBy f grid p drafts (All shown) → IsChecked f p (steps_of shown) c →

@@ -1,10 +1,15 @@
 -- A proof text that a command writes is one that the checker accepts.
-use Rattle.std.proofs.Common.{◌≡◌, inl, inr, ℕ, ◌≤◌, false, List, length, subst, refl, arith}
+use Rattle.std.proofs.Common.{◌≡◌, inl, inr, ℕ, ◌≤◌, false, IfSome, List, length, subst, refl, arith}
 use Rattle.gj_shape.specs.FunctionData.{FunctionData}
 use Rattle.gj_proof.specs.declared.claim.Claim.TheVariants as claim
 use Rattle.gj_proof.specs.ProofText.{longest_extreme_text}
 use Rattle.gj_proof.specs.Rules.{MeetsRules}
 use Rattle.gj_limit_proof.specs.LimitRules.{MeetsLimitRules}
+use Rattle.gj_derivation.specs.declared.steps.Checked.{Checked}
+use Rattle.gj_derivation.specs.declared.steps.Checked.TheVariants as checked
+use Rattle.gj_derivation.specs.Derivations.{IsUsable}
+use Rattle.gj_derivation.specs.StepLists.{IsChecked}
+use Rattle.gj_derivation_text.specs.declared.input.DerivationInput.{DerivationInput}
 use Rattle.gj_extreme.proofs.DecidedTexts.{decided_is_bounded, decided_text_is_short}
 use Rattle.gj_top.specs.declared.reply.End.{End}
 use Rattle.gj_top.specs.declared.reply.End.TheVariants as end
@@ -16,27 +21,35 @@ use Rattle.gj_top.specs.Minimal.{IsVerdict, minimal}
 use Rattle.gj_top.specs.Check.Checkable.{of_claim, of_limit_claim, of_steps}
 use Rattle.gj_top.specs.Check.{Checkable, SpellsCheckable, IsCheckReply, check}
 use Rattle.gj_top.specs.Cut.{cut}
+use Rattle.gj_top.specs.Derivation.{IsDerivationReply}
 use Rattle.gj_top.specs.Extreme.{extreme}
 use Rattle.gj_top.specs.LimitExtreme.{IsJumpsExtremality}
+use Rattle.gj_top.specs.Told.{Told}
 use Rattle.gj_top.specs.Written.{IsWrittenProof, IsWrittenVerdict}
 use Rattle.gj_top.specs.InputRead.{input_limit}
 use Rattle.gj_top.specs.Answer.{IsAnswerTo}
 use Rattle.gj_top.specs.Answer.IsAnswerTo.{too_long, refused, replied}
 use Rattle.gj_check.proofs.DemandsOfClaims.{no_failure}
 use Rattle.gj_top.proofs.CutForm.{lines_are_bounded}
+use Rattle.gj_top.proofs.DerivationReplies.{none_against}
 use Rattle.gj_limit_check.proofs.FirstLimitDemand.{no_failure as no_limit_failure}
 use Rattle.gj_top.proofs.LimitTexts.{limit_decided_bounded}
 use Rattle.gj_top.proofs.OneCheck.{one_checkable}
 use Rattle.gj_top.proofs.Sound.{check_sound}
 use Rattle.gj_top.proofs.TextLaws.{function_is_bounded, minimal_proof, not_minimal_proof, proof_text_is_short}
 
--- every rule of a claim holds
+-- a check accepts the steps, and cuts by the function in front hold
+pub record AreGoodSteps (d : DerivationInput) : Type 0 where
+  pub usable : IfSome d.function IsUsable
+  pub accepted : (c : Checked) → IsChecked d.function d.problem d.steps c → c ≡ checked.Accepted
+
+-- every rule of a claim holds, or the steps are good
 abbrev pub MeetsAll : Checkable → Type 0
 MeetsAll (of_claim c) = MeetsRules c
 MeetsAll (of_limit_claim c) = MeetsLimitRules c
-MeetsAll (of_steps t) = ⊥
+MeetsAll (of_steps t) = AreGoodSteps t.told
 
--- the text is the proof of a claim of which every rule holds
+-- the text is the proof of a claim of which every rule holds, or tells steps that are good
 pub record IsGoodProof (text : List ℕ) : Type 0 where
   pub about : Checkable
   pub proof : SpellsCheckable text about
@@ -65,7 +78,15 @@ verdict_is_short f input text form (inr v) =
     proof_text_is_short text (claim.NotMinimal f v.0) tt
     (not_minimal_proof f v.0 text (function_is_bounded input f form) v.4)
 
--- the checker's reply to such a claim ends with Done
+good_steps_end : (t : Told DerivationInput) (e : End) (answer : List ℕ) → AreGoodSteps t.told →
+    IsDerivationReply t e answer → e ≡ end.Done
+good_steps_end t end.Done answer good h = refl
+good_steps_end t end.Rejected answer good (usable, h) =
+    let no : checked.Failed h.failure ≡ checked.Accepted =
+    good.accepted (checked.Failed h.failure) h.first in absurd (cc)
+good_steps_end t e answer good h = absurd (none_against t.told.function e answer good.usable h)
+
+-- the checker's reply to such a claim, or to such steps, ends with Done
 good_end : (thing : Checkable) (e : End) (answer : List ℕ) → MeetsAll thing →
     IsCheckReply thing e answer → e ≡ end.Done
 good_end (of_claim c) end.Done answer rules j = refl
@@ -76,7 +97,7 @@ good_end (of_limit_claim c) end.Done answer rules j = refl
 good_end (of_limit_claim c) end.Rejected answer rules j =
     absurd (no_limit_failure c j.at_line j.rule j.first rules)
 good_end (of_limit_claim c) e answer rules j = absurd j
-good_end (of_steps t) e answer rules j = absurd rules
+good_end (of_steps t) e answer rules j = good_steps_end t e answer rules j
 
 -- so the reply to such a text ends with Done
 pub accepted_reply : (text answer : List ℕ) (e : End) → IsGoodProof text →

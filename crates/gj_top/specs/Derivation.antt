@@ -1,7 +1,7 @@
 -- Derivations as the command `check` answers them: chains of inequalities, each of which follows
 -- from constraints and earlier ones (Chvátal 1973; Cook, Dash, Fukasawa and Goycoolea 2009; Cheung,
 -- Gleixner and Steffy 2017; the form is own).
-use Rattle.std.specs.Prelude.{ℕ, ◌≡◌, ◌⊎◌, List, [], All, Option, Some, None, IfSome, codes}
+use Rattle.std.specs.Prelude.{ℕ, ◌≡◌, ◌⊎◌, List, All, Option, Some, None, IfSome, codes}
 use Rattle.gj_lex.specs.declared.spelling.Spelling.TheVariants.{Lenient}
 use Rattle.gj_forms.specs.Parts.{BeginsWithWord, IsFirstFaultIn}
 use Rattle.gj_shape.specs.FunctionData.{FunctionData}
@@ -79,7 +79,3 @@ IsDerivationReply t end text = IsObjection (rule_in_front t.told.function) end t
 abbrev pub IsTrueDerivation : Told DerivationInput → List ℕ → Type 0
 IsTrueDerivation t text = All (λ s. Holds t.told.problem s.claim) t.told.steps
     × (text ≡ accepted_line)
-
--- the answer is `rejected line N wide`: a number of the step in the N-th line does not fit
-abbrev pub IsWideAnswer : List ℕ → Type 0
-IsWideAnswer text = (n : ℕ) × (text ≡ rejected_line [] [] n Wide)

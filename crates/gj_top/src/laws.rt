@@ -1,11 +1,11 @@
 //! Laws of the replies of commands, of their answers, the limit of length included, and of reports.
 
-ghost use Rattle.std.specs.Prelude.{◌≡◌, ◌⊎◌, ◌↔◌, ◌≤◌, ℕ, Bool, false, List, length, String};
+ghost use Rattle.std.specs.Prelude.{◌≡◌, ◌↔◌, ◌≤◌, ℕ, Bool, false, List, length, String};
 ghost use Rattle.std.specs.declared.alloc.Global.{Global};
 ghost use Rattle.gj_top.specs.declared.reply.End.{End};
 ghost use Rattle.gj_top.specs.declared.reply.End.TheVariants as end;
 ghost use Rattle.gj_top.specs.declared.status.Status.{Status};
-ghost use Rattle.gj_top.specs.declared.status.Status.TheVariants.{Done, Rejected};
+ghost use Rattle.gj_top.specs.declared.status.Status.TheVariants.{Done};
 ghost use Rattle.gj_shape.specs.FunctionData.{FunctionData, IsContinuous};
 ghost use Rattle.gj_limit_averages.specs.Averages.{IsExtremeFunction};
 ghost use Rattle.gj_top.specs.Continuity.{Jumps};
@@ -23,7 +23,6 @@ ghost use Rattle.gj_top.specs.Forms.{SpellsFunction};
 ghost use Rattle.gj_top.specs.Command.{IsNamed, task_for};
 ghost use Rattle.gj_top.specs.Show.{show};
 ghost use Rattle.gj_top.specs.Check.{check};
-ghost use Rattle.gj_top.specs.Derivation.{IsWideAnswer};
 ghost use Rattle.gj_top.specs.Derive.{derive};
 ghost use Rattle.gj_top.specs.Written.{IsWrittenProof, IsWrittenVerdict};
 ghost use Rattle.gj_top.specs.Decisive.{CallsExtreme, CallsExtremeByLimits, IsExtremeByOrder4q};
@@ -43,14 +42,14 @@ pub fn written_proofs_are_accepted()
         length text ≤ input_limit }
 {}
 
-/// What `derive` writes is a derivation that `check` accepts, unless a number does not fit, if its
-/// text is within the limit of length of an input.
+/// What `derive` writes is a derivation that `check` accepts, if its text is within the limit of
+/// length of an input.
 pub fn derived_texts_are_accepted()
     ensures reply { (input text answer : List ℕ) (e : End) → IsReply derive input end.Done text →
-        IsReply check text e answer → (e ≡ end.Done) ⊎ ((e ≡ end.Rejected) × IsWideAnswer answer) }
+        IsReply check text e answer → e ≡ end.Done }
     ensures answer { (input text answer : List ℕ) (s : Status) →
         IsReply derive input end.Done text → length text ≤ input_limit →
-        IsAnswerTo check text s answer → (s ≡ Done) ⊎ ((s ≡ Rejected) × IsWideAnswer answer) }
+        IsAnswerTo check text s answer → s ≡ Done }
 {}
 
 /// What `extreme` writes calls the function extreme exactly if it is continuous and its table of
