@@ -5,12 +5,12 @@ use Rattle.gj_frac.proofs.SameValues.{same_from_is}
 use Rattle.gj_lex.specs.declared.reason.Reason.{Reason}
 use Rattle.gj_lex.specs.declared.spelling.Spelling.TheVariants.{Lenient}
 use Rattle.gj_forms.specs.Parts.{Part, line_part, empty_part, made_part, IsExactRule, IsExactPart}
-use Rattle.gj_forms.specs.SpelledForms.{rule_in}
 use Rattle.gj_forms.proofs.LoopLaws.{loop_part_is_exact}
 use Rattle.gj_forms.proofs.PartLaws.{line_part_is_exact, empty_part_is_exact, made_part_is_exact}
 use Rattle.gj_forms.proofs.SpelledLaws.{made_rule_is_exact}
 use Rattle.gj_forms.proofs.WhereLaws.{where_part_is_exact}
 use Rattle.gj_derivation.specs.declared.draft.Draft.{Draft}
+use Rattle.gj_problem_text.specs.NumberLines.{number_rule}
 use Rattle.gj_problem_text.specs.Tasks.{Never}
 use Rattle.gj_problem_text.proofs.ExactTasks.{never, unless, met, one_bound, one_index}
 use Rattle.gj_derivation_text.specs.StepLines.{StepLine, by, upper, times, claim, term, line_form}
@@ -69,7 +69,7 @@ not_both c s (term name value) t e (before, i, new, is) r =
 pub step_line_rule_is_exact : (c : Names) (s : OpenStep) →
     IsExactRule (step_line_rule c s).Spells (step_line_rule c s).Breaks
 step_line_rule_is_exact c s =
-    made_rule_is_exact (Adds c s) (Refuses c s) (rule_in Lenient line_form) line_rule_is_exact
+    made_rule_is_exact (Adds c s) (Refuses c s) (number_rule line_form) line_rule_is_exact
     (one_step c s) (one_reason c s) (not_both c s)
 
 -- ---- the end

@@ -10,7 +10,7 @@ use Rattle.gj_forms.specs.Parts.{ReadsInTurn}
 use Rattle.gj_forms.specs.Parts.ReadsInTurn.{last, onward}
 use Rattle.gj_forms.specs.TextLines.{HasLine}
 use Rattle.gj_forms.proofs.PlainWords.{are_same, apart}
-use Rattle.gj_forms.proofs.SpelledLines.{has_its_line, spells_its_thing}
+use Rattle.gj_forms.proofs.SpelledLines.{has_its_line}
 use Rattle.gj_forms.proofs.WhereLaws.{other_word}
 use Rattle.gj_problem.specs.declared.problem.Column.{Column}
 use Rattle.gj_problem.specs.declared.problem.Constraint.{Constraint}
@@ -27,6 +27,7 @@ use Rattle.gj_problem_text.specs.Tasks.{Adds}
 use Rattle.gj_problem_text.specs.declared.task.Request.{Request}
 use Rattle.gj_problem_text.specs.declared.task.Task.{Task}
 use Rattle.gj_problem_text.proofs.PrintedInputs.{no_comment}
+use Rattle.gj_problem_text.proofs.NumberLines.{tells_its_thing}
 use Rattle.gj_problem_text.proofs.PrintedTasks.{IsPrintedLine, AddsAll, no_place, next_differs}
 use Rattle.gj_problem_text.proofs.PrintedTasks.{task_is_told}
 use Rattle.gj_derivation_text.specs.DerivationText.{new_name, AddsName, AreBarred, next_of_problem}
@@ -87,7 +88,7 @@ line_is_read : (drafts : Bool) (s u : Task) (lines new : List (List ℕ)) (l : P
 line_is_read drafts s u lines new l text rest own (good, has) adds name is =
     let words = words_of (problem_fields l) in
     let found = has_its_line Lenient (problem_fields l) text rest good (no_comment l) is in
-    let spelled = spells_its_thing Lenient problem_form l good has in
+    let tells = tells_its_thing problem_form l good has in
     inr (
       no_step l text rest own found,
       (
@@ -96,7 +97,7 @@ line_is_read drafts s u lines new l text rest own (good, has) adds name is =
           text,
           words,
           found,
-          (no_bar drafts l own, (l, spelled, (u, adds, new, name, refl))),
+          (no_bar drafts l own, (l, tells, (u, adds, new, name, refl))),
         ),
         refl,
       ),

@@ -18,12 +18,13 @@ use Rattle.gj_forms.specs.Parts.ReadsInTurn.{last, onward}
 use Rattle.gj_forms.specs.TextLines.{HasLine}
 use Rattle.gj_forms.proofs.FieldWords.{AreGood}
 use Rattle.gj_forms.proofs.PlainWords.{known, name_is_plain, are_same, apart}
-use Rattle.gj_forms.proofs.SpelledLines.{has_its_line, spells_its_thing}
+use Rattle.gj_forms.proofs.SpelledLines.{has_its_line}
 use Rattle.gj_forms.proofs.WhereLaws.{other_word}
 use Rattle.gj_shape.specs.FunctionData.{FunctionData}
 use Rattle.gj_problem.specs.declared.problem.Entry.{Entry}
 use Rattle.gj_problem.specs.declared.problem.Inequality.{Inequality}
 use Rattle.gj_problem_text.specs.CutText.{name_at, AreNames}
+use Rattle.gj_problem_text.proofs.NumberLines.{tells_its_thing}
 use Rattle.gj_problem_text.proofs.PrintedTasks.{own_place, name_at_is, bound_is_spelled}
 use Rattle.gj_derivation.specs.declared.draft.Draft.{Draft}
 use Rattle.gj_derivation.specs.declared.step.Multiplier.{Multiplier}
@@ -80,8 +81,8 @@ line_is_read : (c : Names) (s u : OpenStep) (l : StepLine) (text rest : List ℕ
 line_is_read c s u l text rest (good, has) adds is =
     let words = words_of (line_fields l) in
     let found = has_its_line Lenient (line_fields l) text rest good (no_comment l) is in
-    let spelled = spells_its_thing Lenient line_form l good has in
-    inr (λ h. no_step l text rest found h.1, (u, (text, words, found, (l, spelled, adds)), refl))
+    let told = tells_its_thing line_form l good has in
+    inr (λ h. no_step l text rest found h.1, (u, (text, words, found, (l, told, adds)), refl))
 
 -- ---- one line after another
 

@@ -1,17 +1,19 @@
--- The lines behind the first of a step are of five kinds, told apart by their first words.
-use Rattle.std.proofs.Common.{◌≡◌, inl, ℕ, List, [], ◌∷◌, codes, refl, sym, ap, ◌∙◌}
+-- The lines behind the first of a step: each tells one thing, told apart by its first word.
+use Rattle.std.proofs.Common.{◌≡◌, inl, inr, ℕ, pos, ◌<ℤ◌, List, [], ◌∷◌, codes, refl, sym, ap, ◌∙◌, arith}
+use Rattle.std.proofs.lemmas.Int.{ints}
 use Rattle.gj_frac.specs.declared.Frac.{Frac}
-use Rattle.gj_lex.specs.declared.spelling.Spelling.TheVariants.{Lenient}
+use Rattle.gj_frac.specs.Fraction.{numerator}
+use Rattle.gj_lex.specs.Name.{IsName}
 use Rattle.gj_lex.specs.declared.reason.Reason.{Reason}
-use Rattle.gj_lex.specs.declared.reason.Reason.TheVariants.{Form}
+use Rattle.gj_lex.specs.declared.reason.Reason.TheVariants.{Form, Number}
 use Rattle.gj_forms.specs.Parts.{IsExactRule}
 use Rattle.gj_forms.specs.LineForms.{first_of, others_of, with_numbers, words_of, AreOfForm}
-use Rattle.gj_forms.specs.LineForms.Field.{fraction}
-use Rattle.gj_forms.specs.SpelledForms.{rule_in}
 use Rattle.gj_forms.proofs.FieldWords.{AreAlike}
 use Rattle.gj_forms.proofs.PlainWords.{apart}
-use Rattle.gj_forms.proofs.SpelledLaws.{IsClearForm, rule_in_is_exact}
-use Rattle.gj_line.specs.FieldForms.{name_word, any_fraction, positive_fraction, no_form, then_form, IsKind}
+use Rattle.gj_forms.proofs.WholeNumbers.{whole}
+use Rattle.gj_problem_text.specs.NumberLines.{Tell, number_rule}
+use Rattle.gj_problem_text.specs.NumberWords.{IsNumberWord}
+use Rattle.gj_problem_text.proofs.NumberLines.{number_rule_is_exact}
 use Rattle.gj_derivation_text.specs.StepLines.{StepLine, by, upper, times, claim, term, line_fields, HasLineForm, HasStepLine, line_form}
 
 -- the first word of a line
@@ -21,75 +23,6 @@ head (upper name) = codes "upper"
 head (times factor) = codes "times"
 head (claim right) = codes "claim"
 head (term name value) = codes "term"
-
--- ---- the kinds
-
-by_is_made : (b : StepLine) (words : List (List ℕ)) → first_of (with_numbers (line_fields b) words)
-    ≡ codes "by" → first_of words ≡ codes "by" →
-    (a : List ℕ × (Frac × Unit {0})) × (b ≡ by a.0 a.1.0)
-by_is_made (by name value) words e d = ((name, (value, tt)), refl)
-by_is_made b words e d = absurd (apart (head b) (codes "by") refl e)
-
-pub by_kind : IsKind line_form (codes "by") (then_form name_word (then_form any_fraction no_form))
-    (λ a. by a.0 a.1.0)
-by_kind = record {
-  fields = λ a. refl;
-  has_form = λ a h. h.0;
-  had_form = λ a h. (h, (tt, tt));
-  has_line = λ a h. h.0;
-  had_line = λ a h. (h, (tt, tt));
-  made = by_is_made;
-}
-
-upper_is_made : (b : StepLine) (words : List (List ℕ)) →
-    first_of (with_numbers (line_fields b) words) ≡ codes "upper" →
-    first_of words ≡ codes "upper" → (a : List ℕ × Unit {0}) × (b ≡ upper a.0)
-upper_is_made (upper name) words e d = ((name, tt), refl)
-upper_is_made b words e d = absurd (apart (head b) (codes "upper") refl e)
-
-pub upper_kind : IsKind line_form (codes "upper") (then_form name_word no_form) (λ a. upper a.0)
-upper_kind = record {
-  fields = λ a. refl;
-  has_form = λ a h. h.0;
-  had_form = λ a h. (h, tt);
-  has_line = λ a h. h.0;
-  had_line = λ a h. (h, tt);
-  made = upper_is_made;
-}
-
-times_is_made : (b : StepLine) (words : List (List ℕ)) →
-    first_of (with_numbers (line_fields b) words) ≡ codes "times" →
-    first_of words ≡ codes "times" → (a : Frac × Unit {0}) × (b ≡ times a.0)
-times_is_made (times factor) words e d = ((factor, tt), refl)
-times_is_made b words e d = absurd (apart (head b) (codes "times") refl e)
-
-pub times_kind : IsKind line_form (codes "times") (then_form positive_fraction no_form)
-    (λ a. times a.0)
-times_kind = record {
-  fields = λ a. refl;
-  has_form = λ a h. tt;
-  had_form = λ a h. (tt, tt);
-  has_line = λ a h. h.0;
-  had_line = λ a h. (h, tt);
-  made = times_is_made;
-}
-
-term_is_made : (b : StepLine) (words : List (List ℕ)) →
-    first_of (with_numbers (line_fields b) words) ≡ codes "term" →
-    first_of words ≡ codes "term" → (a : List ℕ × (Frac × Unit {0})) × (b ≡ term a.0 a.1.0)
-term_is_made (term name value) words e d = ((name, (value, tt)), refl)
-term_is_made b words e d = absurd (apart (head b) (codes "term") refl e)
-
-pub term_kind : IsKind line_form (codes "term")
-    (then_form name_word (then_form any_fraction no_form)) (λ a. term a.0 a.1.0)
-term_kind = record {
-  fields = λ a. refl;
-  has_form = λ a h. h.0;
-  had_form = λ a h. (h, (tt, tt));
-  has_line = λ a h. h.0;
-  had_line = λ a h. (h, (tt, tt));
-  made = term_is_made;
-}
 
 -- ---- a line tells one thing
 
@@ -125,17 +58,16 @@ of_line_form (times factor) h = tt
 of_line_form (claim right) h = tt
 of_line_form (term name value) h = h
 
-pub line_rule_is_exact : IsExactRule (rule_in Lenient line_form).Spells
-    (rule_in Lenient line_form).Breaks
+pub line_rule_is_exact : IsExactRule (number_rule line_form).Spells (number_rule line_form).Breaks
 line_rule_is_exact =
-    rule_in_is_exact Lenient line_form
+    number_rule_is_exact line_form
     (record { of_form = of_line_form; alike = alike_lines; tell = told_line })
 
 -- ---- words that tell nothing
 
 -- words that begin otherwise
 pub other_first : (w : List ℕ) (ws : List (List ℕ)) → ((b : StepLine) → w ≡ head b → ⊥) →
-    (rule_in Lenient line_form).Breaks (w ∷ ws) Form
+    (number_rule line_form).Breaks (w ∷ ws) Form
 other_first w ws other = inl (refl, deny)
   where
     deny : AreOfForm line_form (w ∷ ws) → ⊥
@@ -144,3 +76,66 @@ other_first w ws other = inl (refl, deny)
     deny (times factor, e, h) = other (times factor) (ap first_of e)
     deny (claim right, e, h) = other (claim right) (ap first_of e)
     deny (term name value, e, h) = other (term name value) (ap first_of e)
+
+-- a number for a word that spells none
+zero : Frac
+zero = whole (pos 0) (omega (arith, ints))
+
+-- no line with such words has a number
+pub no_multiplier : (name w : List ℕ) → IsName name → ((x : Frac) → IsNumberWord w x → ⊥) →
+    (number_rule line_form).Breaks (codes "by" ∷ name ∷ w ∷ []) Number
+no_multiplier name w is_name none = inr (refl, (by name zero, refl, is_name), other)
+  where
+    other : (a : StepLine) → Tell line_form (codes "by" ∷ name ∷ w ∷ []) a → ⊥
+    other (by v x) h = none x h.0.1.1.0
+    other (upper v) h = apart (codes "by") (codes "upper") refl h.0.0
+    other (times x) h = apart (codes "by") (codes "times") refl h.0.0
+    other (claim v) h = apart (codes "by") (codes "claim") refl h.0.0
+    other (term v x) h = apart (codes "by") (codes "term") refl h.0.0
+
+pub no_value : (name w : List ℕ) → IsName name → ((x : Frac) → IsNumberWord w x → ⊥) →
+    (number_rule line_form).Breaks (codes "term" ∷ name ∷ w ∷ []) Number
+no_value name w is_name none = inr (refl, (term name zero, refl, is_name), other)
+  where
+    other : (a : StepLine) → Tell line_form (codes "term" ∷ name ∷ w ∷ []) a → ⊥
+    other (term v x) h = none x h.0.1.1.0
+    other (by v x) h = apart (codes "term") (codes "by") refl h.0.0
+    other (upper v) h = apart (codes "term") (codes "upper") refl h.0.0
+    other (times x) h = apart (codes "term") (codes "times") refl h.0.0
+    other (claim v) h = apart (codes "term") (codes "claim") refl h.0.0
+
+pub no_factor : (w : List ℕ) → ((x : Frac) → IsNumberWord w x → pos 0 <ℤ numerator x → ⊥) →
+    (number_rule line_form).Breaks (codes "times" ∷ w ∷ []) Number
+no_factor w none = inr (refl, (times zero, refl, tt), other)
+  where
+    other : (a : StepLine) → Tell line_form (codes "times" ∷ w ∷ []) a → ⊥
+    other (times x) h = none x h.0.1.0 h.1
+    other (by v x) h = apart (codes "times") (codes "by") refl h.0.0
+    other (upper v) h = apart (codes "times") (codes "upper") refl h.0.0
+    other (claim v) h = apart (codes "times") (codes "claim") refl h.0.0
+    other (term v x) h = apart (codes "times") (codes "term") refl h.0.0
+
+-- words behind `by`, or `term`, that are not a name and a word
+pub no_name_by : (ws : List (List ℕ)) →
+    ((name w : List ℕ) → ws ≡ name ∷ w ∷ [] → IsName name → ⊥) →
+    (number_rule line_form).Breaks (codes "by" ∷ ws) Form
+no_name_by ws none = inl (refl, deny)
+  where
+    deny : AreOfForm line_form (codes "by" ∷ ws) → ⊥
+    deny (by name value, e, h) = none name _ (ap others_of e) h
+    deny (upper name, e, h) = apart (codes "by") (codes "upper") refl (ap first_of e)
+    deny (times factor, e, h) = apart (codes "by") (codes "times") refl (ap first_of e)
+    deny (claim right, e, h) = apart (codes "by") (codes "claim") refl (ap first_of e)
+    deny (term name value, e, h) = apart (codes "by") (codes "term") refl (ap first_of e)
+
+pub no_name_term : (ws : List (List ℕ)) →
+    ((name w : List ℕ) → ws ≡ name ∷ w ∷ [] → IsName name → ⊥) →
+    (number_rule line_form).Breaks (codes "term" ∷ ws) Form
+no_name_term ws none = inl (refl, deny)
+  where
+    deny : AreOfForm line_form (codes "term" ∷ ws) → ⊥
+    deny (term name value, e, h) = none name _ (ap others_of e) h
+    deny (by name value, e, h) = apart (codes "term") (codes "by") refl (ap first_of e)
+    deny (upper name, e, h) = apart (codes "term") (codes "upper") refl (ap first_of e)
+    deny (times factor, e, h) = apart (codes "term") (codes "times") refl (ap first_of e)
+    deny (claim right, e, h) = apart (codes "term") (codes "claim") refl (ap first_of e)

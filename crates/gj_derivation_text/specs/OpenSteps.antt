@@ -9,7 +9,7 @@ use Rattle.gj_lex.specs.declared.reason.Reason.{Reason}
 use Rattle.gj_lex.specs.declared.reason.Reason.TheVariants as reason
 use Rattle.gj_lex.specs.declared.spelling.Spelling.TheVariants.{Lenient}
 use Rattle.gj_forms.specs.Parts.{LineRule, Part, line_part, empty_part, made_part, where_part, loop_part, BeginsWithWord}
-use Rattle.gj_forms.specs.SpelledForms.{rule_in, made_rule}
+use Rattle.gj_forms.specs.SpelledForms.{made_rule}
 use Rattle.gj_problem.specs.declared.problem.Entry.{Entry}
 use Rattle.gj_derivation.specs.declared.draft.Claim.{Claim}
 use Rattle.gj_derivation.specs.declared.draft.Claim.TheVariants.{Absent, Terms, Given}
@@ -17,6 +17,7 @@ use Rattle.gj_derivation.specs.declared.draft.Draft.{Draft}
 use Rattle.gj_derivation.specs.declared.step.Multiplier.{Multiplier}
 use Rattle.gj_derivation.specs.declared.step.StepRule.{StepRule}
 use Rattle.gj_derivation.specs.declared.step.StepRule.TheVariants.{Linear}
+use Rattle.gj_problem_text.specs.NumberLines.{number_rule}
 use Rattle.gj_problem_text.specs.Tasks.{Unless, Never, SpellsBound}
 use Rattle.gj_derivation_text.specs.StepLines.{StepLine, by, upper, times, claim, term, line_form}
 use Rattle.gj_derivation_text.specs.declared.names.Names.{Names}
@@ -131,7 +132,7 @@ Refuses c s (claim word) e = RefusesClaim c.drafts s word e
 Refuses c s (term name value) e = RefusesTerm c.columns s name e
 
 abbrev pub step_line_rule : Names → OpenStep → LineRule OpenStep
-step_line_rule c s = made_rule (Adds c s) (Refuses c s) (rule_in Lenient line_form)
+step_line_rule c s = made_rule (Adds c s) (Refuses c s) (number_rule line_form)
 
 -- ---- the end of a step
 

@@ -1,9 +1,12 @@
 //! The lines of a step, read.
 ghost use Rattle.std.specs.Prelude.{◌≡◌, ◌≢◌, ◌∷◌, ◌++◌, [], ℕ, List, codes, refl, IfOk, IfErr, IfSome, IfNone};
-ghost use Rattle.std.specs.Prelude.{OnOk};
+ghost use Rattle.std.specs.Prelude.{OnOk, IsTrue, ◌↔◌, pos, ◌<ℤ◌};
+ghost use Rattle.gj_frac.specs.Fraction.{numerator};
+ghost use Rattle.gj_frac.specs.declared.Frac.{Frac};
 ghost use Rattle.gj_lex.specs.Words.{word_texts};
-ghost use Rattle.gj_lex.specs.declared.spelling.Spelling.TheVariants.{Lenient};
-ghost use Rattle.gj_forms.specs.SpelledForms.{Spell, rule_in};
+ghost use Rattle.gj_lex.specs.Name.{IsName};
+ghost use Rattle.gj_problem_text.specs.NumberLines.{Tell, number_rule};
+ghost use Rattle.gj_problem_text.specs.NumberWords.{IsNumberWord};
 ghost use Rattle.gj_derivation.specs.declared.step.StepRule.{StepRule};
 ghost use Rattle.gj_derivation_text.specs.StepLines.{rule_word, rule_kind, line_form};
 ghost use Rattle.gj_derivation_text.specs.KnownWords.{step_word, by_word, upper_word, times_word};
@@ -14,7 +17,8 @@ use gj_derivation::StepRule;
 use gj_forms::{behind_text, only_word};
 use gj_frac::Frac;
 use gj_lex::{Reason, Spelling};
-use gj_line::{Field, Fields, Fraction, KnownWord, NameWord, Named, PositiveFraction};
+use gj_line::{Field, Fraction, KnownWord, NameWord, Named, PositiveFraction};
+use gj_problem_text::{number_of, two_words};
 use std::alloc::AllocError;
 
 /// The rule of a step, as a field of its first line.
@@ -226,10 +230,10 @@ pub(crate) enum Line<'a> {
 
 /// What a line tells that begins with the word and goes on so, or which rule it breaks.
 pub(crate) fn line_with<'a>(word: &[u8], rest: &'a [u8]) -> Result<Line<'a>, Reason>
-    ensures told { IfOk result (λ l. Spell Lenient line_form (word.now ∷ word_texts rest.now)
+    ensures told { IfOk result (λ l. Tell line_form (word.now ∷ word_texts rest.now)
         (line_told l)) }
     ensures broken { IfErr result
-        ((rule_in Lenient line_form).Breaks (word.now ∷ word_texts rest.now)) }
+        ((number_rule line_form).Breaks (word.now ∷ word_texts rest.now)) }
 {
     if word == b"term".as_slice() {
         return term_in(rest);
@@ -251,49 +255,55 @@ pub(crate) fn line_with<'a>(word: &[u8], rest: &'a [u8]) -> Result<Line<'a>, Rea
 
 /// What `by` tells with these words behind it.
 fn by_in(rest: &[u8]) -> Result<Line<'_>, Reason>
-    ensures told { IfOk result (λ l. Spell Lenient line_form (codes "by" ∷ word_texts rest.now)
+    ensures told { IfOk result (λ l. Tell line_form (codes "by" ∷ word_texts rest.now)
         (line_told l)) }
     ensures broken { IfErr result
-        ((rule_in Lenient line_form).Breaks (codes "by" ∷ word_texts rest.now)) }
+        ((number_rule line_form).Breaks (codes "by" ∷ word_texts rest.now)) }
 {
-    match BY.fields.of_words(Spelling::Lenient, rest) {
-        Ok((name, (value, ()))) => Ok(Line::By(name, value)),
-        Err(reason) => Err(reason),
+    let Some((name, word)) = name_and_word(rest) else {
+        return Err(Reason::Form);
+    };
+    match number_of(word) {
+        Some(value) => Ok(Line::By(name, value)),
+        None => Err(Reason::Number),
     }
 }
 
 /// What `upper` tells with these words behind it.
 fn upper_in(rest: &[u8]) -> Result<Line<'_>, Reason>
-    ensures told { IfOk result (λ l. Spell Lenient line_form (codes "upper" ∷ word_texts rest.now)
+    ensures told { IfOk result (λ l. Tell line_form (codes "upper" ∷ word_texts rest.now)
         (line_told l)) }
     ensures broken { IfErr result
-        ((rule_in Lenient line_form).Breaks (codes "upper" ∷ word_texts rest.now)) }
+        ((number_rule line_form).Breaks (codes "upper" ∷ word_texts rest.now)) }
 {
-    match UPPER.fields.of_words(Spelling::Lenient, rest) {
-        Ok((name, ())) => Ok(Line::Upper(name)),
-        Err(reason) => Err(reason),
+    match only_name(rest) {
+        Some(name) => Ok(Line::Upper(name)),
+        None => Err(Reason::Form),
     }
 }
 
 /// What `times` tells with these words behind it.
 fn times_in(rest: &[u8]) -> Result<Line<'_>, Reason>
-    ensures told { IfOk result (λ l. Spell Lenient line_form (codes "times" ∷ word_texts rest.now)
+    ensures told { IfOk result (λ l. Tell line_form (codes "times" ∷ word_texts rest.now)
         (line_told l)) }
     ensures broken { IfErr result
-        ((rule_in Lenient line_form).Breaks (codes "times" ∷ word_texts rest.now)) }
+        ((number_rule line_form).Breaks (codes "times" ∷ word_texts rest.now)) }
 {
-    match TIMES.fields.of_words(Spelling::Lenient, rest) {
-        Ok((factor, ())) => Ok(Line::Times(factor)),
-        Err(reason) => Err(reason),
+    let Some(word) = only_word(rest) else {
+        return Err(Reason::Form);
+    };
+    match positive_of(word) {
+        Some(factor) => Ok(Line::Times(factor)),
+        None => Err(Reason::Number),
     }
 }
 
 /// What `claim` tells with these words behind it.
 fn claim_in(rest: &[u8]) -> Result<Line<'_>, Reason>
-    ensures told { IfOk result (λ l. Spell Lenient line_form (codes "claim" ∷ word_texts rest.now)
+    ensures told { IfOk result (λ l. Tell line_form (codes "claim" ∷ word_texts rest.now)
         (line_told l)) }
     ensures broken { IfErr result
-        ((rule_in Lenient line_form).Breaks (codes "claim" ∷ word_texts rest.now)) }
+        ((number_rule line_form).Breaks (codes "claim" ∷ word_texts rest.now)) }
 {
     match only_word(rest) {
         Some(word) => Ok(Line::Claim(word)),
@@ -303,13 +313,64 @@ fn claim_in(rest: &[u8]) -> Result<Line<'_>, Reason>
 
 /// What `term` tells with these words behind it.
 fn term_in(rest: &[u8]) -> Result<Line<'_>, Reason>
-    ensures told { IfOk result (λ l. Spell Lenient line_form (codes "term" ∷ word_texts rest.now)
+    ensures told { IfOk result (λ l. Tell line_form (codes "term" ∷ word_texts rest.now)
         (line_told l)) }
     ensures broken { IfErr result
-        ((rule_in Lenient line_form).Breaks (codes "term" ∷ word_texts rest.now)) }
+        ((number_rule line_form).Breaks (codes "term" ∷ word_texts rest.now)) }
 {
-    match TERM.fields.of_words(Spelling::Lenient, rest) {
-        Ok((name, (value, ()))) => Ok(Line::Term(name, value)),
-        Err(reason) => Err(reason),
+    let Some((name, word)) = name_and_word(rest) else {
+        return Err(Reason::Form);
+    };
+    match number_of(word) {
+        Some(value) => Ok(Line::Term(name, value)),
+        None => Err(Reason::Number),
     }
+}
+
+/// The two words of the line, if it has two and the first is a name.
+fn name_and_word(line: &[u8]) -> Option<(&[u8], &[u8])>
+    ensures found { IfSome result (λ r. (word_texts line.now ≡ r.0.now ∷ r.1.now ∷ []) ×
+        IsName r.0.now) }
+    ensures none { IfNone result ((name word : List ℕ) →
+        word_texts line.now ≡ name ∷ word ∷ [] → IsName name → ⊥) }
+{
+    let (name, word) = two_words(line)?;
+    if !is_name(name) {
+        return None;
+    }
+    Some((name, word))
+}
+
+/// The name that the line is.
+fn only_name(line: &[u8]) -> Option<&[u8]>
+    ensures found { IfSome result (λ name. (word_texts line.now ≡ name.now ∷ []) ×
+        IsName name.now) }
+    ensures none { IfNone result ((name : List ℕ) →
+        word_texts line.now ≡ name ∷ [] → IsName name → ⊥) }
+{
+    let name = only_word(line)?;
+    if !is_name(name) {
+        return None;
+    }
+    Some(name)
+}
+
+/// Whether the word is a name.
+fn is_name(word: &[u8]) -> bool
+    ensures { IsTrue result ↔ IsName word.now }
+{
+    NameWord.of_word(Spelling::Lenient, word).is_ok()
+}
+
+/// The number above 0 that the word spells.
+fn positive_of(word: &[u8]) -> Option<Frac>
+    ensures found { IfSome result (λ x. IsNumberWord word.now x × (pos 0 <ℤ numerator x)) }
+    ensures none { IfNone result ((x : Frac) → IsNumberWord word.now x → pos 0 <ℤ numerator x →
+        ⊥) }
+{
+    let x = number_of(word)?;
+    if x.num() <= 0 {
+        return None;
+    }
+    Some(x)
 }

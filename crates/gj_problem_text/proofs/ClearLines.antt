@@ -2,15 +2,15 @@
 use Rattle.std.proofs.Common.{◌≡◌, ℕ, List, [], ◌∷◌, Bool, true, false, map, codes, refl, sym, ap, ap₂}
 use Rattle.gj_frac.specs.declared.Frac.{Frac}
 use Rattle.gj_forms.specs.Parts.{IsExactRule}
-use Rattle.gj_lex.specs.declared.spelling.Spelling.TheVariants.{Lenient}
 use Rattle.gj_forms.specs.LineForms.{Field, with_numbers, first_of, others_of, words_of}
 use Rattle.gj_forms.specs.LineForms.Field.{fraction}
 use Rattle.gj_forms.proofs.FieldWords.{AreAlike, head_and_tail}
 use Rattle.gj_forms.proofs.PlainWords.{apart}
-use Rattle.gj_forms.proofs.SpelledLaws.{IsClearForm, rule_in_is_exact}
+use Rattle.gj_forms.proofs.SpelledLaws.{IsClearForm}
 use Rattle.gj_problem.specs.declared.problem.Sense.{Sense}
 use Rattle.gj_problem.specs.declared.problem.Sense.TheVariants.{AtMost, AtLeast, Equal}
 use Rattle.gj_problem_text.specs.ProblemLines.{ProblemLine, column, constraint, entry, upper, sum, grid, round, kind_word, sense_word, problem_fields, problem_form, told_rule}
+use Rattle.gj_problem_text.proofs.NumberLines.{number_rule_is_exact}
 
 -- the first word of a line
 abbrev head : ProblemLine → List ℕ
@@ -105,4 +105,4 @@ problem_form_is_clear : IsClearForm problem_form
 problem_form_is_clear = record { of_form = λ a h. tt; alike = alike_lines; tell = told_line }
 
 pub told_rule_is_exact : IsExactRule told_rule.Spells told_rule.Breaks
-told_rule_is_exact = rule_in_is_exact Lenient problem_form problem_form_is_clear
+told_rule_is_exact = number_rule_is_exact problem_form problem_form_is_clear

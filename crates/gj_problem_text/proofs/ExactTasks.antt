@@ -4,8 +4,6 @@ use Rattle.std.proofs.lemmas.List.{same_from_push}
 use Rattle.gj_frac.specs.declared.Frac.{Frac}
 use Rattle.gj_forms.specs.Parts.{IsExactRule}
 use Rattle.gj_lex.specs.declared.reason.Reason.{Reason}
-use Rattle.gj_lex.specs.declared.spelling.Spelling.TheVariants.{Lenient}
-use Rattle.gj_lex.proofs.SpelledWords.{one_fraction}
 use Rattle.gj_forms.proofs.SpelledLaws.{made_rule_is_exact}
 use Rattle.gj_problem.specs.declared.problem.Constraint.{Constraint}
 use Rattle.gj_problem.specs.declared.problem.Entry.{Entry}
@@ -14,6 +12,7 @@ use Rattle.gj_problem_text.specs.Tasks.{Unless, Never, index_of, IsKnown, Spells
 use Rattle.gj_problem_text.specs.declared.task.Request.TheVariants.{Upper}
 use Rattle.gj_problem_text.specs.declared.task.Task.{Task}
 use Rattle.gj_problem_text.proofs.ClearLines.{told_rule_is_exact}
+use Rattle.gj_problem_text.proofs.OneNumber.{one_number_word}
 
 -- ---- demands in their order
 
@@ -43,7 +42,7 @@ pub one_bound : (word : List ℕ) (a b : Option Frac) → SpellsBound word a →
 one_bound word None None h k = refl
 one_bound word None (Some y) h k = absurd (k.0 h)
 one_bound word (Some x) None h k = absurd (h.0 k)
-one_bound word (Some x) (Some y) h k = ap Some (one_fraction Lenient word x y h.1 k.1)
+one_bound word (Some x) (Some y) h k = ap Some (one_number_word word x y h.1 k.1)
 
 one_some : (i j : ℕ) → Some i ≡ Some j → i ≡ j
 one_some i j e = cc

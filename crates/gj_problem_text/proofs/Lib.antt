@@ -1,3 +1,7 @@
+pub mod ScaledNumbers
+pub mod OneNumber
+pub mod WordsRead
+pub mod NumberLines
 pub mod LinesTold
 pub mod Bounds
 pub mod NamesSoFar

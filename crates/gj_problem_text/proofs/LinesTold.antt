@@ -3,16 +3,17 @@ use Rattle.std.proofs.Common.{◌≡◌, inr, ℕ, pos, ◌<◌, ◌^◌, List, 
 use Rattle.std.proofs.lemmas.Int.{ints}
 use Rattle.std.proofs.lemmas.List.{append_assoc, append-nil}
 use Rattle.gj_frac.specs.declared.Frac.{Frac}
-use Rattle.gj_lex.specs.SpelledNumbers.{IsCountWord, IsFractionWord}
+use Rattle.gj_lex.specs.SpelledNumbers.{IsCountWord}
 use Rattle.gj_lex.specs.declared.spelling.Spelling.TheVariants.{Lenient}
 use Rattle.gj_lex.specs.declared.reason.Reason.TheVariants as reason
 use Rattle.gj_lex.proofs.SpelledWords.{one_count}
 use Rattle.gj_forms.specs.LineForms.{with_numbers}
 use Rattle.gj_forms.specs.LineForms.Field.{fraction}
-use Rattle.gj_forms.specs.SpelledForms.{SpellFields, Spell}
 use Rattle.gj_forms.proofs.PlainWords.{apart}
 use Rattle.gj_forms.proofs.WholeNumbers.{whole}
 use Rattle.gj_problem.specs.declared.problem.Sense.{Sense}
+use Rattle.gj_problem_text.specs.NumberLines.{TellFields, Tell}
+use Rattle.gj_problem_text.specs.NumberWords.{IsNumberWord}
 use Rattle.gj_problem_text.specs.ProblemLines.{ProblemLine, column, constraint, entry, upper, sum, grid, round, sense_word, problem_form, told_rule}
 
 -- a number for a word that spells none
@@ -20,11 +21,11 @@ zero : Frac
 zero = whole (pos 0) (omega (arith, ints))
 
 -- no entry, constraint, grid or sum with such words has a value
-pub no_entry_value : (name w : List ℕ) → ((x : Frac) → IsFractionWord Lenient w x → ⊥) →
+pub no_entry_value : (name w : List ℕ) → ((x : Frac) → IsNumberWord w x → ⊥) →
     told_rule.Breaks (codes "entry" ∷ name ∷ w ∷ []) reason.Number
 no_entry_value name w none = inr (refl, (entry name zero, refl, tt), other)
   where
-    other : (a : ProblemLine) → Spell Lenient problem_form (codes "entry" ∷ name ∷ w ∷ []) a → ⊥
+    other : (a : ProblemLine) → Tell problem_form (codes "entry" ∷ name ∷ w ∷ []) a → ⊥
     other (entry v x) h = none x h.0.1.1.0
     other (column v k l u) h = apart (codes "entry") (codes "column") refl h.0.0
     other (constraint v s x) h = apart (codes "entry") (codes "constraint") refl h.0.0
@@ -33,13 +34,12 @@ no_entry_value name w none = inr (refl, (entry name zero, refl, tt), other)
     other (grid n) h = apart (codes "entry") (codes "grid") refl h.0.0
     other (round n) h = apart (codes "entry") (codes "round") refl h.0.0
 
-pub no_right_side : (name w : List ℕ) (sense : Sense) →
-    ((x : Frac) → IsFractionWord Lenient w x → ⊥) →
+pub no_right_side : (name w : List ℕ) (sense : Sense) → ((x : Frac) → IsNumberWord w x → ⊥) →
     told_rule.Breaks (codes "constraint" ∷ name ∷ sense_word sense ∷ w ∷ []) reason.Number
 no_right_side name w sense none = inr (refl, (constraint name sense zero, refl, tt), other)
   where
     other : (a : ProblemLine) →
-        Spell Lenient problem_form (codes "constraint" ∷ name ∷ sense_word sense ∷ w ∷ []) a → ⊥
+        Tell problem_form (codes "constraint" ∷ name ∷ sense_word sense ∷ w ∷ []) a → ⊥
     other (constraint v s x) h = none x h.0.1.1.1.0
     other (column v k l u) h = apart (codes "constraint") (codes "column") refl h.0.0
     other (entry v x) h = apart (codes "constraint") (codes "entry") refl h.0.0
@@ -52,7 +52,7 @@ pub no_grid : (w : List ℕ) → ((n : ℕ) → 0 < n → n < 2 ^ 32 → IsCount
     told_rule.Breaks (codes "grid" ∷ w ∷ []) reason.Number
 no_grid w none = inr (refl, (grid 0, refl, tt), other)
   where
-    other : (a : ProblemLine) → Spell Lenient problem_form (codes "grid" ∷ w ∷ []) a → ⊥
+    other : (a : ProblemLine) → Tell problem_form (codes "grid" ∷ w ∷ []) a → ⊥
     other (grid n) h = none n h.1.0 h.1.1 h.0.1.0
     other (column v k l u) h = apart (codes "grid") (codes "column") refl h.0.0
     other (constraint v s x) h = apart (codes "grid") (codes "constraint") refl h.0.0
@@ -71,7 +71,7 @@ pub no_round : (w : List ℕ) → ((n : ℕ) → 0 < n → n < 2 ^ 32 → IsCoun
     told_rule.Breaks (codes "round" ∷ w ∷ []) reason.Number
 no_round w none = inr (refl, (round 0, refl, tt), other)
   where
-    other : (a : ProblemLine) → Spell Lenient problem_form (codes "round" ∷ w ∷ []) a → ⊥
+    other : (a : ProblemLine) → Tell problem_form (codes "round" ∷ w ∷ []) a → ⊥
     other (round n) h = none n h.1.0 h.1.1 h.0.1.0
     other (column v k l u) h = apart (codes "round") (codes "column") refl h.0.0
     other (constraint v s x) h = apart (codes "round") (codes "constraint") refl h.0.0
@@ -89,7 +89,7 @@ zero_is_no_round w n counted is =
 
 -- words spell numbers
 abbrev pub SpellNumbers : List Frac → List (List ℕ) → Type 0
-SpellNumbers xs words = SpellFields Lenient (map fraction xs) words
+SpellNumbers xs words = TellFields (map fraction xs) words
 
 abbrev zeros : List (List ℕ) → List Frac
 zeros [] = []
@@ -104,7 +104,7 @@ no_sum : (words : List (List ℕ)) → ((xs : List Frac) → SpellNumbers xs wor
 no_sum words none = inr
     (refl, (sum (zeros words), ap (λ ws. codes "sum" ∷ ws) (any_numbers words), tt), other)
   where
-    other : (a : ProblemLine) → Spell Lenient problem_form (codes "sum" ∷ words) a → ⊥
+    other : (a : ProblemLine) → Tell problem_form (codes "sum" ∷ words) a → ⊥
     other (sum xs) h = none xs h.0.1
     other (column v k l u) h = apart (codes "sum") (codes "column") refl h.0.0
     other (constraint v s x) h = apart (codes "sum") (codes "constraint") refl h.0.0
@@ -122,7 +122,7 @@ pub record AreRead (words : List (List ℕ)) (numbers : List Frac) (left : List 
 
 pub one_more_read : (words left behind : List (List ℕ)) (numbers : List Frac) (w : List ℕ)
     (x : Frac) → AreRead words numbers left →
-    left ≡ w ∷ behind → IsFractionWord Lenient w x → AreRead words (numbers ++ x ∷ []) behind
+    left ≡ w ∷ behind → IsNumberWord w x → AreRead words (numbers ++ x ∷ []) behind
 one_more_read words left behind numbers w x h e is = record {
   spelled = λ xs k. subst (λ ys. SpellNumbers ys words) (sym (append_assoc numbers (x ∷ []) xs))
       (h.spelled (x ∷ xs) (subst (SpellNumbers (x ∷ xs)) (sym e) (is, k)));
@@ -148,8 +148,7 @@ all_read words left numbers h e = (
 
 pub not_read : (words left behind : List (List ℕ)) (numbers : List Frac) (w : List ℕ) →
     AreRead words numbers left → left ≡ w ∷ behind →
-    ((x : Frac) → IsFractionWord Lenient w x → ⊥) →
-    told_rule.Breaks (codes "sum" ∷ words) reason.Number
+    ((x : Frac) → IsNumberWord w x → ⊥) → told_rule.Breaks (codes "sum" ∷ words) reason.Number
 not_read words left behind numbers w h e none =
     no_sum words (h.broken (λ xs k. no_first xs (subst (SpellNumbers xs) e k)))
   where

@@ -9,7 +9,7 @@ use Rattle.gj_forms.specs.Parts.ReadsInTurn.{last, onward}
 use Rattle.gj_forms.specs.TextLines.IsSkippedText.{nothing}
 use Rattle.gj_forms.proofs.CanonicalLines.{words_line}
 use Rattle.gj_forms.proofs.PlainWords.{apart}
-use Rattle.gj_forms.proofs.SpelledLines.{has_its_line, spells_its_thing}
+use Rattle.gj_forms.proofs.SpelledLines.{has_its_line}
 use Rattle.gj_forms.proofs.WhereLaws.{other_word, begins_so}
 use Rattle.gj_shape.specs.FunctionData.{FunctionData}
 use Rattle.gj_function_lines.specs.FunctionLines.{line}
@@ -28,6 +28,7 @@ use Rattle.gj_problem_text.specs.Tasks.{Adds}
 use Rattle.gj_problem_text.specs.declared.input.SafeInput.{SafeInput}
 use Rattle.gj_problem_text.specs.declared.task.Task.{Task}
 use Rattle.gj_problem_text.proofs.InputParts as parts
+use Rattle.gj_problem_text.proofs.NumberLines.{tells_its_thing}
 use Rattle.gj_problem_text.proofs.PrintedTasks.{IsPrintedLine, AddsAll, task_is_told}
 use Rattle.gj_problem_text.proofs.TextParts.{whole_text}
 
@@ -61,10 +62,10 @@ line_is_read : (s u : Task) (l : ProblemLine) (text rest : List ℕ) → IsPrint
 line_is_read s u l text rest (good, has) adds is =
     let words = words_of (problem_fields l) in
     let found = has_its_line Lenient (problem_fields l) text rest good (no_comment l) is in
-    let spelled = spells_its_thing Lenient problem_form l good has in
+    let told = tells_its_thing problem_form l good has in
     inr (
       other_word Lenient text text words (codes "end") rest found (no_end l),
-      (u, (text, words, found, (l, spelled, adds)), refl),
+      (u, (text, words, found, (l, told, adds)), refl),
     )
 
 -- ---- all lines

@@ -1,5 +1,5 @@
 -- The lines of a task as they are printed make it, one after another.
-use Rattle.std.proofs.Common.{◌≡◌, ◌≢◌, ◌<◌, ◌≤◌, ℕ, ◌+◌, Option, Some, None, IfSome, codes}
+use Rattle.std.proofs.Common.{◌≡◌, ◌≢◌, ◌<◌, ◌≤◌, inl, ℕ, ◌+◌, Option, Some, None, IfSome, codes}
 use Rattle.std.proofs.Common.{Bool, true, false, nat_eq, List, [], ◌∷◌, ◌++◌, All, flat_map, map}
 use Rattle.std.proofs.Common.{length, arith}
 use Rattle.std.proofs.Common.{append_assoc, append-nil, length-append, refl, sym, ap, subst, ◌∙◌}
@@ -138,7 +138,7 @@ no_dash x is =
 
 pub bound_is_spelled : (b : Option Frac) → SpellsBound (bound_word b) b
 bound_is_spelled None = refl
-bound_is_spelled (Some x) = (no_dash x, canonical_fraction Lenient x)
+bound_is_spelled (Some x) = (no_dash x, inl (canonical_fraction Lenient x))
 
 bound_is_plain : (b : Option Frac) → IsPlain (bound_word b)
 bound_is_plain None = known (codes "-") refl

@@ -1,5 +1,8 @@
 -- What the code makes of a request (own).
-use Rattle.std.specs.Prelude.{ℕ, ◌≡◌, Bool, true, List, ◌++◌, slice_set}
+use Rattle.std.specs.Prelude.{ℕ, ◌≡◌, Bool, true, Option, Some, None, List, ◌++◌, slice_set}
+use Rattle.gj_problem.specs.declared.problem.Problem.{Problem}
+use Rattle.gj_relaxed.specs.declared.forms.RelaxedParts.{RelaxedParts}
+use Rattle.gj_relaxed.specs.RelaxedForms.{ArePartsOf}
 use Rattle.gj_safe_cut.specs.SafeCuts.{SafeCutHolds}
 use Rattle.gj_safe_cut.specs.declared.cut.SafeCut.{SafeCut}
 use Rattle.gj_proof.specs.declared.cut.CutRule.{CutRule}
@@ -18,3 +21,9 @@ IsRequestStep r s at_upper text (Sum multipliers) next_upper next =
     (next_upper ≡ at_upper)
     × ((cut : SafeCut) × IsAnswer r s multipliers at_upper cut × SafeCutHolds s.problem cut
     × (next ≡ text ++ cut_lines s.names cut))
+
+-- the parts of the problem on the grid of all k/n, if there is one
+abbrev pub ArePartsFor : Option ℕ → Problem → Option RelaxedParts → Type 0
+ArePartsFor (Some n) p (Some parts) = ArePartsOf n p parts
+ArePartsFor (Some n) p None = ⊥
+ArePartsFor None p parts = parts ≡ None

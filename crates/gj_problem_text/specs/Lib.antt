@@ -1,3 +1,5 @@
+pub mod NumberWords
+pub mod NumberLines
 pub mod ProblemLines
 pub mod LinesRead
 pub mod Tasks

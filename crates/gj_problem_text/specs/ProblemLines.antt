@@ -2,12 +2,11 @@
 use Rattle.std.specs.Prelude.{ℕ, ◌<◌, ◌^◌, Bool, true, false, List, [], ◌∷◌, map, codes}
 use Rattle.gj_frac.specs.declared.Frac.{Frac}
 use Rattle.gj_forms.specs.Parts.{LineRule}
-use Rattle.gj_lex.specs.declared.spelling.Spelling.TheVariants.{Lenient}
 use Rattle.gj_forms.specs.LineForms.{Field, LineForm}
 use Rattle.gj_forms.specs.LineForms.Field.{word, fraction, count}
-use Rattle.gj_forms.specs.SpelledForms.{rule_in}
 use Rattle.gj_problem.specs.declared.problem.Sense.{Sense}
 use Rattle.gj_problem.specs.declared.problem.Sense.TheVariants.{AtMost, AtLeast, Equal}
+use Rattle.gj_problem_text.specs.NumberLines.{number_rule}
 
 -- a line with what it tells: names and bounds as they are spelled
 pub data ProblemLine : Type 0 where
@@ -59,4 +58,4 @@ problem_form = record {
 }
 
 abbrev pub told_rule : LineRule ProblemLine
-told_rule = rule_in Lenient problem_form
+told_rule = number_rule problem_form

@@ -5,14 +5,13 @@ use Rattle.std.specs.List.{position}
 use Rattle.gj_frac.specs.declared.Frac.{Frac}
 use Rattle.gj_lex.specs.Name.{IsName}
 use Rattle.gj_forms.specs.Parts.{LineRule}
-use Rattle.gj_lex.specs.SpelledNumbers.{IsFractionWord}
 use Rattle.gj_lex.specs.declared.reason.Reason.{Reason}
 use Rattle.gj_lex.specs.declared.reason.Reason.TheVariants as reason
-use Rattle.gj_lex.specs.declared.spelling.Spelling.TheVariants.{Lenient}
 use Rattle.gj_forms.specs.SpelledForms.{made_rule}
 use Rattle.gj_problem.specs.declared.problem.Constraint.{Constraint}
 use Rattle.gj_problem.specs.declared.problem.Entry.{Entry}
 use Rattle.gj_problem.specs.declared.problem.Sense.{Sense}
+use Rattle.gj_problem_text.specs.NumberWords.{IsNumberWord}
 use Rattle.gj_problem_text.specs.ProblemLines.{ProblemLine, column, constraint, entry, upper, sum, grid, round, told_rule}
 use Rattle.gj_problem_text.specs.declared.task.Task.{Task}
 use Rattle.gj_problem_text.specs.declared.task.Request.TheVariants.{Upper, Sum}
@@ -46,7 +45,7 @@ IsKnown s name = (j : ℕ) × (index_of s name ≡ Some j)
 -- the word spells the bound: `-` is none
 abbrev pub SpellsBound : List ℕ → Option Frac → Type 0
 SpellsBound word None = word ≡ codes "-"
-SpellsBound word (Some x) = (word ≢ codes "-") × IsFractionWord Lenient word x
+SpellsBound word (Some x) = (word ≢ codes "-") × IsNumberWord word x
 
 abbrev pub IsBound : List ℕ → Type 0
 IsBound word = (b : Option Frac) × SpellsBound word b

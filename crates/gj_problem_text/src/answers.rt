@@ -5,7 +5,7 @@ ghost use Rattle.gj_problem.specs.Problems.{Holds};
 ghost use Rattle.gj_safe_cut.specs.SafeCuts.{SafeCutHolds, TellsWide};
 ghost use Rattle.gj_safe_cut.specs.declared.cut.SafeCut.{SafeCut};
 ghost use Rattle.gj_proof.specs.CutRules.{MakesContinuousCuts};
-ghost use Rattle.gj_problem_text.specs.AnswersMade.{IsRequestStep};
+ghost use Rattle.gj_problem_text.specs.AnswersMade.{IsRequestStep, ArePartsFor};
 ghost use Rattle.gj_problem_text.specs.CutText.{cut_lines};
 ghost use Rattle.gj_problem_text.specs.Cuts.{IsRoundedTo, IsOnGridOf, IsCutBy, IsAnswer};
 ghost use Rattle.gj_problem_text.specs.Cuts.{AreAnswers, none_turned};
@@ -16,7 +16,7 @@ use crate::task::{Request, Task};
 use gj_frac::Frac;
 use gj_problem::{Inequality, Problem, RoundedCut, rounded};
 use gj_proof::CutRule;
-use gj_relaxed::{function_relaxed_cut, gmic_relaxed_cut};
+use gj_relaxed::{RelaxedParts, function_relaxed_cut, gmic_relaxed_cut};
 use gj_safe_cut::{SafeCut, function_safe_cut, gmic_safe_cut};
 use std::alloc::{AllocError, Global};
 
@@ -35,11 +35,25 @@ pub(crate) fn push_answers(
         × All (SafeCutHolds task.now.problem) cuts
         × (out.new.items ≡ out.old.items ++ flat_map (cut_lines task.now.names) cuts)) }
 {
+    let parts = parts_of(alloc, task)?;
     let mut at_upper = none_turned(alloc, task)?;
     for request in task.requests.as_slice() {
-        push_request(alloc, out, rule, task, &mut at_upper, request)?;
+        push_request(alloc, out, rule, task, &parts, &mut at_upper, request)?;
     }
     Ok(())
+}
+
+/// What all sums of the problem share, if they are made with all data on a grid.
+fn parts_of(alloc: Global, task: &Task) -> Result<Option<RelaxedParts>, AllocError>
+    requires { IfSome task.now.round (λ n. 0 < n) }
+    ensures { IfOk result (ArePartsFor task.now.round task.now.problem) }
+{
+    let Some(grid) = task.round else {
+        return Ok(None);
+    };
+    let is_shared = task.requests.as_slice().len() > 1;
+    let parts = RelaxedParts::of(alloc, &task.problem, grid, is_shared)?;
+    Ok(Some(parts))
 }
 
 /// No column is turned by its upper bound.
@@ -58,12 +72,14 @@ fn push_request(
     out: &mut Vec<u8>,
     rule: &CutRule,
     task: &Task,
+    parts: &Option<RelaxedParts>,
     at_upper: &mut Vec<bool>,
     request: &Request,
 ) -> Result<(), AllocError>
     requires makes { MakesContinuousCuts rule.now }
     requires grid { IfSome task.now.grid (λ n. 0 < n) }
     requires round { IfSome task.now.round (λ n. 0 < n) }
+    requires parts { ArePartsFor task.now.round task.now.problem parts.now }
     requires multipliers { HasMultipliers (length task.now.problem.constraints) request.now }
     requires at_upper { length at_upper.old.items ≡ length task.now.problem.columns }
     ensures step { OnOk result (IsRequestStep rule.now task.now at_upper.old.items
@@ -81,6 +97,7 @@ fn push_request(
                 out,
                 rule,
                 task,
+                parts,
                 multipliers.as_slice(),
                 at_upper.as_slice(),
             )?;
@@ -106,12 +123,14 @@ fn push_answer(
     out: &mut Vec<u8>,
     rule: &CutRule,
     task: &Task,
+    parts: &Option<RelaxedParts>,
     multipliers: &[Frac],
     at_upper: &[bool],
 ) -> Result<(), AllocError>
     requires makes { MakesContinuousCuts rule.now }
     requires grid { IfSome task.now.grid (λ n. 0 < n) }
     requires round { IfSome task.now.round (λ n. 0 < n) }
+    requires parts { ArePartsFor task.now.round task.now.problem parts.now }
     requires multipliers { length multipliers.now ≡ length task.now.problem.constraints }
     requires at_upper { length at_upper.now ≡ length task.now.problem.columns }
     ensures { OnOk result ((cut : SafeCut)
@@ -119,7 +138,7 @@ fn push_answer(
         × SafeCutHolds task.now.problem cut
         × (out.new.items ≡ out.old.items ++ cut_lines task.now.names cut)) }
 {
-    let cut = answer_of(alloc, rule, task, multipliers, at_upper)?;
+    let cut = answer_of(alloc, rule, task, parts, multipliers, at_upper)?;
     push_cut(alloc, out, task.names.as_slice(), &cut)?;
     Ok(())
 }
@@ -129,12 +148,14 @@ fn answer_of(
     alloc: Global,
     rule: &CutRule,
     task: &Task,
+    parts: &Option<RelaxedParts>,
     multipliers: &[Frac],
     at_upper: &[bool],
 ) -> Result<SafeCut, AllocError>
     requires makes { MakesContinuousCuts rule.now }
     requires grid { IfSome task.now.grid (λ n. 0 < n) }
     requires round { IfSome task.now.round (λ n. 0 < n) }
+    requires parts { ArePartsFor task.now.round task.now.problem parts.now }
     requires multipliers { length multipliers.now ≡ length task.now.problem.constraints }
     requires at_upper { length at_upper.now ≡ length task.now.problem.columns }
     ensures is { IfOk result (IsAnswer rule.now task.now multipliers.now at_upper.now) }
@@ -145,6 +166,7 @@ fn answer_of(
         rule,
         task.round,
         &task.problem,
+        parts,
         multipliers,
         at_upper,
     )?;
@@ -157,11 +179,13 @@ fn unrounded(
     rule: &CutRule,
     round: Option<u32>,
     problem: &Problem,
+    parts: &Option<RelaxedParts>,
     multipliers: &[Frac],
     at_upper: &[bool],
 ) -> Result<SafeCut, AllocError>
     requires makes { MakesContinuousCuts rule.now }
     requires round { IfSome round (λ n. 0 < n) }
+    requires parts { ArePartsFor round problem.now parts.now }
     requires multipliers { length multipliers.now ≡ length problem.now.constraints }
     requires at_upper { length at_upper.now ≡ length problem.now.columns }
     ensures is { IfOk result (IsCutBy rule.now round problem.now multipliers.now at_upper.now) }
@@ -169,16 +193,16 @@ fn unrounded(
         (TellsWide (IsCutBy rule.now round problem.now multipliers.now at_upper.now)) }
     ensures holds { IfOk result (SafeCutHolds problem.now) }
 {
-    match (rule, round) {
-        (CutRule::Gmic, None) => gmic_safe_cut(alloc, problem, multipliers, at_upper),
-        (CutRule::Gmic, Some(grid)) => {
-            gmic_relaxed_cut(alloc, problem, multipliers, at_upper, grid)
+    match (rule, round, parts) {
+        (CutRule::Gmic, Some(grid), Some(parts)) => {
+            gmic_relaxed_cut(alloc, problem, parts, multipliers, at_upper, grid)
         }
-        (CutRule::Table(shape), None) => {
+        (CutRule::Table(shape), Some(grid), Some(parts)) => {
+            function_relaxed_cut(alloc, shape, problem, parts, multipliers, at_upper, grid)
+        }
+        (CutRule::Gmic, _, _) => gmic_safe_cut(alloc, problem, multipliers, at_upper),
+        (CutRule::Table(shape), _, _) => {
             function_safe_cut(alloc, shape, problem, multipliers, at_upper)
-        }
-        (CutRule::Table(shape), Some(grid)) => {
-            function_relaxed_cut(alloc, shape, problem, multipliers, at_upper, grid)
         }
     }
 }

@@ -9,6 +9,7 @@ mod faults;
 mod input;
 mod laws;
 mod lines;
+mod numbers;
 mod places;
 mod print;
 mod read;
@@ -22,7 +23,8 @@ pub use laws::{
     cuts_have_terms, one_list_of_cuts, one_problem_text, one_safe_input, one_text_of_cuts,
     printed_input_is_read,
 };
-pub use lines::{Line, line_in};
+pub use lines::{Line, line_in, two_words};
+pub use numbers::{Notation, number_of};
 pub use places::Places;
 pub use read::read_problem;
 pub use steps::{bound_of, with_line};

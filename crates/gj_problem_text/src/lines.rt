@@ -1,15 +1,17 @@
 //! The lines of a problem text, read.
 ghost use Rattle.std.specs.Prelude.{◌≡◌, ◌∷◌, [], ℕ, Bool, List, codes, IfSome, IfNone, IfOk};
-ghost use Rattle.std.specs.Prelude.{IfErr};
+ghost use Rattle.std.specs.Prelude.{IfErr, MatchOption};
 ghost use Rattle.gj_forms.specs.LineFaults.{IsRefusedFor};
 ghost use Rattle.gj_lex.specs.Words.{word_texts};
 ghost use Rattle.gj_problem.specs.declared.problem.Sense.{Sense};
+ghost use Rattle.gj_problem_text.specs.NumberWords.{IsNumberWord};
 ghost use Rattle.gj_problem_text.specs.ProblemLines.{kind_word, sense_word, told_rule};
 ghost use Rattle.gj_problem_text.specs.LinesRead.{line_told};
 
+use crate::numbers::number_of;
 use gj_forms::{LineFault, only_word, split_word};
 use gj_frac::Frac;
-use gj_lex::{Reason, Spelling, count_of, fraction_of};
+use gj_lex::{Reason, Spelling, count_of};
 use gj_problem::Sense;
 use std::alloc::Global;
 
@@ -32,7 +34,7 @@ pub enum Line<'a> {
     Round(u32),
 }
 
-/// What the line tells, in lenient spelling.
+/// What the line tells.
 ///
 /// `Broken` has the reason, and comes exactly if the line tells nothing; `Memory` is want of
 /// memory.
@@ -130,7 +132,7 @@ fn constraint_in(rest: &[u8]) -> Result<Line<'_>, Reason>
     let Some((name, sense, right)) = constraint_words(rest) else {
         return Err(Reason::Form);
     };
-    let Some(right) = fraction_of(Spelling::Lenient, right) else {
+    let Some(right) = number_of(right) else {
         return Err(Reason::Number);
     };
     Ok(Line::Constraint(name, sense, right))
@@ -176,14 +178,14 @@ fn entry_in(rest: &[u8]) -> Result<Line<'_>, Reason>
     let Some((name, word)) = two_words(rest) else {
         return Err(Reason::Form);
     };
-    let Some(value) = fraction_of(Spelling::Lenient, word) else {
+    let Some(value) = number_of(word) else {
         return Err(Reason::Number);
     };
     Ok(Line::Entry(name, value))
 }
 
 /// The two words of the line, if it has two.
-fn two_words(line: &[u8]) -> Option<(&[u8], &[u8])>
+pub fn two_words(line: &[u8]) -> Option<(&[u8], &[u8])>
     ensures found { IfSome result (λ r. word_texts line.now ≡ r.0.now ∷ r.1.now ∷ []) }
     ensures none { IfNone result ((first second : List ℕ) →
         word_texts line.now ≡ first ∷ second ∷ [] → ⊥) }
@@ -250,12 +252,40 @@ fn sum_in(alloc: Global, rest: &[u8]) -> Result<Line<'_>, LineFault>
 {
     let mut multipliers = Vec::new(alloc);
     let mut left = rest;
-    while let Some((word, behind)) = split_word(left) {
-        let Some(multiplier) = fraction_of(Spelling::Lenient, word) else {
+    while let Some((multiplier, behind)) = first_multiplier(left) {
+        let Some(multiplier) = multiplier else {
             return Err(LineFault::Broken(Reason::Number));
         };
         multipliers.push(multiplier)?;
         left = behind;
     }
     Ok(Line::Sum(multipliers))
+}
+
+/// The number that the first word of the line spells, if it spells one, and what stands behind the
+/// word. Most multipliers are 0: that word is known without more.
+#[inline(always)]
+fn first_multiplier(line: &[u8]) -> Option<(Option<Frac>, &[u8])>
+    ensures found { IfSome result (λ r. (word : List ℕ)
+        × (word_texts line.now ≡ word ∷ word_texts r.1.now)
+        × MatchOption r.0 ((x : Frac) → IsNumberWord word x → ⊥)
+        (IsNumberWord word)) }
+    ensures none { IfNone result (word_texts line.now ≡ []) }
+{
+    if let Some(behind) = behind_zero(line) {
+        return Some((Some(Frac::ratio(0, 1)), behind));
+    }
+    let (word, behind) = split_word(line)?;
+    Some((number_of(word), behind))
+}
+
+/// What stands behind the word `0`, if the line begins with it and one blank before and behind it.
+#[inline(always)]
+fn behind_zero(line: &[u8]) -> Option<&[u8]>
+    ensures { IfSome result (λ r. word_texts line.now ≡ codes "0" ∷ word_texts r.now) }
+{
+    if line.len() < 3 || line[0] != b' ' || line[1] != b'0' || line[2] != b' ' {
+        return None;
+    }
+    Some(&line[2..])
 }

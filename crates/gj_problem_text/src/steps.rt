@@ -11,11 +11,12 @@ ghost use Rattle.gj_problem_text.specs.Tasks.{Unless, Never, IsKnown, TakesEntri
 ghost use Rattle.gj_problem_text.specs.Tasks.{IsBound, most_columns};
 
 use crate::lines::Line;
+use crate::numbers::number_of;
 use crate::places::Places;
 use crate::task::{Request, Task};
 use gj_forms::{LineFault, name_of};
 use gj_frac::Frac;
-use gj_lex::{Reason, Spelling, fraction_of};
+use gj_lex::Reason;
 use gj_problem::{Column, Constraint, Entry, Sense};
 use gj_shape::List;
 use std::alloc::{AllocError, Global};
@@ -109,7 +110,7 @@ pub fn bound_of(word: &[u8]) -> Option<Option<Frac>>
     if is_absent(word) {
         return Some(None);
     }
-    let Some(bound) = fraction_of(Spelling::Lenient, word) else {
+    let Some(bound) = number_of(word) else {
         return None;
     };
     Some(Some(bound))

@@ -6,7 +6,6 @@ use Rattle.gj_frac.specs.Fraction.{numerator}
 use Rattle.gj_frac.specs.Fits.{FitsDifference}
 use Rattle.gj_problem.specs.Rational.{Rational, rational, neg_ℚ, ◌+ℚ◌, ◌-ℚ◌}
 use Rattle.gj_problem.specs.declared.pieces.Piece.{Piece}
-use Rattle.gj_problem.specs.declared.sums.Sum.{Sum}
 use Rattle.gj_problem.specs.Moves.{IsBelowOnGrid}
 use Rattle.gj_problem.specs.Rows.{dot}
 use Rattle.gj_problem.specs.Aggregates.{pieces_at}
@@ -15,11 +14,11 @@ use Rattle.gj_problem.proofs.Failing.{Fails, none_with, none_at_first, in_joined
 use Rattle.gj_problem.proofs.MadePieces.{zip_one, zip_split}
 use Rattle.gj_problem.proofs.OneMove.{one_above, one_below}
 use Rattle.gj_problem.proofs.OneRow.{rational_injective, same_sum, same_piece}
+use Rattle.gj_safe_cut.specs.AddedTerms.{surplus_of}
 use Rattle.gj_relaxed.specs.declared.rows.RightMove.{RightMove}
 use Rattle.gj_relaxed.specs.declared.rows.RightMove.TheVariants.{Down, Kept}
 use Rattle.gj_relaxed.specs.RelaxedProblems.{IsWideLifted}
 use Rattle.gj_relaxed.specs.RelaxedRows.{IsRaised, Moves, IsWideRise, IsWideGapTerm, AreWideGapTerms, IsWideRight, IsWideRelaxedRow}
-use Rattle.gj_relaxed.specs.RaisedPieces.{sum_surplus_at}
 use Rattle.gj_relaxed.proofs.RowGaps.{gained_after}
 
 -- ---- one piece
@@ -149,15 +148,14 @@ module _ (n columns : ℕ) (there : List Rational → Rational) where
       (fails_raising (ps ++ s ∷ []) w)
 
   -- nor is it so in two lists of pieces, one after the other
-  pub narrow_joined : (ps rs qs : List Piece) (now : Sum) → AllZip (IsRaised n) ps rs →
-      length now.coefficients.items ≡ columns →
+  pub narrow_joined : (ps rs qs : List Piece) (ds : List Frac) (t : Frac) →
+      AllZip (IsRaised n) ps rs → length ds ≡ columns →
       ((point : List Rational) →
-      sum_surplus_at point now ≡ there point +ℚ (pieces_at point rs -ℚ pieces_at point ps)) →
+      surplus_of ds t point ≡ there point +ℚ (pieces_at point rs -ℚ pieces_at point ps)) →
       (AreWideGapTerms n columns there ps → ⊥) →
-      (AreWideGapTerms n (length now.coefficients.items) (λ point. sum_surplus_at point now) qs →
-      ⊥) →
+      (AreWideGapTerms n (length ds) (surplus_of ds t) qs → ⊥) →
       AreWideGapTerms n columns there (ps ++ qs) → ⊥
-  narrow_joined ps rs qs now raised count adds before_narrow after_narrow w =
+  narrow_joined ps rs qs ds t raised count adds before_narrow after_narrow w =
       ⊎_elim
       (λ (k : (rest : List Piece) × (ps ≡ w.before ++ w.next ∷ rest)).
       before_narrow (record {
@@ -188,7 +186,7 @@ module _ (n columns : ℕ) (there : List Rational → Rational) where
         right = w.right;
         count = w.count ∙ sym count;
         adds = λ point.
-            gained_after point ps rs k.0 vs (there point) (sum_surplus_at point now)
+            gained_after point ps rs k.0 vs (there point) (surplus_of ds t point)
             (dot w.sum point -ℚ rational w.right) (adds point)
             (w.adds point
             ∙ ap₂ (λ (xs ys : List Piece). there point

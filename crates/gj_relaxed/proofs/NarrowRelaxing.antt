@@ -1,5 +1,6 @@
 -- Where all numbers of a problem on the grid and of its cut fit, none is said not to.
-use Rattle.std.proofs.Common.{◌≡◌, ⊎_elim, ℕ, ◌+◌, ◌<◌, Bool, List, [], ◌∷◌, ◌++◌, length, get_or, take, subst, subst₂}
+use Rattle.std.proofs.Common.{◌≡◌, ⊎_elim, ℕ, ◌+◌, ◌<◌, Bool, List, [], ◌∷◌, ◌++◌, length, get_or, take, sym, subst, subst₂}
+use Rattle.std.specs.List.{AllZip}
 use Rattle.gj_frac.specs.declared.Frac.{Frac}
 use Rattle.gj_problem.specs.declared.problem.Column.{Column}
 use Rattle.gj_problem.specs.declared.problem.Inequality.{Inequality}
@@ -13,7 +14,9 @@ use Rattle.gj_safe_cut.specs.declared.cut.SafeCut.TheVariants.{Wide}
 use Rattle.gj_relaxed.specs.declared.rows.RightMove.{RightMove}
 use Rattle.gj_relaxed.specs.RelaxedProblems.{IsSide, AreRelaxed, IsRelaxedProblem, IsFreeSide, IsFirstFreeSide, IsWideColumn, IsWideSide, AreWideColumns, AreWideSides, IsWideRelaxing}
 use Rattle.gj_relaxed.specs.RelaxedRows.{IsRelaxedRow, IsWideRelaxedRow}
-use Rattle.gj_relaxed.specs.RelaxedCuts.{IsOfRelaxedRow, IsRelaxedCutOf}
+use Rattle.gj_relaxed.specs.LoosePieces.{IsLoosened}
+use Rattle.gj_relaxed.specs.RelaxedCuts.{IsOfRaisedRow, IsOfRelaxedRow, IsRelaxedCutOf}
+use Rattle.gj_relaxed.proofs.LoosePieces.{one_loosened_list}
 use Rattle.gj_relaxed.proofs.OneRelaxing.{IsHeldSide, one_side, one_relaxed_row, one_relaxed_problem, none_free_sides, no_free_side}
 
 -- ---- columns
@@ -97,18 +100,29 @@ module _ (p : Problem) (n : ℕ) where
 
 -- ---- rows
 
-pub narrow_of_relaxed_row : (move : RightMove) (n : ℕ) (IsOfRow : ℕ → List Piece → Frac → SafeCut →
+pub narrow_of_raised_row : (move : RightMove) (n : ℕ) (IsOfRow : ℕ → List Piece → Frac → SafeCut →
     Type 0) (columns : ℕ)
     (pieces relaxed : List Piece) (right right' : Frac) →
     (IsWideRelaxedRow move n columns pieces right → ⊥) →
     IsRelaxedRow move n columns pieces right relaxed right' →
     (IsOfRow columns relaxed right' Wide → ⊥) →
-    IsOfRelaxedRow move n IsOfRow columns pieces right Wide → ⊥
-narrow_of_relaxed_row move n IsOfRow columns pieces relaxed right right' narrow row fits =
+    IsOfRaisedRow move n IsOfRow columns pieces right Wide → ⊥
+narrow_of_raised_row move n IsOfRow columns pieces relaxed right right' narrow row fits =
     ⊎_elim narrow
     (λ (k : (rs : List Piece) × (r : Frac) × IsRelaxedRow move n columns pieces right rs r × IsOfRow columns rs r Wide).
     let same = one_relaxed_row move n columns pieces k.0 relaxed right k.1 right' k.2 row in
     fits (subst₂ (λ (rs : List Piece) (r : Frac). IsOfRow columns rs r Wide) same.0 same.1 k.3))
+
+pub narrow_of_loosened_row : (move : RightMove) (n : ℕ) (IsOfRow : ℕ → List Piece → Frac → SafeCut →
+    Type 0) (columns : ℕ)
+    (pieces loose : List Piece) (right right' : Frac) → AllZip (IsLoosened n) pieces loose →
+    right' ≡ right →
+    (IsOfRaisedRow move n IsOfRow columns loose right' Wide → ⊥) →
+    IsOfRelaxedRow move n IsOfRow columns pieces right Wide → ⊥
+narrow_of_loosened_row move n IsOfRow columns pieces loose right right' are same fits
+    (others, others_are, wide) =
+    fits (subst₂ (λ (ls : List Piece) (x : Frac). IsOfRaisedRow move n IsOfRow columns ls x Wide)
+    (one_loosened_list n pieces others loose others_are are) (sym same) wide)
 
 -- ---- problems
 

@@ -1,6 +1,6 @@
 -- A problem and its multipliers have one answer on a grid by a rule, if `Wide` comes where a number
 -- does not fit.
-use Rattle.std.proofs.Common.{◌≡◌, ◌⊎◌, ⊎_elim, inl, inr, ℕ, Bool, List, refl, sym, ap, subst₂, ◌∙◌}
+use Rattle.std.proofs.Common.{◌≡◌, ◌⊎◌, ⊎_elim, inl, inr, ℕ, Bool, List, refl, sym, ap, subst, subst₂, ◌∙◌}
 use Rattle.gj_frac.specs.declared.Frac.{Frac}
 use Rattle.gj_shape.specs.FunctionData.{FunctionData, IsWithinBounds}
 use Rattle.gj_rule.specs.declared.kind.RuleKind.TheVariants.{Table}
@@ -16,7 +16,8 @@ use Rattle.gj_relaxed.specs.declared.rows.RightMove.{RightMove}
 use Rattle.gj_relaxed.specs.declared.rows.RightMove.TheVariants.{Down, Kept}
 use Rattle.gj_relaxed.specs.RelaxedProblems.{IsRelaxedProblem, IsFirstFreeSide}
 use Rattle.gj_relaxed.specs.RelaxedRows.{IsRelaxedRow}
-use Rattle.gj_relaxed.specs.RelaxedCuts.{IsOfRelaxedRow, IsRelaxedCutOf, IsGmicRelaxedCutOf, IsFunctionRelaxedCutOf}
+use Rattle.gj_relaxed.specs.RelaxedCuts.{IsOfRaisedRow, IsOfRelaxedRow, IsRelaxedCutOf, IsGmicRelaxedCutOf, IsFunctionRelaxedCutOf}
+use Rattle.gj_relaxed.proofs.LoosePieces.{one_loosened_list}
 use Rattle.gj_relaxed.proofs.OneRelaxing.{one_relaxed_row, one_relaxed_problem, no_free_side, one_free_side}
 
 -- ---- rows
@@ -30,7 +31,7 @@ FromRow move n IsOfRow columns pieces right cut =
 
 from_row : (move : RightMove) (n : ℕ) (IsOfRow : ℕ → List Piece → Frac → SafeCut → Type 0)
     (columns : ℕ) (pieces : List Piece) (right : Frac)
-    (cut : SafeCut) → IsNarrow cut → IsOfRelaxedRow move n IsOfRow columns pieces right cut →
+    (cut : SafeCut) → IsNarrow cut → IsOfRaisedRow move n IsOfRow columns pieces right cut →
     FromRow move n IsOfRow columns pieces right cut
 from_row move n IsOfRow columns pieces right (Cut q) narrow h = h
 from_row move n IsOfRow columns pieces right Integral narrow h = h
@@ -38,16 +39,24 @@ from_row move n IsOfRow columns pieces right OtherFraction narrow h = h
 from_row move n IsOfRow columns pieces right (Free j) narrow h = h
 from_row move n IsOfRow columns pieces right Wide narrow h = absurd (narrow refl)
 
-one_of_relaxed_row : (move : RightMove) (n : ℕ) (IsOfRow : ℕ → List Piece → Frac → SafeCut →
+one_of_raised_row : (move : RightMove) (n : ℕ) (IsOfRow : ℕ → List Piece → Frac → SafeCut →
     Type 0) → IsOneOfRow IsOfRow →
-    IsOneOfRow (IsOfRelaxedRow move n IsOfRow)
-one_of_relaxed_row move n IsOfRow one columns pieces right a b h k a_narrow b_narrow =
+    IsOneOfRow (IsOfRaisedRow move n IsOfRow)
+one_of_raised_row move n IsOfRow one columns pieces right a b h k a_narrow b_narrow =
     let (rs, x, row, is) = from_row move n IsOfRow columns pieces right a a_narrow h in
     let (ts, y, other, is') = from_row move n IsOfRow columns pieces right b b_narrow k in
     let same = one_relaxed_row move n columns pieces ts rs right y x other row in
     one columns rs x a b is
     (subst₂ (λ (us : List Piece) (z : Frac). IsOfRow columns us z b) same.0 same.1 is') a_narrow
     b_narrow
+
+one_of_relaxed_row : (move : RightMove) (n : ℕ) (IsOfRow : ℕ → List Piece → Frac → SafeCut →
+    Type 0) → IsOneOfRow IsOfRow →
+    IsOneOfRow (IsOfRelaxedRow move n IsOfRow)
+one_of_relaxed_row move n IsOfRow one columns pieces right a b (ls, are, h) (ms, others, k) =
+    let same = one_loosened_list n pieces ms ls others are in
+    one_of_raised_row move n IsOfRow one columns ls right a b h
+    (subst (λ (us : List Piece). IsOfRaisedRow move n IsOfRow columns us right b) same k)
 
 -- ---- problems
 

@@ -13,14 +13,14 @@ use Rattle.gj_problem.specs.RoundedCuts.{AreMoved, IsRoundedCut, IsFirstFreeEntr
 use Rattle.gj_problem.specs.Aggregates.{Weighted, weighted}
 use Rattle.gj_problem.proofs.Failing.{true_at, same_first}
 use Rattle.gj_problem.proofs.MadePieces.{made_one, none_from_made, zip_one}
-use Rattle.gj_problem.proofs.OneColumn.{IsTimes}
 use Rattle.gj_problem.proofs.OneMove.{one_below, one_above}
-use Rattle.gj_problem.proofs.OneRow.{rational_injective, same_entry, same_piece}
-use Rattle.gj_problem.proofs.OneRounding.{same_inequality, one_rounded_cut, not_first_free, one_free_entry}
+use Rattle.gj_problem.proofs.OneRow.{rational_injective, same_piece}
+use Rattle.gj_problem.proofs.OneRounding.{one_rounded_cut, not_first_free, one_free_entry}
 use Rattle.gj_problem.proofs.OneTerms.{one_inequality}
 use Rattle.gj_relaxed.specs.declared.rows.RightMove.{RightMove}
 use Rattle.gj_relaxed.specs.RelaxedProblems.{IsLowered, IsLifted, IsRelaxedColumn, IsOnGrid, side, IsSide, IsRelaxedSide, IsRelaxedConstraint, IsUnnamed, AreRelaxed, IsRelaxedProblem, IsFreeSide, IsFirstFreeSide}
 use Rattle.gj_relaxed.specs.RelaxedRows.{IsGap, IsRelaxedRow}
+use Rattle.gj_relaxed.proofs.LoosePieces.{same_multiple}
 use Rattle.gj_relaxed.proofs.NarrowGaps.{one_move, one_raised_list}
 
 -- ---- rows
@@ -84,14 +84,7 @@ one_relaxed_column n c d e h k = by_flag c.is_whole refl
 -- ---- constraints
 
 pub one_side : (w : Weighted) (q r : Inequality) → IsSide w q → IsSide w r → q ≡ r
-one_side w q r h k =
-    let x = whole (side w) in
-    same_inequality q r
-    (zip_one (IsTimes x)
-    (λ e f g f_is g_is. same_entry f g (f_is.0 ∙ sym g_is.0) (f_is.1 ∙ sym g_is.1))
-    w.constraint.entries q.entries r.entries
-    h.entries_are k.entries_are)
-    (h.right_is ∙ sym k.right_is)
+one_side w = same_multiple (whole (side w)) w.constraint.entries w.constraint.right
 
 one_relaxed_side : (p : Problem) (n : ℕ) (w v u : Weighted) → IsRelaxedSide p n w v →
     IsRelaxedSide p n w u → v ≡ u

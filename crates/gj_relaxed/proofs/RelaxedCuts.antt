@@ -1,5 +1,6 @@
 -- The cut of a problem on the grid holds at the feasible points of the problem.
 use Rattle.std.proofs.Common.{◌≡◌, inr, ℕ, Bool, List, All, length, sym, subst, ◌∙◌}
+use Rattle.std.specs.List.{AllZip}
 use Rattle.gj_frac.specs.declared.Frac.{Frac}
 use Rattle.gj_shape.specs.FunctionData.{FunctionData, IsContinuous, IsWithinBounds}
 use Rattle.gj_shape.specs.Table.{IsMinimal}
@@ -25,7 +26,9 @@ use Rattle.gj_relaxed.specs.declared.rows.RightMove.{RightMove}
 use Rattle.gj_relaxed.specs.declared.rows.RightMove.TheVariants.{Down, Kept}
 use Rattle.gj_relaxed.specs.RelaxedProblems.{IsRelaxedProblem}
 use Rattle.gj_relaxed.specs.RelaxedRows.{IsRelaxedRow}
-use Rattle.gj_relaxed.specs.RelaxedCuts.{IsOfRelaxedRow, IsRelaxedCutOf, IsGmicRelaxedCutOf, IsFunctionRelaxedCutOf}
+use Rattle.gj_relaxed.specs.LoosePieces.{IsLoosened}
+use Rattle.gj_relaxed.specs.RelaxedCuts.{IsOfRaisedRow, IsOfRelaxedRow, IsRelaxedCutOf, IsGmicRelaxedCutOf, IsFunctionRelaxedCutOf}
+use Rattle.gj_relaxed.proofs.LoosePieces.{loosened_sound, loosened_adds_up}
 use Rattle.gj_relaxed.proofs.RelaxedProblems.{as_many_columns, holds_from_grid}
 use Rattle.gj_relaxed.proofs.RelaxedRows.{relaxed_sound, relaxed_adds_up}
 
@@ -66,11 +69,15 @@ rule_holds kind up down usable minimal slopes p columns pieces right q sound add
 
 relaxed_holds : (move : RightMove) (n : ℕ) (IsOfRow : RowCut) → HoldsOfRows IsOfRow →
     HoldsOfRows (IsOfRelaxedRow move n IsOfRow)
-relaxed_holds move n IsOfRow held p columns pieces right q sound adds (relaxed, right', row, is) =
+relaxed_holds move n IsOfRow held p columns pieces right q sound adds
+    (loose, are, (relaxed, right', row, is)) =
     held p columns relaxed right' q
-    (relaxed_sound move n columns p pieces relaxed right right' row sound)
-    (λ point feasible. relaxed_adds_up move n columns point pieces relaxed right right' row
-    (adds point feasible)) is
+    (relaxed_sound move n columns p loose relaxed right right' row
+    (loosened_sound n p pieces loose are sound))
+    (λ point feasible.
+    relaxed_adds_up move n columns point loose relaxed right right' row
+    (loosened_adds_up n point pieces loose right are (adds point feasible)))
+    is
 
 on_grid_holds : (n : ℕ) (IsOfRow : RowCut) → HoldsOfRows IsOfRow →
     (p : Problem) (ms : List Frac) (ups : List Bool) (cut : SafeCut) →
@@ -120,7 +127,7 @@ on_grid_terms : (move : RightMove) (n : ℕ) (IsOfRow : RowCut) → HasRowTerms 
     (cut : SafeCut) → IsRelaxedCutOf n (IsOfProblem (IsOfRelaxedRow move n IsOfRow)) p ms ups cut →
     SafeCutHasTerms p cut
 on_grid_terms move n IsOfRow terms p ms ups (Cut q)
-    (p', ms', relaxed, (pieces, right, row, (rs, right', is_relaxed, is))) =
+    (p', ms', relaxed, (pieces, right, row, (loose, are, (rs, right', is_relaxed, is)))) =
     subst (λ (k : ℕ). AreTermsWithin 0 k q.entries) (as_many_columns n p p' ms ms' relaxed)
     (terms (length p'.columns) rs right' q is)
 on_grid_terms move n IsOfRow terms p ms ups Integral h = tt
@@ -142,21 +149,29 @@ function_relaxed_terms f n p ms ups cut (up, down, slopes, is) =
 
 -- ---- what the row and the problem on the grid give
 
-pub of_relaxed_row : (move : RightMove) (n : ℕ) (IsOfRow : RowCut) (columns : ℕ)
+pub of_raised_row : (move : RightMove) (n : ℕ) (IsOfRow : RowCut) (columns : ℕ)
     (pieces relaxed : List Piece) (right right' : Frac) →
     IsRelaxedRow move n columns pieces right relaxed right' → (cut : SafeCut) →
     IsOfRow columns relaxed right' cut →
-    IsOfRelaxedRow move n IsOfRow columns pieces right cut
-of_relaxed_row move n IsOfRow columns pieces relaxed right right' row (Cut q) h =
+    IsOfRaisedRow move n IsOfRow columns pieces right cut
+of_raised_row move n IsOfRow columns pieces relaxed right right' row (Cut q) h =
     (relaxed, right', row, h)
-of_relaxed_row move n IsOfRow columns pieces relaxed right right' row Integral h =
+of_raised_row move n IsOfRow columns pieces relaxed right right' row Integral h =
     (relaxed, right', row, h)
-of_relaxed_row move n IsOfRow columns pieces relaxed right right' row OtherFraction h =
+of_raised_row move n IsOfRow columns pieces relaxed right right' row OtherFraction h =
     (relaxed, right', row, h)
-of_relaxed_row move n IsOfRow columns pieces relaxed right right' row (Free j) h =
+of_raised_row move n IsOfRow columns pieces relaxed right right' row (Free j) h =
     (relaxed, right', row, h)
-of_relaxed_row move n IsOfRow columns pieces relaxed right right' row Wide h =
+of_raised_row move n IsOfRow columns pieces relaxed right right' row Wide h =
     inr (relaxed, right', row, h)
+
+pub of_loosened_row : (move : RightMove) (n : ℕ) (IsOfRow : RowCut) (columns : ℕ)
+    (pieces loose : List Piece) (right right' : Frac) →
+    AllZip (IsLoosened n) pieces loose → right' ≡ right → (cut : SafeCut) →
+    IsOfRaisedRow move n IsOfRow columns loose right' cut →
+    IsOfRelaxedRow move n IsOfRow columns pieces right cut
+of_loosened_row move n IsOfRow columns pieces loose right right' are same cut h =
+    (loose, are, subst (λ (x : Frac). IsOfRaisedRow move n IsOfRow columns loose x cut) same h)
 
 pub of_relaxed_problem : (n : ℕ) (IsCut : Problem → List Frac → List Bool → SafeCut → Type 0)
     (p p' : Problem) (ms ms' : List Frac) (ups : List Bool) →

@@ -1,9 +1,8 @@
 -- What a row gains when its pieces are raised to the grid.
 use Rattle.std.proofs.Common.{◌≡◌, ◌≢◌, ◌<◌, ◌≤◌, ℕ, ◌+◌, List, [], ◌∷◌, ◌++◌, length, take, drop, get_or, set, false, unsigned_abs, ℤ, pos, negsuc, ◌+ℤ◌, ◌-ℤ◌, ◌*ℤ◌, append_assoc, append-nil, refl, sym, ap, ap₂, subst, subst₂, ◌∙◌, arith}
+use Rattle.std.specs.List.{AllZip}
 use Rattle.std.proofs.Math.ListN.{drop_of_length-le}
-use Rattle.std.proofs.Math.Seq.{set-append_seam, get_or-append_seam}
-use Rattle.std.proofs.lemmas.List.{take_more, take_all, drop_more, length-take-le, take-append-drop}
-use Rattle.std.proofs.lemmas.List.Elements.{length_all_zip}
+use Rattle.std.proofs.lemmas.List.{take_all, drop_more, take-append-drop}
 use Rattle.gj_frac.specs.declared.Frac.{Frac}
 use Rattle.gj_frac.specs.Fraction.{SameValue, fraction_of, difference_of}
 use Rattle.gj_frac.proofs.Crosswise.{denominators_some}
@@ -20,8 +19,10 @@ use Rattle.gj_problem.specs.Problems.{surplus_at, AreTermsWithin}
 use Rattle.gj_problem.specs.Rows.{dot}
 use Rattle.gj_problem.specs.Aggregates.{pieces_at}
 use Rattle.gj_problem.proofs.MadePieces.{zip_joined, pieces_joined}
+use Rattle.gj_safe_cut.specs.AddedTerms.{surplus_of_sum}
 use Rattle.gj_relaxed.specs.RelaxedRows.{IsRaised, IsGap, IsWideGapTerm, AreWideGapTerms}
-use Rattle.gj_relaxed.specs.RaisedPieces.{sum_surplus_at, IsRise, AreRaised, IsWideRaising}
+use Rattle.gj_relaxed.proofs.ChangedPieces.{item_is, item_taken, item_set, item_changed, all_changed}
+use Rattle.gj_relaxed.specs.RaisedPieces.{IsRise, AreRaised, IsWideRaising}
 
 -- ---- differences
 
@@ -65,7 +66,7 @@ none_raised n sum = record {
   raised_are = tt;
   count = refl;
   adds =
-      λ point. nothing (sum_surplus_at point sum);
+      λ point. nothing (surplus_of_sum sum point);
 }
   where
     nothing : (x : Rational) → x ≡ x +ℚ (whole (pos 0) -ℚ whole (pos 0))
@@ -75,7 +76,7 @@ both_gained : (x r p t q : Rational) → (x +ℚ (r -ℚ p)) +ℚ (t -ℚ q) ≡
 both_gained x r p t q = by_ring_q (x ∷ r ∷ p ∷ t ∷ q ∷ []) (search ring_q depth 60 fits 3000) refl
 
 -- what the pieces of both lists gain
-gained_in_both : (point : List Rational) (ps rs qs ts : List Piece) (old now next : Rational) →
+pub gained_in_both : (point : List Rational) (ps rs qs ts : List Piece) (old now next : Rational) →
     now ≡ old +ℚ (pieces_at point rs -ℚ pieces_at point ps) →
     next ≡ now +ℚ (pieces_at point ts -ℚ pieces_at point qs) →
     next ≡ old +ℚ (pieces_at point (rs ++ ts) -ℚ pieces_at point (ps ++ qs))
@@ -103,12 +104,12 @@ pub raised_joined : (n : ℕ) (ps rs qs ts : List Piece) (old now next : Sum) �
 raised_joined n ps rs qs ts old now next h k = record {
   raised_are = zip_joined (IsRaised n) ps qs rs ts h.raised_are k.raised_are;
   count = k.count ∙ h.count;
-  adds = λ point. gained_in_both point ps rs qs ts (sum_surplus_at point old)
-      (sum_surplus_at point now) (sum_surplus_at point next)
+  adds = λ point. gained_in_both point ps rs qs ts (surplus_of_sum old point)
+      (surplus_of_sum now point) (surplus_of_sum next point)
       (h.adds point) (k.adds point);
 }
 
-one_gain : (e f v : Rational) →
+pub one_gain : (e f v : Rational) →
     (f -ℚ e) *ℚ v ≡ (f *ℚ v +ℚ whole (pos 0)) -ℚ (e *ℚ v +ℚ whole (pos 0))
 one_gain e f v = by_ring_q (e ∷ f ∷ v ∷ []) (search ring_q depth 60 fits 3000) refl
 
@@ -120,7 +121,7 @@ one_raised n s s' old new is rise = record {
   adds = λ point.
       let v = surplus_at point s.inequality in
       rise.adds point
-      ∙ ap (λ w. sum_surplus_at point old +ℚ w)
+      ∙ ap (λ w. surplus_of_sum old point +ℚ w)
       (one_gain (rational s.entry) (rational s'.entry) v
       ∙ ap (λ (q : Inequality). (rational s'.entry *ℚ surplus_at point q +ℚ whole (pos 0))
       -ℚ (rational s.entry *ℚ v +ℚ whole (pos 0)))
@@ -137,7 +138,7 @@ pub record IsBegun (columns : ℕ) (right right' : Frac) (sum : Sum) : Type 0 wh
 
 pub begun_at : (columns : ℕ) (right right' : Frac) (sum : Sum) → IsBegun columns right right' sum →
     (point : List Rational) →
-    sum_surplus_at point sum ≡ rational right -ℚ rational right'
+    surplus_of_sum sum point ≡ rational right -ℚ rational right'
 begun_at columns right right' sum begun point =
     ap₂ (λ a b. a -ℚ b) (begun.none point) begun.right_is
     ∙ turned (rational right) (rational right')
@@ -148,7 +149,7 @@ begun_at columns right right' sum begun point =
 pub gap_from : (n columns : ℕ) (ps rs : List Piece) (right right' entry : Frac) (none last : Sum)
     (q : Inequality) → IsBegun columns right right' none →
     AreRaised n ps rs none last →
-    ((point : List Rational) → surplus_at point q ≡ sum_surplus_at point last) →
+    ((point : List Rational) → surplus_at point q ≡ surplus_of_sum last point) →
     AreTermsWithin 0 (length last.coefficients.items) q.entries →
     rational entry ≡ whole (negsuc 0) →
     IsGap columns ps rs right right' (record { entry = entry; inequality = q; is_whole = false })
@@ -200,8 +201,8 @@ wide_in_first n c there ps qs w = record {
 }
 
 pub wide_in_second : (n : ℕ) (ps rs qs : List Piece) (old now : Sum) → AreRaised n ps rs old now →
-    AreWideGapTerms n (length now.coefficients.items) (λ point. sum_surplus_at point now) qs →
-    AreWideGapTerms n (length old.coefficients.items) (λ point. sum_surplus_at point old) (ps ++ qs)
+    AreWideGapTerms n (length now.coefficients.items) (surplus_of_sum now) qs →
+    AreWideGapTerms n (length old.coefficients.items) (surplus_of_sum old) (ps ++ qs)
 wide_in_second n ps rs qs old now h w = record {
   before = ps ++ w.before;
   next = w.next;
@@ -213,8 +214,8 @@ wide_in_second n ps rs qs old now h w = record {
   sum = w.sum;
   right = w.right;
   count = w.count ∙ h.count;
-  adds = λ point. gained_in_both point ps rs w.before w.raised (sum_surplus_at point old)
-      (sum_surplus_at point now)
+  adds = λ point. gained_in_both point ps rs w.before w.raised (surplus_of_sum old point)
+      (surplus_of_sum now point)
       (dot w.sum point -ℚ rational w.right) (h.adds point) (w.adds point);
   wide = w.wide;
 }
@@ -222,26 +223,39 @@ wide_in_second n ps rs qs old now h w = record {
 -- ---- pieces that are raised one after the other
 
 -- those before the index have been raised, and the others are as they were
+module _ (n : ℕ) (ps now made : List Piece) (i : ℕ) (s : Piece) (below : i < length ps)
+    (is : now ≡ made ++ drop i ps)
+    (raised_are : AllZip (IsRaised n) (take i ps) made) where
+  pub next_is : get_or now i s ≡ get_or ps i s
+  next_is = item_is (IsRaised n) ps now made i s below is raised_are
+
+  pub next_taken : take (i + 1) ps ≡ take i ps ++ get_or now i s ∷ []
+  next_taken = item_taken (IsRaised n) ps now made i s below is raised_are
+
+  pub next_set : (raised : Piece) → set now i raised ≡ (made ++ raised ∷ []) ++ drop (i + 1) ps
+  next_set = item_set (IsRaised n) ps now made i s below is raised_are
+
+  pub next_raised : (entry : Frac) →
+      IsBelowOnGrid n (neg_ℚ (rational (get_or now i s).entry)) (neg_ℚ (rational entry)) →
+      AllZip (IsRaised n) (take (i + 1) ps)
+      (made ++ record {
+        entry = entry;
+        inequality = (get_or now i s).inequality;
+        is_whole =
+            (get_or now i s).is_whole;
+      } ∷ [])
+  next_raised entry on_grid =
+      let next = get_or now i s in
+      item_changed (IsRaised n) ps now made i s below is raised_are
+      (record { entry = entry; inequality = next.inequality; is_whole = next.is_whole })
+      (record { entry = on_grid; inequality = refl; is_whole = refl })
+
+-- and what they gain has been added
 module _ (n : ℕ) (ps now made : List Piece) (i : ℕ) (s : Piece) (old sum : Sum)
     (below : i < length ps)
     (is : now ≡ made ++ drop i ps) (h : AreRaised n (take i ps) made old sum) where
   abbrev next : Piece
   next = get_or now i s
-
-  count : length made ≡ i
-  count = sym (length_all_zip (IsRaised n) (take i ps) made h.raised_are)
-      ∙ length-take-le i ps (omega (arith, below))
-
-  place : now ≡ made ++ get_or ps i s ∷ drop (i + 1) ps
-  place = is ∙ ap (λ (xs : List Piece). made ++ xs) (drop_more ps i s below)
-
-  next_is : next ≡ get_or ps i s
-  next_is =
-      ap₂ (λ (xs : List Piece) (k : ℕ). get_or xs k s) place (sym count)
-      ∙ get_or-append_seam made (get_or ps i s) (drop (i + 1) ps) s
-
-  pub next_taken : take (i + 1) ps ≡ take i ps ++ next ∷ []
-  next_taken = take_more ps i s below ∙ ap (λ (z : Piece). take i ps ++ z ∷ []) (sym next_is)
 
   pub raised_next : (entry : Frac) (last : Sum) →
       IsBelowOnGrid n (neg_ℚ (rational next.entry)) (neg_ℚ (rational entry)) →
@@ -254,10 +268,9 @@ module _ (n : ℕ) (ps now made : List Piece) (i : ℕ) (s : Piece) (old sum : S
       let raised : Piece =
       record { entry = entry; inequality = next.inequality; is_whole = next.is_whole } in (
         made ++ raised ∷ [],
-        ap₂ (λ (xs : List Piece) (k : ℕ). set xs k raised) place (sym count)
-            ∙ set-append_seam made (get_or ps i s) (drop (i + 1) ps) raised
-            ∙ sym (append_assoc made (raised ∷ []) (drop (i + 1) ps)),
-        subst (λ (xs : List Piece). AreRaised n xs (made ++ raised ∷ []) old last) (sym next_taken)
+        next_set n ps now made i s below is h.raised_are raised,
+        subst (λ (xs : List Piece). AreRaised n xs (made ++ raised ∷ []) old last)
+            (sym (next_taken n ps now made i s below is h.raised_are))
             (raised_joined n (take i ps) made (next ∷ []) (raised ∷ []) old sum last h
             (one_raised n next raised sum last
             (record { entry = on_grid; inequality = refl; is_whole = refl }) rise)),
@@ -270,7 +283,9 @@ module _ (n : ℕ) (ps now made : List Piece) (i : ℕ) (s : Piece) (old sum : S
     after = drop (i + 1) ps;
     place = sym (take-append-drop i ps)
         ∙ ap (λ (xs : List Piece). take i ps ++ xs)
-        (drop_more ps i s below ∙ ap (λ (z : Piece). z ∷ drop (i + 1) ps) (sym next_is));
+        (drop_more ps i s below
+        ∙ ap (λ (z : Piece). z ∷ drop (i + 1) ps)
+        (sym (next_is n ps now made i s below is h.raised_are)));
     raised = made;
     raised_are = h.raised_are;
     sum = sum.coefficients.items;
@@ -279,6 +294,11 @@ module _ (n : ℕ) (ps now made : List Piece) (i : ℕ) (s : Piece) (old sum : S
     adds = h.adds;
     wide = wide;
   }
+
+pub all_back : (n : ℕ) (ps now made : List Piece) (i : ℕ) → length ps ≤ i →
+    now ≡ made ++ drop i ps → AllZip (IsRaised n) (take i ps) made →
+    AllZip (IsRaised n) ps now
+all_back n = all_changed (IsRaised n)
 
 pub all_raised : (n : ℕ) (ps now made : List Piece) (i : ℕ) (old sum : Sum) → length ps ≤ i →
     now ≡ made ++ drop i ps →

@@ -1,5 +1,8 @@
 pub mod RelaxedProblems
 pub mod RelaxedSteps
+pub mod RelaxedForms
 pub mod RelaxedRows
+pub mod LoosePieces
 pub mod RaisedPieces
+pub mod Gaps
 pub mod RelaxedCuts

@@ -1,5 +1,6 @@
 -- Cuts of problems whose data and rows are taken to the grid of all k/n (own).
 use Rattle.std.specs.Prelude.{◌⊎◌, ℕ, Bool, List}
+use Rattle.std.specs.List.{AllZip}
 use Rattle.gj_frac.specs.declared.Frac.{Frac}
 use Rattle.gj_shape.specs.FunctionData.{FunctionData}
 use Rattle.gj_rule.specs.declared.kind.RuleKind.TheVariants.{Table}
@@ -13,19 +14,27 @@ use Rattle.gj_relaxed.specs.RelaxedProblems.{IsRelaxedProblem, IsFirstFreeSide, 
 use Rattle.gj_relaxed.specs.declared.rows.RightMove.{RightMove}
 use Rattle.gj_relaxed.specs.declared.rows.RightMove.TheVariants.{Down, Kept}
 use Rattle.gj_relaxed.specs.RelaxedRows.{IsRelaxedRow, IsWideRelaxedRow}
+use Rattle.gj_relaxed.specs.LoosePieces.{IsLoosened}
 
 -- the cut of the row on the grid, or a number that does not fit
-abbrev pub IsOfRelaxedRow : RightMove → ℕ → (ℕ → List Piece → Frac → SafeCut → Type 0) → ℕ →
+abbrev pub IsOfRaisedRow : RightMove → ℕ → (ℕ → List Piece → Frac → SafeCut → Type 0) → ℕ →
     List Piece → Frac → SafeCut → Type 0
-IsOfRelaxedRow move n IsOfRow columns pieces right Wide =
+IsOfRaisedRow move n IsOfRow columns pieces right Wide =
     IsWideRelaxedRow move n columns pieces right
     ⊎ ((relaxed : List Piece) × (right' : Frac)
     × IsRelaxedRow move n columns pieces right relaxed right'
     × IsOfRow columns relaxed right' Wide)
-IsOfRelaxedRow move n IsOfRow columns pieces right cut =
+IsOfRaisedRow move n IsOfRow columns pieces right cut =
     (relaxed : List Piece) × (right' : Frac)
     × IsRelaxedRow move n columns pieces right relaxed right'
     × IsOfRow columns relaxed right' cut
+
+-- whole pieces with small entries are taken as continuous ones before
+abbrev pub IsOfRelaxedRow : RightMove → ℕ → (ℕ → List Piece → Frac → SafeCut → Type 0) → ℕ →
+    List Piece → Frac → SafeCut → Type 0
+IsOfRelaxedRow move n IsOfRow columns pieces right cut =
+    (loose : List Piece) × AllZip (IsLoosened n) pieces loose
+    × IsOfRaisedRow move n IsOfRow columns loose right cut
 
 -- the cut of the problem on the grid, a column that keeps a constraint from it, or a number that
 -- does not fit

@@ -13,9 +13,12 @@ ghost use Rattle.gj_safe_cut.specs.declared.cut.SafeCut.{SafeCut};
 ghost use Rattle.gj_safe_cut.specs.declared.cut.SafeCut.TheVariants.{Free, Wide};
 ghost use Rattle.gj_safe_cut.specs.SafeCuts.{IsGmicCutOfRow, IsCutOfRow, IsOfProblem, TellsWide};
 ghost use Rattle.gj_safe_cut.specs.SafeCuts.{SafeCutHolds, SafeCutHasTerms};
+ghost use Rattle.gj_relaxed.specs.RelaxedForms.{ArePartsOf};
 ghost use Rattle.gj_relaxed.specs.RelaxedCuts.{IsOfRelaxedRow, IsRelaxedCutOf};
 ghost use Rattle.gj_relaxed.specs.RelaxedCuts.{IsGmicRelaxedCutOf, IsFunctionRelaxedCutOf};
 
+use crate::forms::RelaxedParts;
+use crate::loose_pieces::loosened_row;
 use crate::problems::{RelaxedProblem, relaxed_problem};
 use crate::rows::{RightMove, relaxed_row};
 use gj_frac::Frac;
@@ -38,11 +41,13 @@ use std::alloc::{AllocError, Global};
 pub fn gmic_relaxed_cut(
     alloc: Global,
     problem: &Problem,
+    parts: &RelaxedParts,
     multipliers: &[Frac],
     at_upper: &[bool],
     grid: u32,
 ) -> Result<SafeCut, AllocError>
     requires grid { 0 < grid }
+    requires parts { ArePartsOf grid problem.now parts.now }
     requires multipliers { length multipliers.now ≡ length problem.now.constraints }
     requires at_upper { length at_upper.now ≡ length problem.now.columns }
     ensures is { IfOk result
@@ -58,6 +63,7 @@ pub fn gmic_relaxed_cut(
         &by,
         RightMove::Down,
         problem,
+        parts,
         multipliers,
         at_upper,
         grid,
@@ -76,6 +82,7 @@ pub fn function_relaxed_cut(
     alloc: Global,
     shape: &Shape,
     problem: &Problem,
+    parts: &RelaxedParts,
     multipliers: &[Frac],
     at_upper: &[bool],
     grid: u32,
@@ -83,6 +90,7 @@ pub fn function_relaxed_cut(
     requires minimal { IsMinimal shape.now }
     requires jumps_not { IsContinuous shape.now }
     requires grid { 0 < grid }
+    requires parts { ArePartsOf grid problem.now parts.now }
     requires multipliers { length multipliers.now ≡ length problem.now.constraints }
     requires at_upper { length at_upper.now ≡ length problem.now.columns }
     ensures is { IfOk result
@@ -107,6 +115,7 @@ pub fn function_relaxed_cut(
         at_zero,
         |c| at_zero.weight(c),
         problem,
+        parts,
         multipliers,
         at_upper,
         grid,
@@ -122,6 +131,7 @@ fn cut_by<E: Evaluator, G: Evaluator>(
     at_zero: SlopesAtZero,
     weigh: G,
     problem: &Problem,
+    parts: &RelaxedParts,
     multipliers: &[Frac],
     at_upper: &[bool],
     grid: u32,
@@ -135,6 +145,7 @@ fn cut_by<E: Evaluator, G: Evaluator>(
     requires weighs { Weighs G.can_answer G.answers at_zero.up at_zero.down weigh }
     requires slopes { AreSlopesAtZero shape at_zero.up at_zero.down }
     requires grid { 0 < grid }
+    requires parts { ArePartsOf grid problem.now parts.now }
     requires multipliers { length multipliers.now ≡ length problem.now.constraints }
     requires at_upper { length at_upper.now ≡ length problem.now.columns }
     ensures is { IfOk result
@@ -153,6 +164,7 @@ fn cut_by<E: Evaluator, G: Evaluator>(
         &by,
         RightMove::Kept,
         problem,
+        parts,
         multipliers,
         at_upper,
         grid,
@@ -215,11 +227,13 @@ fn relaxed_cut<C: RowCut>(
     by: &C,
     to: RightMove,
     problem: &Problem,
+    parts: &RelaxedParts,
     multipliers: &[Frac],
     at_upper: &[bool],
     grid: u32,
 ) -> Result<SafeCut, AllocError>
     requires grid { 0 < grid }
+    requires parts { ArePartsOf grid problem.now parts.now }
     requires multipliers { length multipliers.now ≡ length problem.now.constraints }
     requires at_upper { length at_upper.now ≡ length problem.now.columns }
     ensures is { IfOk result
@@ -229,7 +243,7 @@ fn relaxed_cut<C: RowCut>(
         (IsRelaxedCutOf grid (IsOfProblem (IsOfRelaxedRow to grid (C.is_cut by.now)))
         problem.now multipliers.now at_upper.now)) }
 {
-    match cut_on_grid(alloc, by, to, problem, multipliers, at_upper, grid) {
+    match cut_on_grid(alloc, by, to, problem, parts, multipliers, at_upper, grid) {
         Ok(cut) => Ok(cut),
         Err(Fault::Wide) => Ok(SafeCut::Wide),
         Err(Fault::Memory(error)) => Err(error),
@@ -242,11 +256,13 @@ fn cut_on_grid<C: RowCut>(
     by: &C,
     to: RightMove,
     problem: &Problem,
+    parts: &RelaxedParts,
     multipliers: &[Frac],
     at_upper: &[bool],
     grid: u32,
 ) -> Result<SafeCut, Fault>
     requires grid { 0 < grid }
+    requires parts { ArePartsOf grid problem.now parts.now }
     requires multipliers { length multipliers.now ≡ length problem.now.constraints }
     requires at_upper { length at_upper.now ≡ length problem.now.columns }
     ensures cut { IfOk result
@@ -259,7 +275,7 @@ fn cut_on_grid<C: RowCut>(
         (¬ IsRelaxedCutOf grid (IsOfProblem (IsOfRelaxedRow to grid (C.is_cut by.now)))
         problem.now multipliers.now at_upper.now Wide) }
 {
-    match relaxed_problem(alloc, problem, multipliers, grid)? {
+    match relaxed_problem(alloc, problem, parts, multipliers, grid)? {
         RelaxedProblem::Problem(relaxed, kept) => {
             cut_of_problem(alloc, by, to, &relaxed, kept.as_slice(), at_upper, grid)
         }
@@ -296,7 +312,7 @@ fn cut_of_problem<C: RowCut>(
     }
 }
 
-/// The cut of a row that is taken to the grid.
+/// The cut of a row that is loosened and taken to the grid.
 fn cut_of_row_on_grid<C: RowCut>(
     alloc: Global,
     by: &C,
@@ -314,6 +330,7 @@ fn cut_of_row_on_grid<C: RowCut>(
     ensures narrow { OnOk result (¬ IsOfRelaxedRow to grid (C.is_cut by.now) columns
         (row.slacks.items ++ row.bounds.items) row.right Wide) }
 {
-    let relaxed = relaxed_row(alloc, columns, row, grid, to)?;
+    let loose = loosened_row(alloc, row, grid)?;
+    let relaxed = relaxed_row(alloc, columns, loose, grid, to)?;
     by.cut_of_row(alloc, columns, &relaxed)
 }

@@ -9,6 +9,8 @@
 
 mod columns;
 mod cuts;
+mod forms;
+mod loose_pieces;
 mod problems;
 pub mod relaxations;
 mod rows;
@@ -16,5 +18,6 @@ mod sides;
 pub mod theorems;
 
 pub use cuts::{function_relaxed_cut, gmic_relaxed_cut};
+pub use forms::RelaxedParts;
 pub use problems::{RelaxedProblem, relaxed_problem};
 pub use rows::{RightMove, relaxed_row};

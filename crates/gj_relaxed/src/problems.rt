@@ -1,8 +1,9 @@
 //! Problems with their data on a grid.
 ghost use Rattle.std.specs.Prelude.{◌≡◌, ◌<◌, IfOk, OnOk, Err, length};
 ghost use Rattle.gj_relaxed.specs.RelaxedProblems.{IsRelaxedOf, IsWideRelaxing};
+ghost use Rattle.gj_relaxed.specs.RelaxedForms.{ArePartsOf};
 
-use crate::columns::relaxed_columns;
+use crate::forms::RelaxedParts;
 use crate::sides::{Sides, relaxed_sides};
 use gj_frac::Frac;
 use gj_problem::{Fault, Problem};
@@ -24,27 +25,32 @@ pub enum RelaxedProblem {
 /// The bounds of continuous columns go outwards, and whole columns stay. Only the constraints whose
 /// multipliers are not 0 are kept. One that is on the grid stays; any other becomes an inequality
 /// "at least", rounded by the bounds of its columns, and its multiplier has the sign for that.
-/// `Wide` comes exactly where a number of this does not fit, up to the first constraint that a
-/// column keeps from the grid. `Memory` is for want of memory.
+/// The parts are those of the problem on the grid. `Wide` comes exactly where a number of this does
+/// not fit, up to the first constraint that a column keeps from the grid. `Memory` is for want of
+/// memory.
 pub fn relaxed_problem(
     alloc: Global,
     problem: &Problem,
+    parts: &RelaxedParts,
     multipliers: &[Frac],
     grid: u32,
 ) -> Result<RelaxedProblem, Fault>
     requires grid { 0 < grid }
+    requires parts { ArePartsOf grid problem.now parts.now }
     requires multipliers { length multipliers.now ≡ length problem.now.constraints }
     ensures relaxed { IfOk result (IsRelaxedOf grid problem.now multipliers.now) }
     ensures wide { result ≡ Err Fault.Wide → IsWideRelaxing grid problem.now multipliers.now }
     ensures narrow { OnOk result (¬ IsWideRelaxing grid problem.now multipliers.now) }
 {
     let grid = u64::from(grid);
-    let columns = relaxed_columns(alloc, problem.columns.as_slice(), grid)?;
-    let sides = relaxed_sides(alloc, problem, multipliers, grid)?;
+    let Some(columns) = &parts.columns else {
+        return Err(Fault::Wide);
+    };
+    let sides = relaxed_sides(alloc, problem, parts.forms.as_slice(), multipliers, grid)?;
     Ok(match sides {
         Sides::All(made) => RelaxedProblem::Problem(
             Problem {
-                columns: List::of(columns),
+                columns: List::of(columns.as_slice().to_vec(alloc)?),
                 constraints: List::of(made.constraints),
             },
             made.multipliers,

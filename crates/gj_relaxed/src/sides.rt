@@ -1,21 +1,21 @@
 //! Constraints on a grid.
-ghost use Rattle.std.specs.Prelude.{◌≡◌, ◌≢◌, ◌↔◌, ◌<◌, ◌++◌, ◌∷◌, [], All, IfOk, IsTrue};
-ghost use Rattle.std.specs.Prelude.{MatchOption, OnOk, Err, length, pos};
+ghost use Rattle.std.specs.Prelude.{◌≡◌, ◌≢◌, ◌<◌, ◌++◌, ◌∷◌, [], IfOk};
+ghost use Rattle.std.specs.Prelude.{MatchOption, OnOk, Err, length, pos, get_or, ◌+◌, ◌^◌};
+ghost use Rattle.std.specs.List.{AllZip};
 ghost use Rattle.gj_frac.specs.Fraction.{numerator};
-ghost use Rattle.gj_problem.specs.Rational.{whole, rational, ◌*ℚ◌};
-ghost use Rattle.gj_problem.specs.Moves.{IsGridValue};
-ghost use Rattle.gj_problem.specs.Rows.{IsMultiple};
-ghost use Rattle.gj_problem.specs.RoundedCuts.{IsWideRounding};
+ghost use Rattle.gj_problem.specs.declared.rounding.RoundedCut.TheVariants.{Wide};
 ghost use Rattle.gj_problem.specs.Aggregates.{weighted};
 ghost use Rattle.gj_problem.specs.Steps.{IsMadeNext};
-ghost use Rattle.gj_relaxed.specs.RelaxedProblems.{IsOnGrid, side_of, IsUnnamed};
+ghost use Rattle.gj_relaxed.specs.RelaxedProblems.{side_of, IsUnnamed};
 ghost use Rattle.gj_relaxed.specs.RelaxedProblems.{IsRelaxedConstraint, IsFreeSide};
 ghost use Rattle.gj_relaxed.specs.RelaxedProblems.{IsWideSide, AreWideSides};
-ghost use Rattle.gj_relaxed.specs.RelaxedSteps.{sign_of, IsRoundedSide, IsRelaxedOrFree};
+ghost use Rattle.gj_relaxed.specs.RelaxedSteps.{sign_of, IsRelaxedOrFree};
 ghost use Rattle.gj_relaxed.specs.RelaxedSteps.{IsNextSide, AreRelaxedOrFree};
+ghost use Rattle.gj_relaxed.specs.RelaxedForms.{AreForms, IsSideOf};
 
+use crate::forms::{Forms, rounded_with_sign, with_sign};
 use gj_frac::Frac;
-use gj_problem::{Constraint, Entry, Fault, Inequality, Problem, RoundedCut, Sense, rounded};
+use gj_problem::{Constraint, Fault, Problem, RoundedCut, Sense};
 use gj_shape::List;
 use std::alloc::{AllocError, Global};
 
@@ -50,10 +50,12 @@ enum Side {
 pub(crate) fn relaxed_sides(
     alloc: Global,
     problem: &Problem,
+    forms: &[Forms],
     multipliers: &[Frac],
     grid: u64,
 ) -> Result<Sides, Fault>
     requires grid { 0 < grid }
+    requires forms { AllZip (AreForms problem.now grid) problem.now.constraints forms.now }
     requires multipliers { length multipliers.now ≡ length problem.now.constraints }
     ensures sides { IfOk result (AreRelaxedOrFree grid problem.now multipliers.now) }
     ensures wide { result ≡ Err Fault.Wide → AreWideSides grid problem.now multipliers.now }
@@ -64,12 +66,32 @@ pub(crate) fn relaxed_sides(
         multipliers: Vec::new(alloc),
     };
     let constraints = problem.constraints.as_slice();
+    let mut index = 0;
     for (constraint, multiplier) in constraints.iter().zip(multipliers) {
-        if let Some(column) = add_side(alloc, &mut made, problem, constraint, *multiplier, grid)? {
+        let form = form_at(forms, index);
+        index += 1;
+        if let Some(column) = add_side(
+            alloc,
+            &mut made,
+            problem,
+            form,
+            constraint,
+            *multiplier,
+            grid,
+        )? {
             return Ok(Sides::Free(column));
         }
     }
     Ok(Sides::All(made))
+}
+
+/// The form with this index.
+fn form_at(forms: &[Forms], index: usize) -> &Forms
+    requires { index < length forms.now }
+    ensures form { result.now ≡ get_or forms.now index result.now }
+    ensures next { index + 1 < 2 ^ 64 }
+{
+    &forms[index]
 }
 
 /// The constraints with one more, unless its multiplier is 0; or the column that keeps it from the
@@ -78,11 +100,13 @@ fn add_side(
     alloc: Global,
     made: &mut Relaxed,
     problem: &Problem,
+    forms: &Forms,
     constraint: &Constraint,
     multiplier: Frac,
     grid: u64,
 ) -> Result<Option<u32>, Fault>
     requires grid { 0 < grid }
+    requires forms { AreForms problem.now grid constraint.now forms.now }
     requires count { length made.now.multipliers.items ≡ length made.now.constraints.items }
     ensures next { IfOk result (λ free. MatchOption free
         (IsNextSide problem.now grid
@@ -97,7 +121,7 @@ fn add_side(
     if multiplier.num() == 0 {
         return Ok(None);
     }
-    match relaxed_side(alloc, problem, constraint, multiplier, grid)? {
+    match relaxed_side(alloc, problem, forms, constraint, multiplier, grid)? {
         Side::Made(constraint, multiplier) => {
             made.add(constraint, multiplier)?;
             Ok(None)
@@ -126,11 +150,13 @@ impl Relaxed {
 fn relaxed_side(
     alloc: Global,
     problem: &Problem,
+    forms: &Forms,
     constraint: &Constraint,
     multiplier: Frac,
     grid: u64,
 ) -> Result<Side, Fault>
     requires grid { 0 < grid }
+    requires forms { AreForms problem.now grid constraint.now forms.now }
     requires named { numerator multiplier ≢ pos 0 }
     ensures side { IfOk result (IsRelaxedOrFree problem.now grid
         (record { multiplier = multiplier; constraint = constraint.now })) }
@@ -139,76 +165,40 @@ fn relaxed_side(
     ensures narrow { OnOk result (¬ IsWideSide problem.now grid
         (record { multiplier = multiplier; constraint = constraint.now })) }
 {
-    if is_on_grid(constraint, grid) {
+    if forms.is_on_grid {
         return Ok(Side::Made(copied(alloc, constraint)?, multiplier));
     }
     let is_turned = is_turned(constraint.sense, multiplier);
-    let given = as_inequality(alloc, constraint, is_turned)?;
-    rounded_side(
-        alloc,
-        problem,
-        &given,
-        with_sign(multiplier, is_turned),
-        grid,
-    )
-}
-
-/// The constraint that the inequality is once it is rounded, with this multiplier.
-fn rounded_side(
-    alloc: Global,
-    problem: &Problem,
-    given: &Inequality,
-    multiplier: Frac,
-    grid: u64,
-) -> Result<Side, Fault>
-    requires { 0 < grid }
-    ensures rounded { IfOk result (IsRoundedSide problem.now grid given.now multiplier) }
-    ensures wide { result ≡ Err Fault.Wide → IsWideRounding problem.now grid given.now }
-    ensures narrow { OnOk result (¬ IsWideRounding problem.now grid given.now) }
-{
-    match rounded(alloc, problem, given, grid)? {
-        RoundedCut::Cut(cut) => Ok(Side::Made(
-            Constraint {
-                entries: cut.entries,
-                sense: Sense::AtLeast,
-                right: cut.right,
-            },
-            multiplier,
-        )),
-        RoundedCut::Free(column) => Ok(Side::Free(column)),
-        RoundedCut::Wide => Err(Fault::Wide),
-    }
-}
-
-/// Whether all numbers of the constraint are on the grid.
-fn is_on_grid(constraint: &Constraint, grid: u64) -> bool
-    requires { 0 < grid }
-    ensures { IsTrue result ↔ IsOnGrid grid constraint.now }
-{
-    is_grid_value(constraint.right, grid) && are_on_grid(constraint.entries.as_slice(), grid)
-}
-
-/// Whether all entries are on the grid.
-fn are_on_grid(entries: &[Entry], grid: u64) -> bool
-    requires { 0 < grid }
-    ensures { IsTrue result ↔ All (λ e. IsGridValue grid (rational e.value)) entries.now }
-{
-    for entry in entries {
-        if !is_grid_value(entry.value, grid) {
-            return false;
+    let signed = with_sign(multiplier, is_turned);
+    match forms.rounded(is_turned) {
+        Some(made) => made_side(alloc, made, signed),
+        None => {
+            let made = rounded_with_sign(alloc, problem, constraint, is_turned, grid)?;
+            made_side(alloc, &made, signed)
         }
     }
-    true
 }
 
-/// Whether x is on the grid, so whether its denominator divides that of the grid.
-fn is_grid_value(x: Frac, grid: u64) -> bool
-    requires { 0 < grid }
-    ensures { IsTrue result ↔ IsGridValue grid (rational x) }
+/// What the rounded inequality is as a side, with this multiplier.
+fn made_side(alloc: Global, made: &RoundedCut, multiplier: Frac) -> Result<Side, Fault>
+    ensures side { IfOk result (IsSideOf made.now multiplier) }
+    ensures wide { result ≡ Err Fault.Wide → made.now ≡ Wide }
+    ensures narrow { OnOk result (made.now ≢ Wide) }
 {
-    match u64::try_from(x.den()) {
-        Ok(den) => grid % den == 0,
-        Err(_) => false,
+    match made {
+        RoundedCut::Cut(cut) => {
+            let entries = cut.entries.as_slice().to_vec(alloc)?;
+            Ok(Side::Made(
+                Constraint {
+                    entries: List::of(entries),
+                    sense: Sense::AtLeast,
+                    right: cut.right,
+                },
+                multiplier,
+            ))
+        }
+        RoundedCut::Free(column) => Ok(Side::Free(*column)),
+        RoundedCut::Wide => Err(Fault::Wide),
     }
 }
 
@@ -233,33 +223,4 @@ fn is_turned(sense: Sense, multiplier: Frac) -> bool
         Sense::AtLeast => false,
         Sense::Equal => multiplier.num() < 0,
     }
-}
-
-/// The number, with its sign turned or not.
-fn with_sign(x: Frac, is_turned: bool) -> Frac
-    ensures { rational result ≡ whole (sign_of is_turned) *ℚ rational x }
-{
-    if is_turned { -x } else { x }
-}
-
-/// The constraint as an inequality, with all signs turned or not.
-fn as_inequality(
-    alloc: Global,
-    constraint: &Constraint,
-    is_turned: bool,
-) -> Result<Inequality, AllocError>
-    ensures { IfOk result (IsMultiple (whole (sign_of is_turned)) constraint.now.entries
-        constraint.now.right) }
-{
-    let mut entries = Vec::new(alloc);
-    for entry in constraint.entries.as_slice() {
-        entries.push(Entry {
-            column: entry.column,
-            value: with_sign(entry.value, is_turned),
-        })?;
-    }
-    Ok(Inequality {
-        entries: List::of(entries),
-        right: with_sign(constraint.right, is_turned),
-    })
 }

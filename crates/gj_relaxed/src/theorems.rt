@@ -1,5 +1,6 @@
 //! Cuts of problems on a grid hold: theorems, each the contract of a function with no code.
 ghost use Rattle.std.specs.Prelude.{◌≡◌, ℕ, Bool, List, All, length};
+ghost use Rattle.std.specs.List.{AllZip};
 ghost use Rattle.gj_frac.specs.declared.Frac.{Frac};
 ghost use Rattle.gj_shape.specs.FunctionData.{FunctionData, IsContinuous, IsWithinBounds};
 ghost use Rattle.gj_shape.specs.Table.{IsMinimal};
@@ -7,13 +8,23 @@ ghost use Rattle.gj_problem.specs.declared.pieces.Piece.{Piece};
 ghost use Rattle.gj_problem.specs.declared.problem.Inequality.{Inequality};
 ghost use Rattle.gj_problem.specs.declared.problem.Problem.{Problem};
 ghost use Rattle.gj_problem.specs.Rational.{Rational};
-ghost use Rattle.gj_problem.specs.Aggregates.{IsSound, AddsUpAt};
+ghost use Rattle.gj_problem.specs.Aggregates.{IsSound, AddsUpAt, pieces_at};
 ghost use Rattle.gj_safe_cut.specs.declared.cut.SafeCut.{SafeCut};
 ghost use Rattle.gj_safe_cut.specs.declared.cut.SafeCut.TheVariants.{Cut};
 ghost use Rattle.gj_safe_cut.specs.SafeCuts.{SafeCutHolds, IsSameCut, TellsWide};
 ghost use Rattle.gj_relaxed.specs.declared.rows.RightMove.{RightMove};
 ghost use Rattle.gj_relaxed.specs.RelaxedRows.{IsRelaxedRow};
+ghost use Rattle.gj_relaxed.specs.LoosePieces.{IsLoosened};
 ghost use Rattle.gj_relaxed.specs.RelaxedCuts.{IsGmicRelaxedCutOf, IsFunctionRelaxedCutOf};
+
+/// Where whole pieces with small entries are taken as continuous ones, the pieces of a row hold if
+/// they did, and they add the same at each point.
+pub fn loosened_row_is_sound()
+    ensures sound { (n : ℕ) (p : Problem) (pieces loose : List Piece) →
+        AllZip (IsLoosened n) pieces loose → All (IsSound p) pieces → All (IsSound p) loose }
+    ensures adds_same { (n : ℕ) (point : List Rational) (pieces loose : List Piece) →
+        AllZip (IsLoosened n) pieces loose → pieces_at point loose ≡ pieces_at point pieces }
+{}
 
 /// If the pieces of a row hold and are whole where they say so, so it is with the row on the grid.
 /// Where the row adds up to its right side and a whole number, the row on the grid adds up to its.

@@ -1,10 +1,6 @@
-use Rattle.std.proofs.Common.{codes}
-use Rattle.gj_lex.specs.declared.spelling.Spelling.TheVariants.{Lenient}
-use Rattle.gj_line.proofs.KindLaws.{kind_breaks}
-use Rattle.gj_derivation_text.specs.StepLines.{line_form}
-use Rattle.gj_derivation_text.proofs.StepKinds.{times_kind}
+use Rattle.gj_derivation_text.proofs.StepKinds.{no_factor}
 use Rattle.gj_derivation_text.proofs.lines.times_in.Goals as goal
 
-pub returns-in-Err-clause-broken : goal.returns-in-Err-clause-broken
-returns-in-Err-clause-broken c =
-    kind_breaks Lenient line_form (codes "times") _ _ times_kind _ _ c.in-Err.ensures.fault
+pub returns-in-None-clause-broken : goal.returns-in-None-clause-broken
+returns-in-None-clause-broken c =
+    rw c.in-Some.ensures.found (no_factor c.in-Some.word.now c.in-None.ensures.none)

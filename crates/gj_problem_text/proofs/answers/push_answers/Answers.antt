@@ -8,12 +8,14 @@ use Rattle.gj_problem_text.proofs.answers.push_answers.Goals as goal
 
 pub loop-request-init : goal.loop-request-init
 loop-request-init c = record {
+  parts = c.in_ok-parts.ensures;
   count = c.in_ok-at_upper.ensures.count;
   leads = none_answered _ _ _ _ _ c.in_ok-at_upper.ensures.none;
 }
 
 pub loop-request-preserved : goal.loop-request-preserved
 loop-request-preserved c = record {
+  parts = c.loop-request.invariant.parts;
   count = c.in_ok-push_request.ensures.count ∙ c.loop-request.invariant.count;
   leads = one_answered _ _ _ _ _ _ _ _ c.request-item.result _ _ c.loop-request.invariant.leads
       (next_item _ c.loop-request.request-index c.request-item.result c.loop-request-test.true
@@ -41,3 +43,6 @@ push_request-requires-clause-multipliers c =
     (subst (λ (rs : List Request). All (HasMultipliers n) rs)
     (sym c.as_slice-request-items.ensures) c.requires.ready.multipliers
     c.loop-request.request-index c.request-item.result c.loop-request-test.true)
+
+pub push_request-requires-clause-parts : goal.push_request-requires-clause-parts
+push_request-requires-clause-parts c = c.loop-request.invariant.parts

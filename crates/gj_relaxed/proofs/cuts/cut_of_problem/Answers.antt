@@ -24,7 +24,7 @@ returns-in-Row-clause-cut g c =
     IfOk-weaker c.cut_of_row_on_grid.result (IsOfRow (length p.columns) pieces row.right)
     (IsOfProblem IsOfRow p ms ups)
     (of_row IsOfRow p ms ups pieces row.right is
-    (λ j (rs, right', relaxed, h). g.met.C.RowCut.never_free c.args.by.now
+    (λ j (loose, are, (rs, right', relaxed, h)). g.met.C.RowCut.never_free c.args.by.now
     (length p.columns) rs right' j h))
     (subst (λ (cs : List Column). IfOk c.cut_of_row_on_grid.result
     (IsOfRow (length cs) pieces row.right)) c.as_slice.ensures

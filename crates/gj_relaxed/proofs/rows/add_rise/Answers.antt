@@ -7,8 +7,8 @@ use Rattle.gj_problem.specs.declared.problem.Entry.{Entry}
 use Rattle.gj_problem.specs.Problems.{sum_at, surplus_at}
 use Rattle.gj_problem.specs.Steps.{IsWideAt, IsWideWithin}
 use Rattle.gj_problem.proofs.AddedSums.{none_weighted}
+use Rattle.gj_safe_cut.specs.AddedTerms.{surplus_of_sum}
 use Rattle.gj_relaxed.specs.RelaxedRows.{IsWideRise}
-use Rattle.gj_relaxed.specs.RaisedPieces.{sum_surplus_at}
 use Rattle.gj_relaxed.proofs.RowGaps.{difference_value}
 use Rattle.gj_relaxed.proofs.NarrowGaps.{narrow_rise}
 use Rattle.gj_relaxed.proofs.rows.add_rise.Goals as goal
@@ -38,11 +38,11 @@ returns-in_ok-add-clause-rise c =
       count = c.in_ok-add.ensures.count;
       adds = λ point.
           subst
-          (λ (es : List Entry). sum_surplus_at point c.add.new.self
-          ≡ sum_surplus_at point c.args.sum.now +ℚ rational rise
+          (λ (es : List Entry). surplus_of_sum c.add.new.self point
+          ≡ surplus_of_sum c.args.sum.now point +ℚ rational rise
           *ℚ (sum_at point es -ℚ rational s.inequality.right)) c.as_slice.ensures
           (c.in_ok-add.ensures.added point)
-          ∙ ap (λ w. sum_surplus_at point c.args.sum.now +ℚ w *ℚ surplus_at point s.inequality)
+          ∙ ap (λ w. surplus_of_sum c.args.sum.now point +ℚ w *ℚ surplus_at point s.inequality)
           (difference_value c.args.entry s.entry rise c.in_ok-rise.ensures.value);
     }
 
@@ -69,9 +69,9 @@ returns-else-num-ne0-clause-rise c =
     record {
       count = refl;
       adds = λ point.
-          none_weighted rise (sum_surplus_at point c.args.sum.now)
+          none_weighted rise (surplus_of_sum c.args.sum.now point)
           (surplus_at point s.inequality) none
-          ∙ ap (λ w. sum_surplus_at point c.args.sum.now +ℚ w *ℚ surplus_at point s.inequality)
+          ∙ ap (λ w. surplus_of_sum c.args.sum.now point +ℚ w *ℚ surplus_at point s.inequality)
           (difference_value c.args.entry s.entry rise c.in_ok-rise.ensures.value);
     }
 

@@ -2,7 +2,8 @@ use Rattle.std.proofs.Common.{inl, inr, List, [], length, take, get_or, refl, sy
 use Rattle.std.proofs.lemmas.List.{take_all}
 use Rattle.gj_frac.proofs.Refusals.{on_err}
 use Rattle.gj_problem.specs.declared.pieces.Piece.{Piece}
-use Rattle.gj_relaxed.specs.RaisedPieces.{sum_surplus_at, IsWideRaising}
+use Rattle.gj_safe_cut.specs.AddedTerms.{surplus_of_sum}
+use Rattle.gj_relaxed.specs.RaisedPieces.{IsWideRaising}
 use Rattle.gj_relaxed.proofs.RowGaps.{none_raised, next_taken, raised_next, wide_at, all_raised}
 use Rattle.gj_relaxed.proofs.NarrowGaps.{narrow_none, narrow_with, narrow_gap_term}
 use Rattle.gj_relaxed.proofs.rows.raise.Goals as goal
@@ -12,8 +13,7 @@ loop-piece-init c =
     let sum = c.args.sum.now in
     record {
       raised = ([], refl, none_raised c.args.grid sum);
-      narrow = narrow_none c.args.grid (length sum.coefficients.items)
-          (λ point. sum_surplus_at point sum);
+      narrow = narrow_none c.args.grid (length sum.coefficients.items) (surplus_of_sum sum);
     }
 
 pub loop-piece-preserved : goal.loop-piece-preserved
@@ -32,9 +32,9 @@ loop-piece-preserved c =
           c.add_rise.new.sum
           c.in_ok-entry.ensures.above c.in_ok-add_rise.ensures.rise;
       narrow = subst (λ (xs : List Piece). IsWideRaising n xs old → ⊥)
-          (sym (next_taken n ps now made i s old sum c.loop-piece-test.true is h))
-          (narrow_with n (length old.coefficients.items) (λ point. sum_surplus_at point old)
-          (take i ps) made (get_or now i s) sum.coefficients.items
+          (sym (next_taken n ps now made i s c.loop-piece-test.true is h.raised_are))
+          (narrow_with n (length old.coefficients.items) (surplus_of_sum old) (take i ps) made
+          (get_or now i s) sum.coefficients.items
           sum.right h.raised_are h.count h.adds c.loop-piece.invariant.narrow
           (narrow_gap_term n sum.coefficients.items sum.right entry
           (get_or now i s) c.in_ok-entry.ensures.narrow c.in_ok-entry.ensures.above

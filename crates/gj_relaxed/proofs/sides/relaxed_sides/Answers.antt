@@ -1,4 +1,4 @@
-use Rattle.std.proofs.Common.{◌≡◌, ◌≤◌, Bor, List, [], ◌∷◌, ◌++◌, ◌+◌, length, take, drop, length-append, sym, ap, ap₂, subst, ◌∙◌, arith, rules}
+use Rattle.std.proofs.Common.{◌≡◌, ◌≤◌, ◌<◌, ℕ, Bor, List, [], ◌∷◌, ◌++◌, ◌+◌, length, take, drop, get_or, length-append, refl, sym, ap, ap₂, subst, subst₂, ◌∙◌, arith, rules}
 use Rattle.std.proofs.Math.Nat.{le-min}
 use Rattle.std.proofs.lemmas.Option.{MatchOption-at_some, MatchOption-at_none}
 use Rattle.std.proofs.lemmas.Slice.Zip.{zip_turn, zip_end}
@@ -9,6 +9,9 @@ use Rattle.gj_problem.proofs.Prefixes.{made_next, weighted_next, weighted_split,
 use Rattle.gj_problem.proofs.WideRoundings.{handed_on}
 use Rattle.gj_relaxed.specs.RelaxedProblems.{IsUnnamed, IsRelaxedConstraint, AreRelaxed}
 use Rattle.gj_relaxed.specs.RelaxedSteps.{weighted_of}
+use Rattle.gj_relaxed.specs.RelaxedForms.{AreForms}
+use Rattle.gj_relaxed.specs.declared.forms.Forms.{Forms}
+use Rattle.gj_relaxed.proofs.SideForms.{zip_at, zip_count}
 use Rattle.gj_relaxed.proofs.NarrowRelaxing.{HasWideSide, wide_at_side, narrow_no_side, narrow_side_with, narrow_sides_to_free}
 use Rattle.gj_relaxed.proofs.sides.relaxed_sides.Goals as goal
 
@@ -77,6 +80,7 @@ returns-in-Some-2-clause-sides c =
 
 pub loop-constraint-init : goal.loop-constraint-init
 loop-constraint-init c = record {
+  index = refl;
   count = ap (λ (ms : List Frac). length ms) c.new-2.ensures.items
       ∙ sym (ap (λ (cs : List Constraint). length cs) c.new.ensures.items);
   are = ap₂ (λ (ms : List Frac) (cs : List Constraint). weighted ms cs) c.new-2.ensures.items
@@ -112,6 +116,8 @@ loop-constraint-preserved c =
     (turn.2 w.constraint)) in
     let made = MatchOption-at_none _ _ c.in_default.is c.in_ok-column.ensures.next in
     record {
+      index = ap (λ i. i + 1) c.loop-constraint.invariant.index
+          ∙ sym (length-append done (pair ∷ []));
       count = made.0;
       are = made_next IsUnnamed (IsRelaxedConstraint p n) ws vs w
           (weighted_of c.loop-constraint.made) (weighted_of c.add_side.new.made) next
@@ -186,3 +192,44 @@ returns-in-Some-2-clause-narrow c =
     (turn.2 w.constraint)))
     c.loop-constraint.invariant.narrow c.in_ok-column.ensures.narrow
     (MatchOption-at_some _ _ c.in-Some-2.column c.in-Some-2.is c.in_ok-column.ensures.next)
+
+pub form_at-form-requires : goal.form_at-form-requires
+form_at-form-requires c =
+    let ms = c.args.multipliers.now in
+    let cs = c.as_slice-constraints.result.now in
+    let done = c.loop-constraint.yielded in
+    let pair : Bor Constraint × Bor Frac = (c.in-Some.constraint, c.in-Some.multiplier) in
+    let turn = zip_turn cs ms done c.into_iter-constraint-iterator.result
+    c.loop-constraint.constraint-iterator c.next.new.self c.next.result
+    (search rules) (search rules) c.loop-constraint.yielded_by pair c.in-Some.is
+    c.next.ensures.steps in
+    let same : length cs ≡ length c.args.problem.now.constraints =
+    ap (λ (ks : List Constraint). length ks) c.as_slice-constraints.ensures in
+    let count = zip_count (AreForms c.args.problem.now c.args.grid) c.args.problem.now.constraints
+    c.args.forms.now c.requires.forms in
+    let index = c.loop-constraint.invariant.index in
+    omega (arith, turn.0, turn.1, same, count, index)
+
+pub add_side-requires-clause-forms : goal.add_side-requires-clause-forms
+add_side-requires-clause-forms c =
+    let ms = c.args.multipliers.now in
+    let cs = c.as_slice-constraints.result.now in
+    let done = c.loop-constraint.yielded in
+    let pair : Bor Constraint × Bor Frac = (c.in-Some.constraint, c.in-Some.multiplier) in
+    let turn = zip_turn cs ms done c.into_iter-constraint-iterator.result
+    c.loop-constraint.constraint-iterator c.next.new.self c.next.result
+    (search rules) (search rules) c.loop-constraint.yielded_by pair c.in-Some.is
+    c.next.ensures.steps in
+    let R : Constraint → Forms → Type 0 = AreForms c.args.problem.now c.args.grid in
+    let ks = c.args.problem.now.constraints in
+    let k = c.in-Some.constraint.now in
+    let f = c.form_at-form.result.now in
+    let same : cs ≡ ks = c.as_slice-constraints.ensures in
+    let below : c.loop-constraint.index < length ks =
+    subst₂ (λ (i : ℕ) (xs : List Constraint). i < length xs) (sym c.loop-constraint.invariant.index)
+    same turn.0 in
+    subst₂ R
+    (ap₂ (λ (xs : List Constraint) (i : ℕ). get_or xs i k)
+    (sym same) c.loop-constraint.invariant.index ∙ sym (turn.2 k))
+    (sym c.form_at-form.ensures.form)
+    (zip_at R ks c.args.forms.now c.loop-constraint.index k f c.requires.forms below)
