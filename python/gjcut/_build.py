@@ -36,7 +36,3 @@ def build() -> Dict[str, str]:
         commit += " with changes"
     kit = _first_line("rt", "version") or "unknown"
     return {"version": version(), "commit": commit, "kit": kit}
-
-
-if __name__ == "__main__":
-    print(json.dumps(build()))

@@ -174,11 +174,11 @@ DERIVATION_SENTENCES = [
     Sentence(
         see="`number` in a derivation",
         means=(
-            "a word is no number where one belongs: it has an exponent or a decimal comma, no "
-            "digits on one side of its point, or is a name"
+            "a word is no number where one belongs: it has a decimal comma, no digits on one side "
+            "of its point, or is a name; or its value does not fit, as that of `1e-40`"
         ),
-        do="write `0.001` or `1/1000`, as in `term x 1/1000`; a bound that is not there is `-`",
-        words="check", input=derivation("7/2", "35e-1"), answer="refused line 3 number",
+        do="write `0.001`, `1/1000` or `1e-3`, as in `term x 1e-3`; a bound that is not there is `-`",
+        words="check", input=derivation("7/2", "35e-40"), answer="refused line 3 number",
         when=LINE + "number",
     ),
     # ---- limits and names

@@ -11,7 +11,7 @@ from ._asked import done, refused
 from ._explain_derivation import sum_in_words
 from ._functions import Function, function as a_function, line, printed
 from ._library import Answer, call
-from ._problems import A_NAME, Column, Constraint, Multiplier, column_line, column_place
+from ._problems import A_NAME, Column, Constraint, Multiplier, bits_of, column_line, column_place
 from ._problems import columns_of, constraint_lines, constraint_places, constraints_of, name_of
 from ._problems import names_of, rounded
 from ._refusals import REFUSED, Place
@@ -82,10 +82,10 @@ Shown = Union[Step, Rejected]
 
 
 class _Known(NamedTuple):
-    """A constraint, or the claim of a step as one: its lines, and the columns in them."""
+    """A constraint, or the claim of a step as one: its lines, and its entries."""
 
     lines: Sequence[str]
-    columns: Sequence[str]
+    entries: Mapping[str, Number]
 
 
 class _Places(NamedTuple):
@@ -178,7 +178,7 @@ class Derivation:
             places += constraint_places(i, row)
         _answer("check", self.text, places)
         self._known = {
-            row.name: _Known(group, list(row.entries)) for row, group in zip(rows, groups)
+            row.name: _Known(group, dict(row.entries)) for row, group in zip(rows, groups)
         }
 
     @property
@@ -214,6 +214,7 @@ class Derivation:
         times: Number = 1,
         grid: Optional[int] = None,
         name: Optional[str] = None,
+        bits: Optional[int] = None,
     ) -> Step:
         """Adds up constraints and steps. The multiplier of a `<=` is not above 0, that of a `>=` or
         of a step not below 0. If all terms are whole, the right side is rounded up.
@@ -223,7 +224,7 @@ class Derivation:
         >>> print(chain.linear({"c": "-1/2"}))
         -x - y >= -1
         """
-        return self._add(Draft(by, times=times, name=name), grid)
+        return self._add(Draft(by, times=times, name=name), grid, bits)
 
     def cut(
         self,
@@ -233,14 +234,16 @@ class Derivation:
         at_upper: Iterable[str] = (),
         times: Number = 1,
         name: Optional[str] = None,
+        bits: Optional[int] = None,
     ) -> Step:
         """A cut of the sum of constraints and steps, by the rule "gmic" or "function". The
-        multipliers may be any numbers; floats are taken as `safe_cut` takes them. With `grid` the
-        coefficients are multiples of 1/grid, and the right side is the greatest for them."""
+        multipliers may be any numbers; floats are taken to `bits` bits, as by `safe_cut`. With
+        `grid` the coefficients are multiples of 1/grid, and the right side is the greatest for
+        them."""
         if text_of(rule, "rule", wanted=A_RULE) not in CUTS:
             how = "write \"gmic\" or \"function\""
             raise ValueError(f"rule: there is no rule {rule!r} of a cut: {how}")
-        return self._add(Draft(by, rule, at_upper=at_upper, times=times, name=name), grid)
+        return self._add(Draft(by, rule, at_upper=at_upper, times=times, name=name), grid, bits)
 
     def claim(
         self,
@@ -251,6 +254,7 @@ class Derivation:
         times: Number = 1,
         at_upper: Iterable[str] = (),
         name: Optional[str] = None,
+        bits: Optional[int] = None,
     ) -> Step:
         """Your own inequality, by what shows it: the sum of the terms is at least `right`. If that
         is None, the greatest right side is taken.
@@ -265,14 +269,15 @@ class Derivation:
         """
         if not isinstance(terms, abc.Mapping):
             raise wrong(terms, TERMS, "terms")
-        return self._add(Draft(by, rule, terms, right, at_upper, times, name))
+        return self._add(Draft(by, rule, terms, right, at_upper, times, name), None, bits)
 
     def extend(
-        self, drafts: Iterable[Draft], grid: Optional[int] = None
+        self, drafts: Iterable[Draft], grid: Optional[int] = None, bits: Optional[int] = None
     ) -> List[Union[Step, Rejected]]:
         """Adds many steps by one call, and gives each. One that shows nothing is left out, and its
         `Rejected` stands in its place. A claim that does not follow, and a draft that names one
-        that is left out, raise theirs, and then none is added.
+        that is left out, raise theirs, and then none is added. For the bits of a float a draft of
+        this call without terms counts as one whose greatest entry is 1.
 
         >>> x = Column("x", True, 0, None)
         >>> chain = Derivation([x], [Constraint("c", {"x": 2}, "<=", 7)])
@@ -287,28 +292,33 @@ class Derivation:
             if not isinstance(each, Draft):
                 each = Draft(*fields(each, len(Draft._fields), wanted, "drafts", i))
             given.append(each)
-        return self._extend(given, [_Places(i) for i, _ in enumerate(given)], grid)
+        return self._extend(given, [_Places(i) for i, _ in enumerate(given)], grid, bits)
 
-    def _add(self, draft: Draft, grid: Optional[int] = None) -> Step:
-        (found,) = self._extend([draft], [_Places(None)], grid)
+    def _add(self, draft: Draft, grid: Optional[int], bits: Optional[int]) -> Step:
+        (found,) = self._extend([draft], [_Places(None)], grid, bits)
         if isinstance(found, Rejected):
             raise found
         return found
 
     def _extend(
-        self, drafts: Sequence[Draft], places: Sequence[_Places], grid: Optional[int]
+        self,
+        drafts: Sequence[Draft],
+        places: Sequence[_Places],
+        grid: Optional[int],
+        bits: Optional[int],
     ) -> List[Shown]:
-        grid = None if grid is None else whole(grid, "grid")
-        names, asked, known = self._names(drafts, places), [], set()
+        grid, bits = None if grid is None else whole(grid, "grid"), bits_of(bits)
+        names, asked = self._names(drafts, places), []
+        before: Dict[str, Mapping[str, Number]] = {}
         for draft, name, place in zip(drafts, names, places):
-            asked.append(self._asked(draft, name, place, known))
-            known.add(name)
+            asked.append(self._asked(draft, name, place, before, bits))
+            before[name] = draft.terms or {}
         found = self._found(asked, grid)
         for each in found:
             if isinstance(each, Step):
                 self._steps.append(each)
                 self._texts.append("".join(_step_lines(each)))
-                self._known[each.name] = _Known(list(_constraint_lines(each)), list(each.terms))
+                self._known[each.name] = _Known(list(_constraint_lines(each)), each.terms)
         return found
 
     # ---- the arguments
@@ -327,12 +337,22 @@ class Derivation:
         named = iter(given)
         return [next(new if draft.name is None else named) for draft in drafts]
 
-    def _asked(self, draft: Draft, name: str, places: _Places, before: Container[str]) -> _Asked:
-        """The draft, judged. What it names must be known here: the program is told the columns and
-        the constraints that are named, and no others."""
+    def _asked(
+        self,
+        draft: Draft,
+        name: str,
+        places: _Places,
+        before: Mapping[str, Mapping[str, Number]],
+        bits: Sequence[int],
+    ) -> _Asked:
+        """The draft, judged. What it names must be known here, or be before it in the same call,
+        where its terms stand by its name: the program is told the columns and the constraints that
+        are named, and no others."""
         rule, by = self._rule(draft, places), self._multipliers(draft, places, before)
         where = [places.words("by", repr(other)) for other in by]
-        ways = list(rounded(list(draft.by.values()), where))
+        known = self._known
+        entries = [known[other].entries if other in known else before[other] for other in by]
+        ways = list(rounded(list(draft.by.values()), entries, where, bits))
         if not ways:
             raise ValueError(f"{places.of('by')}: a multiplier has more than 127 bits")
         at_upper = self._at_upper(draft, places)
@@ -451,7 +471,8 @@ class Derivation:
         own = {each.name for each in asked}
         named = [other for each in asked for other in each.by if other not in own]
         known = [self._known[other] for other in dict.fromkeys(named)]
-        columns = {column for each in [*asked, *known] for column in each.columns}
+        columns = {column for each in asked for column in each.columns}
+        columns.update(column for each in known for column in each.entries)
         for column in sorted(columns, key=self._order.__getitem__):
             yield self._columns[column]
         for each in known:

@@ -23,44 +23,46 @@ RECORD = r"refused record \d+ "
 # A command that reads a proof text, and one that does not.
 CHECK, NO_CHECK = r"^check$", r"^(?!check$)"
 
+# The numbers of commands.
+TIMES, RESTRICT = "with N from 1 to 500 and J below N", "with D from 2 to 1,000"
+
+
+def refused_words(means: str, do: str, words: str, see: str = "", command: str = "") -> Sentence:
+    """A sentence about words that name no command; `see` is what more is seen."""
+    refused = "words refused"
+    return Sentence(f"`{refused}`{see}", means, do, words, FIVE, refused, refused, command)
+
+
 FUNCTION_SENTENCES = [
     # ---- words
-    Sentence(
-        see="`words refused` from `times` or `restrict`, with the name of a file",
+    refused_words(
+        see=" from `times` or `restrict`, with the name of a file",
         means="a number is missing before the name of the file",
-        do=(
-            "write `python3 -m gjcut times N J FILE`, with N from 1 to 500 and J below N, or "
-            "`restrict D FILE`, with D from 2 to 1,000"
-        ),
-        words="times 3 five.txt", input=FIVE, answer="words refused",
-        when="words refused", command=r"^(times|restrict)\b.*[./]",
+        do=f"write `python3 -m gjcut times N J FILE`, {TIMES}, or `restrict D FILE`, {RESTRICT}",
+        words="times 3 five.txt", command=r"^(times|restrict)\b.*[./]",
     ),
-    Sentence(
-        see="`words refused`, with the name of a file",
+    refused_words(
+        see=", with the name of a file",
         means="the name of a file is no word of a command",
         do="write `gjcut minimal < FILE`, or `python3 -m gjcut minimal FILE`",
-        words="minimal five.txt", input=FIVE, answer="words refused",
-        when="words refused", command=r"[./]",
+        words="minimal five.txt", command=r"[./]",
     ),
-    Sentence(
-        see="`words refused`, with `--json` or `--jumps`",
+    refused_words(
+        see=", with `--json` or `--jumps`",
         means="the word stands twice, or with a command that has no such word",
         do=(
             "write `--json` once, with `minimal`, `extreme` or `show`; `--jumps` once, with "
             "`extreme` or `faces`"
         ),
-        words="minimal --jumps", input=FIVE, answer="words refused",
-        when="words refused", command=r"--(json|jumps)\b",
+        words="minimal --jumps", command=r"--(json|jumps)\b",
     ),
-    Sentence(
-        see="`words refused`",
+    refused_words(
         means="this is no command, or a number is missing or outside its range",
         do=(
-            "look at the [commands](#words-answers-and-statuses): `times N J` with N from 1 to 500 "
-            "and J below N, `restrict D` with D from 2 to 1,000, `demo N` with N from 1 to 249"
+            f"look at the [commands](#words-answers-and-statuses): `times N J` {TIMES}, "
+            f"`restrict D` {RESTRICT}, `demo N` with N from 1 to 249"
         ),
-        words="times 3", input=FIVE, answer="words refused",
-        when="words refused",
+        words="times 3",
     ),
     # ---- the first line
     Sentence(
@@ -326,7 +328,7 @@ FUNCTION_SENTENCES = [
     ),
     Sentence(
         see="`number`: `1e-1`",
-        means="there is no exponent",
+        means="in a function there is no exponent",
         do="write `0.1` or `1/10`",
         words="minimal", input=five("point 3/5 1", "point 6e-1 1"), answer="refused line 4 number",
         when=LINE + "number", command=NO_CHECK, line=r"\d[eE][+-]?\d",

@@ -33,13 +33,14 @@ class Answer(NamedTuple):
 
 
 def packed() -> Path:
-    """The shared library of the repository, made anew where the static library is newer."""
+    """The shared library of the repository, made anew where the proved code is newer."""
     folder = TOP / "crates/gj_library/out"
-    archive, made = folder / "libgj_library.a", folder / NAME
-    if not archive.exists():
+    code, archive, made = (folder / name for name in ("libgj_library.a", "libgjcut.a", NAME))
+    if not any(path.exists() for path in (code, archive, made)):
         how = "without installing, `tools/build/build_library` builds it"
         raise LibraryMissing(f"{MISSING}; {how} (there is no {archive})")
-    if not made.exists() or made.stat().st_mtime <= archive.stat().st_mtime:
+    is_old = code.exists() and made.exists() and made.stat().st_mtime <= code.stat().st_mtime
+    if is_old or not made.exists():
         words = [str(TOP / "tools/build/build_library"), "--pack"]
         done = subprocess.run(words, stderr=subprocess.PIPE, text=True, check=False)
         if done.returncode or not made.exists():

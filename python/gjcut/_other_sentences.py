@@ -228,25 +228,23 @@ OTHER_SENTENCES = [
         answer="no function asymmetric 0",
         when="no function .*",
     ),
-    Sentence(
-        see="`not continuous X` from `extreme`",
-        means=(
-            "the function is minimal, and jumps at X: without the word `--jumps` the command "
-            "decides continuous functions"
-        ),
-        do="write `extreme --jumps`, which says whether it is extreme",
-        words="extreme", input=HALF, answer="not continuous 0",
-        when="not continuous .*", command="^extreme",
-    ),
-    Sentence(
-        see="`not continuous X` from `faces`",
-        means=(
-            "the function jumps at X: without the word `--jumps` the command reads continuous "
-            "functions"
-        ),
-        do="write `faces --jumps`",
-        words="faces", input=HALF, answer="not continuous 0",
-        when="not continuous .*", command="^faces",
+    *(
+        Sentence(
+            see=f"`not continuous X` from `{command}`",
+            means=(
+                f"{jumps} at X: without the word `--jumps` the command {does} continuous functions"
+            ),
+            do=f"write `{command} --jumps`{which}",
+            words=command, input=HALF, answer="not continuous 0",
+            when="not continuous .*", command=f"^{command}",
+        )
+        for command, jumps, does, which in (
+            (
+                "extreme", "the function is minimal, and jumps", "decides",
+                ", which says whether it is extreme",
+            ),
+            ("faces", "the function jumps", "reads", ""),
+        )
     ),
     Sentence(
         see="`not continuous X` from `fill`, `group`, `mixed`, `problem` or `restrict`",

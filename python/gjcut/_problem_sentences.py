@@ -99,19 +99,19 @@ PROBLEM_SENTENCES = [
     ),
     Sentence(
         see="`number` in a problem, at `column`",
-        means="a bound is no fraction: `inf` and `1e20` are none",
-        do="write `-` for a bound that is not there, and `0.001` or `1/1000` for a small one",
+        means="a bound is no number: `inf` is none, and `1e20` is the number 10^20",
+        do="write `-` for a bound that is not there",
         words=WORDS, input=problem("0 -", "0 inf"), answer="refused line 3 number",
         when=LINE + "number", line=r"^\s*column\b",
     ),
     Sentence(
         see="`number` in a problem",
         means=(
-            "a word is no number where one belongs: it has an exponent or a decimal comma, no "
-            "digits on one side of its point, or is a name"
+            "a word is no number where one belongs: it has a decimal comma, no digits on one side "
+            "of its point, or is a name; or its value does not fit, as that of `1e-40`"
         ),
-        do="write `0.001` or `1/1000`, as in `entry x 1/1000`",
-        words=WORDS, input=problem("7/2", "35e-1"), answer="refused line 4 number",
+        do="write `0.001`, `1/1000` or `1e-3`, as in `entry x 1e-3`",
+        words=WORDS, input=problem("7/2", "35e-40"), answer="refused line 4 number",
         when=LINE + "number",
     ),
     Sentence(

@@ -11,11 +11,13 @@ from ._arguments import Number, fields, items, number, text as text_of, whole, w
 from ._asked import refused
 from ._functions import Rule, line, printed, text_of_rule
 from ._library import Answer, call
+from ._lines import exponent
 from ._problem_sentences import WORDS
 from ._refusals import NAME, REFUSED, RIGHT, WIDEST, Place
 
-# A float is taken as a multiple of one over the first of these with which a number is not too wide.
-DENOMINATORS = (2**40, 2**30, 2**20)
+# Floats are taken to so many bits, the first of these with which no number is too wide; a caller
+# may say this many at most. No float is taken to multiples of less than one over 2 to the finest.
+BITS, MOST_BITS, FINEST = (40, 30, 20), 64, 100
 # All numbers on the way to a cut are multiples of one over this, if the caller says nothing else,
 # and he may say this at most.
 ROUND, MOST_ROUND = 2**20, 2**31 - 1
@@ -81,17 +83,23 @@ def safe_cut(
     at_upper: Iterable[str] = (),
     grid: Optional[int] = None,
     round: Optional[int] = ROUND,
+    bits: Optional[int] = None,
 ) -> SafeCut:
     """The cut of a mixed-integer program that the rule gives of the sum of its constraints, each
     times its multiplier.
 
     Each feasible point of the problem meets the cut, whatever the multipliers are: whole numbers in
-    whole columns, any in the others. Multipliers alone may be floats. These are rounded to
-    multiples of 1/2**40; and if a number of the computation is then too wide, to those of 1/2**30
-    and of 1/2**20. `at_upper` names the columns that are turned by their upper bounds. With `grid`
-    the numbers of the cut are rounded to multiples of 1/grid, so that it holds still. A tuple of
-    the same fields serves as a `Column` or a `Constraint`. A value of another type raises
-    `TypeError`, which says where it stands.
+    whole columns, any in the others. `at_upper` names the columns that are turned by their upper
+    bounds. With `grid` the numbers of the cut are rounded to multiples of 1/grid, so that it holds
+    still. A tuple of the same fields serves as a `Column` or a `Constraint`. A value of another
+    type raises `TypeError`, which says where it stands.
+
+    Multipliers alone may be floats. These are taken to `bits` bits of the greatest entry that the
+    multipliers make, each times the entries of its constraint: a float goes to the nearest multiple
+    of the greatest power of 2 that times the greatest entry of its constraint is at most 1/2**bits
+    of that. So constraints with large numbers get fine multipliers, and no entry of a constraint
+    moves by more than 1/2**(bits + 1) of the greatest. `bits` is an int from 1 to 64, or None: then
+    it is 40, and 30 or 20 if a number of the computation is too wide.
 
     Data, and the entries of the row, are taken over `round`, each in the direction in which the cut
     holds: so no number grows long, and the cut is weaker by some 1/round. It is None or an int from
@@ -122,10 +130,12 @@ def safe_cut(
         None if grid is None else whole(grid, "grid"),
         round_of(round),
     )
+    ways = bits_of(bits)
     text, found = "".join(_lines(given)), SafeCut({}, None, "wide", "")
     given_multipliers = items(multipliers, NUMBERS, "multipliers")
     places = [("multipliers", i) for i, _ in enumerate(given_multipliers)]
-    for tried in rounded(given_multipliers, places):
+    entries = [constraint.entries for constraint in given.constraints]
+    for tried in rounded(given_multipliers, entries, places, ways):
         found = _answer(text, given, tried)
         if found.skipped != "wide":
             break
@@ -134,16 +144,24 @@ def safe_cut(
 
 def round_of(given: Optional[int]) -> Optional[int]:
     """What all numbers are taken over, or None."""
-    if given is None:
-        return None
+    return None if given is None else _up_to(given, MOST_ROUND, "round")
+
+
+def bits_of(given: Optional[int]) -> Sequence[int]:
+    """To how many bits floats are taken, in each way that is tried."""
+    return BITS if given is None else (_up_to(given, MOST_BITS, "bits"),)
+
+
+def _up_to(given: int, most: int, argument: str) -> int:
+    """A whole number from 1 to the most, of an argument that can be None."""
     try:
-        parts = whole(given, "round")
+        found = whole(given, argument)
     except TypeError:
-        raise wrong(given, f"an int from 1 to {MOST_ROUND}, or None", "round") from None
-    if not 1 <= parts <= MOST_ROUND:
-        shown = written(parts, "round")
-        raise ValueError(f"round: {shown} is not from 1 to {MOST_ROUND}: write such an int, or None")
-    return parts
+        raise wrong(given, f"an int from 1 to {most}, or None", argument) from None
+    if not 1 <= found <= most:
+        shown = written(found, argument)
+        raise ValueError(f"{argument}: {shown} is not from 1 to {most}: write such an int, or None")
+    return found
 
 
 def _front(rule: Rule) -> Sequence[str]:
@@ -265,18 +283,40 @@ def _sense(given: str, *place) -> str:
 
 
 def rounded(
-    multipliers: Sequence[Multiplier], places: Sequence[Sequence]
+    multipliers: Sequence[Multiplier],
+    entries: Sequence[Mapping[str, Number]],
+    places: Sequence[Sequence],
+    ways: Sequence[int] = BITS,
 ) -> Iterator[List[Fraction]]:
     """The multipliers as fractions, in each way that is tried; without a float there is one. The
-    places are those of the multipliers, in the words of a `Place`."""
+    entries are those of their constraints, the places those of the multipliers, in the words of a
+    `Place`, and the ways how many bits are kept."""
     floats = [_is_float(given) for given in multipliers]
     values = [_value(given, *place) for given, place in zip(multipliers, places)]
-    for parts in DENOMINATORS if any(floats) else (1,):
-        pairs = zip(values, floats)
-        taken = [Fraction(round(x * parts), parts) if is_float else x for x, is_float in pairs]
+    sizes = [Fraction(1)] * len(values)
+    if any(floats):
+        sizes[: len(entries)] = [_size(each) if x else 1 for x, each in zip(values, entries)]
+    greatest = max((abs(x) * size for x, size in zip(values, sizes)), default=0)
+    for bits in ways if any(floats) and greatest else (0,):
+        taken = [
+            _nearest(x, size, greatest, bits) if is_float and x else x
+            for x, size, is_float in zip(values, sizes, floats)
+        ]
         # What has more bits cannot be written.
         if not any(is_float and is_wide(x) for x, is_float in zip(taken, floats)):
             yield taken
+
+
+def _size(entries: Mapping[str, Number]) -> Fraction:
+    """The greatest entry of a constraint in absolute value; 1 if all are 0."""
+    return max((abs(number(x)) for x in entries.values()), default=Fraction(0)) or Fraction(1)
+
+
+def _nearest(value: Fraction, size: Fraction, greatest: Fraction, bits: int) -> Fraction:
+    """The multiplier of a constraint whose greatest entry is the size, to so many bits of the
+    greatest entry that the multipliers make."""
+    parts = Fraction(2) ** min(exponent(size / greatest * 2**bits), FINEST)
+    return round(value * parts) / parts
 
 
 def _is_float(given: Multiplier) -> bool:

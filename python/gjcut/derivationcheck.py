@@ -38,8 +38,8 @@ class Wrong(Exception):
 # ---- numbers and lines
 
 
-def number(word):
-    """A number in any spelling, or None."""
+def lenient(word):
+    """A number of a function, in any spelling, or None."""
     found = re.fullmatch(r"([+-]?)([0-9]+)(?:/([0-9]+)|\.([0-9]+))?", word)
     if not found:
         return None
@@ -49,6 +49,44 @@ def number(word):
         return None
     top, bottom = int(sign + (top or "0")), int(bottom)
     return Fraction(top, bottom) if max(abs(top), bottom) <= WIDEST else None
+
+
+DECIMAL = re.compile(r"([+-]?)([0-9]+)(?:\.([0-9]+))?[eE]([+-]?)([0-9]+)")
+HEXADECIMAL = re.compile(r"([+-]?)0[xX]([0-9a-fA-F]+)(?:\.([0-9a-fA-F]+))?[pP]([+-]?)([0-9]+)")
+
+
+def scaled(word):
+    """A number with an exponent, decimal or as C prints one in hexadecimal, or None. Its digits make
+    a number of at most 2^127 - 1 without the point, and so do its parts in lowest terms."""
+    for form, radix, base, step in (DECIMAL, 10, 10, 1), (HEXADECIMAL, 16, 2, 4):
+        found = form.fullmatch(word)
+        if found:
+            break
+    else:
+        return None
+    sign, front, behind, below, size = found.groups("")
+    digits, size = (front + behind).lstrip("0") or "0", size.lstrip("0") or "0"
+    if len(digits) > 39:
+        return None
+    top = int(digits, radix)
+    if top == 0 or top > WIDEST:
+        return Fraction(0) if top == 0 else None
+    # No text has so many digits behind a point.
+    size = int(size) if len(size) < 20 else 10**20
+    power = (-size if below == "-" else size) - step * len(behind)
+    # The power below divides the digits' number times the denominator.
+    if abs(power) > 254:
+        return None
+    value = Fraction(top) * Fraction(base) ** power
+    if max(value.numerator, value.denominator) > WIDEST:
+        return None
+    return -value if sign == "-" else value
+
+
+def number(word):
+    """A number of the program or of a step, in any spelling, or None."""
+    value = lenient(word)
+    return scaled(word) if value is None else value
 
 
 def bound(word):
@@ -62,7 +100,7 @@ def positive(word):
 
 
 def count(word):
-    value = number(word) if word.isdigit() else None
+    value = lenient(word) if word.isdigit() else None
     return None if value is None else int(value)
 
 
@@ -129,26 +167,26 @@ def read_values(lines):
     (order,) = lines.read(("order", count))
     if not 2 <= order <= GREATEST_ORDER:
         lines.refuse("order")
-    (f,) = lines.read(("f", number))
+    (f,) = lines.read(("f", lenient))
     if not (0 < f < 1 and (f * order).denominator == 1):
         lines.refuse("place")
     points, scale = [], 1
     for _ in range(order):
-        points.append(lines.read(("point", number), ["point", *[number] * 3]))
+        points.append(lines.read(("point", lenient), ["point", *[lenient] * 3]))
         scale = test_values(lines, points[-1], scale)
     lines.read(("end",))
     return function_of(f, points)
 
 
 def read_breakpoints(lines):
-    (f,) = lines.read(("f", number))
+    (f,) = lines.read(("f", lenient))
     if not 0 < f < 1:
         lines.refuse("place")
     order, scale, breaks = f.denominator, 1, []
     if order > GREATEST_ORDER:
         lines.refuse("pieces")
     while not breaks or lines.words[0] == "point":
-        x, *values = lines.read(("point", number, number), ["point", *[number] * 4])
+        x, *values = lines.read(("point", lenient, lenient), ["point", *[lenient] * 4])
         if (x <= breaks[-1][0] if breaks else x != 0) or x >= 1:
             lines.refuse("break")
         order = lcm(order, x.denominator)
@@ -173,7 +211,7 @@ def between(breaks, order):
 
 
 def read_family(lines):
-    kind, *said = lines.read(("family", "gmic|half", number), ("family", "two-slope", count, ".*"))
+    kind, *said = lines.read(("family", "gmic|half", lenient), ("family", "two-slope", count, ".*"))
     f = two_slope_place(lines, *said) if kind == "two-slope" else said[0]
     if not 0 < f < 1:
         lines.refuse("bad-f")

@@ -23,7 +23,7 @@ from ._functions import Rule, text_of_rule
 from ._known import Known
 from ._mixed_rounding import MixedRounding
 from ._lines import Entries, Line, range_of
-from ._problems import DENOMINATORS, ROUND, Column, Constraint, round_of
+from ._problems import ROUND, Column, Constraint, round_of
 from ._refusals import Refused
 from ._relaxation import Relaxation, SimplexFailed, TimeOver, Unreadable
 from ._row_cuts import RowCuts, Vertex, Way, in_doubles
@@ -35,6 +35,8 @@ __all__ = [
 
 # A column that is nearer than this to a whole number gives no row.
 NEARLY_WHOLE = 1e-3
+# Multipliers are taken over this, or that times a power of two, where data are as they come.
+EXACT = 2**40
 # So many rows are tried for each cut that a round may take.
 ROWS_FOR_ONE = 5
 # Costs are changed by so much for multipliers that serve with columns that have no bound.
@@ -370,7 +372,7 @@ class Model:
                 raise ValueError("rule: there were cuts by another function, and a proof has one")
             self._known.front = text
         rule = "gmic" if text is None else "function"
-        return Way(rule, parts or DENOMINATORS[0], grid, limit, has_mir, parts is None)
+        return Way(rule, parts or EXACT, grid, limit, has_mir, parts is None)
 
     def _round(self, way: Way, deadline: Optional[float]) -> Optional[Round]:
         """One round, or None where no row gives a cut."""

@@ -7,10 +7,10 @@ from fractions import Fraction
 
 import gjcut
 from gjcut import Column, Constraint, Derivation, Draft, Rejected, Step, derivationcheck
-from gjcut._problems import DENOMINATORS
+from gjcut._problems import BITS
 from gjcut.sentences import CAUSES
 from test_proofcheck import EXAMPLES
-from test_safe_cut import PROGRAM, X, Program, fractions, multiplier
+from test_safe_cut import PROGRAM, X, Program, fractions, multiplier, near
 
 OBJECTIVE = {"x": -4, "y": -5, "z": 2}
 DUALS = {"a": "6/5", "b": "2/5", "first": "-1/2"}
@@ -104,14 +104,58 @@ class ByHand(unittest.TestCase):
     def test_floats(self):
         chain = Derivation(*PROGRAM)
         cut = chain.cut({"first": 0.6, "second": -0.2})
-        exact = {"first": 0.6, "second": -0.2}
-        wanted = {name: Fraction(round(m * 2**40), 2**40) for name, m in exact.items()}
+        # The greatest entry is 0.6 times 2. Of 1.2/2**40 the greatest powers of 2 are that times 2
+        # is at most it 1/2**41, and that times 3, which is the greatest entry of the second, 1/2**42.
+        wanted = {"first": near(0.6, 41), "second": near(-0.2, 42)}
         self.assertEqual(cut.by, wanted)
-        # The right side is over 2**100.
+        # The right side is over 2**100, and with a multiplier over 2**32 too wide. The entry is 1/3
+        # of 1, so multipliers have two bits more than are kept.
         fine = [X], [Constraint("c", {"x": 1}, "<=", 3 + Fraction(1, 2**100))]
         cut = Derivation(*fine).linear({"c": -1 / 3})
-        self.assertEqual(cut.by, {"c": Fraction(round(-(2**20) / 3), 2**20)})
-        self.assertEqual(DENOMINATORS[-1], 2**20)
+        self.assertEqual(cut.by, {"c": near(-1 / 3, BITS[-1] + 2)})
+
+    def test_bits(self):
+        chain = Derivation(*PROGRAM)
+        # Of 1.2/8, which is 0.15, with 2 and with 3: 1/16 and 1/32.
+        cut = chain.cut({"first": 0.6, "second": -0.2}, bits=3, name="a")
+        self.assertEqual(cut.by, {"first": Fraction(10, 16), "second": Fraction(-6, 32)})
+        # The row 5/8 first - 3/16 second: 17/16 x + 1/16 y + 3/16 z + 5/8 s1 - 3/16 s2 = 43/16, f is
+        # 11/16, and the cut 1/11 x + 1/11 y + 3/11 z + 10/11 s1 + 3/5 s2 >= 1. With s1 = 7 - 2x - y
+        # and s2 = 9 - x - 3y + z it is -128/55 x - 144/55 y + 48/55 z >= -592/55.
+        self.assertEqual(numbers_of(cut, *"xyz"), fractions("-128/55", "-144/55", "48/55", "-592/55"))
+        # The step has the greatest entry 144/55, so times 0.7 that is 1.83; of the constraint it is
+        # 2 times 0.3. Of a quarter of the first, 0.458, a step gets 1/8, and the constraint too.
+        for step in (
+            chain.linear({"a": 0.7, "first": -0.3}, bits=2),
+            chain.claim({"x": 9, "y": 9, "z": 9}, None, {"a": 0.7, "first": -0.3}, bits=2),
+            *chain.extend([Draft({"a": 0.7, "first": -0.3})], bits=2),
+        ):
+            self.assertEqual(step.by, {"a": Fraction(6, 8), "first": Fraction(-2, 8)})
+        # A draft of the same call counts by its terms, and without terms as one with the entry 1.
+        drafts = [
+            Draft({"first": -1}, terms={"x": 16, "y": -1}, name="b"),
+            Draft({"first": -1}, name="c"),
+            Draft({"b": 0.7, "c": 2.7}),
+        ]
+        # Of 11.2/4, which is 2.8: with 16 it is 1/8, and with 1 it is 2.
+        found = chain.extend(drafts, bits=2)
+        self.assertEqual(found[2].by, {"b": Fraction(6, 8), "c": Fraction(2)})
+
+    def test_bits_of_another_type(self):
+        chain, by = Derivation(*PROGRAM), {"first": -0.6}
+        for call in (
+            lambda bits: chain.linear(by, bits=bits),
+            lambda bits: chain.cut(by, bits=bits),
+            lambda bits: chain.claim({}, None, by, bits=bits),
+            lambda bits: chain.extend([Draft(by)], bits=bits),
+        ):
+            for wrong in (2.0, "4", True, Fraction(4), [4]):
+                with self.assertRaisesRegex(TypeError, "^bits: .* write an int from 1 to 64, or No"):
+                    call(wrong)
+            for wrong in (0, -1, 65, 10**5000):
+                with self.assertRaisesRegex(ValueError, "^bits: "):
+                    call(wrong)
+        self.assertEqual(chain.steps, ())
 
 
 class Lists(unittest.TestCase):

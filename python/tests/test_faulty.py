@@ -99,7 +99,7 @@ FAULTY_PROBLEMS = [
     ("constraint c <= 7/2\n", "", "stands after its constraint"),
     ("entry x", "entry X", "Correct the name"),
     ("sum 1", "sum", "not as many multipliers as constraints"),
-    ("sum 1", "sum 1e-3", "Write `0.001` or `1/1000`"),
+    ("sum 1", "sum 1e-40", "Write `0.001`, `1/1000` or `1e-3`"),
     ("rule gmic\n", "", "does not begin with the lines `gj-problem 1` and `rule gmic`"),
     ("end\n", "", "The line `end` is missing"),
     ("end\n", "end\nsum 1\n", "Something follows the line `end`"),

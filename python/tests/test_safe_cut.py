@@ -9,7 +9,7 @@ from fractions import Fraction
 
 import gjcut
 from gjcut import Column, Constraint, safe_cut
-from gjcut._problems import DENOMINATORS, MOST_ROUND, ROUND
+from gjcut._problems import BITS, MOST_ROUND, ROUND
 
 exact_cut = functools.partial(safe_cut, round=None)
 
@@ -23,6 +23,11 @@ ONE = [X], [Constraint("c", {"x": 1}, "<=", "7/2")]
 
 def fractions(*texts):
     return [Fraction(text) for text in texts]
+
+
+def near(value, power):
+    """The nearest multiple of 1 over 2 to this power."""
+    return Fraction(round(Fraction(value) * Fraction(2) ** power)) / Fraction(2) ** power
 
 
 def numbers_of(cut, *names):
@@ -96,11 +101,13 @@ class ByAFunction(unittest.TestCase):
 
 class Floats(unittest.TestCase):
     def test_a_float_is_taken_over_a_power_of_two(self):
-        exact = [Fraction(round(m * 2**40), 2**40) for m in (0.6, -0.2)]
+        # The greatest entry is 0.6 times 2. Of 1.2/2**40 the greatest powers of 2 are that times 2
+        # is at most it 1/2**41, and that times 3, which is the greatest entry of the second, 1/2**42.
+        exact = [near(0.6, 41), near(-0.2, 42)]
         for cut_of in (safe_cut, exact_cut):
             cut = cut_of(*PROGRAM, [0.6, -0.2])
             self.assertEqual(cut, cut_of(*PROGRAM, exact))
-            self.assertNotEqual(cut, cut_of(*PROGRAM, ["3/5", "-1/5"]))
+        self.assertNotEqual(cut, exact_cut(*PROGRAM, ["3/5", "-1/5"]))
 
     def test_and_over_a_lesser_one_where_a_number_is_too_wide(self):
         source, taken = random.Random(3), set()
@@ -115,14 +122,13 @@ class Floats(unittest.TestCase):
             floats = [source.uniform(-1, 1) for _ in rows]
             found = exact_cut(columns, rows, floats)
             self.assertNotEqual(safe_cut(columns, rows, floats).skipped, "wide")
-            for denominator in DENOMINATORS:
-                exact = [Fraction(round(m * denominator), denominator) for m in floats]
-                cut = exact_cut(columns, rows, exact)
+            for bits in BITS:
+                cut = exact_cut(columns, rows, floats, bits=bits)
                 if cut.skipped != "wide":
-                    taken.add(denominator)
+                    taken.add(bits)
                     break
             self.assertEqual(found, cut)
-        self.assertEqual(taken, set(DENOMINATORS))
+        self.assertEqual(taken, set(BITS))
 
     def test_of_any_size(self):
         self.assertEqual(safe_cut(*ONE, [1e30]).skipped, "integral")
@@ -146,6 +152,91 @@ class Floats(unittest.TestCase):
                 safe_cut(columns, [constraint], [1])
         with self.assertRaises(TypeError):
             safe_cut(*ONE, [1], grid=4.0)
+
+
+class Bits(unittest.TestCase):
+    """How many bits of the greatest entry that floats make are kept."""
+
+    def assert_taken(self, floats, exact, constraints, **words):
+        columns = [X, Y, Z]
+        cut = exact_cut(columns, constraints, floats, **words)
+        self.assertEqual(cut, exact_cut(columns, constraints, fractions(*exact)))
+        self.assertNotEqual(cut.skipped, "wide")
+
+    def test_by_hand(self):
+        # The greatest entries are 4 and 3, so the multipliers make 1.2 and 2.1. An eighth of 2.1 is
+        # 0.2625: 4/16 and 3/16 are at most that, and 4/8 and 3/8 are not.
+        rows = [Constraint("c", {"x": 4, "y": -1}, "<=", 7), Constraint("d", {"x": -3}, ">=", -9)]
+        self.assert_taken([0.3, 0.7], ["5/16", "11/16"], rows, bits=3)
+        # 2.1/32 is 0.065625, and 4/64 and 3/64 are below it.
+        self.assert_taken([0.3, 0.7], ["19/64", "45/64"], rows, bits=5)
+        # A half of 2.1 is 1.05, and 4/4 and 3/4 are below it.
+        self.assert_taken([0.3, 0.7], ["1/4", "3/4"], rows, bits=1)
+
+    def test_one_constraint_alone(self):
+        # 0.1 makes 0.3. A 16th of that is 0.01875, and 3/256 is below it.
+        row = Constraint("c", {"x": 3, "y": "-5/2", "z": Decimal("0.5")}, "<=", 4)
+        self.assert_taken([0.1], ["26/256"], [row], bits=4)
+        # With a thousandth, and 1000 times the entries: 3000/2**18 is below 0.01875.
+        row = Constraint("c", {"x": 3000, "y": -2500, "z": Fraction(500)}, "<=", 4000)
+        self.assert_taken([0.0001], ["26/262144"], [row], bits=4)
+
+    def test_exact_multipliers_stay(self):
+        rows = [Constraint("c", {"x": 4}, "<=", 7), Constraint("d", {"y": 3}, "<=", 9)]
+        # 100 makes 300. A quarter of that is 75, and 16 times 4 is 64.
+        self.assert_taken([30.0, 100], ["32", "100"], rows, bits=2)
+        # 30 makes 120. A quarter of that is 30, and 4 times 4 is 16.
+        self.assert_taken([30.0, "1/3"], ["32", "1/3"], rows, bits=2)
+        self.assert_taken(["2/7", "1/3"], ["2/7", "1/3"], rows, bits=1)
+
+    def test_what_makes_no_entry(self):
+        # A constraint whose entries are 0 counts as one with the entry 1: 0.7 and 20. A half of 20
+        # is 10: 8 times 1, and 100/16.
+        for entries in ({}, {"x": 0}):
+            c, d = Constraint("c", entries, "<=", 7), Constraint("d", {"y": 100}, "<=", 9)
+            self.assert_taken([0.7, 0.2], ["0", "3/16"], [c, d], bits=1)
+            self.assert_taken([0.7, 0.0], ["3/4", "0"], [c, d], bits=1)
+            self.assert_taken([0.0, 0.0], ["0", "0"], [c, d], bits=1)
+
+    def test_coefficients_of_four_million(self):
+        # By 1/4,000,000 the row is x + 3/4 y + 1/4,000,000 s = 5/2, and s is whole. Its cut, 1/2 y +
+        # 1/2,000,000 s >= 1, is 2 x + y <= 4.
+        problem = [X, Y], [Constraint("c", {"x": 4 * 10**6, "y": 3 * 10**6}, "<=", 10**7)]
+        cut = exact_cut(*problem, ["1/4000000"])
+        self.assertEqual(numbers_of(cut, "x", "y"), [-2, -1, -4])
+        # Over 2**20 the multiplier is 0, or 1 part: 15625/4096 x + 46875/16384 y + 1/2**20 s =
+        # 78125/8192, with f = 4397/8192. The cut is 2/5 x + 3/10 y + 1/562816 s >= 1, and that is
+        # 36864/21985 times 4 x + 3 y <= 10, the constraint itself.
+        self.assertEqual(exact_cut(*problem, [near(2.5e-7, 20)]).skipped, "integral")
+        cut = exact_cut(*problem, ["1/1048576"])
+        wanted = [Fraction(-36864, 21985) * each for each in (4, 3, 10)]
+        self.assertEqual(numbers_of(cut, "x", "y"), wanted)
+        # 20 bits of the entry, which is 1, are multiples of 1/2**42.
+        self.assertEqual(near(2.5e-7, 42), Fraction(1_099_512, 2**42))
+        cut = exact_cut(*problem, [2.5e-7], bits=20)
+        self.assertEqual(cut, exact_cut(*problem, [near(2.5e-7, 42)]))
+        for found, wanted in zip(numbers_of(cut, "x", "y"), (-2, -1, -4)):
+            self.assertLess(abs(found - wanted), 1e-5)
+        # With `round` the entry of s, too, is a multiple of 1/round. By 2**20 it goes up to 1 part,
+        # so s has 2/2**20. What the row grows by has the entry -1, so 2, and it is s times
+        # 1/2**20 - 1/4,000,000. The cut is 1/2 y + w s >= 1 with w as here.
+        w = Fraction(2, 2**20) + 2 * (Fraction(1, 2**20) - Fraction(1, 4 * 10**6))
+        cut = safe_cut(*problem, ["1/4000000"])
+        wanted = [-4 * 10**6 * w, Fraction(1, 2) - 3 * 10**6 * w, 1 - 10**7 * w]
+        self.assertEqual(numbers_of(cut, "x", "y"), wanted)
+        # So the constraint is divided by what its numbers have in common, and s has the entry 1/4.
+        problem = [X, Y], [Constraint("c", {"x": 4, "y": 3}, "<=", 10)]
+        self.assertEqual(numbers_of(safe_cut(*problem, [0.25]), "x", "y"), [-2, -1, -4])
+
+    def test_of_another_type(self):
+        for wrong in (2.0, "4", True, Fraction(4), [4]):
+            with self.assertRaisesRegex(TypeError, "^bits: .* write an int from 1 to 64, or None"):
+                safe_cut(*ONE, [0.5], bits=wrong)
+        for wrong in (0, -1, 65, 10**400):
+            with self.assertRaisesRegex(ValueError, "^bits: .* is not from 1 to 64: write such an"):
+                safe_cut(*ONE, [1], bits=wrong)
+        for bits in (1, 64, None):
+            self.assertIsInstance(safe_cut(*PROGRAM, [0.6, -0.2], bits=bits), gjcut.SafeCut)
 
 
 class Rounds(unittest.TestCase):
