@@ -217,14 +217,15 @@ class Bits(unittest.TestCase):
         self.assertEqual(cut, exact_cut(*problem, [near(2.5e-7, 42)]))
         for found, wanted in zip(numbers_of(cut, "x", "y"), (-2, -1, -4)):
             self.assertLess(abs(found - wanted), 1e-5)
-        # With `round` the entry of s, too, is a multiple of 1/round. By 2**20 it goes up to 1 part,
-        # so s has 2/2**20. What the row grows by has the entry -1, so 2, and it is s times
-        # 1/2**20 - 1/4,000,000. The cut is 1/2 y + w s >= 1 with w as here.
-        w = Fraction(2, 2**20) + 2 * (Fraction(1, 2**20) - Fraction(1, 4 * 10**6))
+        # With `round` the entry of s is small, so s / 2**20 is a continuous column with the entry
+        # 2**20/4,000,000. That is 274877.9 parts of 1/2**20, and goes up to 274878. What the row grows
+        # by has the entry -1, so 2, and is s / 2**20 times how far it went up. The cut is
+        # 1/2 y + w s >= 1 with w as here.
+        w = Fraction(2 * 274878, 2**40) + 2 * (Fraction(274878, 2**40) - Fraction(1, 4 * 10**6))
         cut = safe_cut(*problem, ["1/4000000"])
         wanted = [-4 * 10**6 * w, Fraction(1, 2) - 3 * 10**6 * w, 1 - 10**7 * w]
         self.assertEqual(numbers_of(cut, "x", "y"), wanted)
-        # So the constraint is divided by what its numbers have in common, and s has the entry 1/4.
+        # Divided by what its numbers have in common, s has the entry 1/4, and nothing is rounded.
         problem = [X, Y], [Constraint("c", {"x": 4, "y": 3}, "<=", 10)]
         self.assertEqual(numbers_of(safe_cut(*problem, [0.25]), "x", "y"), [-2, -1, -4])
 
