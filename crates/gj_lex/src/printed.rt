@@ -46,7 +46,7 @@ pub fn printed_fraction(text: &[u8]) -> Option<(Frac, &[u8])>
         BeginsWithNoDigit rest → slice_index rest 0 ≢ 47 → text.now ≡ fraction_text x ++ rest →
         (r.0 ≡ x) × (r.1.now ≡ rest)) }
 {
-    fraction_at(text, false)
+    fraction_at::<false>(text)
 }
 
 /// The same by a look at eight bytes at once, which is faster where most numbers have more than
@@ -63,12 +63,11 @@ pub fn printed_long_fraction(text: &[u8]) -> Option<(Frac, &[u8])>
         BeginsWithNoDigit rest → slice_index rest 0 ≢ 47 → text.now ≡ fraction_text x ++ rest →
         (r.0 ≡ x) × (r.1.now ≡ rest)) }
 {
-    fraction_at(text, true)
+    fraction_at::<true>(text)
 }
 
 /// The same, with digits read one by one, or by a look at eight bytes at once.
-#[inline(always)]
-fn fraction_at(text: &[u8], at_once: bool) -> Option<(Frac, &[u8])>
+fn fraction_at<const AT_ONCE: bool>(text: &[u8]) -> Option<(Frac, &[u8])>
     ensures small { IfSome result (λ r. (unsigned_abs (numerator r.0) < 10 ^ 18) ×
         (unsigned_abs (denominator r.0) < 10 ^ 18)) }
     ensures found { IfSome result (λ r. text.now ≡ fraction_text r.0 ++ r.1.now) }
@@ -80,8 +79,8 @@ fn fraction_at(text: &[u8], at_once: bool) -> Option<(Frac, &[u8])>
         BeginsWithNoDigit rest → slice_index rest 0 ≢ 47 → text.now ≡ fraction_text x ++ rest →
         (r.0 ≡ x) × (r.1.now ≡ rest)) }
 {
-    let (num, rest) = whole_at(text, at_once)?;
-    let (den, rest) = denominator_at(rest, at_once)?;
+    let (num, rest) = whole_at::<AT_ONCE>(text)?;
+    let (den, rest) = denominator_at::<AT_ONCE>(rest)?;
     Some((small_in_lowest_terms(num, den)?, rest))
 }
 
@@ -114,12 +113,11 @@ pub fn printed_whole(text: &[u8]) -> Option<(i64, &[u8])>
         BeginsWithNoDigit rest → text.now ≡ signed_decimal n ++ rest →
         (r.0 ≡ n) × (r.1.now ≡ rest)) }
 {
-    whole_at(text, false)
+    whole_at::<false>(text)
 }
 
 /// The same, with digits read one by one, or by a look at eight bytes at once.
-#[inline(always)]
-fn whole_at(text: &[u8], at_once: bool) -> Option<(i64, &[u8])>
+fn whole_at<const AT_ONCE: bool>(text: &[u8]) -> Option<(i64, &[u8])>
     ensures small { IfSome result (λ r. unsigned_abs r.0 < 10 ^ 18) }
     ensures found { IfSome result (λ r. text.now ≡ signed_decimal r.0 ++ r.1.now) }
     ensures none { IfNone result ((n : ℤ) (rest : List ℕ) → unsigned_abs n < 10 ^ 18 →
@@ -129,10 +127,10 @@ fn whole_at(text: &[u8], at_once: bool) -> Option<(i64, &[u8])>
         (r.0 ≡ n) × (r.1.now ≡ rest)) }
 {
     let Some(digits) = behind_byte(text, b'-') else {
-        let (size, rest) = number_at(text, at_once)?;
+        let (size, rest) = number_at::<AT_ONCE>(text)?;
         return Some((size as i64, rest));
     };
-    let (size, rest) = number_at(digits, at_once)?;
+    let (size, rest) = number_at::<AT_ONCE>(digits)?;
     if size == 0 {
         return None;
     }
@@ -141,8 +139,7 @@ fn whole_at(text: &[u8], at_once: bool) -> Option<(i64, &[u8])>
 
 /// The denominator with whose printed text the text begins, and what follows that: 1 if no `/`
 /// stands there.
-#[inline(always)]
-fn denominator_at(text: &[u8], at_once: bool) -> Option<(u64, &[u8])>
+fn denominator_at<const AT_ONCE: bool>(text: &[u8]) -> Option<(u64, &[u8])>
     ensures some { IfSome result (λ r. 0 < r.0) }
     ensures small { IfSome result (λ r. r.0 < 10 ^ 18) }
     ensures printed { IfSome result (λ r. text.now ≡ denominator_text r.0 ++ r.1.now) }
@@ -156,7 +153,7 @@ fn denominator_at(text: &[u8], at_once: bool) -> Option<(u64, &[u8])>
     let Some(digits) = behind_byte(text, b'/') else {
         return Some((1, text));
     };
-    let (den, rest) = number_at(digits, at_once)?;
+    let (den, rest) = number_at::<AT_ONCE>(digits)?;
     if den < 2 {
         return None;
     }
@@ -175,12 +172,11 @@ pub fn printed_number(text: &[u8]) -> Option<(u64, &[u8])>
     ensures only { IfSome result (λ r. (n : ℕ) (rest : List ℕ) → n < 10 ^ 18 →
         BeginsWithNoDigit rest → text.now ≡ decimal n ++ rest → (r.0 ≡ n) × (r.1.now ≡ rest)) }
 {
-    number_at(text, false)
+    number_at::<false>(text)
 }
 
 /// The same, with digits read one by one, or by a look at eight bytes at once.
-#[inline(always)]
-fn number_at(text: &[u8], at_once: bool) -> Option<(u64, &[u8])>
+fn number_at<const AT_ONCE: bool>(text: &[u8]) -> Option<(u64, &[u8])>
     ensures small { IfSome result (λ r. r.0 < 10 ^ 18) }
     ensures printed { IfSome result (λ r. text.now ≡ decimal r.0 ++ r.1.now) }
     ensures none { IfNone result ((n : ℕ) (rest : List ℕ) → n < 10 ^ 18 → BeginsWithNoDigit rest →
@@ -189,7 +185,7 @@ fn number_at(text: &[u8], at_once: bool) -> Option<(u64, &[u8])>
         BeginsWithNoDigit rest → text.now ≡ decimal n ++ rest → (r.0 ≡ n) × (r.1.now ≡ rest)) }
 {
     let (front, _) = text.split_at(text.len().min(MOST_DIGITS));
-    let (number, len) = front_value(front, at_once);
+    let (number, len) = front_value::<AT_ONCE>(front);
     let (digits, rest) = text.split_at(len);
     if !is_canonical(digits) {
         return None;
@@ -200,14 +196,14 @@ fn number_at(text: &[u8], at_once: bool) -> Option<(u64, &[u8])>
 /// The number that the digits at the front of the bytes spell, and how many these are, read one by
 /// one, or by a look at eight bytes at once.
 #[inline(always)]
-fn front_value(word: &[u8], at_once: bool) -> (u64, usize)
+fn front_value<const AT_ONCE: bool>(word: &[u8]) -> (u64, usize)
     requires { length word.now ≤ 18 }
     ensures digits { AllDigits 10 (take result.1 word.now) }
     ensures value { result.0 ≡ digits_value 10 (take result.1 word.now) }
     ensures within { result.1 ≤ length word.now }
     ensures all { result.1 < length word.now → 10 ≤ digit_value (slice_index word.now result.1) }
 {
-    if at_once {
+    if AT_ONCE {
         leading_value_by_lanes(0, word)
     } else {
         leading_value(word)
