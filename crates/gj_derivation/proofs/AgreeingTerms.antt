@@ -3,7 +3,7 @@ use Rattle.std.proofs.Common.{◌≡◌, ⊎_elim, inl, inr, ℕ, zero, suc, ◌
 use Rattle.std.proofs.lemmas.List.{length-take-le}
 use Rattle.gj_frac.specs.declared.Frac.{Frac}
 use Rattle.gj_frac.specs.Fits.{FitsProduct}
-use Rattle.gj_problem.specs.Rational.{Rational, rational}
+use Rattle.gj_fields.specs.Rational.{Rational, rational}
 use Rattle.gj_problem.specs.declared.problem.Column.{Column}
 use Rattle.gj_problem.specs.Moves.{HasLower, HasUpper, IsMovedBy, AreMovedBy}
 use Rattle.gj_derivation.specs.Derivations.{Line, times}

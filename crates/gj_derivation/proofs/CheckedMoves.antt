@@ -9,10 +9,10 @@ use Rattle.std.specs.Ordering.{MatchOrdering}
 use Rattle.gj_frac.specs.CompareValues.{compare_values}
 use Rattle.gj_frac.specs.TotalOrder.{IsLess, compare_values_ranks}
 use Rattle.gj_frac.specs.Fraction.{IsWhole, IsRatio, numerator}
-use Rattle.gj_problem.specs.Rational.{Rational, whole, rational, ◌+ℚ◌, ◌*ℚ◌, neg_ℚ, ◌-ℚ◌, ◌≤ℚ◌}
-use Rattle.gj_problem.proofs.RationalLaws.{add_assoc_q, mul_zero_q, one_mul_q, whole_top, whole_bottom}
-use Rattle.gj_problem.proofs.RationalOrder.{IsNonnegativeQ, difference_nonnegative, at_most_from_difference}
-use Rattle.gj_problem.proofs.RationalRing.{by_ring_q, ring_q}
+use Rattle.gj_fields.specs.Rational.{Rational, whole, rational, ◌+ℚ◌, ◌*ℚ◌, neg_ℚ, ◌-ℚ◌, ◌≤ℚ◌}
+use Rattle.gj_fields.proofs.RationalLaws.{add_assoc_q, mul_zero_q, one_mul_q, whole_top, whole_bottom}
+use Rattle.gj_fields.proofs.RationalOrder.{IsNonnegativeQ, difference_nonnegative, at_most_from_difference}
+use Rattle.gj_fields.proofs.RationalRing.{by_ring_q, ring_q}
 use Rattle.gj_problem.specs.declared.problem.Column.{Column}
 use Rattle.gj_problem.specs.declared.sums.Sum.{Sum}
 use Rattle.gj_problem.specs.Aggregates.{IsUpperBound}

@@ -1,11 +1,11 @@
 -- Sums over the columns of a point.
 use Rattle.std.proofs.Common.{◌≡◌, ℕ, zero, suc, List, [], ◌∷◌, pos, refl, sym, ap, ap₂, ◌∙◌}
-use Rattle.gj_problem.specs.Rational.{Rational, whole, rational, ◌+ℚ◌, ◌*ℚ◌, ◌-ℚ◌}
-use Rattle.gj_problem.proofs.RationalRing.{by_ring_q, ring_q}
+use Rattle.gj_fields.specs.Rational.{Rational, whole, rational, ◌+ℚ◌, ◌*ℚ◌, ◌-ℚ◌}
+use Rattle.gj_fields.proofs.RationalRing.{by_ring_q, ring_q}
 use Rattle.gj_problem.specs.declared.problem.Entry.{Entry}
 use Rattle.gj_problem.specs.Problems.{value_at, sum_at}
 use Rattle.gj_problem.proofs.AddedSums.{zero_step}
-use Rattle.gj_problem.proofs.RationalLaws.{mul_zero_q}
+use Rattle.gj_fields.proofs.RationalLaws.{mul_zero_q}
 use Rattle.gj_derivation.specs.Derivations.{Line, unit, coefficient_in}
 
 -- the coefficients, each times its column

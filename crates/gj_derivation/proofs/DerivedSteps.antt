@@ -6,7 +6,7 @@ use Rattle.std.proofs.lemmas.List.Elements.{All-nil, All-cons, All-head, All-tai
 use Rattle.gj_frac.specs.declared.Frac.{Frac}
 use Rattle.gj_frac.specs.Fraction.{numerator}
 use Rattle.gj_shape.specs.FunctionData.{FunctionData}
-use Rattle.gj_problem.specs.Rational.{rational}
+use Rattle.gj_fields.specs.Rational.{rational}
 use Rattle.gj_problem.specs.declared.problem.Problem.{Problem}
 use Rattle.gj_problem.proofs.Prefixes.{split_at}
 use Rattle.gj_derivation.specs.declared.draft.Claim.{Claim}

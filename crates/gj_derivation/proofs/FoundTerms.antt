@@ -2,10 +2,10 @@
 use Rattle.std.proofs.Common.{◌≡◌, ◌⊎◌, ⊎_elim, inl, inr, ℕ, zero, suc, ◌+◌, ◌<◌, ◌≤◌, Option, Some, None, List, [], ◌∷◌, ◌++◌, length, get_or, take, pos, refl, sym, ap, subst, subst₂, ◌∙◌, arith}
 use Rattle.std.proofs.lemmas.List.{get_or-take, length-take-le, length_push}
 use Rattle.gj_frac.specs.declared.Frac.{Frac}
-use Rattle.gj_problem.specs.Rational.{Rational, whole, rational, neg_ℚ, ◌≤ℚ◌}
-use Rattle.gj_problem.proofs.RationalLaws.{mul_zero_q}
-use Rattle.gj_problem.proofs.RationalOrder.{at_most_both, at_most_turned}
-use Rattle.gj_problem.proofs.RationalRing.{by_ring_q, ring_q}
+use Rattle.gj_fields.specs.Rational.{Rational, whole, rational, neg_ℚ, ◌≤ℚ◌}
+use Rattle.gj_fields.proofs.RationalLaws.{mul_zero_q}
+use Rattle.gj_fields.proofs.RationalOrder.{at_most_both, at_most_turned}
+use Rattle.gj_fields.proofs.RationalRing.{by_ring_q, ring_q}
 use Rattle.gj_problem.proofs.Prefixes.{default_unused}
 use Rattle.gj_problem.specs.declared.problem.Column.{Column}
 use Rattle.gj_problem.specs.Rows.{dot}

@@ -5,10 +5,10 @@ use Rattle.std.proofs.lemmas.Bool.Decides.{eqb_tells}
 use Rattle.std.proofs.lemmas.List.{take_more, length-set, get_or-set_same, get_or-set_other}
 use Rattle.std.proofs.lemmas.List.Elements.{Contains-append_left, Contains-append_right, Contains-append_cases}
 use Rattle.gj_frac.specs.declared.Frac.{Frac}
-use Rattle.gj_problem.specs.Rational.{rational, ◌+ℚ◌, ◌*ℚ◌}
+use Rattle.gj_fields.specs.Rational.{rational, ◌+ℚ◌, ◌*ℚ◌}
 use Rattle.gj_problem.proofs.AddedSums.{dot_set, last_entry}
 use Rattle.gj_problem.proofs.Prefixes.{split_at, default_unused}
-use Rattle.gj_problem.proofs.RationalLaws.{add_assoc_q}
+use Rattle.gj_fields.proofs.RationalLaws.{add_assoc_q}
 use Rattle.gj_problem.specs.declared.problem.Constraint.{Constraint}
 use Rattle.gj_problem.specs.declared.problem.Problem.{Problem}
 use Rattle.gj_problem.specs.Problems.{value_at, IsConstraint}

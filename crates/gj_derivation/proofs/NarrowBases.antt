@@ -3,7 +3,7 @@ use Rattle.std.proofs.Common.{◌≡◌, ◌⊎◌, ⊎_elim, ℕ, ◌+◌, ◌<
 use Rattle.gj_frac.specs.declared.Frac.{Frac}
 use Rattle.gj_frac.specs.Fits.{FitsSum}
 use Rattle.gj_shape.specs.FunctionData.{FunctionData}
-use Rattle.gj_problem.specs.Rational.{Rational, whole, rational}
+use Rattle.gj_fields.specs.Rational.{Rational, whole, rational}
 use Rattle.gj_problem.specs.declared.problem.Constraint.{Constraint}
 use Rattle.gj_problem.specs.declared.problem.Entry.{Entry}
 use Rattle.gj_problem.specs.declared.problem.Problem.{Problem}

@@ -6,9 +6,9 @@ use Rattle.std.proofs.lemmas.List.{get_or-take, length-take-le, take_all}
 use Rattle.gj_frac.specs.declared.Frac.{Frac}
 use Rattle.gj_frac.specs.Fits.{FitsProduct, FitsSum}
 use Rattle.gj_frac.specs.Fraction.{numerator}
-use Rattle.gj_problem.specs.Rational.{Rational, whole, rational, ◌+ℚ◌, ◌*ℚ◌, neg_ℚ, ◌-ℚ◌}
-use Rattle.gj_problem.proofs.RationalLaws.{mul_zero_q}
-use Rattle.gj_problem.proofs.RationalRing.{by_ring_q, ring_q}
+use Rattle.gj_fields.specs.Rational.{Rational, whole, rational, ◌+ℚ◌, ◌*ℚ◌, neg_ℚ, ◌-ℚ◌}
+use Rattle.gj_fields.proofs.RationalLaws.{mul_zero_q}
+use Rattle.gj_fields.proofs.RationalRing.{by_ring_q, ring_q}
 use Rattle.gj_problem.proofs.AddedSums.{zero_frac}
 use Rattle.gj_problem.proofs.OneMove.{no_shift, one_shift}
 use Rattle.gj_problem.proofs.OneRow.{rational_injective}

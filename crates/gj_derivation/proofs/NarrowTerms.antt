@@ -5,7 +5,7 @@ use Rattle.std.proofs.lemmas.List.{get_or-take, length-take-le}
 use Rattle.gj_frac.specs.declared.Frac.{Frac}
 use Rattle.gj_frac.specs.Fits.{FitsProduct}
 use Rattle.gj_frac.specs.Fraction.{numerator}
-use Rattle.gj_problem.specs.Rational.{Rational, whole, rational, ◌*ℚ◌, neg_ℚ}
+use Rattle.gj_fields.specs.Rational.{Rational, whole, rational, ◌*ℚ◌, neg_ℚ}
 use Rattle.gj_problem.specs.RoundedCuts.{IsWideTimes}
 use Rattle.gj_problem.proofs.AddedSums.{zero_frac}
 use Rattle.gj_problem.proofs.OneRow.{rational_injective}

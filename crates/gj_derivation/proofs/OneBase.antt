@@ -2,8 +2,8 @@
 use Rattle.std.proofs.Common.{◌≡◌, ◌⊎◌, inl, inr, ◌↔◌, ℕ, zero, suc, ◌<◌, Bool, true, false, IsTrue, Contains, Option, Some, None, IfSome, List, [], ◌∷◌, length, get_or, pos, refl, sym, ap, ap₂, subst, subst₂, ◌∙◌, arith}
 use Rattle.gj_frac.specs.declared.Frac.{Frac}
 use Rattle.gj_shape.specs.FunctionData.{FunctionData}
-use Rattle.gj_problem.specs.Rational.{Rational, whole, rational, ◌+ℚ◌, ◌*ℚ◌, ◌-ℚ◌}
-use Rattle.gj_problem.proofs.RationalRing.{by_ring_q, ring_q}
+use Rattle.gj_fields.specs.Rational.{Rational, whole, rational, ◌+ℚ◌, ◌*ℚ◌, ◌-ℚ◌}
+use Rattle.gj_fields.proofs.RationalRing.{by_ring_q, ring_q}
 use Rattle.gj_problem.proofs.OneColumn.{nothing_sum, put_back}
 use Rattle.gj_problem.proofs.OneRow.{rational_injective, dot_none, one_time, no_time}
 use Rattle.gj_problem.specs.declared.problem.Inequality.{Inequality}

@@ -2,9 +2,9 @@
 use Rattle.std.proofs.Common.{◌≡◌, ⊎_elim, inl, inr, ◌↔◌, ℕ, zero, suc, Option, Some, None, List, [], ◌∷◌, pos, refl, sym, ap, ap₂, subst, ◌∙◌}
 use Rattle.gj_frac.specs.declared.Frac.{Frac}
 use Rattle.gj_shape.specs.FunctionData.{FunctionData}
-use Rattle.gj_problem.specs.Rational.{Rational, whole, rational, ◌+ℚ◌, ◌*ℚ◌, neg_ℚ, ◌-ℚ◌, ◌≤ℚ◌}
-use Rattle.gj_problem.proofs.RationalOrder.{at_most_both, at_most_turned}
-use Rattle.gj_problem.proofs.RationalRing.{by_ring_q, ring_q}
+use Rattle.gj_fields.specs.Rational.{Rational, whole, rational, ◌+ℚ◌, ◌*ℚ◌, neg_ℚ, ◌-ℚ◌, ◌≤ℚ◌}
+use Rattle.gj_fields.proofs.RationalOrder.{at_most_both, at_most_turned}
+use Rattle.gj_fields.proofs.RationalRing.{by_ring_q, ring_q}
 use Rattle.gj_problem.proofs.OneMove.{one_shift, one_above}
 use Rattle.gj_problem.proofs.OneRow.{one_lower, one_upper}
 use Rattle.gj_problem.specs.declared.problem.Column.{Column}

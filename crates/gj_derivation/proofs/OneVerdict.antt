@@ -6,7 +6,7 @@ use Rattle.std.proofs.lemmas.List.Elements.{All-head}
 use Rattle.gj_frac.specs.declared.Frac.{Frac}
 use Rattle.gj_shape.specs.FunctionData.{FunctionData}
 use Rattle.gj_lemmas.proofs.Lists.{All-back}
-use Rattle.gj_problem.specs.Rational.{Rational, rational, ◌≤ℚ◌}
+use Rattle.gj_fields.specs.Rational.{Rational, rational, ◌≤ℚ◌}
 use Rattle.gj_problem.specs.declared.problem.Column.{Column}
 use Rattle.gj_problem.specs.declared.problem.Entry.{Entry}
 use Rattle.gj_problem.specs.declared.problem.Problem.{Problem}

@@ -7,9 +7,9 @@ use Rattle.gj_lemmas.proofs.Integers.{one_mul_z, mul_comm_z}
 use Rattle.gj_frac.specs.declared.Frac.{Frac}
 use Rattle.gj_frac.specs.Fraction.{Fits}
 use Rattle.gj_frac.specs.Fits.{FitsProduct, FitsSum}
-use Rattle.gj_problem.specs.Rational.{Rational, whole, rational, ◌+ℚ◌, ◌*ℚ◌}
-use Rattle.gj_problem.proofs.RationalLaws.{whole_top, whole_bottom}
-use Rattle.gj_problem.proofs.RationalRing.{by_ring_q, ring_q}
+use Rattle.gj_fields.specs.Rational.{Rational, whole, rational, ◌+ℚ◌, ◌*ℚ◌}
+use Rattle.gj_fields.proofs.RationalLaws.{whole_top, whole_bottom}
+use Rattle.gj_fields.proofs.RationalRing.{by_ring_q, ring_q}
 use Rattle.gj_problem.specs.declared.problem.Entry.{Entry}
 use Rattle.gj_problem.specs.Problems.{value_at, sum_at, AreTermsWithin}
 use Rattle.gj_problem.specs.Steps.{IsWideAt}

@@ -5,7 +5,7 @@ use Rattle.gj_frac.specs.declared.Frac.{Frac}
 use Rattle.gj_frac.specs.Fits.{FitsProduct}
 use Rattle.gj_frac.specs.Fraction.{numerator}
 use Rattle.gj_shape.specs.FunctionData.{FunctionData}
-use Rattle.gj_problem.specs.Rational.{Rational, rational, neg_ℚ, ◌*ℚ◌}
+use Rattle.gj_fields.specs.Rational.{Rational, rational, neg_ℚ, ◌*ℚ◌}
 use Rattle.gj_problem.specs.declared.problem.Column.{Column}
 use Rattle.gj_problem.specs.declared.problem.Inequality.{Inequality}
 use Rattle.gj_problem.specs.declared.problem.Problem.{Problem}

@@ -2,7 +2,7 @@
 ghost use Rattle.std.specs.Prelude.{◌≡◌, ◌<◌, ◌^◌, ℕ, All, IfOk, IfSome, MatchOption, None, Err};
 ghost use Rattle.std.specs.Prelude.{OnOk, length, slice_index_or};
 ghost use Rattle.std.specs.Option.{option_copied};
-ghost use Rattle.gj_problem.specs.Rational.{rational};
+ghost use Rattle.gj_fields.specs.Rational.{rational};
 ghost use Rattle.gj_problem.specs.Problems.{AreTermsWithin};
 ghost use Rattle.gj_derivation.specs.declared.step.Verdict.TheVariants.{Wide as wide};
 ghost use Rattle.gj_derivation.specs.declared.draft.Shown.TheVariants.{Against};

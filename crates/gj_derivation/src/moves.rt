@@ -1,7 +1,7 @@
 //! Coefficients moved by the bounds of their columns.
 ghost use Rattle.std.specs.Prelude.{◌≡◌, ◌⊎◌, ◌↔◌, pos, ◌<ℤ◌, true, false, None, length};
 ghost use Rattle.std.specs.Prelude.{IfOk, IsTrue, MatchOption, OnErr, OnOk};
-ghost use Rattle.gj_problem.specs.Rational.{rational, ◌*ℚ◌, ◌≤ℚ◌};
+ghost use Rattle.gj_fields.specs.Rational.{rational, ◌*ℚ◌, ◌≤ℚ◌};
 ghost use Rattle.gj_frac.specs.Fraction.{IsWhole, numerator};
 ghost use Rattle.gj_derivation.specs.Derivations.{IsWholeTerm, IsRoundedUp};
 ghost use Rattle.gj_problem.specs.Moves.{HasLower, HasUpper, IsMovedBy};

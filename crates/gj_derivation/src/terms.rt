@@ -1,7 +1,7 @@
 //! Terms over all columns, given or found.
 ghost use Rattle.std.specs.Prelude.{◌≡◌, ◌<◌, Some, IfOk, IfSome, OnErr, OnOk, Err};
 ghost use Rattle.std.specs.Prelude.{length};
-ghost use Rattle.gj_problem.specs.Rational.{rational, ◌*ℚ◌};
+ghost use Rattle.gj_fields.specs.Rational.{rational, ◌*ℚ◌};
 ghost use Rattle.gj_derivation.specs.Derivations.{coefficient_in, times};
 ghost use Rattle.gj_derivation.specs.Checks.{IsSumFor, IsWideTerms, line_of_sum};
 ghost use Rattle.gj_derivation.specs.Drafts.{IsFoundOrNone, IsFound, IsWideGrid, IsWideFoundAt};

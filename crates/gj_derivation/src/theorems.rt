@@ -2,7 +2,7 @@
 ghost use Rattle.std.specs.Prelude.{◌≡◌, ◌↔◌, ◌⊎◌, ℕ, List, All as AllOf, Option, IfSome};
 ghost use Rattle.gj_frac.specs.declared.Frac.{Frac};
 ghost use Rattle.gj_shape.specs.FunctionData.{FunctionData};
-ghost use Rattle.gj_problem.specs.Rational.{Rational, rational, ◌≤ℚ◌};
+ghost use Rattle.gj_fields.specs.Rational.{Rational, rational, ◌≤ℚ◌};
 ghost use Rattle.gj_problem.specs.declared.problem.Problem.{Problem};
 ghost use Rattle.gj_problem.specs.Problems.{Holds};
 ghost use Rattle.gj_derivation.specs.declared.step.Combination.{Combination};

@@ -6,7 +6,7 @@ use Rattle.gj_shape.specs.Table.{table}
 use Rattle.gj_shape.proofs.TableLemmas.{at_plus_order, table_of_order, table_between, pieces_of}
 use Rattle.gj_fields.specs.Fields.{OrderedField, HasFloor, number, whole}
 use Rattle.gj_fields.specs.Functions.{IsValid, IsExtremeAmong}
-use Rattle.gj_fields.proofs.Fractions.{fractions, fraction_floors}
+use Rattle.gj_fields.proofs.Rationals.{rationals, rational_floors}
 use Rattle.gj_fields.proofs.FromRules.{rules_minimal}
 use Rattle.gj_fields.proofs.Ring.{ring}
 use Rattle.gj_fields.proofs.Ring.Term.{var, ◌⊗◌}
@@ -133,7 +133,7 @@ pub extreme_from_conditions : (f : FunctionData) → IsWithinBounds f → IsExtr
 extreme_from_conditions f bounds h = record {
   minimal = h.minimal;
   no_average =
-      no_parts fractions fraction_floors f (pieces_of bounds)
-      (extreme_by_cover fractions fraction_floors f bounds h.minimal h.covered
-      (only_zero_in_field fractions f bounds h.only_zero));
+      no_parts rationals rational_floors f (pieces_of bounds)
+      (extreme_by_cover rationals rational_floors f bounds h.minimal h.covered
+      (only_zero_in_field rationals f bounds h.only_zero));
 }

@@ -10,9 +10,9 @@ use Rattle.gj_frac.proofs.Crosswise.{denominators_some}
 use Rattle.gj_lemmas.proofs.Integers.{positive_some_z, mul_cancel_right_z, swap_last_z, one_mul_z}
 use Rattle.gj_lemmas.proofs.Ring.{by_ring, ring}
 use Rattle.gj_lemmas.proofs.Ratios.{ratio_along}
-use Rattle.gj_problem.specs.Rational.{Rational, whole, rational, ◌+ℚ◌, ◌*ℚ◌, neg_ℚ, ◌-ℚ◌}
-use Rattle.gj_problem.proofs.RationalLaws.{equal_q, sum_is, product_is, mul_assoc_q, add_assoc_q, add_comm_q, zero_add_q, zero_mul_q}
-use Rattle.gj_problem.proofs.RationalRing.{by_ring_q, ring_q}
+use Rattle.gj_fields.specs.Rational.{Rational, whole, rational, ◌+ℚ◌, ◌*ℚ◌, neg_ℚ, ◌-ℚ◌}
+use Rattle.gj_fields.proofs.RationalLaws.{equal_q, sum_is, product_is, mul_assoc_q, add_assoc_q, add_comm_q, zero_add_q, zero_mul_q}
+use Rattle.gj_fields.proofs.RationalRing.{by_ring_q, ring_q}
 use Rattle.gj_problem.specs.declared.problem.Entry.{Entry}
 use Rattle.gj_problem.specs.Problems.{value_at, sum_at}
 use Rattle.gj_problem.specs.Rows.{dot}

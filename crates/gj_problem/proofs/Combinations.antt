@@ -15,7 +15,7 @@ use Rattle.gj_lemmas.specs.Divisors.{gcd_of}
 use Rattle.gj_lemmas.proofs.Divisors.{gcd_of_is, gcd_positive}
 use Rattle.gj_lemmas.proofs.Integers.{abs_add_z, abs_positive_z, pos-*ℤ-pos, mul_assoc_z, mul_comm_z, mul_lt_cancel_right_z, mul_positive_z, positive_some_z, swap_last_z}
 use Rattle.gj_lemmas.proofs.Ratios.{ratio_along, ratio_sum, ratio_product}
-use Rattle.gj_problem.specs.Rational.{Rational, whole, rational, ◌+ℚ◌, ◌*ℚ◌, ◌-ℚ◌}
+use Rattle.gj_fields.specs.Rational.{Rational, whole, rational, ◌+ℚ◌, ◌*ℚ◌, ◌-ℚ◌}
 use Rattle.gj_problem.specs.declared.problem.Entry.{Entry}
 use Rattle.gj_problem.specs.declared.problem.Problem.{Problem}
 use Rattle.gj_problem.specs.Problems.{sum_at}
@@ -26,7 +26,7 @@ use Rattle.gj_problem.specs.Steps.{IsWideAt}
 use Rattle.gj_problem.specs.OneDenominator.{IsOneDenominator, IsTimes, IsSumWith}
 use Rattle.gj_problem.specs.Combinations.{IsOver, AreOver, HasNone, IsEntryAdded, AreEntriesAdded, IsAdded, IsConstraintAdded}
 use Rattle.gj_problem.proofs.AddedSums.{multiple_value, entry_added, entries_added, nothing_added, inequality_added, dot_zero, whole_ratio, none_weighted}
-use Rattle.gj_problem.proofs.RationalRing.{by_ring_q, ring_q}
+use Rattle.gj_fields.proofs.RationalRing.{by_ring_q, ring_q}
 use Rattle.gj_problem.proofs.MadePieces.{zip_joined}
 use Rattle.gj_problem.proofs.NarrowSums.{narrow_at, narrow_entry, narrow_at_first, narrow_next}
 use lib.IntN.{zero-*ℤ}

@@ -6,10 +6,10 @@ use Rattle.gj_frac.specs.declared.Frac.{Frac}
 use Rattle.gj_frac.specs.Fraction.{numerator}
 use Rattle.gj_shape.specs.Given.{IsCommonDenominator, numerator_over}
 use Rattle.gj_shape.proofs.LeastDenominator.{Divides}
-use Rattle.gj_problem.specs.Rational.{Rational, whole, rational, ◌+ℚ◌, ◌*ℚ◌, neg_ℚ, ◌-ℚ◌, IsWholeNumber}
-use Rattle.gj_problem.proofs.RationalLaws.{zero_add_q, zero_mul_q, whole_neg}
-use Rattle.gj_problem.proofs.RationalOrder.{IsNonnegativeQ}
-use Rattle.gj_problem.proofs.RationalRing.{by_ring_q, ring_q}
+use Rattle.gj_fields.specs.Rational.{Rational, whole, rational, ◌+ℚ◌, ◌*ℚ◌, neg_ℚ, ◌-ℚ◌, IsWholeNumber}
+use Rattle.gj_fields.proofs.RationalLaws.{zero_add_q, zero_mul_q, whole_neg}
+use Rattle.gj_fields.proofs.RationalOrder.{IsNonnegativeQ}
+use Rattle.gj_fields.proofs.RationalRing.{by_ring_q, ring_q}
 use Rattle.gj_problem.specs.declared.problem.Constraint.{Constraint}
 use Rattle.gj_problem.specs.declared.problem.Entry.{Entry}
 use Rattle.gj_problem.specs.declared.problem.Problem.{Problem}

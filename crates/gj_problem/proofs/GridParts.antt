@@ -4,10 +4,10 @@ use Rattle.std.proofs.lemmas.Int.{ints}
 use Rattle.gj_frac.specs.declared.Frac.{Frac}
 use Rattle.gj_frac.specs.Floor.{IsFloor}
 use Rattle.gj_frac.specs.Fraction.{IsRatio, IsWhole}
-use Rattle.gj_problem.specs.Rational.{Rational, whole, rational, ◌*ℚ◌, ◌≤ℚ◌, IsWholeNumber, ◌+ℚ◌, ◌-ℚ◌}
-use Rattle.gj_problem.proofs.RationalLaws.{whole_add, whole_sub, equal_q, product_is, mul_comm_q, whole_bottom}
-use Rattle.gj_problem.proofs.RationalOrder.{IsNonnegativeQ, whole_nonnegative, difference_nonnegative, at_most_whole, at_most_scaled, at_most_cancel}
-use Rattle.gj_problem.proofs.RationalRing.{by_ring_q, ring_q}
+use Rattle.gj_fields.specs.Rational.{Rational, whole, rational, ◌*ℚ◌, ◌≤ℚ◌, IsWholeNumber, ◌+ℚ◌, ◌-ℚ◌}
+use Rattle.gj_fields.proofs.RationalLaws.{whole_add, whole_sub, equal_q, product_is, mul_comm_q, whole_bottom}
+use Rattle.gj_fields.proofs.RationalOrder.{IsNonnegativeQ, whole_nonnegative, difference_nonnegative, at_most_whole, at_most_scaled, at_most_cancel}
+use Rattle.gj_fields.proofs.RationalRing.{by_ring_q, ring_q}
 use Rattle.gj_problem.proofs.HeldInequalities.{whole_frac}
 use Rattle.gj_problem.proofs.Numerators.{ratio_whole}
 use Rattle.gj_problem.proofs.TurnedColumns.{below_floor}

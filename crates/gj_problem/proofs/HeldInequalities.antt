@@ -6,10 +6,10 @@ use Rattle.std.proofs.lemmas.Int.{ints}
 use Rattle.std.proofs.lemmas.List.Elements.{All-head, All-tail, All-get_or}
 use Rattle.gj_frac.specs.declared.Frac.{Frac}
 use Rattle.gj_frac.specs.Fraction.{IsWhole}
-use Rattle.gj_problem.specs.Rational.{Rational, whole, rational, ◌+ℚ◌, ◌*ℚ◌, neg_ℚ, ◌-ℚ◌, ◌≤ℚ◌, IsWholeNumber}
-use Rattle.gj_problem.proofs.RationalLaws.{equal_q, whole_add, whole_mul, whole_neg}
-use Rattle.gj_problem.proofs.RationalOrder.{IsNonnegativeQ, nonnegative_whole, nonnegative_add, nonnegative_mul, difference_nonnegative, at_most_from_difference}
-use Rattle.gj_problem.proofs.RationalRing.{by_ring_q, ring_q}
+use Rattle.gj_fields.specs.Rational.{Rational, whole, rational, ◌+ℚ◌, ◌*ℚ◌, neg_ℚ, ◌-ℚ◌, ◌≤ℚ◌, IsWholeNumber}
+use Rattle.gj_fields.proofs.RationalLaws.{equal_q, whole_add, whole_mul, whole_neg}
+use Rattle.gj_fields.proofs.RationalOrder.{IsNonnegativeQ, nonnegative_whole, nonnegative_add, nonnegative_mul, difference_nonnegative, at_most_from_difference}
+use Rattle.gj_fields.proofs.RationalRing.{by_ring_q, ring_q}
 use Rattle.gj_problem.specs.declared.problem.Column.{Column}
 use Rattle.gj_problem.specs.declared.problem.Constraint.{Constraint}
 use Rattle.gj_problem.specs.declared.problem.Entry.{Entry}

@@ -1,6 +1,3 @@
-pub mod RationalLaws
-pub mod RationalRing
-pub mod RationalOrder
 pub mod Numerators
 pub mod HeldInequalities
 pub mod AddedSums

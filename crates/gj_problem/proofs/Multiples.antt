@@ -11,14 +11,14 @@ use Rattle.gj_frac.proofs.OneDenominator.{fits_sum_over}
 use Rattle.gj_lemmas.proofs.Integers.{abs_neg_z, mul_comm_z, one_mul_z, positive_some_z}
 use Rattle.gj_problem.specs.declared.problem.Entry.{Entry}
 use Rattle.gj_problem.specs.declared.problem.Inequality.{Inequality}
-use Rattle.gj_problem.specs.Rational.{Rational, whole, rational, ◌+ℚ◌, ◌*ℚ◌}
+use Rattle.gj_fields.specs.Rational.{Rational, whole, rational, ◌+ℚ◌, ◌*ℚ◌}
 use Rattle.gj_problem.specs.Rows.{IsMultiple}
 use Rattle.gj_problem.specs.Signs.{IsSign, IsNegated}
 use Rattle.gj_problem.proofs.OneColumn.{IsTimes}
 use Rattle.gj_problem.specs.Steps.{IsWideAt}
 use Rattle.gj_problem.proofs.AddedSums.{none_weighted, negation_value}
 use Rattle.gj_problem.proofs.NarrowSums.{narrow_at}
-use Rattle.gj_problem.proofs.RationalLaws.{equal_q, mul_comm_q, one_mul_q}
+use Rattle.gj_fields.proofs.RationalLaws.{equal_q, mul_comm_q, one_mul_q}
 use lib.IntN.{zero-*ℤ}
 use lib.Signed.{lt_z}
 

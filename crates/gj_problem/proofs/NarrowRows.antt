@@ -2,7 +2,7 @@
 use Rattle.std.proofs.Common.{◌≡◌, ◌↔◌, ◌⊎◌, ⊎_elim, ℕ, ◌<◌, ◌≤◌, ◌^◌, Bool, IsTrue, List, [], ◌∷◌, ◌++◌, All, sym, ap, subst, subst₂, ◌∙◌, arith}
 use Rattle.gj_frac.specs.declared.Frac.{Frac}
 use Rattle.gj_frac.specs.Fits.{FitsProduct, FitsQuotient}
-use Rattle.gj_problem.specs.Rational.{whole, rational, ◌+ℚ◌, neg_ℚ}
+use Rattle.gj_fields.specs.Rational.{whole, rational, ◌+ℚ◌, neg_ℚ}
 use Rattle.gj_problem.specs.declared.problem.Problem.{Problem}
 use Rattle.gj_problem.specs.declared.pieces.Piece.{Piece}
 use Rattle.gj_problem.specs.declared.bounds.Held.{Held}

@@ -5,8 +5,8 @@ use Rattle.gj_lemmas.proofs.Integers.{mul_comm_z, one_mul_z, mul_cancel_right_z,
 use Rattle.gj_shape.specs.Given.{numerator_over}
 use Rattle.gj_shape.proofs.LeastDenominator.{Divides}
 use Rattle.gj_shape.proofs.OverScale.{over_scale}
-use Rattle.gj_problem.specs.Rational.{whole, rational, ◌*ℚ◌}
-use Rattle.gj_problem.proofs.RationalLaws.{equal_q, product_is}
+use Rattle.gj_fields.specs.Rational.{whole, rational, ◌*ℚ◌}
+use Rattle.gj_fields.proofs.RationalLaws.{equal_q, product_is}
 
 pub ratio_whole : (p b n d c k : ℤ) → pos 0 <ℤ d → p *ℤ (d *ℤ pos 1) ≡ (n *ℤ c) *ℤ b →
     n *ℤ c ≡ k *ℤ d → p *ℤ pos 1 ≡ k *ℤ b

@@ -7,9 +7,9 @@ use Rattle.gj_frac.specs.declared.Frac.{Frac}
 use Rattle.gj_frac.specs.Floor.{IsFloor}
 use Rattle.gj_frac.specs.Fraction.{SameValue, fraction_of, product_of}
 use Rattle.gj_lemmas.proofs.Integers.{neg_mul_z, add_mul_z, sub_mul_z, swap_last_z, mul_le_cancel_right_z, mul_lt_cancel_right_z, mul_le_mul_right_z, mul_lt_mul_right_z}
-use Rattle.gj_problem.specs.Rational.{Rational, whole, rational, ◌+ℚ◌, ◌*ℚ◌, neg_ℚ, ◌-ℚ◌}
-use Rattle.gj_problem.proofs.RationalLaws.{mul_zero_q, zero_add_q}
-use Rattle.gj_problem.proofs.RationalRing.{by_ring_q, ring_q}
+use Rattle.gj_fields.specs.Rational.{Rational, whole, rational, ◌+ℚ◌, ◌*ℚ◌, neg_ℚ, ◌-ℚ◌}
+use Rattle.gj_fields.proofs.RationalLaws.{mul_zero_q, zero_add_q}
+use Rattle.gj_fields.proofs.RationalRing.{by_ring_q, ring_q}
 use Rattle.gj_problem.specs.declared.problem.Entry.{Entry}
 use Rattle.gj_problem.specs.declared.problem.Inequality.{Inequality}
 use Rattle.gj_problem.specs.declared.pieces.Piece.{Piece}

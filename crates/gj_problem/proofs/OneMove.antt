@@ -1,10 +1,10 @@
 -- A coefficient is moved by one shift, and to one coefficient on the grid.
 use Rattle.std.proofs.Common.{◌≡◌, ⊎_elim, ℕ, Option, Some, None, [], ◌∷◌, pos, refl, sym, ap, ◌∙◌}
 use Rattle.gj_frac.specs.declared.Frac.{Frac}
-use Rattle.gj_problem.specs.Rational.{Rational, whole, rational, ◌*ℚ◌, neg_ℚ, ◌-ℚ◌}
+use Rattle.gj_fields.specs.Rational.{Rational, whole, rational, ◌*ℚ◌, neg_ℚ, ◌-ℚ◌}
 use Rattle.gj_problem.specs.Moves.{IsUnmoved, IsMovedUp, IsMovedDown, IsMovedBy, IsBelowOnGrid, IsGridCoefficient}
-use Rattle.gj_problem.proofs.RationalOrder.{at_most_both}
-use Rattle.gj_problem.proofs.RationalRing.{by_ring_q, ring_q}
+use Rattle.gj_fields.proofs.RationalOrder.{at_most_both}
+use Rattle.gj_fields.proofs.RationalRing.{by_ring_q, ring_q}
 
 -- ---- one shift
 

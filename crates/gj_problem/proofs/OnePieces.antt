@@ -5,10 +5,10 @@ use Rattle.std.specs.List.{AllZip}
 use Rattle.std.proofs.lemmas.Int.{ints}
 use Rattle.gj_frac.specs.declared.Frac.{Frac}
 use Rattle.gj_shape.proofs.LeastDenominator.{least_common_some}
-use Rattle.gj_problem.specs.Rational.{Rational, whole, rational, ◌*ℚ◌, neg_ℚ, ◌≤ℚ◌}
-use Rattle.gj_problem.proofs.RationalLaws.{whole_neg, neg_mul_q}
-use Rattle.gj_problem.proofs.RationalOrder.{at_most_both, at_most_cancel}
-use Rattle.gj_problem.proofs.RationalRing.{by_ring_q, ring_q}
+use Rattle.gj_fields.specs.Rational.{Rational, whole, rational, ◌*ℚ◌, neg_ℚ, ◌≤ℚ◌}
+use Rattle.gj_fields.proofs.RationalLaws.{whole_neg, neg_mul_q}
+use Rattle.gj_fields.proofs.RationalOrder.{at_most_both, at_most_cancel}
+use Rattle.gj_fields.proofs.RationalRing.{by_ring_q, ring_q}
 use Rattle.gj_problem.specs.declared.problem.Entry.{Entry}
 use Rattle.gj_problem.specs.declared.problem.Problem.{Problem}
 use Rattle.gj_problem.specs.declared.problem.Sense.{Sense}

@@ -5,8 +5,8 @@ use Rattle.gj_frac.specs.declared.Frac.{Frac}
 use Rattle.gj_frac.specs.SameParts.{same_parts_same}
 use Rattle.gj_frac.proofs.Floors.{same_from_IsFloor}
 use Rattle.gj_lemmas.proofs.Integers.{mul_lt_cancel_right_z}
-use Rattle.gj_problem.specs.Rational.{Rational, whole, rational, ◌+ℚ◌, ◌*ℚ◌, neg_ℚ, ◌-ℚ◌}
-use Rattle.gj_problem.proofs.RationalRing.{by_ring_q, ring_q}
+use Rattle.gj_fields.specs.Rational.{Rational, whole, rational, ◌+ℚ◌, ◌*ℚ◌, neg_ℚ, ◌-ℚ◌}
+use Rattle.gj_fields.proofs.RationalRing.{by_ring_q, ring_q}
 use Rattle.gj_problem.specs.declared.problem.Problem.{Problem}
 use Rattle.gj_problem.specs.declared.pieces.Piece.{Piece}
 use Rattle.gj_problem.specs.declared.problem.Entry.{Entry}

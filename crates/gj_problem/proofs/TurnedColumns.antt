@@ -7,10 +7,10 @@ use Rattle.gj_frac.specs.declared.Frac.{Frac}
 use Rattle.gj_frac.specs.Floor.{IsFloor}
 use Rattle.gj_frac.specs.Fraction.{IsWhole, numerator}
 use Rattle.gj_lemmas.proofs.Integers.{mul_lt_cancel_right_z}
-use Rattle.gj_problem.specs.Rational.{Rational, whole, rational, ◌+ℚ◌, ◌*ℚ◌, neg_ℚ, ◌-ℚ◌, ◌≤ℚ◌, IsWholeNumber}
-use Rattle.gj_problem.proofs.RationalLaws.{zero_mul_q, whole_add, whole_sub}
-use Rattle.gj_problem.proofs.RationalOrder.{IsNonnegativeQ, nonnegative_whole, at_most_from_difference}
-use Rattle.gj_problem.proofs.RationalRing.{by_ring_q, ring_q}
+use Rattle.gj_fields.specs.Rational.{Rational, whole, rational, ◌+ℚ◌, ◌*ℚ◌, neg_ℚ, ◌-ℚ◌, ◌≤ℚ◌, IsWholeNumber}
+use Rattle.gj_fields.proofs.RationalLaws.{zero_mul_q, whole_add, whole_sub}
+use Rattle.gj_fields.proofs.RationalOrder.{IsNonnegativeQ, nonnegative_whole, at_most_from_difference}
+use Rattle.gj_fields.proofs.RationalRing.{by_ring_q, ring_q}
 use Rattle.gj_problem.specs.declared.problem.Column.{Column}
 use Rattle.gj_problem.specs.declared.problem.Problem.{Problem}
 use Rattle.gj_problem.specs.declared.pieces.Piece.{Piece}

@@ -6,7 +6,7 @@ use Rattle.gj_frac.specs.declared.Frac.{Frac}
 use Rattle.gj_frac.specs.Floor.{IsFloor}
 use Rattle.gj_lemmas.proofs.Integers.{mul_nonnegative_z, neg_mul_z}
 use Rattle.gj_lemmas.proofs.Ring.{by_ring, ring}
-use Rattle.gj_problem.specs.Rational.{rational, neg_ℚ}
+use Rattle.gj_fields.specs.Rational.{rational, neg_ℚ}
 use Rattle.gj_problem.specs.Moves.{IsBelowOnGrid}
 use Rattle.gj_problem.specs.RoundedCuts.{IsWideChange, IsWideMove}
 use Rattle.gj_problem.proofs.MovedEntries.{double_neg}

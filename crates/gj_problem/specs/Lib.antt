@@ -1,4 +1,3 @@
-pub mod Rational
 pub mod Problems
 pub mod Rows
 pub mod Aggregates

@@ -1,6 +1,6 @@
 -- Inequalities rounded to the grid of all k/n, so that they still hold (own).
 use Rattle.std.specs.Prelude.{◌≡◌, ◌⊎◌, ℕ, pos, List, [], ◌∷◌, ◌++◌, All, Option, Some, None, map, slice_index_or}
-use Rattle.gj_problem.specs.Rational.{Rational, whole, rational, ◌+ℚ◌, neg_ℚ, ◌-ℚ◌, ◌≤ℚ◌}
+use Rattle.gj_fields.specs.Rational.{Rational, whole, rational, ◌+ℚ◌, neg_ℚ, ◌-ℚ◌, ◌≤ℚ◌}
 use Rattle.gj_frac.specs.declared.Frac.{Frac}
 use Rattle.gj_frac.specs.Fits.{FitsProduct, FitsSum}
 use Rattle.gj_frac.specs.Fraction.{numerator}

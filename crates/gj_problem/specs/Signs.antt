@@ -2,7 +2,7 @@
 use Rattle.std.specs.Prelude.{◌≡◌, ◌⊎◌, pos, negsuc}
 use Rattle.gj_frac.specs.declared.Frac.{Frac}
 use Rattle.gj_frac.specs.Fraction.{IsWhole, numerator}
-use Rattle.gj_problem.specs.Rational.{rational, neg_ℚ}
+use Rattle.gj_fields.specs.Rational.{rational, neg_ℚ}
 use Rattle.gj_problem.specs.declared.problem.Entry.{Entry}
 
 -- the number is 1 or -1

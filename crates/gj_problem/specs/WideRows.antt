@@ -4,7 +4,7 @@ use Rattle.gj_frac.specs.declared.Frac.{Frac}
 use Rattle.gj_frac.specs.Fraction.{numerator}
 use Rattle.gj_frac.specs.Fits.{FitsProduct, FitsQuotient}
 use Rattle.gj_shape.specs.Given.{IsLeastCommonDenominator}
-use Rattle.gj_problem.specs.Rational.{whole, rational, neg_ℚ}
+use Rattle.gj_fields.specs.Rational.{whole, rational, neg_ℚ}
 use Rattle.gj_problem.specs.declared.problem.Entry.{Entry}
 use Rattle.gj_problem.specs.declared.problem.Problem.{Problem}
 use Rattle.gj_problem.specs.declared.pieces.Piece.{Piece}

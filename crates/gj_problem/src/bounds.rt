@@ -1,7 +1,7 @@
 //! Columns turned to their bounds.
 ghost use Rattle.std.specs.Prelude.{◌≡◌, ◌↔◌, true, false, [], None, Err, length};
 ghost use Rattle.std.specs.Prelude.{IfOk, OnOk, IsTrue, MatchOption};
-ghost use Rattle.gj_problem.specs.Rational.{rational, ◌-ℚ◌};
+ghost use Rattle.gj_fields.specs.Rational.{rational, ◌-ℚ◌};
 ghost use Rattle.gj_problem.specs.Aggregates.{pieces_at, held, IsLeftOut, IsTurned, IsFree};
 ghost use Rattle.gj_problem.specs.Aggregates.{IsLowerBound, IsUpperBound, IsFromLower, IsFromUpper};
 ghost use Rattle.gj_problem.specs.Steps.{IsMadeNext, AreTurnedOrFree, held_by};

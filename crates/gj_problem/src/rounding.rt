@@ -1,6 +1,6 @@
 //! Cuts rounded to a grid.
 ghost use Rattle.std.specs.Prelude.{◌≡◌, ◌<◌, ◌↔◌, pos, IfOk, IsTrue, MatchOption, OnErr, OnOk};
-ghost use Rattle.gj_problem.specs.Rational.{whole, rational, ◌-ℚ◌, ◌*ℚ◌};
+ghost use Rattle.gj_fields.specs.Rational.{whole, rational, ◌-ℚ◌, ◌*ℚ◌};
 ghost use Rattle.gj_problem.specs.Problems.{Holds, HasTerms};
 ghost use Rattle.gj_problem.specs.Moves.{IsGridValue, IsBelowOnGrid};
 ghost use Rattle.gj_problem.specs.RoundedCuts.{lower_of, upper_of};

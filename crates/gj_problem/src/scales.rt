@@ -5,7 +5,7 @@ ghost use Rattle.gj_frac.specs.Fraction.{SameValue, fraction_of, quotient_of, de
 ghost use Rattle.gj_frac.specs.Fits.{FitsQuotient};
 ghost use Rattle.gj_lemmas.specs.Divisors.{IsLcm};
 ghost use Rattle.gj_shape.specs.Given.{IsLeastCommonDenominator};
-ghost use Rattle.gj_problem.specs.Rational.{whole, rational};
+ghost use Rattle.gj_fields.specs.Rational.{whole, rational};
 ghost use Rattle.gj_problem.specs.Aggregates.{IsScale, signed};
 ghost use Rattle.gj_problem.specs.WideRows.{IsWideScale, numbers_of};
 

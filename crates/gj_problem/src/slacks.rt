@@ -3,7 +3,7 @@ ghost use Rattle.std.specs.Prelude.{◌≡◌, ◌↔◌, List, IfOk, OnOk, IsTr
 ghost use Rattle.std.specs.Prelude.{length};
 ghost use Rattle.std.specs.List.{AllZip};
 ghost use Rattle.gj_frac.specs.Fits.{FitsProduct};
-ghost use Rattle.gj_problem.specs.Rational.{Rational, rational, ◌+ℚ◌, ◌*ℚ◌, ◌-ℚ◌};
+ghost use Rattle.gj_fields.specs.Rational.{Rational, rational, ◌+ℚ◌, ◌*ℚ◌, ◌-ℚ◌};
 ghost use Rattle.gj_problem.specs.Problems.{IsWholeColumn, sum_at};
 ghost use Rattle.gj_problem.specs.Rows.{dot, IsMultiple};
 ghost use Rattle.gj_problem.specs.Aggregates.{AreMadeOf, IsAggregate, Weighted, weighted};

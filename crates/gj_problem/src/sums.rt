@@ -1,7 +1,7 @@
 //! Sums over all columns, to which multiples of inequalities are added.
 ghost use Rattle.std.specs.Prelude.{◌≡◌, ◌↔◌, ◌<◌, ◌^◌, ◌⊎◌, ℕ, pos, List, IfOk, IfSome};
 ghost use Rattle.std.specs.Prelude.{IsNone, OnErr, OnOk, length};
-ghost use Rattle.gj_problem.specs.Rational.{Rational, whole, rational, ◌+ℚ◌, ◌*ℚ◌, ◌-ℚ◌};
+ghost use Rattle.gj_fields.specs.Rational.{Rational, whole, rational, ◌+ℚ◌, ◌*ℚ◌, ◌-ℚ◌};
 ghost use Rattle.gj_problem.specs.Problems.{value_at, sum_at, surplus_at, AreTermsWithin};
 ghost use Rattle.gj_problem.specs.Rows.{dot};
 ghost use Rattle.gj_problem.specs.Steps.{IsMadeNext, IsWideAt, IsWideEntry, IsWideWithin};

@@ -6,7 +6,7 @@ ghost use Rattle.gj_problem.specs.declared.problem.Constraint.{Constraint};
 ghost use Rattle.gj_problem.specs.declared.problem.Inequality.{Inequality};
 ghost use Rattle.gj_problem.specs.declared.problem.Column.{Column};
 ghost use Rattle.gj_problem.specs.declared.pieces.Piece.{Piece};
-ghost use Rattle.gj_problem.specs.Rational.{Rational, whole, rational, ◌*ℚ◌, ◌-ℚ◌, ◌≤ℚ◌};
+ghost use Rattle.gj_fields.specs.Rational.{Rational, whole, rational, ◌*ℚ◌, ◌-ℚ◌, ◌≤ℚ◌};
 ghost use Rattle.gj_problem.specs.Problems.{IsFeasible, Holds, IsColumn, IsConstraint, value_at};
 ghost use Rattle.gj_problem.specs.Problems.{surplus_at};
 ghost use Rattle.gj_problem.specs.Rows.{IsSignFor, IsConstraintTimes, IsWholeInequality};

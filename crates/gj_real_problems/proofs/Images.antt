@@ -9,11 +9,11 @@ use Rattle.gj_fields.proofs.Wholes.{whole_plus}
 use Rattle.gj_reals.proofs.Lift.{whole_times}
 use Rattle.gj_real_cuts.proofs.FractionValues.{not_zero}
 use Rattle.gj_real_cuts.proofs.Over.{over, over_times, is_over, over_same, over_product, over_most, most_over, whole_over}
-use Rattle.gj_problem.specs.Rational as q
-use Rattle.gj_problem.specs.Rational.{Rational, ◌+ℚ◌, ◌*ℚ◌}
-use Rattle.gj_problem.proofs.RationalLaws.{sum_is, product_is}
+use Rattle.gj_fields.specs.Rational as q
+use Rattle.gj_fields.specs.Rational.{Rational, ◌+ℚ◌, ◌*ℚ◌}
+use Rattle.gj_fields.proofs.RationalLaws.{sum_is, product_is}
 use Rattle.gj_real_problems.proofs.Forms.{Embeds}
-use Rattle.gj_real_problems.proofs.Rationals.{rationals, most_from, most_is}
+use Rattle.gj_fields.proofs.Rationals.{rationals, most_from, most_is}
 
 bottom_some : (x : Rational) → x.bottom ≢ pos 0
 bottom_some x = not_zero x.bottom x.reduced.positive

@@ -1,6 +1,5 @@
 pub mod Forms
 pub mod Elimination
-pub mod Rationals
 pub mod Images
 pub mod Transfer
 pub mod RationalPoints

@@ -5,7 +5,7 @@ use Rattle.std.proofs.lemmas.List.Elements.{All-nil, All-cons, All-head, All-tai
 use Rattle.gj_frac.specs.declared.Frac.{Frac}
 use Rattle.gj_fields.specs.Fields.{OrderedField, AtMost}
 use Rattle.gj_real_cuts.specs.RealRows.{number_of}
-use Rattle.gj_problem.specs.Rational.{Rational, rational, ◌*ℚ◌, ◌≤ℚ◌}
+use Rattle.gj_fields.specs.Rational.{Rational, rational, ◌*ℚ◌, ◌≤ℚ◌}
 use Rattle.gj_problem.specs.declared.problem.Column.{Column}
 use Rattle.gj_problem.specs.declared.problem.Constraint.{Constraint}
 use Rattle.gj_problem.specs.declared.problem.Entry.{Entry}
@@ -15,7 +15,7 @@ use Rattle.gj_problem.specs.declared.problem.Sense.{Sense}
 use Rattle.gj_problem.specs.declared.problem.Sense.TheVariants as sense
 use Rattle.gj_problem.specs.Problems.{MeetsColumn, Meets, MeetsConstraint, Holds, value_at, sum_at}
 use Rattle.gj_real_problems.specs.RealProblems.{real_value_at, real_sum_at, MeetsOver, MeetsRealConstraint, MeetsRealColumn, RealHolds}
-use Rattle.gj_real_problems.proofs.Rationals.{most_from, most_is}
+use Rattle.gj_fields.proofs.Rationals.{most_from, most_is}
 use Rattle.gj_real_problems.proofs.Images.{image, whole_image, embeds}
 
 module _ {R : Type 0} (K : OrderedField R) where

@@ -11,8 +11,8 @@ use Rattle.gj_fields.proofs.Order.{either, le_of_eq, le_of_not, times_le, by_one
 use Rattle.gj_fields.proofs.Wholes.{whole_plus}
 use Rattle.gj_reals.proofs.AtReals.{inverse_low}
 use Rattle.gj_real_cuts.specs.RealRows.{number_of}
-use Rattle.gj_problem.specs.Rational as q
-use Rattle.gj_problem.specs.Rational.{Rational, rational, ◌≤ℚ◌, IsWholeNumber}
+use Rattle.gj_fields.specs.Rational as q
+use Rattle.gj_fields.specs.Rational.{Rational, rational, ◌≤ℚ◌, IsWholeNumber}
 use Rattle.gj_problem.specs.declared.problem.Column.{Column}
 use Rattle.gj_problem.specs.declared.problem.Constraint.{Constraint}
 use Rattle.gj_problem.specs.declared.problem.Entry.{Entry}
@@ -24,7 +24,7 @@ use Rattle.gj_problem.specs.Problems.{IsFeasible, MeetsColumn, Meets, MeetsConst
 use Rattle.gj_real_problems.specs.RealProblems.{real_value_at, real_sum_at, MeetsOver, MeetsRealConstraint, MeetsRealColumn, IsRealFeasible, RealHolds}
 use Rattle.gj_real_problems.proofs.Forms.{itself, negative_is, Form, Point, numbers, constant, variable, scaled, sum, difference, value, value_ahead, value_constant, value_variable, value_scaled, value_sum, value_difference}
 use Rattle.gj_real_problems.proofs.Elimination.{Each, each_join, each_front, each_back, solved}
-use Rattle.gj_real_problems.proofs.Rationals.{rationals, most_from, most_is}
+use Rattle.gj_fields.proofs.Rationals.{rationals, most_from, most_is}
 use Rattle.gj_real_problems.proofs.Images.{image, whole_image, embeds}
 
 -- the sum of the entries as a form

@@ -1,6 +1,7 @@
 //! The fractions, as numbers for which the theorems hold.
 ghost use Rattle.std.specs.Prelude.{◌↔◌};
-ghost use Rattle.gj_fields.proofs.Fractions.{Q, fractions, fraction_floors};
+ghost use Rattle.gj_fields.specs.Rational.{Rational};
+ghost use Rattle.gj_fields.proofs.Rationals.{rationals, rational_floors};
 ghost use Rattle.gj_fields.specs.Functions.{IsExtremeAmong};
 ghost use Rattle.gj_shape.specs.Extreme.{IsExtreme};
 ghost use Rattle.gj_shape.specs.FunctionData.{FunctionData, IsWithinBounds, IsContinuous};
@@ -13,19 +14,19 @@ use gj_fields::reals::Reals;
 pub struct Fractions;
 
 impl Reals for Fractions {
-    ghost Number = { Q };
+    ghost Number = { Rational };
 
-    ghost field = { fractions };
+    ghost field = { rationals };
 
-    ghost floors = { fraction_floors };
+    ghost floors = { rational_floors };
 }
 
 /// The theorem at the fractions.
 pub fn extreme_functions_are_extreme_at_fractions()
     ensures { (f : FunctionData) → IsWithinBounds f → IsContinuous f →
         (IsExtreme f
-        ↔ IsExtremeAmong fractions (real_function fractions fraction_floors f)
-        (real_place fractions f)) }
+        ↔ IsExtremeAmong rationals (real_function rationals rational_floors f)
+        (real_place rationals f)) }
 {
     extreme_functions_are_extreme_at_reals::<Fractions>()
 }

@@ -3,7 +3,7 @@ use Rattle.std.proofs.Common.{◌≡◌, ◌<◌, ◌^◌, ℕ, ◌+◌, List, [
 use Rattle.std.proofs.lemmas.List.{take_more}
 use Rattle.std.proofs.lemmas.List.Elements.{All-append, All-cons, All-nil}
 use Rattle.gj_frac.specs.declared.Frac.{Frac}
-use Rattle.gj_problem.specs.Rational.{Rational, whole, rational, neg_ℚ, ◌+ℚ◌, ◌*ℚ◌, ◌-ℚ◌}
+use Rattle.gj_fields.specs.Rational.{Rational, whole, rational, neg_ℚ, ◌+ℚ◌, ◌*ℚ◌, ◌-ℚ◌}
 use Rattle.gj_problem.specs.Moves.{IsBelowOnGrid}
 use Rattle.gj_frac.specs.Fits.{FitsDifference}
 use Rattle.gj_problem.specs.Problems.{surplus_at, AreTermsWithin}
@@ -14,7 +14,7 @@ use Rattle.gj_problem.specs.declared.problem.Inequality.{Inequality}
 use Rattle.gj_problem.specs.declared.row.Row.{Row}
 use Rattle.gj_problem.specs.declared.pieces.Piece.{Piece}
 use Rattle.gj_problem.proofs.MadePieces.{zip_joined}
-use Rattle.gj_problem.proofs.RationalRing.{by_ring_q, ring_q}
+use Rattle.gj_fields.proofs.RationalRing.{by_ring_q, ring_q}
 use Rattle.gj_safe_cut.specs.AddedTerms.{surplus_of}
 use Rattle.gj_relaxed.specs.RelaxedProblems.{IsWideLifted}
 use Rattle.gj_relaxed.specs.RelaxedRows.{IsRaised, Moves, IsRelaxedRow, IsWideRight, IsWideRelaxedRow}

@@ -9,9 +9,9 @@ use Rattle.gj_lemmas.proofs.Divisors.{whole_multiple}
 use Rattle.gj_lemmas.proofs.Integers.{one_mul_z, pos_abs_z, mul_comm_z}
 use Rattle.gj_shape.specs.Given.{numerator_over}
 use Rattle.gj_shape.proofs.LeastDenominator.{Divides}
-use Rattle.gj_problem.specs.Rational.{Rational, whole, rational, ◌*ℚ◌}
+use Rattle.gj_fields.specs.Rational.{Rational, whole, rational, ◌*ℚ◌}
 use Rattle.gj_problem.specs.Moves.{IsGridValue}
-use Rattle.gj_problem.proofs.RationalLaws.{product_is, mul_comm_q}
+use Rattle.gj_fields.proofs.RationalLaws.{product_is, mul_comm_q}
 use Rattle.gj_problem.proofs.Numerators.{numerator_is}
 use mir.Syntax.{w128}
 

@@ -7,11 +7,11 @@ use Rattle.std.proofs.lemmas.List.Elements.{All-cons, All-head, All-tail}
 use Rattle.gj_frac.specs.declared.Frac.{Frac}
 use Rattle.gj_frac.specs.Fits.{FitsProduct}
 use Rattle.gj_frac.specs.Fraction.{IsRatio}
-use Rattle.gj_problem.specs.Rational.{Rational, whole, rational, ◌+ℚ◌, ◌*ℚ◌}
+use Rattle.gj_fields.specs.Rational.{Rational, whole, rational, ◌+ℚ◌, ◌*ℚ◌}
 use Rattle.gj_problem.proofs.Numerators.{ratio_whole}
-use Rattle.gj_problem.proofs.RationalLaws.{equal_q, product_is, mul_comm_q, one_mul_q, zero_mul_q, whole_injective}
-use Rattle.gj_problem.proofs.RationalOrder.{IsNonnegativeQ, nonnegative_whole, nonnegative_mul, nonnegative_cancel, difference_nonnegative}
-use Rattle.gj_problem.proofs.RationalRing.{by_ring_q, ring_q}
+use Rattle.gj_fields.proofs.RationalLaws.{equal_q, product_is, mul_comm_q, one_mul_q, zero_mul_q, whole_injective}
+use Rattle.gj_fields.proofs.RationalOrder.{IsNonnegativeQ, nonnegative_whole, nonnegative_mul, nonnegative_cancel, difference_nonnegative}
+use Rattle.gj_fields.proofs.RationalRing.{by_ring_q, ring_q}
 use Rattle.gj_problem.specs.declared.problem.Entry.{Entry}
 use Rattle.gj_problem.specs.declared.problem.Inequality.{Inequality}
 use Rattle.gj_problem.specs.declared.problem.Problem.{Problem}

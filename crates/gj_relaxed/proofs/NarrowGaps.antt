@@ -4,7 +4,7 @@ use Rattle.std.specs.List.{AllZip}
 use Rattle.gj_frac.specs.declared.Frac.{Frac}
 use Rattle.gj_frac.specs.Fraction.{numerator}
 use Rattle.gj_frac.specs.Fits.{FitsDifference}
-use Rattle.gj_problem.specs.Rational.{Rational, rational, neg_ℚ, ◌+ℚ◌, ◌-ℚ◌}
+use Rattle.gj_fields.specs.Rational.{Rational, rational, neg_ℚ, ◌+ℚ◌, ◌-ℚ◌}
 use Rattle.gj_problem.specs.declared.pieces.Piece.{Piece}
 use Rattle.gj_problem.specs.Moves.{IsBelowOnGrid}
 use Rattle.gj_problem.specs.Rows.{dot}

@@ -2,7 +2,7 @@
 use Rattle.std.proofs.Common.{◌≡◌, ⊎_elim, ℕ, Bool, true, false, Option, Some, None, List, [], ◌∷◌, ◌++◌, length, All, refl, sym, ap, ap₂, subst, subst₂, ◌∙◌, arith}
 use Rattle.std.proofs.lemmas.List.Elements.{All-weaker}
 use Rattle.gj_frac.specs.declared.Frac.{Frac}
-use Rattle.gj_problem.specs.Rational.{whole, rational}
+use Rattle.gj_fields.specs.Rational.{whole, rational}
 use Rattle.gj_problem.specs.declared.problem.Column.{Column}
 use Rattle.gj_problem.specs.declared.problem.Constraint.{Constraint}
 use Rattle.gj_problem.specs.declared.problem.Inequality.{Inequality}

@@ -9,7 +9,7 @@ use Rattle.gj_rule.specs.declared.kind.RuleKind.{RuleKind}
 use Rattle.gj_rule.specs.declared.kind.RuleKind.TheVariants.{Gmic, Table}
 use Rattle.gj_cut.proofs.RightSides.{part_inside}
 use Rattle.gj_mixed.specs.Slopes.{AreSlopesOfKind}
-use Rattle.gj_problem.specs.Rational.{Rational}
+use Rattle.gj_fields.specs.Rational.{Rational}
 use Rattle.gj_problem.specs.declared.problem.Inequality.{Inequality}
 use Rattle.gj_problem.specs.declared.problem.Problem.{Problem}
 use Rattle.gj_problem.specs.declared.pieces.Piece.{Piece}

@@ -5,8 +5,8 @@ use Rattle.std.proofs.lemmas.Int.{ints}
 use Rattle.std.proofs.lemmas.List.Elements.{All-nil, All-cons, All-head, All-tail}
 use Rattle.std.proofs.lemmas.Slice.Zip.{AllZip-long}
 use Rattle.gj_frac.specs.declared.Frac.{Frac}
-use Rattle.gj_problem.specs.Rational.{Rational, rational, whole, ◌≤ℚ◌}
-use Rattle.gj_problem.proofs.RationalOrder.{IsNonnegativeQ, at_most_trans, at_most_turned}
+use Rattle.gj_fields.specs.Rational.{Rational, rational, whole, ◌≤ℚ◌}
+use Rattle.gj_fields.proofs.RationalOrder.{IsNonnegativeQ, at_most_trans, at_most_turned}
 use Rattle.gj_problem.specs.declared.problem.Column.{Column}
 use Rattle.gj_problem.specs.declared.problem.Constraint.{Constraint}
 use Rattle.gj_problem.specs.declared.problem.Inequality.{Inequality}

@@ -2,7 +2,7 @@
 use Rattle.std.proofs.Common.{◌≡◌, inr, ℕ, List, [], ◌∷◌, ◌++◌, length, map, All, refl, ap, ◌∙◌, arith}
 use Rattle.std.proofs.lemmas.List.Elements.{All-nil, All-cons, All-head, All-tail}
 use Rattle.gj_frac.specs.declared.Frac.{Frac}
-use Rattle.gj_problem.specs.Rational.{whole, rational, ◌*ℚ◌}
+use Rattle.gj_fields.specs.Rational.{whole, rational, ◌*ℚ◌}
 use Rattle.gj_problem.specs.declared.problem.Constraint.{Constraint}
 use Rattle.gj_problem.specs.declared.problem.Inequality.{Inequality}
 use Rattle.gj_problem.specs.declared.problem.Problem.{Problem}

@@ -8,10 +8,10 @@ use Rattle.gj_frac.specs.Fraction.{SameValue, fraction_of, difference_of}
 use Rattle.gj_frac.proofs.Crosswise.{denominators_some}
 use Rattle.gj_lemmas.proofs.Integers.{mul_cancel_right_z, swap_last_z}
 use Rattle.gj_lemmas.proofs.Ring.{by_ring, ring}
-use Rattle.gj_problem.specs.Rational.{Rational, whole, rational, ◌+ℚ◌, ◌*ℚ◌, neg_ℚ, ◌-ℚ◌}
+use Rattle.gj_fields.specs.Rational.{Rational, whole, rational, ◌+ℚ◌, ◌*ℚ◌, neg_ℚ, ◌-ℚ◌}
 use Rattle.gj_problem.specs.Moves.{IsBelowOnGrid}
-use Rattle.gj_problem.proofs.RationalLaws.{equal_q, sum_is}
-use Rattle.gj_problem.proofs.RationalRing.{by_ring_q, ring_q}
+use Rattle.gj_fields.proofs.RationalLaws.{equal_q, sum_is}
+use Rattle.gj_fields.proofs.RationalRing.{by_ring_q, ring_q}
 use Rattle.gj_problem.specs.declared.problem.Inequality.{Inequality}
 use Rattle.gj_problem.specs.declared.pieces.Piece.{Piece}
 use Rattle.gj_problem.specs.declared.sums.Sum.{Sum}

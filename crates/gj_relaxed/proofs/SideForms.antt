@@ -2,7 +2,7 @@
 use Rattle.std.specs.List.{AllZip}
 use Rattle.std.proofs.Common.{◌≡◌, ◌≢◌, ◌<◌, List, [], ◌∷◌, length, get_or, zero, suc, arith, ℕ, ℤ, Bool, true, false, Some, refl, sym, ap, subst, ◌∙◌}
 use Rattle.gj_frac.specs.declared.Frac.{Frac}
-use Rattle.gj_problem.specs.Rational.{whole, rational, ◌*ℚ◌}
+use Rattle.gj_fields.specs.Rational.{whole, rational, ◌*ℚ◌}
 use Rattle.gj_problem.specs.Rows.{IsMultiple}
 use Rattle.gj_problem.specs.declared.problem.Constraint.{Constraint}
 use Rattle.gj_problem.specs.declared.problem.Inequality.{Inequality}

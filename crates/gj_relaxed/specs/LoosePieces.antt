@@ -3,7 +3,7 @@
 use Rattle.std.specs.Prelude.{◌≡◌, ◌⊎◌, ◌<◌, ◌*◌, ℕ, pos, true, false, unsigned_abs}
 use Rattle.gj_frac.specs.declared.Frac.{Frac}
 use Rattle.gj_frac.specs.Fraction.{numerator, denominator}
-use Rattle.gj_problem.specs.Rational.{Rational, whole, rational, ◌*ℚ◌}
+use Rattle.gj_fields.specs.Rational.{Rational, whole, rational, ◌*ℚ◌}
 use Rattle.gj_problem.specs.Rows.{IsMultiple}
 use Rattle.gj_problem.specs.declared.pieces.Piece.{Piece}
 

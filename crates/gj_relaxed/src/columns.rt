@@ -1,7 +1,7 @@
 //! Columns with their bounds on a grid.
 ghost use Rattle.std.specs.Prelude.{◌≡◌, ◌<◌, IfOk, OnOk, OnErr, Err};
 ghost use Rattle.std.specs.List.{AllZip};
-ghost use Rattle.gj_problem.specs.Rational.{rational, neg_ℚ};
+ghost use Rattle.gj_fields.specs.Rational.{rational, neg_ℚ};
 ghost use Rattle.gj_problem.specs.Moves.{IsBelowOnGrid};
 ghost use Rattle.gj_relaxed.specs.RelaxedProblems.{IsLowered, IsLifted, IsRelaxedColumn};
 ghost use Rattle.gj_relaxed.specs.RelaxedProblems.{IsWideBound, IsWideLifted, IsWideLifting};

@@ -1,7 +1,7 @@
 //! The constraints of a problem on a grid, each on its own: what all sums of the problem share.
 ghost use Rattle.std.specs.Prelude.{◌≡◌, ◌↔◌, ◌<◌, All, IfOk, IsTrue, Some};
 ghost use Rattle.std.specs.List.{AllZip};
-ghost use Rattle.gj_problem.specs.Rational.{whole, rational, ◌*ℚ◌};
+ghost use Rattle.gj_fields.specs.Rational.{whole, rational, ◌*ℚ◌};
 ghost use Rattle.gj_problem.specs.Moves.{IsGridValue};
 ghost use Rattle.gj_problem.specs.Rows.{IsMultiple};
 ghost use Rattle.gj_relaxed.specs.RelaxedProblems.{IsOnGrid};

@@ -1,7 +1,7 @@
 //! Rows with their whole pieces of small entries as continuous ones.
 ghost use Rattle.std.specs.Prelude.{◌≡◌, ◌<◌, ◌++◌, ◌↔◌, true, IsTrue, IfOk, OnOk, Err};
 ghost use Rattle.std.specs.List.{AllZip};
-ghost use Rattle.gj_problem.specs.Rational.{rational};
+ghost use Rattle.gj_fields.specs.Rational.{rational};
 ghost use Rattle.gj_problem.specs.Rows.{IsMultiple};
 ghost use Rattle.gj_problem.specs.declared.pieces.Piece.{Piece};
 ghost use Rattle.gj_problem.specs.declared.problem.Inequality.{Inequality};

@@ -3,7 +3,7 @@ ghost use Rattle.std.specs.Prelude.{ℕ, List};
 ghost use Rattle.gj_frac.specs.declared.Frac.{Frac};
 ghost use Rattle.gj_problem.specs.declared.problem.Inequality.{Inequality};
 ghost use Rattle.gj_problem.specs.declared.problem.Problem.{Problem};
-ghost use Rattle.gj_problem.specs.Rational.{Rational};
+ghost use Rattle.gj_fields.specs.Rational.{Rational};
 ghost use Rattle.gj_problem.specs.Problems.{IsFeasible, Holds};
 ghost use Rattle.gj_relaxed.specs.RelaxedProblems.{IsRelaxedProblem};
 

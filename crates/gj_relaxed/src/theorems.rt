@@ -7,7 +7,7 @@ ghost use Rattle.gj_shape.specs.Table.{IsMinimal};
 ghost use Rattle.gj_problem.specs.declared.pieces.Piece.{Piece};
 ghost use Rattle.gj_problem.specs.declared.problem.Inequality.{Inequality};
 ghost use Rattle.gj_problem.specs.declared.problem.Problem.{Problem};
-ghost use Rattle.gj_problem.specs.Rational.{Rational};
+ghost use Rattle.gj_fields.specs.Rational.{Rational};
 ghost use Rattle.gj_problem.specs.Aggregates.{IsSound, AddsUpAt, pieces_at};
 ghost use Rattle.gj_safe_cut.specs.declared.cut.SafeCut.{SafeCut};
 ghost use Rattle.gj_safe_cut.specs.declared.cut.SafeCut.TheVariants.{Cut};

@@ -3,7 +3,7 @@ use Rattle.std.proofs.Common.{◌≡◌, ℕ, Bool, true, false, List, pos, refl
 use Rattle.std.specs.List.{AllZip}
 use Rattle.gj_frac.specs.declared.Frac.{Frac}
 use Rattle.gj_mixed.proofs.OneSlopes.{one_weight}
-use Rattle.gj_problem.specs.Rational.{Rational, whole, ◌-ℚ◌}
+use Rattle.gj_fields.specs.Rational.{Rational, whole, ◌-ℚ◌}
 use Rattle.gj_problem.specs.declared.problem.Inequality.{Inequality}
 use Rattle.gj_problem.specs.declared.pieces.Piece.{Piece}
 use Rattle.gj_problem.specs.Problems.{surplus_at}

@@ -16,10 +16,10 @@ use Rattle.gj_shape.specs.SlopeRows.{sum_of_products}
 use Rattle.gj_shape.proofs.LeastDenominator.{Divides, denominator_some, least_common_more, least_common_some}
 use Rattle.gj_mixed.specs.MixedRows.{MixedCutHolds}
 use Rattle.gj_mixed.specs.Slopes.{IsWeight}
-use Rattle.gj_problem.specs.Rational.{Rational, whole, rational, ◌+ℚ◌, ◌*ℚ◌, ◌-ℚ◌, ◌≤ℚ◌, IsWholeNumber}
-use Rattle.gj_problem.proofs.RationalLaws.{equal_q, product_is, mul_assoc_q, mul_zero_q, whole_add, whole_sub, whole_mul, whole_injective}
-use Rattle.gj_problem.proofs.RationalOrder.{IsNonnegativeQ, nonnegative_whole, whole_nonnegative, nonnegative_cancel, difference_nonnegative, at_most_from_difference}
-use Rattle.gj_problem.proofs.RationalRing.{by_ring_q, ring_q}
+use Rattle.gj_fields.specs.Rational.{Rational, whole, rational, ◌+ℚ◌, ◌*ℚ◌, ◌-ℚ◌, ◌≤ℚ◌, IsWholeNumber}
+use Rattle.gj_fields.proofs.RationalLaws.{equal_q, product_is, mul_assoc_q, mul_zero_q, whole_add, whole_sub, whole_mul, whole_injective}
+use Rattle.gj_fields.proofs.RationalOrder.{IsNonnegativeQ, nonnegative_whole, whole_nonnegative, nonnegative_cancel, difference_nonnegative, at_most_from_difference}
+use Rattle.gj_fields.proofs.RationalRing.{by_ring_q, ring_q}
 use Rattle.gj_problem.specs.declared.problem.Problem.{Problem}
 use Rattle.gj_problem.specs.declared.pieces.Piece.{Piece}
 use Rattle.gj_problem.specs.Problems.{IsFeasible, surplus_at}

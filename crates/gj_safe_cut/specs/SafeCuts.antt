@@ -15,7 +15,7 @@ use Rattle.gj_mixed.specs.Slopes.{IsWeight, AreGmicSlopes, AreSlopesAtZero}
 use Rattle.gj_problem.specs.declared.problem.Inequality.{Inequality}
 use Rattle.gj_problem.specs.declared.problem.Problem.{Problem}
 use Rattle.gj_problem.specs.declared.pieces.Piece.{Piece}
-use Rattle.gj_problem.specs.Rational.{Rational, whole, rational, ◌-ℚ◌}
+use Rattle.gj_fields.specs.Rational.{Rational, whole, rational, ◌-ℚ◌}
 use Rattle.gj_problem.specs.Problems.{Holds, HasTerms, AreTermsWithin}
 use Rattle.gj_problem.specs.Rows.{dot}
 use Rattle.gj_problem.specs.Aggregates.{combined_at, IsRow, IsFirstFree, IsTurnedBack}

@@ -1,7 +1,7 @@
 use Rattle.std.proofs.Common.{◌≡◌, ◌<◌, rules, ℕ, List, ap, pos, length, get_or, refl, sym, subst, ◌∙◌}
 use Rattle.std.proofs.lemmas.List.{length-replicate, take_all}
 use Rattle.gj_frac.specs.declared.Frac.{Frac}
-use Rattle.gj_problem.specs.Rational.{rational, ◌+ℚ◌}
+use Rattle.gj_fields.specs.Rational.{rational, ◌+ℚ◌}
 use Rattle.gj_problem.specs.Rows.{dot}
 use Rattle.gj_problem.proofs.AddedSums.{dot_zero, sum_value, whole_ratio}
 use Rattle.gj_derivation.specs.declared.step.Multiplier.{Multiplier}

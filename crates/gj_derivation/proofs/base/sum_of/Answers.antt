@@ -1,6 +1,6 @@
 use Rattle.std.proofs.Common.{◌+◌, ◌<◌, List, length, get_or, take, drop, ap, pos, sym, subst, ◌∙◌}
 use Rattle.std.proofs.lemmas.List.{take_all}
-use Rattle.gj_problem.specs.Rational.{rational}
+use Rattle.gj_fields.specs.Rational.{rational}
 use Rattle.gj_problem.proofs.AddedSums.{whole_ratio}
 use Rattle.gj_problem.proofs.Prefixes.{split_at}
 use Rattle.gj_derivation.specs.declared.step.Multiplier.{Multiplier}

@@ -1,5 +1,5 @@
 use Rattle.std.proofs.Common.{◌≡◌, ⊎_elim, inr, ℕ, List, length, ap, subst, subst₂, ◌∙◌}
-use Rattle.gj_problem.specs.Rational.{Rational}
+use Rattle.gj_fields.specs.Rational.{Rational}
 use Rattle.gj_problem.specs.declared.problem.Column.{Column}
 use Rattle.gj_derivation.specs.Derivations.{Line, coefficient_in}
 use Rattle.gj_derivation.specs.Checks.{claimed_at, line_of_sum, IsMovedRight, IsWideTerms, IsWideMoving}

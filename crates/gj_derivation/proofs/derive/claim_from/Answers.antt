@@ -1,5 +1,5 @@
 use Rattle.std.proofs.Common.{◌≡◌, List}
-use Rattle.gj_problem.specs.Rational.{Rational, rational, ◌-ℚ◌}
+use Rattle.gj_fields.specs.Rational.{Rational, rational, ◌-ℚ◌}
 use Rattle.gj_problem.specs.declared.problem.Inequality.{Inequality}
 use Rattle.gj_problem.specs.Problems.{surplus_at}
 use Rattle.gj_problem.specs.Rows.{dot}

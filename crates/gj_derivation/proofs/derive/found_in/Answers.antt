@@ -1,6 +1,6 @@
 use Rattle.std.proofs.Common.{◌≡◌, ◌⊎◌, ⊎_elim, ◌<◌, ◌^◌, rules, inl, inr, ℕ, List, length, ap, sym, subst, subst₂, ◌∙◌}
 use Rattle.gj_frac.specs.declared.Frac.{Frac}
-use Rattle.gj_problem.specs.Rational.{Rational, rational}
+use Rattle.gj_fields.specs.Rational.{Rational, rational}
 use Rattle.gj_problem.specs.declared.problem.Column.{Column}
 use Rattle.gj_problem.specs.Problems.{AreTermsWithin}
 use Rattle.gj_derivation.specs.declared.moves.Moved.{Moved}

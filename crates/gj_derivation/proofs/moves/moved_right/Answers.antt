@@ -3,7 +3,7 @@ use Rattle.std.proofs.lemmas.Option.{MatchOption-at_some}
 use Rattle.gj_problem.proofs.AddedSums.{sum_value, product_value}
 use Rattle.gj_frac.proofs.Refusals.{on_err}
 use Rattle.gj_safe_cut.proofs.PointCuts.{is_true}
-use Rattle.gj_problem.specs.Rational.{rational}
+use Rattle.gj_fields.specs.Rational.{rational}
 use Rattle.gj_problem.specs.Moves.{HasLower, HasUpper, IsMovedBy}
 use Rattle.gj_derivation.specs.Checks.{IsFirstUnmovable, line_of_sum, claimed_at, IsWideMoving}
 use Rattle.gj_derivation.proofs.CheckedMoves.{scaled, IsShift, none_up_to, none_more, one_up_to, stuck_at, all_up_to, wide_at}

@@ -4,7 +4,7 @@ use Rattle.std.proofs.lemmas.Result.{IfOk-weaker, on_ok_weaker}
 use Rattle.gj_frac.specs.declared.Frac.{Frac}
 use Rattle.gj_frac.specs.Fraction.{numerator}
 use Rattle.gj_frac.proofs.Refusals.{on_err, on_err_along}
-use Rattle.gj_problem.specs.Rational.{rational, ◌+ℚ◌, ◌-ℚ◌}
+use Rattle.gj_fields.specs.Rational.{rational, ◌+ℚ◌, ◌-ℚ◌}
 use Rattle.gj_problem.proofs.AddedSums.{sum_value, negation_value, whole_ratio}
 use Rattle.gj_problem.specs.Moves.{HasLower, HasUpper}
 use Rattle.gj_derivation.specs.Checks.{IsWideTimesBound, IsWideShift}

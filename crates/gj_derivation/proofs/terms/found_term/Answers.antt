@@ -2,9 +2,9 @@ use Rattle.std.proofs.Common.{◌≡◌, ℕ, inr, Option, Some, pos, sym, ap, s
 use Rattle.std.proofs.lemmas.Result.{IfOk-weaker, on_ok_weaker}
 use Rattle.gj_frac.specs.declared.Frac.{Frac}
 use Rattle.gj_frac.proofs.Refusals.{on_err_along}
-use Rattle.gj_problem.specs.Rational.{Rational, whole, rational, ◌*ℚ◌}
+use Rattle.gj_fields.specs.Rational.{Rational, whole, rational, ◌*ℚ◌}
 use Rattle.gj_problem.proofs.AddedSums.{product_value, zero_frac}
-use Rattle.gj_problem.proofs.RationalLaws.{mul_zero_q}
+use Rattle.gj_fields.proofs.RationalLaws.{mul_zero_q}
 use Rattle.gj_safe_cut.proofs.PointCuts.{is_true}
 use Rattle.gj_derivation.specs.Drafts.{IsFoundFor, IsFoundOrNone, IsWideGrid, IsWideFoundAt}
 use Rattle.gj_derivation.proofs.FoundTerms.{found_zero}

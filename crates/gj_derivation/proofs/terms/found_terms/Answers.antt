@@ -1,5 +1,5 @@
 use Rattle.std.proofs.Common.{◌≡◌, ◌<◌, ◌^◌, rules, inl, inr, get_or, ap, sym, subst, arith}
-use Rattle.gj_problem.specs.Rational.{Rational, rational, ◌*ℚ◌}
+use Rattle.gj_fields.specs.Rational.{Rational, rational, ◌*ℚ◌}
 use Rattle.gj_derivation.specs.Derivations.{times}
 use Rattle.gj_derivation.specs.Checks.{line_of_sum, claimed_at}
 use Rattle.gj_derivation.specs.Drafts.{IsFoundFor, IsFoundOrNone, IsFirstNotFound}

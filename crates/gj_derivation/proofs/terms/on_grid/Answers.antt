@@ -2,7 +2,7 @@ use Rattle.std.proofs.Common.{ℕ, Option, Some, sym, subst, ◌∙◌}
 use Rattle.gj_frac.specs.declared.Frac.{Frac}
 use Rattle.gj_frac.specs.TotalOrder.{parts_Decides}
 use Rattle.gj_frac.proofs.Refusals.{on_err}
-use Rattle.gj_problem.specs.Rational.{rational}
+use Rattle.gj_fields.specs.Rational.{rational}
 use Rattle.gj_problem.specs.Moves.{IsBelowOnGrid}
 use Rattle.gj_problem.specs.RoundedCuts.{IsWideTimes}
 use Rattle.gj_problem.proofs.AddedSums.{negation_value}

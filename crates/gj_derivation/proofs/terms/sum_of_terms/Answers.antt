@@ -1,5 +1,5 @@
 use Rattle.std.proofs.Common.{⊎_elim, inl, ap, pos, ◌∙◌}
-use Rattle.gj_problem.specs.Rational.{rational}
+use Rattle.gj_fields.specs.Rational.{rational}
 use Rattle.gj_problem.specs.Steps.{IsWideAt, IsWideWithin}
 use Rattle.gj_problem.proofs.AddedSums.{whole_ratio}
 use Rattle.gj_derivation.proofs.CheckedSums.{terms_are}

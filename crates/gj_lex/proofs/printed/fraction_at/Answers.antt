@@ -10,12 +10,12 @@ use Rattle.gj_lex.proofs.printed.fraction_at.Goals as goal
 use mir.Syntax.{w64}
 
 pub returns-in_err-num-clause-none : goal.returns-in_err-num-clause-none
-returns-in_err-num-clause-none c = rw c.from_residual.ensures (λ x rest small low none other is.
+returns-in_err-num-clause-none g c = rw c.from_residual.ensures (λ x rest small low none other is.
     let h = fraction_stands _ rest x none is in
     c.in_err-num.ensures.none (numerator x) _ small h.2 h.0)
 
 pub returns-in_err-den-clause-none : goal.returns-in_err-den-clause-none
-returns-in_err-den-clause-none c =
+returns-in_err-den-clause-none g c =
     rw c.from_residual-in_err-den.ensures (λ x rest small low none other is.
     let h = fraction_stands _ rest x none is in
     let num = c.in_ok-num.ensures.only (numerator x) _ small h.2 h.0 in
@@ -23,7 +23,7 @@ returns-in_err-den-clause-none c =
 
 pub returns-in_err-small_in_lowest_terms-clause-none :
     goal.returns-in_err-small_in_lowest_terms-clause-none
-returns-in_err-small_in_lowest_terms-clause-none c =
+returns-in_err-small_in_lowest_terms-clause-none g c =
     rw c.from_residual-in_err-small_in_lowest_terms.ensures (λ x rest small low none other is.
     let h = fraction_stands _ rest x none is in
     let num = c.in_ok-num.ensures.only (numerator x) _ small h.2 h.0 in
@@ -38,7 +38,7 @@ returns-in_err-small_in_lowest_terms-clause-none c =
     cc)
 
 pub returns-clause-only : goal.returns-clause-only
-returns-clause-only c = λ x rest small low none other is.
+returns-clause-only g c = λ x rest small low none other is.
     let h = fraction_stands _ rest x none is in
     let num = c.in_ok-num.ensures.only (numerator x) _ small h.2 h.0 in
     let den = c.in_ok-den.ensures.only (unsigned_abs (denominator x)) rest h.1 low none other
@@ -52,7 +52,7 @@ returns-clause-only c = λ x rest small low none other is.
     (same_parts_same _ x num_is den_is, den.1)
 
 pub returns-clause-found : goal.returns-clause-found
-returns-clause-found c =
+returns-clause-found g c =
     let found = c.in_ok-small_in_lowest_terms.ensures.found in
     let num_is : numerator c.in_ok-small_in_lowest_terms.field-0 ≡ c.in_ok-num.num =
     omega (arith, ints, found.0) in

@@ -5,7 +5,7 @@ use Rattle.gj_lex.proofs.PrintedNumbers.{few_digits_small, number_printed, numbe
 use Rattle.gj_lex.proofs.printed.number_at.Goals as goal
 
 pub returns-then-not-is_canonical-clause-none : goal.returns-then-not-is_canonical-clause-none
-returns-then-not-is_canonical-clause-none c = λ n rest small none is.
+returns-then-not-is_canonical-clause-none g c = λ n rest small none is.
     let lead = c.front_value-number.ensures in
     let len = c.front_value-number.result.1 in
     let stands = number_stands _ _ rest c.min.result len n c.split_at.ensures.front c.min.ensures
@@ -15,7 +15,7 @@ returns-then-not-is_canonical-clause-none c = λ n rest small none is.
     cc
 
 pub returns-clause-only : goal.returns-clause-only
-returns-clause-only c = λ n rest small none is.
+returns-clause-only g c = λ n rest small none is.
     let lead = c.front_value-number.ensures in
     let len = c.front_value-number.result.1 in
     let stands = number_stands _ _ rest c.min.result len n c.split_at.ensures.front c.min.ensures
@@ -29,7 +29,7 @@ returns-clause-only c = λ n rest small none is.
     )
 
 pub returns-clause-small : goal.returns-clause-small
-returns-clause-small c =
+returns-clause-small g c =
     let lead = c.front_value-number.ensures in
     let len = c.front_value-number.result.1 in
     let few : length (take len c.split_at.result.0.now) ≤ 18 =
@@ -43,7 +43,7 @@ returns-clause-small c =
     omega (arith, lead.value, few_digits_small _ lead.digits few)
 
 pub returns-clause-printed : goal.returns-clause-printed
-returns-clause-printed c =
+returns-clause-printed g c =
     let lead = c.front_value-number.ensures in
     let len = c.front_value-number.result.1 in
     let few : length (take len c.split_at.result.0.now) ≤ 18 =

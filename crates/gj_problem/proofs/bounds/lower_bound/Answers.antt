@@ -1,6 +1,6 @@
 use Rattle.std.proofs.Common.{Bool, neg_ℤ, sym, ap, subst, ◌∙◌}
-use Rattle.gj_problem.specs.Rational.{neg_ℚ}
-use Rattle.gj_problem.proofs.RationalLaws.{whole_neg}
+use Rattle.gj_fields.specs.Rational.{neg_ℚ}
+use Rattle.gj_fields.proofs.RationalLaws.{whole_neg}
 use Rattle.gj_problem.specs.Aggregates.{IsLowerBound}
 use Rattle.gj_problem.proofs.AddedSums.{negation_value}
 use Rattle.gj_problem.proofs.OneColumn.{ceiling_from_floor}

@@ -1,6 +1,6 @@
 use Rattle.std.proofs.Common.{◌≡◌, ◌+◌, ◌<◌, ◌^◌, inl, inr, false, Bool, ℕ, List, [], ◌∷◌, ◌++◌, length, take, drop, get_or, refl, sym, subst, arith}
 use Rattle.gj_frac.specs.declared.Frac.{Frac}
-use Rattle.gj_problem.specs.Rational.{rational}
+use Rattle.gj_fields.specs.Rational.{rational}
 use Rattle.gj_problem.specs.declared.bounds.Held.{Held}
 use Rattle.gj_problem.specs.Aggregates.{held, IsLeftOut, IsTurned}
 use Rattle.gj_problem.specs.Steps.{AreTurned}

@@ -3,7 +3,7 @@ use Rattle.gj_frac.specs.declared.Frac.{Frac}
 use Rattle.std.proofs.lemmas.Int.{to_z-of_z}
 use Rattle.std.proofs.lemmas.Option.{MatchOption-at_some}
 use Rattle.gj_frac.specs.Fraction.{IsRatio}
-use Rattle.gj_problem.specs.Rational.{rational}
+use Rattle.gj_fields.specs.Rational.{rational}
 use Rattle.gj_problem.specs.Moves.{IsBelowOnGrid}
 use Rattle.gj_problem.proofs.AddedSums.{ok_if_some}
 use Rattle.gj_problem.proofs.GridParts.{below_from_floor}

@@ -3,7 +3,7 @@ use Rattle.gj_frac.proofs.Refusals.{on_err}
 use Rattle.gj_problem.specs.RoundedCuts.{lower_of, IsWideMove}
 use Rattle.gj_problem.proofs.WideRoundings.{raised_wide}
 use Rattle.gj_frac.specs.declared.Frac.{Frac}
-use Rattle.gj_problem.specs.Rational.{rational}
+use Rattle.gj_fields.specs.Rational.{rational}
 use Rattle.gj_problem.proofs.AddedSums.{negation_value}
 use Rattle.gj_problem.specs.RoundedCuts.{upper_of, IsMoved}
 use Rattle.gj_problem.proofs.MovedEntries.{raised_to, lowered_to}

@@ -1,7 +1,7 @@
 use Rattle.std.proofs.Common.{inl, inr, ap, ◌∙◌}
 use Rattle.gj_frac.proofs.Refusals.{on_err}
 use Rattle.gj_problem.specs.RoundedCuts.{IsWideChange}
-use Rattle.gj_problem.specs.Rational.{rational, ◌+ℚ◌, ◌*ℚ◌}
+use Rattle.gj_fields.specs.Rational.{rational, ◌+ℚ◌, ◌*ℚ◌}
 use Rattle.gj_problem.proofs.AddedSums.{sum_value, product_value, negation_value}
 use Rattle.gj_problem.proofs.NarrowRoundings.{narrow_change}
 use Rattle.gj_problem.proofs.rounding.moved_to.Goals as goal

@@ -1,5 +1,5 @@
 use Rattle.std.proofs.Common.{inl, inr, sym, ◌∙◌, [], ◌≡◌, ◌∷◌, ◌+◌, List, Option, MatchOption, take, drop, refl, subst}
-use Rattle.gj_problem.specs.Rational.{rational}
+use Rattle.gj_fields.specs.Rational.{rational}
 use Rattle.gj_problem.specs.declared.problem.Entry.{Entry}
 use Rattle.gj_problem.proofs.AddedSums.{sum_value}
 use Rattle.gj_problem.proofs.Prefixes.{split_at}

@@ -1,5 +1,5 @@
 use Rattle.std.proofs.Common.{take}
-use Rattle.gj_problem.specs.Rational.{rational}
+use Rattle.gj_fields.specs.Rational.{rational}
 use Rattle.gj_problem.proofs.MovedEntries.{AreMovedTo}
 use Rattle.gj_problem.proofs.NarrowRoundings.{HasWideEntry}
 use Rattle.gj_problem.proofs.rounding.rounded_cut.Given as goal

@@ -3,7 +3,7 @@ use Rattle.std.proofs.lemmas.Int.{to_z-of_z}
 use Rattle.std.proofs.lemmas.Option.{MatchOption-at_some}
 use Rattle.std.proofs.lemmas.Result.{IfOk-weaker, on_err_weaker, on_ok_weaker}
 use Rattle.gj_frac.specs.Fraction.{IsRatio, SameValue, fraction_of, product_of}
-use Rattle.gj_problem.specs.Rational.{whole, rational, ◌*ℚ◌}
+use Rattle.gj_fields.specs.Rational.{whole, rational, ◌*ℚ◌}
 use Rattle.gj_problem.proofs.AddedSums.{product_value, whole_ratio}
 use Rattle.gj_problem.proofs.NarrowSums.{narrow_times}
 use Rattle.gj_problem.proofs.rounding.scaled.Goals as goal

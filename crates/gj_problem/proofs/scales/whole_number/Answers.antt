@@ -3,7 +3,7 @@ use Rattle.std.proofs.lemmas.Int.{to_z-of_z}
 use Rattle.std.proofs.lemmas.Option.{MatchOption-at_some}
 use Rattle.gj_frac.specs.declared.Frac.{Frac}
 use Rattle.gj_frac.specs.Fraction.{IsRatio}
-use Rattle.gj_problem.specs.Rational.{whole, rational}
+use Rattle.gj_fields.specs.Rational.{whole, rational}
 use Rattle.gj_problem.proofs.AddedSums.{ok_if_some, whole_ratio}
 use Rattle.gj_problem.proofs.WideRoundings.{err_if_none}
 use Rattle.gj_problem.proofs.WideScales.{whole_wide}

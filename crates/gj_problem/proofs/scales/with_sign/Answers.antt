@@ -1,6 +1,6 @@
 use Rattle.std.proofs.Common.{◌≡◌, ℕ, pos, sym, ap, ◌∙◌}
-use Rattle.gj_problem.specs.Rational.{whole, rational, neg_ℚ}
-use Rattle.gj_problem.proofs.RationalLaws.{whole_neg}
+use Rattle.gj_fields.specs.Rational.{whole, rational, neg_ℚ}
+use Rattle.gj_fields.proofs.RationalLaws.{whole_neg}
 use Rattle.gj_problem.specs.declared.problem.Sense.{Sense}
 use Rattle.gj_problem.specs.Aggregates.{signed}
 use Rattle.gj_problem.proofs.AddedSums.{negation_value}

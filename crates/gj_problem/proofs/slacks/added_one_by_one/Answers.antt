@@ -1,7 +1,7 @@
 use Rattle.std.proofs.Common.{◌≡◌, ◌≤◌, Bor, List, [], ◌∷◌, ◌++◌, ◌+◌, length, take, drop, length-append, sym, ap, subst, ◌∙◌, arith, rules}
 use Rattle.std.proofs.Math.Nat.{le-min}
 use Rattle.std.proofs.lemmas.Slice.Zip.{zip_turn, zip_end}
-use Rattle.gj_problem.specs.Rational.{Rational, rational, ◌-ℚ◌}
+use Rattle.gj_fields.specs.Rational.{Rational, rational, ◌-ℚ◌}
 use Rattle.gj_frac.specs.declared.Frac.{Frac}
 use Rattle.gj_problem.specs.declared.problem.Constraint.{Constraint}
 use Rattle.gj_problem.specs.Rows.{dot}

@@ -1,5 +1,5 @@
 use Rattle.std.proofs.Common.{◌≡◌, List, length, take}
-use Rattle.gj_problem.specs.Rational.{Rational, rational, ◌-ℚ◌}
+use Rattle.gj_fields.specs.Rational.{Rational, rational, ◌-ℚ◌}
 use Rattle.gj_problem.specs.Rows.{dot}
 use Rattle.gj_problem.specs.Aggregates.{AreMadeOf, weighted, aggregate_at, HasNoSlack, IsSlack}
 use Rattle.gj_problem.specs.WideRows.{IsWideSum}

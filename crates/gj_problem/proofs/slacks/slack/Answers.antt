@@ -1,6 +1,6 @@
 use Rattle.std.proofs.Common.{◌≡◌, ◌↔◌, inl, inr, IsTrue, All, List, sym, ap, subst, subst₂, ◌∙◌}
 use Rattle.gj_frac.specs.Fits.{FitsProduct}
-use Rattle.gj_problem.specs.Rational.{whole, rational, ◌*ℚ◌}
+use Rattle.gj_fields.specs.Rational.{whole, rational, ◌*ℚ◌}
 use Rattle.gj_problem.specs.declared.problem.Entry.{Entry}
 use Rattle.gj_problem.specs.Problems.{IsWholeColumn}
 use Rattle.gj_problem.specs.Rows.{IsMultiple}

@@ -3,7 +3,7 @@ use Rattle.std.specs.List.{AllZip}
 use Rattle.std.proofs.lemmas.List.{take_all}
 use Rattle.std.proofs.lemmas.List.Elements.{All-nil, All-cons, All-head, All-tail, All-map, All-more}
 use Rattle.gj_frac.specs.Fits.{FitsProduct}
-use Rattle.gj_problem.specs.Rational.{rational}
+use Rattle.gj_fields.specs.Rational.{rational}
 use Rattle.gj_problem.specs.declared.problem.Entry.{Entry}
 use Rattle.gj_problem.proofs.AddedSums.{product_value}
 use Rattle.gj_problem.proofs.OneColumn.{IsTimes, multiple_more}

@@ -1,7 +1,7 @@
 use Rattle.std.proofs.Common.{All, take}
 use Rattle.std.specs.List.{AllZip}
 use Rattle.gj_frac.specs.Fits.{FitsProduct}
-use Rattle.gj_problem.specs.Rational.{rational}
+use Rattle.gj_fields.specs.Rational.{rational}
 use Rattle.gj_problem.proofs.OneColumn.{IsTimes}
 use Rattle.gj_problem.proofs.slacks.times.Given as goal
 

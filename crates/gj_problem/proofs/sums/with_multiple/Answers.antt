@@ -3,7 +3,7 @@ use Rattle.std.proofs.lemmas.Result.{IfOk-weaker, on_err_weaker, on_ok_weaker}
 use Rattle.gj_frac.proofs.Reduced.{read_part}
 use Rattle.gj_problem.proofs.Multiples.{zero_added, zero_narrow}
 use Rattle.gj_frac.specs.Fraction.{SameValue, fraction_of, sum_of}
-use Rattle.gj_problem.specs.Rational.{rational, ◌+ℚ◌, ◌*ℚ◌}
+use Rattle.gj_fields.specs.Rational.{rational, ◌+ℚ◌, ◌*ℚ◌}
 use Rattle.gj_problem.proofs.AddedSums.{multiple_value}
 use Rattle.gj_problem.proofs.NarrowSums.{narrow_at}
 use Rattle.gj_problem.proofs.sums.with_multiple.Goals as goal

@@ -1,7 +1,7 @@
 use Rattle.std.proofs.Common.{sym, ap, subst, subst₂, ◌∙◌}
 use Rattle.gj_frac.specs.declared.Frac.{Frac}
 use Rattle.gj_frac.proofs.Refusals.{on_err}
-use Rattle.gj_problem.specs.Rational.{rational, neg_ℚ}
+use Rattle.gj_fields.specs.Rational.{rational, neg_ℚ}
 use Rattle.gj_problem.specs.Moves.{IsBelowOnGrid}
 use Rattle.gj_problem.specs.RoundedCuts.{IsWideTimes}
 use Rattle.gj_problem.proofs.AddedSums.{negation_value}

@@ -2,7 +2,7 @@ use Rattle.std.proofs.Common.{All, sym, subst, rules}
 use Rattle.std.proofs.lemmas.List.{take_all}
 use Rattle.std.proofs.lemmas.List.Elements.{All-more, All-get_or}
 use Rattle.gj_problem.specs.declared.problem.Entry.{Entry}
-use Rattle.gj_problem.specs.Rational.{rational}
+use Rattle.gj_fields.specs.Rational.{rational}
 use Rattle.gj_problem.specs.Moves.{IsGridValue}
 use Rattle.gj_relaxed.proofs.forms.are_on_grid.Goals as goal
 

@@ -1,5 +1,5 @@
 use Rattle.std.proofs.Common.{All, take}
-use Rattle.gj_problem.specs.Rational.{rational}
+use Rattle.gj_fields.specs.Rational.{rational}
 use Rattle.gj_problem.specs.Moves.{IsGridValue}
 use Rattle.gj_relaxed.proofs.forms.are_on_grid.Given as goal
 

@@ -1,7 +1,7 @@
 use Rattle.std.proofs.Common.{List, ◌+◌, take, refl, sym, subst}
 use Rattle.std.specs.List.{AllZip}
 use Rattle.std.proofs.lemmas.List.Elements.{all_zip_more}
-use Rattle.gj_problem.specs.Rational.{whole}
+use Rattle.gj_fields.specs.Rational.{whole}
 use Rattle.gj_problem.specs.declared.problem.Entry.{Entry}
 use Rattle.gj_problem.proofs.OneColumn.{IsTimes}
 use Rattle.gj_relaxed.specs.RelaxedSteps.{sign_of}

@@ -2,7 +2,7 @@ use Rattle.std.proofs.Common.{All, map, sym, subst}
 use Rattle.std.proofs.lemmas.List.Elements.{All-cons, All-tail, All-map}
 use Rattle.gj_frac.specs.declared.Frac.{Frac}
 use Rattle.gj_problem.specs.declared.problem.Entry.{Entry}
-use Rattle.gj_problem.specs.Rational.{rational}
+use Rattle.gj_fields.specs.Rational.{rational}
 use Rattle.gj_problem.specs.Moves.{IsGridValue}
 use Rattle.gj_relaxed.proofs.RelaxedSides.{unmapped}
 use Rattle.gj_relaxed.proofs.forms.is_on_grid.Goals as goal

@@ -1,6 +1,6 @@
 use Rattle.std.proofs.Common.{Bool, sym, ap, ◌∙◌}
-use Rattle.gj_problem.specs.Rational.{whole, rational, ◌*ℚ◌}
-use Rattle.gj_problem.proofs.RationalLaws.{one_mul_q}
+use Rattle.gj_fields.specs.Rational.{whole, rational, ◌*ℚ◌}
+use Rattle.gj_fields.proofs.RationalLaws.{one_mul_q}
 use Rattle.gj_problem.proofs.AddedSums.{negation_value}
 use Rattle.gj_relaxed.specs.RelaxedSteps.{sign_of}
 use Rattle.gj_relaxed.proofs.forms.with_sign.Goals as goal

@@ -1,6 +1,6 @@
 use Rattle.std.proofs.Common.{◌≡◌, ℕ, List, pos, refl, sym, ap, subst, subst₂, ◌∙◌}
 use Rattle.gj_frac.specs.Fraction.{IsRatio}
-use Rattle.gj_problem.specs.Rational.{Rational, whole, rational, ◌*ℚ◌}
+use Rattle.gj_fields.specs.Rational.{Rational, whole, rational, ◌*ℚ◌}
 use Rattle.gj_problem.specs.Rows.{IsMultiple}
 use Rattle.gj_problem.specs.declared.problem.Entry.{Entry}
 use Rattle.gj_problem.proofs.AddedSums.{product_value, whole_ratio}

@@ -1,7 +1,7 @@
 use Rattle.std.proofs.Common.{List, [], refl, sym, subst, subst₂}
 use Rattle.std.specs.List.{AllZip}
 use Rattle.std.proofs.lemmas.List.{take_all}
-use Rattle.gj_problem.specs.Rational.{rational}
+use Rattle.gj_fields.specs.Rational.{rational}
 use Rattle.gj_problem.specs.declared.problem.Entry.{Entry}
 use Rattle.gj_problem.proofs.AddedSums.{product_value}
 use Rattle.gj_problem.proofs.OneColumn.{IsTimes, multiple_more}

@@ -1,6 +1,6 @@
 use Rattle.std.proofs.Common.{take}
 use Rattle.std.specs.List.{AllZip}
-use Rattle.gj_problem.specs.Rational.{rational}
+use Rattle.gj_fields.specs.Rational.{rational}
 use Rattle.gj_problem.proofs.OneColumn.{IsTimes}
 use Rattle.gj_relaxed.proofs.loose_pieces.times.Given as goal
 

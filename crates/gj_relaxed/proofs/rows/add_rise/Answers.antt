@@ -2,7 +2,7 @@ use Rattle.std.proofs.Common.{◌≡◌, ◌⊎◌, inr, List, ℤ, pos, to_z, o
 use Rattle.gj_frac.specs.Fraction.{numerator}
 use Rattle.gj_frac.proofs.Reduced.{read_part}
 use Rattle.gj_frac.proofs.Refusals.{on_err}
-use Rattle.gj_problem.specs.Rational.{rational, ◌+ℚ◌, ◌*ℚ◌, ◌-ℚ◌}
+use Rattle.gj_fields.specs.Rational.{rational, ◌+ℚ◌, ◌*ℚ◌, ◌-ℚ◌}
 use Rattle.gj_problem.specs.declared.problem.Entry.{Entry}
 use Rattle.gj_problem.specs.Problems.{sum_at, surplus_at}
 use Rattle.gj_problem.specs.Steps.{IsWideAt, IsWideWithin}

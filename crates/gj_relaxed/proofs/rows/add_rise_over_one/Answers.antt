@@ -1,7 +1,7 @@
 use Rattle.std.proofs.Common.{◌≡◌, ⊎_elim, List, ℤ, pos, to_z, of_z, refl, sym, ap, subst, ◌∙◌}
 use Rattle.gj_frac.specs.Fraction.{numerator}
 use Rattle.gj_frac.proofs.Reduced.{read_part}
-use Rattle.gj_problem.specs.Rational.{◌+ℚ◌, ◌*ℚ◌}
+use Rattle.gj_fields.specs.Rational.{◌+ℚ◌, ◌*ℚ◌}
 use Rattle.gj_problem.specs.declared.problem.Entry.{Entry}
 use Rattle.gj_problem.specs.Combinations.{IsAdded}
 use Rattle.gj_problem.specs.Problems.{surplus_at}

@@ -1,6 +1,6 @@
 use Rattle.std.proofs.Common.{◌≡◌, ◌++◌, ◌<◌, ◌^◌, inl, inr, ℕ, List, [], ◌∷◌, length, take, drop, negsuc, false, Option, IfSome, IsNone, append_assoc, rules, sym, ap, ap₂, subst, ◌∙◌}
 use Rattle.std.proofs.lemmas.List.Elements.{length_all_zip}
-use Rattle.gj_problem.specs.Rational.{Rational, rational, ◌-ℚ◌}
+use Rattle.gj_fields.specs.Rational.{Rational, rational, ◌-ℚ◌}
 use Rattle.gj_problem.specs.declared.problem.Inequality.{Inequality}
 use Rattle.gj_problem.specs.declared.pieces.Piece.{Piece}
 use Rattle.gj_problem.specs.Problems.{surplus_at, AreTermsWithin}

@@ -2,7 +2,7 @@ use Rattle.std.proofs.Common.{◌⊎◌, ◌+◌, inl, inr, List, length, take, 
 use Rattle.std.proofs.lemmas.List.{take_all}
 use Rattle.gj_problem.specs.declared.pieces.Piece.{Piece}
 use Rattle.gj_frac.proofs.Refusals.{on_err}
-use Rattle.gj_problem.specs.Rational.{Rational, rational, ◌+ℚ◌, ◌*ℚ◌, ◌-ℚ◌}
+use Rattle.gj_fields.specs.Rational.{Rational, rational, ◌+ℚ◌, ◌*ℚ◌, ◌-ℚ◌}
 use Rattle.gj_problem.specs.declared.problem.Entry.{Entry}
 use Rattle.gj_problem.specs.Problems.{sum_at}
 use Rattle.gj_problem.specs.Steps.{IsWideAt, IsWideWithin}

@@ -1,6 +1,6 @@
 use Rattle.std.proofs.Common.{◌≡◌, ⊎_elim, ◌<◌, ◌^◌, ◌++◌, inl, ℕ, List, Option, IfSome, IsNone, length, pos, sym, ap, subst, subst₂, ◌∙◌}
 use Rattle.gj_frac.specs.declared.Frac.{Frac}
-use Rattle.gj_problem.specs.Rational.{Rational, whole, rational, ◌-ℚ◌}
+use Rattle.gj_fields.specs.Rational.{Rational, whole, rational, ◌-ℚ◌}
 use Rattle.gj_problem.specs.declared.problem.Inequality.{Inequality}
 use Rattle.gj_problem.specs.declared.pieces.Piece.{Piece}
 use Rattle.gj_problem.specs.Problems.{surplus_at, AreTermsWithin}

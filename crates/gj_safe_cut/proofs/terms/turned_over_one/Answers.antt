@@ -1,6 +1,6 @@
 use Rattle.std.proofs.Common.{⊎_elim, ◌<◌, ◌^◌, ◌++◌, ℕ, List, length, pos, ap, subst, subst₂, sym, ◌∙◌}
 use Rattle.gj_frac.specs.declared.Frac.{Frac}
-use Rattle.gj_problem.specs.Rational.{Rational, whole, ◌-ℚ◌}
+use Rattle.gj_fields.specs.Rational.{Rational, whole, ◌-ℚ◌}
 use Rattle.gj_problem.specs.declared.pieces.Piece.{Piece}
 use Rattle.gj_problem.specs.Problems.{surplus_at, AreTermsWithin}
 use Rattle.gj_problem.specs.Aggregates.{combined_at}

@@ -1,6 +1,6 @@
 use Rattle.std.proofs.Common.{◌≡◌, IsTrue, true, inr, Option, None, MatchOption, [], ◌∷◌, refl, ap, subst, ◌∙◌}
-use Rattle.gj_problem.specs.Rational.{Rational, rational, ◌+ℚ◌, ◌*ℚ◌, neg_ℚ}
-use Rattle.gj_problem.proofs.RationalRing.{by_ring_q, ring_q}
+use Rattle.gj_fields.specs.Rational.{Rational, rational, ◌+ℚ◌, ◌*ℚ◌, neg_ℚ}
+use Rattle.gj_fields.proofs.RationalRing.{by_ring_q, ring_q}
 use Rattle.gj_problem.specs.declared.bounds.Held.{Held}
 use Rattle.gj_problem.specs.Aggregates.{IsLeftOut, IsTurned}
 use Rattle.gj_problem.specs.declared.pieces.Piece.{Piece}

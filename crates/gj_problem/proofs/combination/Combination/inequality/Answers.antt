@@ -4,7 +4,7 @@ use Rattle.std.proofs.lemmas.List.{take_all}
 use Rattle.gj_frac.specs.declared.Frac.{Frac}
 use Rattle.gj_frac.specs.Fraction.{IsRatio}
 use Rattle.gj_lemmas.proofs.Integers.{mul_positive_z}
-use Rattle.gj_problem.specs.Rational.{Rational, rational, ◌-ℚ◌}
+use Rattle.gj_fields.specs.Rational.{Rational, rational, ◌-ℚ◌}
 use Rattle.gj_problem.specs.declared.problem.Entry.{Entry}
 use Rattle.gj_problem.specs.Problems.{sum_at, AreTermsWithin}
 use Rattle.gj_problem.specs.Rows.{dot}

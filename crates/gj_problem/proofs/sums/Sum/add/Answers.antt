@@ -1,7 +1,7 @@
 use Rattle.std.proofs.Common.{◌⊎◌, ⊎_elim, inr, List, ap, subst, ◌∙◌}
 use Rattle.gj_frac.proofs.Refusals.{on_err}
 use Rattle.gj_frac.specs.declared.Frac.{Frac}
-use Rattle.gj_problem.specs.Rational.{Rational, rational, ◌+ℚ◌, ◌*ℚ◌, ◌-ℚ◌}
+use Rattle.gj_fields.specs.Rational.{Rational, rational, ◌+ℚ◌, ◌*ℚ◌, ◌-ℚ◌}
 use Rattle.gj_problem.specs.Problems.{sum_at}
 use Rattle.gj_problem.specs.Rows.{dot}
 use Rattle.gj_problem.specs.Steps.{IsWideAt, IsWideWithin}

@@ -1,7 +1,7 @@
 use Rattle.std.proofs.Common.{◌+◌, List, take, drop, refl, subst, ◌∙◌}
 use Rattle.std.proofs.lemmas.List.{take_all}
 use Rattle.gj_frac.proofs.Refusals.{on_err}
-use Rattle.gj_problem.specs.Rational.{Rational, rational}
+use Rattle.gj_fields.specs.Rational.{Rational, rational}
 use Rattle.gj_problem.specs.Rows.{dot}
 use Rattle.gj_problem.specs.Steps.{IsWideWithin}
 use Rattle.gj_problem.proofs.Prefixes.{split_at}

@@ -1,5 +1,5 @@
 use Rattle.std.proofs.Common.{◌≡◌, List, length, take}
-use Rattle.gj_problem.specs.Rational.{Rational, rational, ◌+ℚ◌, ◌*ℚ◌}
+use Rattle.gj_fields.specs.Rational.{Rational, rational, ◌+ℚ◌, ◌*ℚ◌}
 use Rattle.gj_problem.specs.Problems.{sum_at}
 use Rattle.gj_problem.specs.Rows.{dot}
 use Rattle.gj_problem.specs.Steps.{IsWideWithin}

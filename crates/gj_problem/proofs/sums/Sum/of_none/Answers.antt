@@ -1,7 +1,7 @@
 use Rattle.std.proofs.Common.{List, length, pos, ap, ◌∙◌}
 use Rattle.std.proofs.lemmas.List.{length-replicate}
 use Rattle.gj_frac.specs.declared.Frac.{Frac}
-use Rattle.gj_problem.specs.Rational.{Rational}
+use Rattle.gj_fields.specs.Rational.{Rational}
 use Rattle.gj_problem.specs.Rows.{dot}
 use Rattle.gj_problem.proofs.AddedSums.{whole_ratio, dot_zero}
 use Rattle.gj_problem.proofs.sums.Sum.of_none.Goals as goal

@@ -3,9 +3,9 @@ use Rattle.std.proofs.Common.{◌≡◌, ◌<◌, ℕ, ℤ, pos, negsuc, ◌+ℤ
 use Rattle.std.proofs.lemmas.Int.{ints}
 use Rattle.gj_lemmas.proofs.Integers.{mul_positive_z, mul_nonnegative_z, mul_le_cancel_right_z, one_mul_z}
 use Rattle.gj_lemmas.proofs.Ring.{by_ring, ring}
-use Rattle.gj_problem.specs.Rational.{Rational, whole, ◌+ℚ◌, ◌*ℚ◌, neg_ℚ, ◌-ℚ◌, ◌≤ℚ◌}
-use Rattle.gj_problem.proofs.RationalLaws.{equal_q, sum_is, product_is, whole_sub}
-use Rattle.gj_problem.proofs.RationalRing.{by_ring_q, ring_q}
+use Rattle.gj_fields.specs.Rational.{Rational, whole, ◌+ℚ◌, ◌*ℚ◌, neg_ℚ, ◌-ℚ◌, ◌≤ℚ◌}
+use Rattle.gj_fields.proofs.RationalLaws.{equal_q, sum_is, product_is, whole_sub}
+use Rattle.gj_fields.proofs.RationalRing.{by_ring_q, ring_q}
 
 -- x is at least 0
 pub record IsNonnegativeQ (x : Rational) : Type 0 where

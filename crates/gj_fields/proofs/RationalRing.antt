@@ -4,8 +4,8 @@
 -- -, *, signs and whole numerals.
 use Rattle.std.proofs.Common.{◌≡◌, ℕ, true, eqb, List, pos, negsuc, refl}
 use Rattle.gj_lemmas.proofs.Rings.{Ring, Wholes, num, Reading, reading, Readings, SameForm, by_form, read_plus, read_times, read_both, read_0, read_1, read_2, read_3, read_4, read_5, read_6, read_7, read_8, read_9, read_10, read_11, read_12, read_13}
-use Rattle.gj_problem.specs.Rational.{Rational, whole, ◌+ℚ◌, ◌*ℚ◌, neg_ℚ}
-use Rattle.gj_problem.proofs.RationalLaws.{add_assoc_q, add_comm_q, add_zero_q, add_neg_q, mul_comm_q, mul_assoc_q, mul_one_q, mul_add_q, whole_add, whole_mul}
+use Rattle.gj_fields.specs.Rational.{Rational, whole, ◌+ℚ◌, ◌*ℚ◌, neg_ℚ}
+use Rattle.gj_fields.proofs.RationalLaws.{add_assoc_q, add_comm_q, add_zero_q, add_neg_q, mul_comm_q, mul_assoc_q, mul_one_q, mul_add_q, whole_add, whole_mul}
 
 abbrev pub rational_ring : Ring Rational
 rational_ring = record {

@@ -1,18 +1,31 @@
--- The rational numbers without bound are an ordered field.
-use Rattle.std.proofs.Common.{◌≡◌, ◌≢◌, ◌⊎◌, inl, inr, ⊎_elim, Bool, true, false, [], ◌∷◌, ℤ, pos, negsuc, unsigned_abs, ◌*ℤ◌, ◌<ℤ◌, ◌≤ℤ◌, refl, sym, subst, ap, ◌∙◌, arith}
+-- The rational numbers without bound are an ordered field with floors: so the laws of such fields
+-- do not contradict each other.
+use Rattle.std.proofs.Common.{◌≡◌, ◌≢◌, ◌⊎◌, inl, inr, ⊎_elim, Bool, true, false, T, [], ◌∷◌, ℕ, zero, suc, ◌*◌, ◌/◌, ◌+◌, ◌<◌, ℤ, pos, negsuc, unsigned_abs, ◌+ℤ◌, ◌*ℤ◌, ◌<ℤ◌, ◌≤ℤ◌, refl, sym, subst, ap, ◌∙◌, arith}
+use Rattle.std.proofs.Math.Nat.{mod-lt, div-add-mod'}
 use Rattle.std.proofs.lemmas.Int.{ints}
+use Rattle.std.specs.Int.{int_div_euclid}
 use lib.Signed.{le_z}
 use Rattle.gj_lemmas.proofs.Integers.{same_or_apart_z, mul_cancel_right_z, mul_some_z, positive_some_z, abs_zero_z}
 use Rattle.gj_lemmas.proofs.Ring.{by_ring, ring}
-use Rattle.gj_fields.specs.Fields.{OrderedField}
-use Rattle.gj_fields.proofs.Fractions.{le_yes, yes_le}
+use Rattle.gj_fields.specs.Fields as f
+use Rattle.gj_fields.specs.Fields.{OrderedField, HasFloor, number}
 use Rattle.gj_fields.proofs.Order.{either}
-use Rattle.gj_problem.specs.Rational.{Rational, reduced, over, whole, ◌+ℚ◌, ◌*ℚ◌, neg_ℚ, ◌-ℚ◌, ◌≤ℚ◌}
-use Rattle.gj_problem.proofs.RationalLaws.{equal_q, product_is, add_assoc_q, add_comm_q, mul_assoc_q, mul_comm_q, mul_add_q, whole_injective}
-use Rattle.gj_problem.proofs.RationalOrder.{IsNonnegativeQ, nonnegative_mul, difference_nonnegative, at_most_from_difference, at_most_trans}
-use Rattle.gj_problem.proofs.RationalRing.{by_ring_q, ring_q}
+use Rattle.gj_fields.specs.Rational.{Rational, reduced, over, whole, ◌+ℚ◌, ◌*ℚ◌, neg_ℚ, ◌-ℚ◌, ◌≤ℚ◌}
+use Rattle.gj_fields.proofs.RationalLaws.{equal_q, product_is, add_assoc_q, add_comm_q, add_zero_q, add_neg_q, mul_assoc_q, mul_comm_q, mul_one_q, mul_add_q, whole_add, whole_neg, whole_injective}
+use Rattle.gj_fields.proofs.RationalOrder.{IsNonnegativeQ, nonnegative_mul, difference_nonnegative, at_most_from_difference, at_most_trans}
+use Rattle.gj_fields.proofs.RationalRing.{by_ring_q, ring_q}
 
 -- ---- order
+
+true_of : (b : Bool) → T b → b ≡ true
+true_of true h = refl
+true_of false h = absurd h
+
+pub le_yes : (x y : ℤ) → le_z x y ≡ true → x ≤ℤ y
+le_yes x y h = record { le = subst T (sym h) tt }
+
+pub yes_le : (x y : ℤ) → x ≤ℤ y → le_z x y ≡ true
+yes_le x y h = true_of (le_z x y) h.le
 
 abbrev pub at_most_q : Rational → Rational → Bool
 at_most_q x y = le_z (x.top *ℤ y.bottom) (y.top *ℤ x.bottom)
@@ -55,15 +68,6 @@ times_keeps_q x y h k =
     (nonnegative_mul x y
     (subst IsNonnegativeQ (less_zero x) (difference_nonnegative (whole (pos 0)) x h))
     (subst IsNonnegativeQ (less_zero y) (difference_nonnegative (whole (pos 0)) y k))))
-
-pub plus_zero_q : (x : Rational) → x +ℚ whole (pos 0) ≡ x
-plus_zero_q x = by_ring_q (x ∷ []) (search ring_q depth 30) refl
-
-pub plus_negative_q : (x : Rational) → x -ℚ x ≡ whole (pos 0)
-plus_negative_q x = by_ring_q (x ∷ []) (search ring_q depth 30) refl
-
-pub times_one_q : (x : Rational) → x *ℚ whole (pos 1) ≡ x
-times_one_q x = by_ring_q (x ∷ []) (search ring_q depth 30) refl
 
 -- ---- inverses
 
@@ -130,9 +134,6 @@ pub inverse_is : (x : Rational) → x ≢ whole (pos 0) → x *ℚ inverse_q x �
 unfolding inverse_q
 inverse_is x some = inverse_law x (same_or_apart_z x.top (pos 0)) some
 
-pub not_one : pos 1 ≡ pos 0 → ⊥
-not_one h = absurd (omega (arith, ints))
-
 abbrev pub rationals : OrderedField Rational
 rationals = record {
   zero = whole (pos 0);
@@ -144,11 +145,11 @@ rationals = record {
   at_most = at_most_q;
   plus_associates = add_assoc_q;
   plus_commutes = add_comm_q;
-  plus_zero = plus_zero_q;
-  plus_negative = plus_negative_q;
+  plus_zero = add_zero_q;
+  plus_negative = add_neg_q;
   times_associates = mul_assoc_q;
   times_commutes = mul_comm_q;
-  times_one = times_one_q;
+  times_one = mul_one_q;
   times_plus = mul_add_q;
   times_inverse = inverse_is;
   different = λ same. not_one (whole_injective (pos 1) (pos 0) same);
@@ -162,3 +163,59 @@ rationals = record {
   where
     not_one : pos 1 ≡ pos 0 → ⊥
     not_one h = absurd (omega (arith, ints))
+
+-- ---- floors
+
+abbrev floor_q : Rational → ℤ
+floor_q x = int_div_euclid x.top x.bottom
+
+floor_spec : (t b : ℤ) → pos 0 <ℤ b → ((int_div_euclid t b *ℤ b) ≤ℤ t)
+    × (t <ℤ (int_div_euclid t b *ℤ b +ℤ b))
+floor_spec t (negsuc b) some = absurd (omega (arith, ints))
+floor_spec (pos n) (pos b) some =
+    let parts = div-add-mod' n b in
+    let positive : 0 < b = omega (arith, ints) in
+    let low = mod-lt n positive in
+    (omega (arith, ints), omega (arith, ints))
+floor_spec (negsuc n) (pos b) some =
+    let parts = div-add-mod' n b in
+    let positive : 0 < b = omega (arith, ints) in
+    let low = mod-lt n positive in
+    let product : suc (n / b) * b ≡ n / b * b + b = omega arith in
+    (omega (arith, ints), omega (arith, ints))
+
+number_is : (n : ℕ) → number rationals n ≡ whole (pos n)
+number_is zero = refl
+number_is (suc n) =
+    ap (λ x. x +ℚ whole (pos 1)) (number_is n) ∙ sym (whole_add (pos n) (pos 1))
+    ∙ ap whole (omega (arith, ints))
+
+whole_is : (z : ℤ) → f.whole rationals z ≡ whole z
+whole_is (pos n) = number_is n
+whole_is (negsuc n) =
+    ap neg_ℚ (number_is (suc n)) ∙ sym (whole_neg (pos (suc n))) ∙ ap whole (omega (arith, ints))
+
+floor_low : (x : Rational) → whole (floor_q x) ≤ℚ x
+unfolding whole
+floor_low x =
+    let low = (floor_spec x.top x.bottom x.reduced.positive).0 in
+    record { crosswise = omega (arith, ints) }
+
+floor_high : (x : Rational) → whole (floor_q x +ℤ pos 1) ≤ℚ x → ⊥
+unfolding whole
+floor_high x h =
+    let z = floor_q x in
+    let high = (floor_spec x.top x.bottom x.reduced.positive).1 in
+    let most : ((z +ℤ pos 1) *ℤ x.bottom) ≤ℤ (x.top *ℤ pos 1) = h.crosswise in
+    let next : (z +ℤ pos 1) *ℤ x.bottom ≡ z *ℤ x.bottom +ℤ x.bottom =
+    by_ring (z ∷ x.bottom ∷ []) (search ring depth 20) refl in
+    absurd (omega (arith, ints))
+
+pub rational_floors : HasFloor rationals
+rational_floors = record {
+  floor = floor_q;
+  low = λ x. most_is _ _ (subst (λ y. y ≤ℚ x) (sym (whole_is (floor_q x))) (floor_low x));
+  high = λ x h. floor_high x (subst (λ y. y ≤ℚ x)
+      (ap (λ y. y +ℚ whole (pos 1)) (whole_is (floor_q x)) ∙ sym (whole_add (floor_q x) (pos 1)))
+      (most_from _ _ h));
+}

@@ -4,7 +4,7 @@ use Rattle.std.proofs.lemmas.Int.{ints}
 use Rattle.gj_lemmas.proofs.Divisors.{same_ratio}
 use Rattle.gj_lemmas.proofs.Integers.{mul_positive_z, mul_cancel_right_z, one_mul_z, positive_some_z}
 use Rattle.gj_lemmas.proofs.Ratios.{Ratio, IsSum, IsProduct, sums_swapped, sums_regrouped, products_swapped, products_regrouped, products_over_sums}
-use Rattle.gj_problem.specs.Rational.{Rational, IsReduced, reduced, over, whole, ◌+ℚ◌, ◌*ℚ◌, neg_ℚ, ◌-ℚ◌}
+use Rattle.gj_fields.specs.Rational.{Rational, IsReduced, reduced, over, whole, ◌+ℚ◌, ◌*ℚ◌, neg_ℚ, ◌-ℚ◌}
 use lib.IntN.{zero-*ℤ}
 use denote.Struct.Props.{props}
 use mathlib.Core.HLevel.{is_prop→PathP}
