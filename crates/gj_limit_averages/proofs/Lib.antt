@@ -7,3 +7,6 @@ pub mod FromAverages
 pub mod GridValues
 pub mod AverageValues
 pub mod FromConditions
+pub mod TurnedFunctions
+pub mod AtRationals
+pub mod SameVerdicts

@@ -7,3 +7,4 @@
 
 pub mod extreme;
 pub mod halves;
+pub mod verdicts;

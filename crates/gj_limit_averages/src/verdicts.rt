@@ -1,0 +1,11 @@
+//! Functions, which may jump, that have the same verdict.
+ghost use Rattle.std.specs.Prelude.{ℕ, ◌↔◌};
+ghost use Rattle.gj_shape.specs.FunctionData.{FunctionData, IsWithinBounds};
+ghost use Rattle.gj_shape.specs.Refinement.{IsRefinement};
+ghost use Rattle.gj_limit_averages.specs.Averages.{IsExtremeFunction};
+
+/// A function, which may jump, and its refinement: both are extreme or neither is.
+pub fn refinements_have_same_verdicts_with_jumps()
+    ensures { (f g : FunctionData) (times : ℕ) → IsWithinBounds f → IsWithinBounds g →
+        IsRefinement f times g → (IsExtremeFunction f ↔ IsExtremeFunction g) }
+{}
