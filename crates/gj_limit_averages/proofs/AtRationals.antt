@@ -12,12 +12,15 @@ use Rattle.gj_fields.specs.Rational.{Rational, ◌*ℚ◌}
 use Rattle.gj_fields.proofs.Rationals.{rationals}
 use Rattle.gj_fields.proofs.RationalLaws.{equal_q, product_is, whole_add, whole_neg}
 use Rattle.gj_fields.proofs.Ring.{ring}
-use Rattle.gj_fields.proofs.Ring.Term.{var, neg, ◌⊕◌, ◌⊗◌}
+use Rattle.gj_fields.proofs.Ring.Term.{var, nil, unit, neg, ◌⊕◌, ◌⊗◌}
+use Rattle.gj_fields.proofs.Order.{number_plus}
+use Rattle.gj_fields.proofs.Points.{point_trans}
 use Rattle.gj_fields.proofs.Wholes.{whole_plus, whole_times, number_times}
 use Rattle.gj_reals.specs.RealFunctions.{index_of, real_function}
 use Rattle.gj_reals.proofs.Places.{IsIndex, index_is}
 use Rattle.gj_reals.proofs.AtReals.{HasParts, some_parts, value_is, number_some, order_some}
 use Rattle.gj_reals.proofs.Lift.{whole_negative}
+use Rattle.gj_limit_averages.proofs.TurnedFunctions.{mirroring}
 
 -- n/d as a number
 abbrev pub quotient : {R : Type 0} → OrderedField R → ℕ → ℕ → R
@@ -48,7 +51,7 @@ module _ {R : Type 0} (K : OrderedField R) where
       ∙ K.times_one (times B w)
 
   -- a number whose product with d is whole
-  pub point_of_quotient : (x : R) (t : ℤ) (d : ℕ) → 0 < d → times x (number K d) ≡ whole K t →
+  point_of_quotient : (x : R) (t : ℤ) (d : ℕ) → 0 < d → times x (number K d) ≡ whole K t →
       IsSamePoint K x (quotient K (index_of t d) d)
   point_of_quotient x t d some product =
       let i = index_is t d some in
@@ -74,7 +77,7 @@ module _ {R : Type 0} (K : OrderedField R) where
       )
 
   -- the same over a multiple of d
-  pub point_over : (x : R) (t : ℤ) (n d : ℕ) → 0 < n → 0 < d → times x (number K d) ≡ whole K t →
+  point_over : (x : R) (t : ℤ) (n d : ℕ) → 0 < n → 0 < d → times x (number K d) ≡ whole K t →
       IsSamePoint K x (quotient K (index_of (pos n *ℤ t) (n * d)) (n * d))
   point_over x t n d n_some d_some product =
       point_of_quotient x (pos n *ℤ t) (n * d) (mul-pos n_some d_some)
@@ -82,6 +85,46 @@ module _ {R : Type 0} (K : OrderedField R) where
       ∙ ring K (x ∷ number K n ∷ number K d ∷ []) (var 0 ⊗ (var 1 ⊗ var 2))
       (var 1 ⊗ (var 0 ⊗ var 2)) refl
       ∙ ap (times (number K n)) product ∙ sym (whole_times K (pos n) t))
+
+  -- ---- the number with the other sign
+
+  -- at i/n it is at (i (n - 1))/n
+  pub opposite_point : (x : R) (i c n : ℕ) → 0 < n → c + 1 ≡ n →
+      IsSamePoint K x (quotient K i n) → IsSamePoint K (negative x) (quotient K (i * c) n)
+  opposite_point x i c n some last point =
+      let I = number K i in
+      let C = number K c in
+      let N = number K n in
+      let u = K.inverse N in
+      let turned : plus (negative (times I u)) I ≡ plus (quotient K (i * c) n) o =
+      ap (plus (negative (times I u)))
+      (sym (K.times_one I) ∙ ap (times I) (sym (K.times_inverse N (number_some K n some)))
+      ∙ ap (λ t. times I (times t u)) (ap (number K) (sym last) ∙ number_plus K c 1))
+      ∙ ring K (I ∷ C ∷ u ∷ [])
+      (neg (var 0 ⊗ var 2) ⊕ var 0 ⊗ ((var 1 ⊕ (nil ⊕ unit)) ⊗ var 2))
+      (var 0 ⊗ var 1 ⊗ var 2 ⊕ nil) refl
+      ∙ ap (λ t. plus (times t u) o) (sym (number_times K i c)) in
+      point_trans K (negative x) (negative (times I u)) (quotient K (i * c) n)
+      ((mirroring K).points x (times I u) point) (i, 0, turned)
+
+  -- k/n and p/n that add up to 1
+  pub opposite_places : (p k n d : ℕ) → 0 < n → d ≡ n → k + p ≡ n →
+      IsSamePoint K (negative (quotient K k d)) (quotient K p n)
+  opposite_places p k n d some same sum =
+      let P = number K p in
+      let L = number K k in
+      let N = number K n in
+      let u = K.inverse N in (
+        1,
+        0,
+        ap (λ m. plus (negative (quotient K k m)) (number K 1)) same
+            ∙ ring K (times L u ∷ []) (neg (var 0) ⊕ (nil ⊕ unit)) (neg (var 0) ⊕ unit) refl
+            ∙ ap (plus (negative (times L u)))
+            (sym (K.times_inverse N (number_some K n some))
+            ∙ ap (λ t. times t u) (ap (number K) (sym sum) ∙ number_plus K k p))
+            ∙ ring K (L ∷ P ∷ u ∷ []) (neg (var 0 ⊗ var 2) ⊕ (var 0 ⊕ var 1) ⊗ var 2)
+            (var 1 ⊗ var 2 ⊕ nil) refl,
+      )
 
   module _ (floors : HasFloor K) (f : FunctionData) (bounds : IsPiecewise f) where
     abbrev moved : ℤ → ℕ → ℕ → ℤ

@@ -26,15 +26,15 @@ use Rattle.gj_limit_averages.proofs.AverageValues.{pieces_over, average_everywhe
 module _ {R : Type 0} (K : OrderedField R) (floors : HasFloor K) where
   open K use {plus, times, zero as o, one as e, negative}
 
-  -- its place is that of f
-  same_place : (f : FunctionData) (bounds : IsPiecewise f) (m c : ℕ) (g : FunctionData) → 0 < m →
-      IsMinimalOver f m c g → real_place K g ≡ real_place K f
-  same_place f bounds m c g some h =
+  -- the place on a finer grid
+  pub same_place : (f : FunctionData) (bounds : IsPiecewise f) (m : ℕ) (g : FunctionData) → 0 < m →
+      g.order ≡ f.order * m → g.place ≡ f.place * m → real_place K g ≡ real_place K f
+  same_place f bounds m g some order place =
       let low = bounds.order_low in
       let k = number K f.place in
       let M = number K m in
       let u = K.inverse (number K (f.order * m)) in
-      ap₂ (λ n d. times (number K n) (K.inverse (number K d))) h.place h.order
+      ap₂ (λ n d. times (number K n) (K.inverse (number K d))) place order
       ∙ ap (λ t. times t u) (number_times K f.place m)
       ∙ ring K (k ∷ M ∷ u ∷ []) (var 0 ⊗ var 1 ⊗ var 2) (var 0 ⊗ (var 2 ⊗ var 1)) refl
       ∙ ap (times k) (inverse_times K floors f bounds m some f.order (omega arith))
@@ -42,7 +42,7 @@ module _ {R : Type 0} (K : OrderedField R) (floors : HasFloor K) where
   valid_over : (f : FunctionData) (bounds : IsPiecewise f) (m c : ℕ) (g : FunctionData) → 0 < m →
       0 < c → IsMinimalOver f m c g → IsValid K (real_function K floors g) (real_place K f)
   valid_over f bounds m c g some c_some h =
-      subst (IsValid K (real_function K floors g)) (same_place f bounds m c g some h)
+      subst (IsValid K (real_function K floors g)) (same_place f bounds m g some h.order h.place)
       (rules_minimal K (real_function K floors g) (real_place K g)
       (rules_at_reals K floors g (pieces_over f m c g bounds some c_some h) h.minimal)).valid
 

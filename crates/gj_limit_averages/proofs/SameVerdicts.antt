@@ -1,13 +1,11 @@
 -- Functions, which may jump, whose values at the rational numbers are those of another: both are
 -- extreme or neither is.
-use Rattle.std.proofs.Common.{◌≡◌, ◌↔◌, ℕ, suc, ◌+◌, ◌-◌, ◌*◌, ◌<◌, pos, ◌*ℤ◌, sym, ap, ap₂, ◌∙◌, mul-pos, arith}
+use Rattle.std.proofs.Common.{◌≡◌, ◌↔◌, ℕ, ◌+◌, ◌-◌, ◌*◌, ◌<◌, pos, ◌*ℤ◌, sym, ap, ◌∙◌, mul-pos, arith}
 use Rattle.std.proofs.Math.Nat.{lt_of_mul-lt-mul_left}
-use Rattle.std.proofs.lemmas.Int.{ints}
 use Rattle.gj_shape.specs.FunctionData.{FunctionData, IsWithinBounds, IsPiecewise}
 use Rattle.gj_shape.specs.Refinement.{IsRefinement}
 use Rattle.gj_shape.specs.Table.{table}
 use Rattle.gj_shape.proofs.TableLemmas.{pieces_of}
-use Rattle.gj_fields.specs.Fields.{OrderedField, HasFloor}
 use Rattle.gj_fields.specs.Functions.{IsSamePoint, IsExtremeAmong}
 use Rattle.gj_fields.specs.Rational.{Rational}
 use Rattle.gj_fields.proofs.Rationals.{rationals, rational_floors}
@@ -16,11 +14,13 @@ use Rattle.gj_reals.specs.RealFunctions.{real_function, real_place}
 use Rattle.gj_reals.proofs.AtFractions.{value_at_fraction}
 use Rattle.gj_jumps.proofs.Decision.{extreme_by_cover, covered_by_extreme}
 use Rattle.gj_jumps.proofs.WholeSolutions.{only_zero_whole, only_zero_in_field}
+use Rattle.gj_transform.specs.Transforms.{IsMirrorOf}
+use Rattle.gj_transform.proofs.MirrorTables.{mirror_entries}
 use Rattle.gj_limit_averages.specs.Averages.{IsExtremeFunction}
 use Rattle.gj_limit_averages.proofs.FromAverages.{conditions_of_extreme}
-use Rattle.gj_limit_averages.proofs.FromConditions.{extreme_from_conditions}
-use Rattle.gj_limit_averages.proofs.TurnedFunctions.{IsTurn, staying, extreme_alike}
-use Rattle.gj_limit_averages.proofs.AtRationals.{quotient, same_quotient, value_at_point, IsPlaceOf, place_of}
+use Rattle.gj_limit_averages.proofs.FromConditions.{extreme_from_conditions, same_place}
+use Rattle.gj_limit_averages.proofs.TurnedFunctions.{IsTurn, staying, mirroring, extreme_alike}
+use Rattle.gj_limit_averages.proofs.AtRationals.{quotient, same_quotient, value_at_point, opposite_point, opposite_places, place_of}
 
 -- ---- as data, and at the rational numbers
 
@@ -95,16 +95,40 @@ module _ (f g : FunctionData) (times : ℕ) (l : IsWithinBounds f) (l' : IsWithi
       ∙ ap (λ n. value f (quotient rationals i n)) (sym grid)
       ∙ sym (value_at_point rationals rational_floors f (pieces_of l) x _ p.point)
 
-  refined_place : place g ≡ place f
-  refined_place =
-      let low = l.order_low in
-      let low' = l'.order_low in
-      let cross : g.place * f.order ≡ f.place * g.order =
-      ap (λ n. n * f.order) r.place ∙ omega arith ∙ ap (λ n. f.place * n) (sym r.order) in
-      same_quotient rationals (pos g.place) (pos f.place) g.order f.order (omega arith)
-      (omega arith) (omega (arith, ints))
-
   pub refined_extreme : IsExtremeFunction f ↔ IsExtremeFunction g
   refined_extreme =
       same_verdict f g l l' (λ x. x) (staying rationals) refined_value
-      (same_point rationals (place g) (place f) refined_place)
+      (same_point rationals (place g) (place f)
+      (same_place rationals rational_floors f (pieces_of l) times g times_some r.order r.place))
+
+-- ---- a mirror
+
+module _ (f g : FunctionData) (l : IsWithinBounds f) (l' : IsWithinBounds g)
+    (r : IsMirrorOf f g) where
+  mirrored_value : (x : Rational) → value g x ≡ value f (rationals.negative x)
+  mirrored_value x =
+      let low = l.order_low in
+      let order_some : 0 < f.order = omega arith in
+      let p = place_of f.order order_some x in
+      let m = p.multiple in
+      let i = p.index in
+      let n = f.order * m in
+      let n_some : 0 < n = mul-pos order_some p.some in
+      let c = n - 1 in
+      let last : c + 1 ≡ n = omega arith in
+      let grid : g.order * m ≡ n = ap (λ q. q * m) r.order in
+      value_at_point rationals rational_floors g (pieces_of l') x _ p.point
+      ∙ ap (λ d. value g (quotient rationals i d)) (sym grid)
+      ∙ same_value f g (pieces_of l) (pieces_of l') m m i (i * c) p.some p.some
+      (mirror_entries f g m c i p.some last r)
+      ∙ sym (value_at_point rationals rational_floors f (pieces_of l) (rationals.negative x) _
+      (opposite_point rationals x i c n n_some last p.point))
+
+  mirrored_place : IsSamePoint rationals (rationals.negative (place g)) (place f)
+  mirrored_place =
+      let low = l.order_low in
+      opposite_places rationals f.place g.place f.order g.order (omega arith) r.order r.place
+
+  pub mirrored_extreme : IsExtremeFunction f ↔ IsExtremeFunction g
+  mirrored_extreme =
+      same_verdict f g l l' rationals.negative (mirroring rationals) mirrored_value mirrored_place

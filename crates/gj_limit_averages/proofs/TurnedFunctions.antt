@@ -9,7 +9,7 @@ use Rattle.gj_fields.proofs.Points.{point_sym, point_trans, at_same_point}
 module _ {R : Type 0} (K : OrderedField R) where
   open K use {plus, zero as o, one as e, negative}
 
-  -- its own inverse, which keeps sums and points
+  -- a map of the numbers that is its own inverse, and keeps sums and points modulo 1
   pub record IsTurn (turn : R → R) : Type 0 where
     pub back : (x : R) → turn (turn x) ≡ x
     pub at_zero : turn o ≡ o
@@ -81,28 +81,26 @@ module _ {R : Type 0} (K : OrderedField R) where
             place)));
       }
 
-    module _ (v u : R → R) (same : (x : R) → u x ≡ v (turn x)) where
-      pub extreme_turned : (p q : R) → IsSamePoint K (turn q) p → IsExtremeAmong K v p →
-          IsExtremeAmong K u q
-      extreme_turned p q place h = record {
-        valid = valid_turned v u same p q place h.valid;
-        no_average = λ a b a_valid b_valid sum x.
-            let other = place_back p q place in
-            ap a (sym (is.back x))
-            ∙ h.no_average (λ y. a (turn y)) (λ y. b (turn y))
-            (valid_turned a (λ y. a (turn y)) (λ y. refl) q p other a_valid)
-            (valid_turned b (λ y. b (turn y)) (λ y. refl) q p other b_valid)
-            (λ y. let value = same (turn y) ∙ ap v (is.back y) in
-            sum (turn y) ∙ ap₂ plus value value)
-            (turn x)
-            ∙ ap b (is.back x);
-      }
+    extreme_turned : (v u : R → R) (p q : R) → ((x : R) → u x ≡ v (turn x)) →
+        IsSamePoint K (turn q) p → IsExtremeAmong K v p → IsExtremeAmong K u q
+    extreme_turned v u p q same place h = record {
+      valid = valid_turned v u same p q place h.valid;
+      no_average = λ a b a_valid b_valid sum x.
+          let other = place_back p q place in
+          ap a (sym (is.back x))
+          ∙ h.no_average (λ y. a (turn y)) (λ y. b (turn y))
+          (valid_turned a (λ y. a (turn y)) (λ y. refl) q p other a_valid)
+          (valid_turned b (λ y. b (turn y)) (λ y. refl) q p other b_valid)
+          (λ y. let value = same (turn y) ∙ ap v (is.back y) in sum (turn y) ∙ ap₂ plus value value)
+          (turn x)
+          ∙ ap b (is.back x);
+    }
 
-    -- two functions, each of which is the other at the turned numbers: both are extreme or neither is
+    -- of two functions, each the other at the turned numbers, both are extreme or neither is
     pub extreme_alike : (v u : R → R) (p q : R) → ((x : R) → u x ≡ v (turn x)) →
         IsSamePoint K (turn q) p → (IsExtremeAmong K v p ↔ IsExtremeAmong K u q)
     extreme_alike v u p q same place = (
-      extreme_turned v u same p q place,
-      extreme_turned u v (λ x. ap v (sym (is.back x)) ∙ sym (same (turn x))) q p
+      extreme_turned v u p q same place,
+      extreme_turned u v q p (λ x. ap v (sym (is.back x)) ∙ sym (same (turn x)))
           (place_back p q place),
     )
