@@ -88,7 +88,7 @@ module _ {R : Type 0} (K : OrderedField R) where
 
   -- ---- the number with the other sign
 
-  -- at i/n it is at (i (n - 1))/n
+  -- of a number at the point i/n it is at (i (n - 1))/n
   pub opposite_point : (x : R) (i c n : ℕ) → 0 < n → c + 1 ≡ n →
       IsSamePoint K x (quotient K i n) → IsSamePoint K (negative x) (quotient K (i * c) n)
   opposite_point x i c n some last point =
@@ -107,7 +107,7 @@ module _ {R : Type 0} (K : OrderedField R) where
       point_trans K (negative x) (negative (times I u)) (quotient K (i * c) n)
       ((mirroring K).points x (times I u) point) (i, 0, turned)
 
-  -- k/n and p/n that add up to 1
+  -- of k/n it is at p/n, if k/n and p/n add up to 1
   pub opposite_places : (p k n d : ℕ) → 0 < n → d ≡ n → k + p ≡ n →
       IsSamePoint K (negative (quotient K k d)) (quotient K p n)
   opposite_places p k n d some same sum =
@@ -139,7 +139,8 @@ module _ {R : Type 0} (K : OrderedField R) where
         (whole_plus K z (pos (n * f.order)) ∙ ap (plus (whole K z)) (number_times K n f.order))
         (whole_negative K (pos (m * f.order)) ∙ ap negative (number_times K m f.order))
 
-    moved_parts : (x y : R) (n m : ℕ) → plus x (number K n) ≡ plus y (number K m) → (z : ℤ) (l : R) →
+    moved_parts : (x y : R) (n m : ℕ) → plus x (number K n) ≡ plus y (number K m) →
+        (z : ℤ) (l : R) →
         HasParts K floors f bounds x z l → HasParts K floors f bounds y (moved z n m) l
     moved_parts x y n m same z l p =
         let Q = number K f.order in

@@ -51,7 +51,8 @@ same_verdict : (f g : FunctionData) → IsWithinBounds f → IsWithinBounds g �
     IsSamePoint rationals (turn (place g)) (place f) →
     (IsExtremeFunction f ↔ IsExtremeFunction g)
 same_verdict f g l l' turn is same there =
-    let alike = extreme_alike rationals turn is (value f) (value g) (place f) (place g) same there in (
+    let alike =
+    extreme_alike rationals turn is (value f) (value g) (place f) (place g) same there in (
       λ h. extreme_from_there g l' (alike.0 (extreme_there f l h)),
       λ h. extreme_from_there f l (alike.1 (extreme_there g l' h)),
     )
