@@ -10,6 +10,7 @@ use Rattle.gj_function_text.specs.FunctionText.{IsCanonicalText}
 use Rattle.gj_transform.specs.declared.faults.TransformFault.{TransformFault}
 use Rattle.gj_transform.specs.declared.faults.TransformFault.TheVariants as fault
 use Rattle.gj_transform.specs.Transforms.{IsTimesOf, IsMirrorOf, IsRestrictionOf, HasNoRestriction}
+use Rattle.gj_limit_averages.specs.Averages.{IsExtremeFunction}
 use Rattle.gj_top.specs.declared.reply.End.{End}
 use Rattle.gj_top.specs.declared.reply.End.TheVariants.{Done, OrderLimit, BadOrder}
 use Rattle.gj_top.specs.Promise.{Promise}
@@ -51,13 +52,14 @@ times n j = function_task false (IsTimesText n j) (IsTimesReply n j)
 -- ---- mirror
 
 -- the text is that of the function of -x with the place 1 - f, which is within the limits, and
--- minimal, and extreme, exactly if the function is
+-- minimal, and extreme, exactly if the function is: by tables, and as one that may jump
 pub record IsMirrorText (f : FunctionData) (text : List ℕ) : Type 0 where
   pub function : FunctionData
   pub is_mirror : IsMirrorOf f function
   pub within : IsWithinBounds function
   pub minimal : IsMinimal f ↔ IsMinimal function
   pub extreme : IsExtreme f ↔ IsExtreme function
+  pub extreme_with_jumps : IsExtremeFunction f ↔ IsExtremeFunction function
   pub spelled : IsCanonicalText text function
 
 abbrev pub mirror_promise : Promise
