@@ -120,7 +120,7 @@ one_reason s (constraint name sense right) e d =
     unless _ _ _ (unless _ _ _ (unless _ _ Never never)) e d
 one_reason s (entry name value) e d = unless _ _ _ (unless _ _ _ (unless _ _ Never never)) e d
 one_reason s (upper name) e d = unless _ _ Never never e d
-one_reason s (sum multipliers) e d = unless _ _ Never never e d
+one_reason s (sum multipliers) e d = unless _ _ _ (unless _ _ Never never) e d
 one_reason s (grid n) e d = unless _ _ Never never e d
 one_reason s (round n) e d = unless _ _ Never never e d
 
@@ -138,7 +138,7 @@ not_both s (constraint name sense right) t e h r =
 not_both s (entry name value) t e h r =
     met _ _ _ h.takes (met _ _ _ h.few (met (IsKnown s name) _ _ (h.index, h.index_is) (λ k. k))) r
 not_both s (upper name) t e h r = met (IsKnown s name) _ _ (h.index, h.index_is) (λ k. k) r
-not_both s (sum multipliers) t e h r = met _ _ _ h.count (λ k. k) r
+not_both s (sum multipliers) t e h r = met _ _ _ h.count (met _ _ _ h.steps (λ k. k)) r
 not_both s (grid n) t e h r = met _ _ _ h.none (λ k. k) r
 not_both s (round n) t e h r = met _ _ _ h.none (λ k. k) r
 

@@ -1,10 +1,11 @@
 -- The lines of a task as they are printed make it, one after another.
-use Rattle.std.proofs.Common.{◌≡◌, ◌≢◌, ◌<◌, ◌≤◌, inl, ℕ, ◌+◌, Option, Some, None, IfSome, codes}
+use Rattle.std.proofs.Common.{◌≡◌, ◌≢◌, ◌<◌, ◌≤◌, inl, ℕ, ◌+◌, ◌*◌, Option, Some, None, IfSome, codes}
 use Rattle.std.proofs.Common.{Bool, true, false, nat_eq, List, [], ◌∷◌, ◌++◌, All, flat_map, map}
 use Rattle.std.proofs.Common.{length, arith}
-use Rattle.std.proofs.Common.{append_assoc, append-nil, length-append, refl, sym, ap, subst, ◌∙◌}
+use Rattle.std.proofs.Common.{append_assoc, append-nil, length-append, refl, sym, ap, subst, subst₂, ◌∙◌}
 use Rattle.std.specs.Cmp.Lexicographic.{pointwise, bytes_decides}
 use Rattle.std.specs.List.{position, position_or_len}
+use Rattle.std.proofs.Math.Nat.{mul-le-mul_right}
 use Rattle.std.proofs.Math.Seq.{get_or-append_seam}
 use Rattle.std.proofs.lemmas.Bool.{lt-ltb, le-ltb, false_from_ne_true}
 use Rattle.std.proofs.lemmas.List.{get_or_append_left}
@@ -29,7 +30,7 @@ use Rattle.gj_problem.specs.declared.problem.Sense.{Sense}
 use Rattle.gj_problem.specs.declared.problem.Sense.TheVariants.{AtMost, AtLeast, Equal}
 use Rattle.gj_problem_text.specs.CutText.{AreNames, name_at}
 use Rattle.gj_problem_text.specs.PrintedInput.{grid_told, round_told, request_told, task_told, all_entries}
-use Rattle.gj_problem_text.specs.PrintedInput.{IsRequestOf, IsPrintable}
+use Rattle.gj_problem_text.specs.PrintedInput.{IsRequestOf, sums_in, IsPrintable}
 use Rattle.gj_problem_text.specs.PrintedProblem.{bound_word, column_told, entry_told}
 use Rattle.gj_problem_text.specs.PrintedProblem.{constraint_told, each_told, problem_told}
 use Rattle.gj_problem_text.specs.ProblemLines.{ProblemLine}
@@ -37,7 +38,7 @@ use Rattle.gj_problem_text.specs.ProblemLines.{kind_word, sense_word, problem_fi
 use Rattle.gj_problem_text.specs.ProblemLines.{IsGrid, HasProblemLine}
 use Rattle.gj_problem_text.specs.ProblemText.{no_task}
 use Rattle.gj_problem_text.specs.Tasks.{most_columns, most_constraints, most_entries}
-use Rattle.gj_problem_text.specs.Tasks.{SpellsBound, Adds}
+use Rattle.gj_problem_text.specs.Tasks.{most_steps, steps_of_sum, SpellsBound, Adds}
 use Rattle.gj_problem_text.specs.declared.task.Request.{Request}
 use Rattle.gj_problem_text.specs.declared.task.Request.TheVariants.{Upper, Sum}
 use Rattle.gj_problem_text.specs.declared.task.Task.{Task}
@@ -392,38 +393,71 @@ numbers_are_good (x ∷ numbers) w plain = (plain, rest x numbers)
     rest x (y ∷ numbers) = (tt, rest y numbers)
 
 abbrev with_requests : Task → List Request → Task
-with_requests s requests = record s { requests = s.requests ++ requests }
+with_requests s requests = record s {
+  requests = s.requests ++ requests;
+  sums = s.sums + sums_in requests;
+}
+
+-- so many more sums are within the steps
+abbrev HaveSteps : Task → ℕ → Type 0
+HaveSteps s more = (s.sums + more) * steps_of_sum s ≤ most_steps
+
+fewer_have_steps : (s : Task) (few many : ℕ) → few ≤ many → HaveSteps s many → HaveSteps s few
+fewer_have_steps s few many fewer within =
+    let times : (s.sums + few) * steps_of_sum s ≤ (s.sums + many) * steps_of_sum s =
+    mul-le-mul_right (steps_of_sum s) (omega arith) in
+    omega arith
+
+sums_of_both : (r : Request) (requests : List Request) →
+    sums_in (r ∷ requests) ≡ sums_in (r ∷ []) + sums_in requests
+sums_of_both (Upper j) requests = omega arith
+sums_of_both (Sum multipliers) requests = omega arith
 
 adds_request : (s : Task) (r : Request) → AreNames s.names →
     IsRequestOf (length s.names) (length s.problem.constraints) r →
+    HaveSteps s (sums_in (r ∷ [])) →
     IsPrintedLine (request_told s.names r)
     × Adds s (request_told s.names r) (with_requests s (r ∷ []))
-adds_request s (Upper j) are below = (
-  (
-    (
-      known (codes "upper") refl,
-      name_is_plain (name_at s.names j) (name_at_is s.names j are below),
-    ),
-    tt,
-  ),
-  record { index = j; index_is = own_place s.names j are below; added = refl },
-)
-adds_request s (Sum multipliers) are count = (
+adds_request s (Upper j) are below steps =
+    let count : s.sums + 0 ≡ s.sums = omega arith in (
+      (
+        (
+          known (codes "upper") refl,
+          name_is_plain (name_at s.names j) (name_at_is s.names j are below),
+        ),
+        tt,
+      ),
+      record {
+        index = j;
+        index_is = own_place s.names j are below;
+        added = λ i. record s { requests = s.requests ++ Upper j ∷ []; sums = count i };
+      },
+    )
+adds_request s (Sum multipliers) are count steps = (
   (numbers_are_good multipliers (codes "sum") (known (codes "sum") refl), tt),
-  record { count = count; added = refl },
+  record { count = count; steps = steps; added = refl },
 )
 
 adds_requests : (s : Task) (requests : List Request) → AreNames s.names →
     All (IsRequestOf (length s.names) (length s.problem.constraints)) requests →
+    HaveSteps s (sums_in requests) →
     AddsAll s (map (request_told s.names) requests) (with_requests s requests)
-adds_requests s [] are all = λ i. record s { requests = sym (append-nil s.requests) i }
-adds_requests s (r ∷ requests) are all =
+adds_requests s [] are all steps =
+    let count : s.sums ≡ s.sums + 0 = omega arith in
+    λ i. record s { requests = sym (append-nil s.requests) i; sums = count i }
+adds_requests s (r ∷ requests) are all steps =
     let Is = IsRequestOf (length s.names) (length s.problem.constraints) in
-    let one = adds_request s r are (All-head Is r requests all) in
+    let both = sums_of_both r requests in
+    let count : (s.sums + sums_in (r ∷ [])) + sums_in requests ≡ s.sums + sums_in (r ∷ requests) =
+    omega (arith, both) in
+    let first = fewer_have_steps s (sums_in (r ∷ [])) (sums_in (r ∷ requests))
+    (omega (arith, both)) steps in
+    let one = adds_request s r are (All-head Is r requests all) first in
     let next = with_requests s (r ∷ []) in
-    let more = adds_requests next requests are (All-tail Is r requests all) in
+    let more = adds_requests next requests are (All-tail Is r requests all)
+    (subst (λ (n : ℕ). n * steps_of_sum s ≤ most_steps) (sym count) steps) in
     let same : with_requests next requests ≡ with_requests s (r ∷ requests) =
-    λ i. record s { requests = append_assoc s.requests (r ∷ []) requests i } in (
+    λ i. record s { requests = append_assoc s.requests (r ∷ []) requests i; sums = count i } in (
       next,
       one.0,
       one.1,
@@ -446,10 +480,17 @@ task_is_told names s h =
     (omega (arith, h.entries, h.entries_few)) in
     let round = adds_round constrained s.round refl h.round in
     let grid = adds_grid relaxed s.grid refl h.grid in
-    let requests = adds_requests gridded s.requests h.column_names
-    (subst (λ (m : ℕ). All (IsRequestOf (length s.names) m) s.requests) h.constraints h.requests) in
     let count : 0 + length (all_entries s.problem) ≡ s.entries = omega (arith, h.entries) in
-    let same : with_requests gridded s.requests ≡ s = λ i. record s { entries = count i } in
+    let sums : 0 + sums_in s.requests ≡ s.sums = omega (arith, h.sums) in
+    let steps : HaveSteps gridded (sums_in s.requests) =
+    subst₂ (λ (n entries : ℕ).
+    n * (length s.names + length s.problem.constraints + entries) ≤ most_steps)
+    (sym sums) (sym count) h.steps in
+    let requests = adds_requests gridded s.requests h.column_names
+    (subst (λ (m : ℕ). All (IsRequestOf (length s.names) m) s.requests) h.constraints h.requests)
+    steps in
+    let same : with_requests gridded s.requests ≡ s =
+    λ i. record s { entries = count i; sums = sums i } in
     let told = each_told (λ name c. column_told name c ∷ []) s.names s.problem.columns in
     let behind = each_told (constraint_told s.names) names s.problem.constraints in
     let problem = adds_behind no_task columned constrained told behind columns constraints in

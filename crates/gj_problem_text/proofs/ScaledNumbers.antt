@@ -1,12 +1,12 @@
 -- Numbers times powers: which fractions have such values.
-use Rattle.std.proofs.Common.{◌≡◌, ◌≢◌, ◌⊎◌, ⊎_elim, inl, inr, ℕ, zero, suc, ◌+◌, ◌-◌, ◌*◌, ◌^◌}
-use Rattle.std.proofs.Common.{◌<◌, ◌≤◌, ℤ, pos, ◌*ℤ◌, ◌<ℤ◌, neg_ℤ, unsigned_abs, Option, Some, None}
-use Rattle.std.proofs.Common.{Result, Ok, Err, IfOk, OnErr, refl, sym, ap, ap₂, subst, ◌∙◌, arith}
+use Rattle.std.proofs.Common.{◌≡◌, ◌⊎◌, inl, inr, ℕ, zero, suc, ◌+◌, ◌-◌, ◌*◌, ◌^◌}
+use Rattle.std.proofs.Common.{◌<◌, ◌≤◌, pos, unsigned_abs, Some, None}
+use Rattle.std.proofs.Common.{Result, Ok, Err, IfOk, OnErr, sym, ap, subst, ◌∙◌, arith}
 use Rattle.std.specs.Int.{IsGcd, ◌∣◌}
 use Rattle.std.specs.Result.{result_ok}
-use Rattle.std.proofs.Math.Nat.{mul_comm, mul_assoc, mul_right_comm, one-le-pow, pow-zero, pow-suc}
+use Rattle.std.proofs.Math.Nat.{mul_comm, mul_assoc, one-le-pow, pow-zero, pow-suc}
 use Rattle.std.proofs.Math.Nat.{pow-le-pow_right, pow-le-pow_left, le-mul_of_pos_right, mul-le-mul}
-use Rattle.std.proofs.Math.Nat.{mul-pos, eq_of_mul-eq-mul_right, dvd-mul_right}
+use Rattle.std.proofs.Math.Nat.{mul-pos, eq_of_mul-eq-mul_right}
 use Rattle.std.proofs.lemmas.Int.{ints, unsigned_abs-mul}
 use Rattle.std.proofs.lemmas.Nat.{pow-add}
 use Rattle.std.proofs.lemmas.Nat.Gcd.{IsGcd-swap, le_of_dvd}

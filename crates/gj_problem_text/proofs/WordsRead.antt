@@ -1,10 +1,10 @@
 -- What is read of a word that may spell a number with an exponent.
 use Rattle.std.proofs.Common.{◌≡◌, ◌⊎◌, ⊎_elim, inl, inr, ℕ, zero, suc, ◌+◌, ◌-◌, ◌*◌, ◌^◌, ◌<◌}
-use Rattle.std.proofs.Common.{◌≤◌, ℤ, pos, ◌*ℤ◌, neg_ℤ, unsigned_abs, Bool, true, false}
+use Rattle.std.proofs.Common.{◌≤◌, pos, ◌*ℤ◌, neg_ℤ, unsigned_abs, Bool, true, false}
 use Rattle.std.proofs.Common.{if◌then◌else◌, ◌==◌, Option, None, Some, IfNone, List, [], ◌∷◌, ◌++◌}
 use Rattle.std.proofs.Common.{length, get_or, take, drop, add-one, refl, sym, ap, ap₂, subst}
 use Rattle.std.proofs.Common.{subst₂, ◌∙◌, arith}
-use Rattle.std.specs.List.{All, position}
+use Rattle.std.specs.List.{position}
 use Rattle.std.specs.Int.{IsGcd}
 use Rattle.std.specs.Char.{digit_value}
 use Rattle.std.specs.Str.Parse.{AllDigits, IsNumeral, digits_value, digits_value_after}
@@ -20,7 +20,7 @@ use Rattle.gj_frac.specs.Fraction.{IsRatio, with_sign}
 use Rattle.gj_frac.proofs.SameValues.{is_along}
 use Rattle.gj_lex.proofs.FirstPlaces.{first_place}
 use Rattle.gj_lemmas.proofs.Integers.{abs_neg_z, neg_mul_z, positive_some_z}
-use Rattle.gj_problem_text.specs.NumberWords.{radix, base, per_place, IsPrefix, marks, IsMark}
+use Rattle.gj_problem_text.specs.NumberWords.{radix, base, per_place, IsPrefix, marks}
 use Rattle.gj_problem_text.specs.NumberWords.{IsMantissa, raised, lowered, IsScaled, IsScaledWord}
 use Rattle.gj_problem_text.specs.NumberWords.IsMantissa.{whole, point}
 use Rattle.gj_problem_text.specs.declared.numbers.Notation.{Notation}

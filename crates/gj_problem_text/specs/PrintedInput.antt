@@ -1,5 +1,5 @@
 -- A problem with its rule as it is printed: in one order, each number in its one spelling (own).
-use Rattle.std.specs.Prelude.{ℕ, ◌≡◌, ◌<◌, ◌≤◌, Option, Some, None, IfSome, codes}
+use Rattle.std.specs.Prelude.{ℕ, ◌≡◌, ◌+◌, ◌*◌, ◌<◌, ◌≤◌, Option, Some, None, IfSome, codes}
 use Rattle.std.specs.Prelude.{List, [], ◌∷◌, ◌++◌, All, flat_map, length, map}
 use Rattle.gj_lex.specs.Name.{IsName}
 use Rattle.gj_shape.specs.FunctionData.{IsWithinBounds}
@@ -12,7 +12,7 @@ use Rattle.gj_proof.specs.declared.cut.CutRule.TheVariants.{Gmic, Table}
 use Rattle.gj_problem_text.specs.CutText.{AreNames, name_at}
 use Rattle.gj_problem_text.specs.PrintedProblem.{problem_told, printed}
 use Rattle.gj_problem_text.specs.ProblemLines.{ProblemLine, upper, sum, grid, round, IsGrid}
-use Rattle.gj_problem_text.specs.Tasks.{most_columns, most_constraints, most_entries}
+use Rattle.gj_problem_text.specs.Tasks.{most_columns, most_constraints, most_entries, most_steps, steps_of_sum}
 use Rattle.gj_problem_text.specs.declared.input.SafeInput.{SafeInput}
 use Rattle.gj_problem_text.specs.declared.task.Request.{Request}
 use Rattle.gj_problem_text.specs.declared.task.Request.TheVariants.{Upper, Sum}
@@ -48,6 +48,12 @@ abbrev pub IsRequestOf : ℕ → ℕ → Request → Type 0
 IsRequestOf n m (Upper j) = j < n
 IsRequestOf n m (Sum multipliers) = length multipliers ≡ m
 
+-- how many of the requests are sums
+abbrev pub sums_in : List Request → ℕ
+sums_in [] = 0
+sums_in (Upper j ∷ requests) = sums_in requests
+sums_in (Sum multipliers ∷ requests) = sums_in requests + 1
+
 -- the task has names for its columns, all different, and these are names for its constraints; it is
 -- within the limits, and speaks of its own columns alone
 pub record IsPrintable (constraint_names : List (List ℕ)) (s : Task) : Type 0 where
@@ -61,6 +67,8 @@ pub record IsPrintable (constraint_names : List (List ℕ)) (s : Task) : Type 0 
   pub entries : s.entries ≡ length (all_entries s.problem)
   pub entries_few : s.entries ≤ most_entries
   pub requests : All (IsRequestOf (length s.names) (length constraint_names)) s.requests
+  pub sums : s.sums ≡ sums_in s.requests
+  pub steps : s.sums * steps_of_sum s ≤ most_steps
   pub grid : IfSome s.grid IsGrid
   pub round : IfSome s.round IsGrid
 

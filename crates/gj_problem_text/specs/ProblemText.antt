@@ -22,6 +22,7 @@ no_task = record {
   entries =
       0;
   requests = [];
+  sums = 0;
   grid = None;
   round = None;
 }

@@ -1,5 +1,5 @@
 -- A problem, and which rows of it give cuts, line by line (own).
-use Rattle.std.specs.Prelude.{ℕ, ◌≡◌, ◌≢◌, ◌⊎◌, ◌+◌, ◌<◌, Option, Some, None, Bool, List, [], ◌∷◌, ◌++◌, length, codes, nat_eq}
+use Rattle.std.specs.Prelude.{ℕ, ◌≡◌, ◌≢◌, ◌⊎◌, ◌+◌, ◌*◌, ◌<◌, ◌≤◌, Option, Some, None, Bool, List, [], ◌∷◌, ◌++◌, length, codes, nat_eq}
 use Rattle.std.specs.Cmp.Lexicographic.{pointwise}
 use Rattle.std.specs.List.{position}
 use Rattle.gj_frac.specs.declared.Frac.{Frac}
@@ -25,6 +25,10 @@ most_constraints = 10000
 
 abbrev pub most_entries : ℕ
 most_entries = 100000
+
+-- and how many steps all sums take at most: 10^9
+abbrev pub most_steps : ℕ
+most_steps = 1000000000
 
 -- refused for this reason if it is not so, and else as the next ones say
 abbrev pub Unless : Type 0 → Reason → (Reason → Type 0) → Reason → Type 0
@@ -130,9 +134,26 @@ pub record AddsUpper (s : Task) (name : List ℕ) (t : Task) : Type 0 where
   pub index_is : index_of s name ≡ Some index
   pub added : t ≡ record s { requests = s.requests ++ Upper index ∷ [] }
 
+-- a sum takes a step for each column, constraint and entry
+abbrev pub steps_of_sum : Task → ℕ
+steps_of_sum s = length s.names + length s.problem.constraints + s.entries
+
+-- one more sum is within the steps
+abbrev pub HasStepsLeft : Task → Type 0
+HasStepsLeft s = (s.sums + 1) * steps_of_sum s ≤ most_steps
+
 pub record AddsSum (s : Task) (multipliers : List Frac) (t : Task) : Type 0 where
   pub count : length multipliers ≡ length s.problem.constraints
-  pub added : t ≡ record s { requests = s.requests ++ Sum multipliers ∷ [] }
+  pub steps : HasStepsLeft s
+  pub added : t ≡ record s {
+    requests = s.requests ++ Sum multipliers ∷ [];
+    sums = s.sums + 1;
+  }
+
+abbrev pub RefusesSum : Task → List Frac → Reason → Type 0
+RefusesSum s multipliers =
+    Unless (length multipliers ≡ length s.problem.constraints) reason.Form
+    (Unless (HasStepsLeft s) reason.Large Never)
 
 -- each once at most
 pub record AddsGrid (s : Task) (n : ℕ) (t : Task) : Type 0 where
@@ -161,8 +182,7 @@ Refuses s (column name is_whole low high) e = RefusesColumn s name low high e
 Refuses s (constraint name sense right) e = RefusesConstraint s name e
 Refuses s (entry name value) e = RefusesEntry s name e
 Refuses s (upper name) e = Unless (IsKnown s name) reason.Place Never e
-Refuses s (sum multipliers) e =
-    Unless (length multipliers ≡ length s.problem.constraints) reason.Form Never e
+Refuses s (sum multipliers) e = RefusesSum s multipliers e
 Refuses s (grid n) e = Unless (s.grid ≡ None) reason.Form Never e
 Refuses s (round n) e = Unless (s.round ≡ None) reason.Form Never e
 

@@ -25,7 +25,8 @@ use std::alloc::Global;
 /// The problem whose text the bytes are, and which rows of it give cuts.
 ///
 /// `Refused` has the line and the reason of the first fault, and comes exactly if the bytes are no
-/// problem text. A problem text has at most 10,000 columns, 10,000 constraints and 100,000 entries.
+/// problem text. A problem text has at most 10,000 columns, 10,000 constraints and 100,000 entries,
+/// and the number of its sums times that of all these is at most 10^9.
 pub fn read_problem(alloc: Global, bytes: &[u8]) -> Result<Task, ProblemFault>
     // What is read is spelled so.
     ensures found { IfOk result (IsProblemText bytes.now) }
@@ -96,6 +97,7 @@ fn no_task(alloc: Global) -> Task
         },
         entries: 0,
         requests: List::of(Vec::new(alloc)),
+        sums: 0,
         grid: None,
         round: None,
     }

@@ -1,5 +1,5 @@
 //! A task with one more line.
-ghost use Rattle.std.specs.Prelude.{◌≡◌, ◌≢◌, ◌≤◌, [], None, length, IfSome, IfNone};
+ghost use Rattle.std.specs.Prelude.{◌≡◌, ◌≢◌, ◌≤◌, ◌<◌, ◌^◌, [], None, length, IfSome, IfNone};
 ghost use Rattle.std.specs.Prelude.{OnOk, IfErr, IsTrue, ◌↔◌, codes};
 ghost use Rattle.gj_forms.specs.LineFaults.{IsRefusedFor};
 ghost use Rattle.gj_lex.specs.declared.reason.Reason.TheVariants as reason;
@@ -8,7 +8,7 @@ ghost use Rattle.gj_problem_text.specs.Tasks.{Adds, Refuses, AddsColumn, Refuses
 ghost use Rattle.gj_problem_text.specs.Tasks.{AddsConstraint, RefusesConstraint, AddsEntry};
 ghost use Rattle.gj_problem_text.specs.Tasks.{RefusesEntry, AddsUpper, AddsSum, AddsGrid, AddsRound};
 ghost use Rattle.gj_problem_text.specs.Tasks.{Unless, Never, IsKnown, TakesEntries, AreLonger, SpellsBound};
-ghost use Rattle.gj_problem_text.specs.Tasks.{IsBound, most_columns};
+ghost use Rattle.gj_problem_text.specs.Tasks.{IsBound, most_columns, RefusesSum, HasStepsLeft, steps_of_sum};
 
 use crate::lines::Line;
 use crate::numbers::number_of;
@@ -30,6 +30,9 @@ const MOST_CONSTRAINTS: usize = 10_000;
 
 /// The greatest number of entries.
 const MOST_ENTRIES: u32 = 100_000;
+
+/// The greatest number of steps of all sums.
+const MOST_STEPS: u128 = 1_000_000_000;
 
 /// Adds the line to the task, or says why the line cannot follow. The places are those of the
 /// task's columns.
@@ -227,14 +230,36 @@ fn with_upper(task: &mut Task, places: &Places<'_>, name: &[u8]) -> Result<(), L
 /// Asks for the row by these multipliers.
 fn with_sum(task: &mut Task, multipliers: Vec<Frac>) -> Result<(), LineFault>
     ensures added { OnOk result (AddsSum task.old multipliers.items task.new) }
-    ensures refused { IfErr result (IsRefusedFor (Unless
-        (length multipliers.items ≡ length task.old.problem.constraints) reason.Form Never)) }
+    ensures refused { IfErr result (IsRefusedFor (RefusesSum task.old multipliers.items)) }
 {
     if multipliers.len() != task.problem.constraints.as_slice().len() {
         return Err(LineFault::Broken(Reason::Form));
     }
+    if !has_steps_left(task) {
+        return Err(LineFault::Broken(Reason::Large));
+    }
+    task.sums = task.sums.checked_add(1).ok_or(AllocError)?;
     task.requests.push(Request::Sum(List::of(multipliers)))?;
     Ok(())
+}
+
+/// Whether one more sum is within the steps.
+fn has_steps_left(task: &Task) -> bool
+    ensures { IsTrue result ↔ HasStepsLeft task.now }
+{
+    let sums = task.sums;
+    (u128::from(sums) + 1) * steps_of_sum(task) <= MOST_STEPS
+}
+
+/// How many steps a sum takes: one for each column, constraint and entry.
+fn steps_of_sum(task: &Task) -> u128
+    ensures is { result ≡ steps_of_sum task.now }
+    ensures fits { result < 2 ^ 66 }
+{
+    let columns = task.names.as_slice().len();
+    let constraints = task.problem.constraints.as_slice().len();
+    let entries = task.entries;
+    columns as u128 + constraints as u128 + u128::from(entries)
 }
 
 /// Sets the grid, once at most.

@@ -24,6 +24,8 @@ pub struct Task {
     pub entries: u32,
     /// The rows that give cuts.
     pub requests: List<Request>,
+    /// How many of these requests are sums.
+    pub sums: u32,
     /// The cuts are rounded to multiples of one over this. It is not 0 if a text tells the task.
     pub grid: Option<u32>,
     /// They are made with all data on the grid of one over this. Nor is this 0.
