@@ -215,6 +215,7 @@ task_of columns p = record {
   problem = p;
   entries = length (all_entries p);
   requests = [];
+  sums = 0;
   grid = None;
   round = None;
 }
@@ -237,6 +238,8 @@ all_told columns constraints p h are count =
       entries = refl;
       entries_few = h.entries_few;
       requests = All-nil (λ (r : Request). IsRequestOf (length columns) (length constraints) r);
+      sums = refl;
+      steps = omega arith;
       grid = tt;
       round = tt;
     }))

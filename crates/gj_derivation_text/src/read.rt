@@ -191,6 +191,7 @@ fn no_drafts(alloc: Global) -> Drafts
             },
             entries: 0,
             requests: List::of(Vec::new(alloc)),
+            sums: 0,
             grid: None,
             round: None,
         },
