@@ -115,6 +115,16 @@ PROBLEM_SENTENCES = [
         when=LINE + "number",
     ),
     Sentence(
+        see="`large` in a problem, at `sum`",
+        means=(
+            "the sums up to it would take too long: their number, times that of the columns, "
+            "constraints and entries together, is above 10^9"
+        ),
+        do="give each part of the sums a text of its own; leave out columns without entries",
+        words=WORDS, input=HEAD + X + C + E * 24_998 + "sum 1\n" * 40_001,
+        answer="refused line 65003 large", when=LINE + "large", line=r"^\s*sum\b",
+    ),
+    Sentence(
         see="`large` in a problem",
         means="there are more than 10,000 columns, 10,000 constraints or 100,000 entries",
         do="leave out the constraints whose multipliers are 0, and the columns without entries",
