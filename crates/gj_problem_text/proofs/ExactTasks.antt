@@ -115,7 +115,8 @@ one_task s (round n) t u h k = h.added ∙ sym k.added
 pub one_reason : (s : Task) (line : ProblemLine) (e d : Reason) → Refuses s line e →
     Refuses s line d → e ≡ d
 one_reason s (column name is_whole low high) e d =
-    unless _ _ _ (unless _ _ _ (unless _ _ _ (unless _ _ _ (unless _ _ Never never)))) e d
+    unless _ _ _ (unless _ _ _ (unless _ _ _ (unless _ _ _ (unless _ _ _ (unless _ _ Never never)))))
+    e d
 one_reason s (constraint name sense right) e d =
     unless _ _ _ (unless _ _ _ (unless _ _ Never never)) e d
 one_reason s (entry name value) e d = unless _ _ _ (unless _ _ _ (unless _ _ Never never)) e d
@@ -131,7 +132,7 @@ pub not_both : (s : Task) (line : ProblemLine) (t : Task) (e : Reason) → Adds 
 not_both s (column name is_whole low high) t e h r =
     met _ _ _ h.is_name
     (met (IsBound low) _ _ (h.lower, h.lower_is)
-    (met (IsBound high) _ _ (h.upper, h.upper_is) (met _ _ _ h.few (met _ _ _ h.new (λ k. k)))))
+    (met (IsBound high) _ _ (h.upper, h.upper_is) (met _ _ _ h.few (met _ _ _ h.steps (met _ _ _ h.new (λ k. k))))))
     r
 not_both s (constraint name sense right) t e h r =
     met _ _ _ h.before (met _ _ _ h.is_name (met _ _ _ h.few (λ k. k))) r

@@ -38,7 +38,7 @@ use Rattle.gj_problem_text.specs.ProblemLines.{kind_word, sense_word, problem_fi
 use Rattle.gj_problem_text.specs.ProblemLines.{IsGrid, HasProblemLine}
 use Rattle.gj_problem_text.specs.ProblemText.{no_task}
 use Rattle.gj_problem_text.specs.Tasks.{most_columns, most_constraints, most_entries}
-use Rattle.gj_problem_text.specs.Tasks.{most_steps, steps_of_sum, SpellsBound, Adds}
+use Rattle.gj_problem_text.specs.Tasks.{most_steps, steps_of_sum, AreWithinSteps, SpellsBound, Adds}
 use Rattle.gj_problem_text.specs.declared.task.Request.{Request}
 use Rattle.gj_problem_text.specs.declared.task.Request.TheVariants.{Upper, Sum}
 use Rattle.gj_problem_text.specs.declared.task.Task.{Task}
@@ -162,20 +162,20 @@ columns_joined s name names c columns = λ i. record s {
 
 pub adds_columns : (s : Task) (names : List (List ℕ)) (columns : List Column) →
     AreNames (s.names ++ names) → length names ≡ length columns →
-    length (s.names ++ names) ≤ most_columns →
+    length (s.names ++ names) ≤ most_columns → s.sums ≡ 0 →
     AddsAll s (columns_told names columns) (with_columns s names columns)
-adds_columns s [] [] are count few = λ i. record s {
+adds_columns s [] [] are count few none = λ i. record s {
   names = sym (append-nil s.names) i;
   problem = record (s.problem) { columns = sym (append-nil s.problem.columns) i };
 }
-adds_columns s [] (c ∷ columns) are count few = absurd (omega arith)
-adds_columns s (name ∷ names) [] are count few = absurd (omega arith)
-adds_columns s (name ∷ names) (c ∷ columns) are count few =
+adds_columns s [] (c ∷ columns) are count few none = absurd (omega arith)
+adds_columns s (name ∷ names) [] are count few none = absurd (omega arith)
+adds_columns s (name ∷ names) (c ∷ columns) are count few none =
     let next = with_columns s (name ∷ []) (c ∷ []) in
     let joined = sym (append_assoc s.names (name ∷ []) names) in
     let is_name = name_is s.names name names are in
     let more = adds_columns next names columns (subst AreNames joined are) (omega arith)
-    (subst (λ (all : List (List ℕ)). length all ≤ most_columns) joined few) in (
+    (subst (λ (all : List (List ℕ)). length all ≤ most_columns) joined few) none in (
       next,
       (
         (
@@ -194,6 +194,7 @@ adds_columns s (name ∷ names) (c ∷ columns) are count few =
         upper = c.upper;
         upper_is = bound_is_spelled c.upper;
         few = omega (arith, length-append s.names (name ∷ names));
+        steps = subst (λ (n : ℕ). AreWithinSteps n (steps_of_sum s + 1)) (sym none) (omega arith);
         new = no_place s.names name (next_differs s.names name names are);
         added = refl;
       },
@@ -474,7 +475,7 @@ task_is_told names s h =
     let relaxed = record constrained { round = s.round } in
     let gridded = record relaxed { grid = s.grid } in
     let columns = adds_columns no_task s.names s.problem.columns h.column_names h.columns
-    h.columns_few in
+    h.columns_few refl in
     let constraints = adds_constraints columned names s.problem.constraints h.column_names refl
     h.are_names h.constraints (omega (arith, h.constraints, h.constraints_few)) h.known
     (omega (arith, h.entries, h.entries_few)) in

@@ -30,6 +30,14 @@ most_entries = 100000
 abbrev pub most_steps : ℕ
 most_steps = 1000000000
 
+-- a sum takes a step for each column, constraint and entry
+abbrev pub steps_of_sum : Task → ℕ
+steps_of_sum s = length s.names + length s.problem.constraints + s.entries
+
+-- so many sums of so many steps are within the bound
+abbrev pub AreWithinSteps : ℕ → ℕ → Type 0
+AreWithinSteps sums steps = sums * steps ≤ most_steps
+
 -- refused for this reason if it is not so, and else as the next ones say
 abbrev pub Unless : Type 0 → Reason → (Reason → Type 0) → Reason → Type 0
 Unless So because Next e = ((So → ⊥) × (e ≡ because)) ⊎ (So × Next e)
@@ -62,6 +70,7 @@ pub record AddsColumn (s : Task) (name : List ℕ) (is_whole : Bool) (low high :
   pub upper : Option Frac
   pub upper_is : SpellsBound high upper
   pub few : length s.names < most_columns
+  pub steps : AreWithinSteps s.sums (steps_of_sum s + 1)
   pub new : index_of s name ≡ None
   pub added : t ≡ record s {
     names = s.names ++ name ∷ [];
@@ -76,7 +85,8 @@ RefusesColumn s name low high =
     Unless (IsName name) reason.Form
     (Unless (IsBound low) reason.Number (Unless (IsBound high) reason.Number
     (Unless (length s.names < most_columns) reason.Large
-    (Unless (index_of s name ≡ None) reason.Place Never))))
+    (Unless (AreWithinSteps s.sums (steps_of_sum s + 1)) reason.Large
+    (Unless (index_of s name ≡ None) reason.Place Never)))))
 
 -- ---- constraints and their entries: before the first row that is asked for
 
@@ -134,17 +144,9 @@ pub record AddsUpper (s : Task) (name : List ℕ) (t : Task) : Type 0 where
   pub index_is : index_of s name ≡ Some index
   pub added : t ≡ record s { requests = s.requests ++ Upper index ∷ [] }
 
--- a sum takes a step for each column, constraint and entry
-abbrev pub steps_of_sum : Task → ℕ
-steps_of_sum s = length s.names + length s.problem.constraints + s.entries
-
--- one more sum is within the steps
-abbrev pub HasStepsLeft : Task → Type 0
-HasStepsLeft s = (s.sums + 1) * steps_of_sum s ≤ most_steps
-
 pub record AddsSum (s : Task) (multipliers : List Frac) (t : Task) : Type 0 where
   pub count : length multipliers ≡ length s.problem.constraints
-  pub steps : HasStepsLeft s
+  pub steps : AreWithinSteps (s.sums + 1) (steps_of_sum s)
   pub added : t ≡ record s {
     requests = s.requests ++ Sum multipliers ∷ [];
     sums = s.sums + 1;
@@ -153,7 +155,7 @@ pub record AddsSum (s : Task) (multipliers : List Frac) (t : Task) : Type 0 wher
 abbrev pub RefusesSum : Task → List Frac → Reason → Type 0
 RefusesSum s multipliers =
     Unless (length multipliers ≡ length s.problem.constraints) reason.Form
-    (Unless (HasStepsLeft s) reason.Large Never)
+    (Unless (AreWithinSteps (s.sums + 1) (steps_of_sum s)) reason.Large Never)
 
 -- each once at most
 pub record AddsGrid (s : Task) (n : ℕ) (t : Task) : Type 0 where

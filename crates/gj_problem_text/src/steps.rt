@@ -8,7 +8,7 @@ ghost use Rattle.gj_problem_text.specs.Tasks.{Adds, Refuses, AddsColumn, Refuses
 ghost use Rattle.gj_problem_text.specs.Tasks.{AddsConstraint, RefusesConstraint, AddsEntry};
 ghost use Rattle.gj_problem_text.specs.Tasks.{RefusesEntry, AddsUpper, AddsSum, AddsGrid, AddsRound};
 ghost use Rattle.gj_problem_text.specs.Tasks.{Unless, Never, IsKnown, TakesEntries, AreLonger, SpellsBound};
-ghost use Rattle.gj_problem_text.specs.Tasks.{IsBound, most_columns, RefusesSum, HasStepsLeft, steps_of_sum};
+ghost use Rattle.gj_problem_text.specs.Tasks.{IsBound, most_columns, RefusesSum, AreWithinSteps, steps_of_sum};
 
 use crate::lines::Line;
 use crate::numbers::number_of;
@@ -90,6 +90,9 @@ fn with_column<'a>(
         return Err(LineFault::Broken(Reason::Number));
     };
     if task.names.as_slice().len() >= MOST_COLUMNS {
+        return Err(LineFault::Broken(Reason::Large));
+    }
+    if !are_within_steps(u64::from(task.sums), steps_of_sum(task) + 1) {
         return Err(LineFault::Broken(Reason::Large));
     }
     if places.place_of(name).is_some() {
@@ -235,7 +238,7 @@ fn with_sum(task: &mut Task, multipliers: Vec<Frac>) -> Result<(), LineFault>
     if multipliers.len() != task.problem.constraints.as_slice().len() {
         return Err(LineFault::Broken(Reason::Form));
     }
-    if !has_steps_left(task) {
+    if !are_within_steps(u64::from(task.sums) + 1, steps_of_sum(task)) {
         return Err(LineFault::Broken(Reason::Large));
     }
     task.sums = task.sums.checked_add(1).ok_or(AllocError)?;
@@ -243,12 +246,13 @@ fn with_sum(task: &mut Task, multipliers: Vec<Frac>) -> Result<(), LineFault>
     Ok(())
 }
 
-/// Whether one more sum is within the steps.
-fn has_steps_left(task: &Task) -> bool
-    ensures { IsTrue result ↔ HasStepsLeft task.now }
+/// Whether so many sums of so many steps are within the bound.
+fn are_within_steps(sums: u64, steps: u128) -> bool
+    requires few { sums < 2 ^ 33 }
+    requires fits { steps < 2 ^ 67 }
+    ensures { IsTrue result ↔ AreWithinSteps sums steps }
 {
-    let sums = task.sums;
-    (u128::from(sums) + 1) * steps_of_sum(task) <= MOST_STEPS
+    u128::from(sums) * steps <= MOST_STEPS
 }
 
 /// How many steps a sum takes: one for each column, constraint and entry.
