@@ -25,7 +25,7 @@ pub(crate) enum PrintedPoint {
 pub(crate) fn printed_point(text: &[u8]) -> Option<(PrintedPoint, &[u8])>
     ensures { IfSome result (λ r. text.now ≡ point_line (point_of_printed r.0) ++ r.1.now) }
 {
-    let (first, rest) = printed_fraction(behind_text(text, b"point ")?)?;
+    let (first, rest) = printed_fraction::<false>(behind_text(text, b"point ")?)?;
     match behind_byte(rest, b'\n') {
         Some(rest) => Some((PrintedPoint::Value(first), rest)),
         None => printed_jump(first, rest),
@@ -38,8 +38,8 @@ fn printed_jump(left: Frac, text: &[u8]) -> Option<(PrintedPoint, &[u8])>
     ensures { IfSome result (λ r. codes "point " ++ (fraction_text left ++ text.now)
         ≡ point_line (point_of_printed r.0) ++ r.1.now) }
 {
-    let (value, rest) = printed_fraction(behind_byte(text, b' ')?)?;
-    let (right, rest) = printed_fraction(behind_byte(rest, b' ')?)?;
+    let (value, rest) = printed_fraction::<false>(behind_byte(text, b' ')?)?;
+    let (right, rest) = printed_fraction::<false>(behind_byte(rest, b' ')?)?;
     let rest = behind_byte(rest, b'\n')?;
     let point = Point { left, value, right };
     if has_no_jump(point) {

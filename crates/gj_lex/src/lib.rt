@@ -38,9 +38,7 @@ pub use lenient::read_number;
 pub use line_feeds::first_line_feed;
 pub use name::{Name, NameFault};
 pub use print::{print_count, print_counts, print_frac, push_count_line, write_spaced};
-pub use printed::{
-    behind_byte, printed_fraction, printed_long_fraction, printed_number, printed_whole,
-};
+pub use printed::{behind_byte, printed_fraction, printed_number, printed_whole};
 pub use reason::Reason;
 pub use spelled::{count_of, fraction_of, is_count};
 pub use spelling::Spelling;

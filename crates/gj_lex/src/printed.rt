@@ -33,8 +33,9 @@ pub fn behind_byte(text: &[u8], byte: u8) -> Option<&[u8]>
 
 /// The fraction with whose printed text the text begins, and what follows that. It takes no memory.
 ///
-/// At most 18 digits of the numerator and of the denominator are read, one by one.
-pub fn printed_fraction(text: &[u8]) -> Option<(Frac, &[u8])>
+/// At most 18 digits of the numerator and of the denominator are read: one by one, or by a look at
+/// eight bytes at once, which is faster where most numbers have more than four digits.
+pub fn printed_fraction<const AT_ONCE: bool>(text: &[u8]) -> Option<(Frac, &[u8])>
     ensures small { IfSome result (λ r. (unsigned_abs (numerator r.0) < 10 ^ 18) ×
         (unsigned_abs (denominator r.0) < 10 ^ 18)) }
     ensures found { IfSome result (λ r. text.now ≡ fraction_text r.0 ++ r.1.now) }
@@ -46,41 +47,8 @@ pub fn printed_fraction(text: &[u8]) -> Option<(Frac, &[u8])>
         BeginsWithNoDigit rest → slice_index rest 0 ≢ 47 → text.now ≡ fraction_text x ++ rest →
         (r.0 ≡ x) × (r.1.now ≡ rest)) }
 {
-    fraction_at::<false>(text)
-}
-
-/// The same by a look at eight bytes at once, which is faster where most numbers have more than
-/// four digits.
-pub fn printed_long_fraction(text: &[u8]) -> Option<(Frac, &[u8])>
-    ensures small { IfSome result (λ r. (unsigned_abs (numerator r.0) < 10 ^ 18) ×
-        (unsigned_abs (denominator r.0) < 10 ^ 18)) }
-    ensures found { IfSome result (λ r. text.now ≡ fraction_text r.0 ++ r.1.now) }
-    ensures none { IfNone result ((x : Frac) (rest : List ℕ) → unsigned_abs (numerator x) < 10 ^ 18 →
-        unsigned_abs (denominator x) < 10 ^ 18 → BeginsWithNoDigit rest →
-        slice_index rest 0 ≢ 47 → text.now ≢ fraction_text x ++ rest) }
-    ensures only { IfSome result (λ r. (x : Frac) (rest : List ℕ) →
-        unsigned_abs (numerator x) < 10 ^ 18 → unsigned_abs (denominator x) < 10 ^ 18 →
-        BeginsWithNoDigit rest → slice_index rest 0 ≢ 47 → text.now ≡ fraction_text x ++ rest →
-        (r.0 ≡ x) × (r.1.now ≡ rest)) }
-{
-    fraction_at::<true>(text)
-}
-
-/// The same, with digits read one by one, or by a look at eight bytes at once.
-fn fraction_at<const AT_ONCE: bool>(text: &[u8]) -> Option<(Frac, &[u8])>
-    ensures small { IfSome result (λ r. (unsigned_abs (numerator r.0) < 10 ^ 18) ×
-        (unsigned_abs (denominator r.0) < 10 ^ 18)) }
-    ensures found { IfSome result (λ r. text.now ≡ fraction_text r.0 ++ r.1.now) }
-    ensures none { IfNone result ((x : Frac) (rest : List ℕ) → unsigned_abs (numerator x) < 10 ^ 18 →
-        unsigned_abs (denominator x) < 10 ^ 18 → BeginsWithNoDigit rest →
-        slice_index rest 0 ≢ 47 → text.now ≢ fraction_text x ++ rest) }
-    ensures only { IfSome result (λ r. (x : Frac) (rest : List ℕ) →
-        unsigned_abs (numerator x) < 10 ^ 18 → unsigned_abs (denominator x) < 10 ^ 18 →
-        BeginsWithNoDigit rest → slice_index rest 0 ≢ 47 → text.now ≡ fraction_text x ++ rest →
-        (r.0 ≡ x) × (r.1.now ≡ rest)) }
-{
-    let (num, rest) = whole_at::<AT_ONCE>(text)?;
-    let (den, rest) = denominator_at::<AT_ONCE>(rest)?;
+    let (num, rest) = printed_whole::<AT_ONCE>(text)?;
+    let (den, rest) = printed_denominator::<AT_ONCE>(rest)?;
     Some((small_in_lowest_terms(num, den)?, rest))
 }
 
@@ -103,21 +71,8 @@ fn small_in_lowest_terms(num: i64, den: u64) -> Option<Frac>
 /// The whole number with whose printed text the text begins, and what follows that. It takes no
 /// memory.
 ///
-/// At most 18 digits are read.
-pub fn printed_whole(text: &[u8]) -> Option<(i64, &[u8])>
-    ensures small { IfSome result (λ r. unsigned_abs r.0 < 10 ^ 18) }
-    ensures found { IfSome result (λ r. text.now ≡ signed_decimal r.0 ++ r.1.now) }
-    ensures none { IfNone result ((n : ℤ) (rest : List ℕ) → unsigned_abs n < 10 ^ 18 →
-        BeginsWithNoDigit rest → text.now ≢ signed_decimal n ++ rest) }
-    ensures only { IfSome result (λ r. (n : ℤ) (rest : List ℕ) → unsigned_abs n < 10 ^ 18 →
-        BeginsWithNoDigit rest → text.now ≡ signed_decimal n ++ rest →
-        (r.0 ≡ n) × (r.1.now ≡ rest)) }
-{
-    whole_at::<false>(text)
-}
-
-/// The same, with digits read one by one, or by a look at eight bytes at once.
-fn whole_at<const AT_ONCE: bool>(text: &[u8]) -> Option<(i64, &[u8])>
+/// At most 18 digits are read, one by one or by a look at eight bytes at once.
+pub fn printed_whole<const AT_ONCE: bool>(text: &[u8]) -> Option<(i64, &[u8])>
     ensures small { IfSome result (λ r. unsigned_abs r.0 < 10 ^ 18) }
     ensures found { IfSome result (λ r. text.now ≡ signed_decimal r.0 ++ r.1.now) }
     ensures none { IfNone result ((n : ℤ) (rest : List ℕ) → unsigned_abs n < 10 ^ 18 →
@@ -127,10 +82,10 @@ fn whole_at<const AT_ONCE: bool>(text: &[u8]) -> Option<(i64, &[u8])>
         (r.0 ≡ n) × (r.1.now ≡ rest)) }
 {
     let Some(digits) = behind_byte(text, b'-') else {
-        let (size, rest) = number_at::<AT_ONCE>(text)?;
+        let (size, rest) = printed_number::<AT_ONCE>(text)?;
         return Some((size as i64, rest));
     };
-    let (size, rest) = number_at::<AT_ONCE>(digits)?;
+    let (size, rest) = printed_number::<AT_ONCE>(digits)?;
     if size == 0 {
         return None;
     }
@@ -139,7 +94,7 @@ fn whole_at<const AT_ONCE: bool>(text: &[u8]) -> Option<(i64, &[u8])>
 
 /// The denominator with whose printed text the text begins, and what follows that: 1 if no `/`
 /// stands there.
-fn denominator_at<const AT_ONCE: bool>(text: &[u8]) -> Option<(u64, &[u8])>
+fn printed_denominator<const AT_ONCE: bool>(text: &[u8]) -> Option<(u64, &[u8])>
     ensures some { IfSome result (λ r. 0 < r.0) }
     ensures small { IfSome result (λ r. r.0 < 10 ^ 18) }
     ensures printed { IfSome result (λ r. text.now ≡ denominator_text r.0 ++ r.1.now) }
@@ -153,7 +108,7 @@ fn denominator_at<const AT_ONCE: bool>(text: &[u8]) -> Option<(u64, &[u8])>
     let Some(digits) = behind_byte(text, b'/') else {
         return Some((1, text));
     };
-    let (den, rest) = number_at::<AT_ONCE>(digits)?;
+    let (den, rest) = printed_number::<AT_ONCE>(digits)?;
     if den < 2 {
         return None;
     }
@@ -163,20 +118,8 @@ fn denominator_at<const AT_ONCE: bool>(text: &[u8]) -> Option<(u64, &[u8])>
 /// The number with whose digits, without a leading zero, the text begins, and what follows them. It
 /// takes no memory.
 ///
-/// At most 18 digits are read.
-pub fn printed_number(text: &[u8]) -> Option<(u64, &[u8])>
-    ensures small { IfSome result (λ r. r.0 < 10 ^ 18) }
-    ensures printed { IfSome result (λ r. text.now ≡ decimal r.0 ++ r.1.now) }
-    ensures none { IfNone result ((n : ℕ) (rest : List ℕ) → n < 10 ^ 18 → BeginsWithNoDigit rest →
-        text.now ≢ decimal n ++ rest) }
-    ensures only { IfSome result (λ r. (n : ℕ) (rest : List ℕ) → n < 10 ^ 18 →
-        BeginsWithNoDigit rest → text.now ≡ decimal n ++ rest → (r.0 ≡ n) × (r.1.now ≡ rest)) }
-{
-    number_at::<false>(text)
-}
-
-/// The same, with digits read one by one, or by a look at eight bytes at once.
-fn number_at<const AT_ONCE: bool>(text: &[u8]) -> Option<(u64, &[u8])>
+/// At most 18 digits are read, one by one or by a look at eight bytes at once.
+pub fn printed_number<const AT_ONCE: bool>(text: &[u8]) -> Option<(u64, &[u8])>
     ensures small { IfSome result (λ r. r.0 < 10 ^ 18) }
     ensures printed { IfSome result (λ r. text.now ≡ decimal r.0 ++ r.1.now) }
     ensures none { IfNone result ((n : ℕ) (rest : List ℕ) → n < 10 ^ 18 → BeginsWithNoDigit rest →

@@ -81,8 +81,8 @@ fn printed_values(text: &[u8]) -> Option<((Triple, Triple), &[u8])>
         AllFit r.0.1) }
 {
     let words = behind_text(text, b"pair ")?;
-    let (first, words) = printed_whole(words)?;
-    let (second, words) = printed_whole(behind_byte(words, b' ')?)?;
+    let (first, words) = printed_whole::<false>(words)?;
+    let (second, words) = printed_whole::<false>(behind_byte(words, b' ')?)?;
     let rest = behind_byte(words, b'\n')?;
     let first = Triple::thrice(i128::from(first));
     let second = Triple::thrice(i128::from(second));

@@ -36,7 +36,7 @@ impl<'a> Field<'a> for CountBelow {
 
     #[inline(always)]
     fn printed(&self, text: &'a [u8]) -> Option<(u32, &'a [u8])> {
-        let (count, rest) = printed_number(text)?;
+        let (count, rest) = printed_number::<false>(text)?;
         if count >= u64::from(self.limit) {
             return None;
         }
@@ -78,7 +78,7 @@ impl<'a> Field<'a> for Fraction {
 
     #[inline(always)]
     fn printed(&self, text: &'a [u8]) -> Option<(Frac, &'a [u8])> {
-        printed_fraction(text)
+        printed_fraction::<false>(text)
     }
 
     fn of_word(&self, spelling: Spelling, word: &'a [u8]) -> Result<Frac, Reason> {
@@ -112,7 +112,7 @@ impl<'a> Field<'a> for PositiveFraction {
 
     #[inline(always)]
     fn printed(&self, text: &'a [u8]) -> Option<(Frac, &'a [u8])> {
-        let (x, rest) = printed_fraction(text)?;
+        let (x, rest) = printed_fraction::<false>(text)?;
         if !is_positive(x) {
             return None;
         }

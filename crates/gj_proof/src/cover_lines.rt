@@ -103,7 +103,7 @@ fn printed_cover_line(text: &[u8], order: u32) -> Option<(CoverLine, &[u8])>
 fn printed_count_below(text: &[u8], limit: u32, mark: u8) -> Option<(u32, &[u8])>
     ensures { IfSome result (λ r. (text.now ≡ decimal r.0 ++ mark ∷ r.1.now) × (r.0 < limit)) }
 {
-    let (count, rest) = printed_number(text)?;
+    let (count, rest) = printed_number::<false>(text)?;
     if count >= u64::from(limit) {
         return None;
     }

@@ -24,7 +24,7 @@ use gj_forms::{
 };
 use gj_frac::Frac;
 use gj_function_lines::function_at;
-use gj_lex::{Name, Reason, Spelling, behind_byte, printed_long_fraction};
+use gj_lex::{Name, Reason, Spelling, behind_byte, printed_fraction};
 use gj_shape::List;
 use std::alloc::Global;
 
@@ -213,8 +213,8 @@ fn printed_term(alloc: Global, text: &[u8]) -> Option<(CutTerm, &[u8])>
 {
     let words = behind_text(text, b"term ")?;
     let (name, words) = split_at_byte(words, b' ')?;
-    let (entry, words) = printed_long_fraction(words)?;
-    let (cut, words) = printed_long_fraction(behind_byte(words, b' ')?)?;
+    let (entry, words) = printed_fraction::<true>(words)?;
+    let (cut, words) = printed_fraction::<true>(behind_byte(words, b' ')?)?;
     let rest = behind_byte(words, b'\n')?;
     let name = name_of(alloc, name).ok()?;
     Some((CutTerm { name, entry, cut }, rest))

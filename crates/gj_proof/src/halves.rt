@@ -129,8 +129,8 @@ fn printed_pair(text: &[u8]) -> Option<((i128, i128), &[u8])>
     ensures { IfSome result (λ r. (text.now ≡ pair_line r.0 ++ r.1.now) × Fits r.0.0 × Fits r.0.1) }
 {
     let words = behind_text(text, b"pair ")?;
-    let (first, words) = printed_whole(words)?;
-    let (second, words) = printed_whole(behind_byte(words, b' ')?)?;
+    let (first, words) = printed_whole::<false>(words)?;
+    let (second, words) = printed_whole::<false>(behind_byte(words, b' ')?)?;
     let rest = behind_byte(words, b'\n')?;
     Some(((i128::from(first), i128::from(second)), rest))
 }

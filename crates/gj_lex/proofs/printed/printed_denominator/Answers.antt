@@ -1,7 +1,7 @@
 use Rattle.std.proofs.Common.{◌++◌, ap, sym, arith}
 use Rattle.gj_lex.proofs.CanonicalTexts.{denominator_one}
 use Rattle.gj_lex.proofs.PrintedNumbers.{denominator_printed, plain_denominator, slash_denominator}
-use Rattle.gj_lex.proofs.printed.denominator_at.Goals as goal
+use Rattle.gj_lex.proofs.printed.printed_denominator.Goals as goal
 
 pub returns-in_default-clause-printed : goal.returns-in_default-clause-printed
 returns-in_default-clause-printed g c = ap (λ t. t ++ c.args.text.now) (sym denominator_one)

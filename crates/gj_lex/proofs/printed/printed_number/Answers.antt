@@ -2,7 +2,7 @@ use Rattle.std.proofs.Common.{◌≡◌, ◌≤◌, ◌∙◌, ap, subst, take, 
 use Rattle.std.specs.Str.Parse.{AllDigits, digits_value}
 use Rattle.std.proofs.lemmas.List.{take-take, length-take-le}
 use Rattle.gj_lex.proofs.PrintedNumbers.{few_digits_small, number_printed, number_stands, digits_canonical, digits_dropped, digits_spell}
-use Rattle.gj_lex.proofs.printed.number_at.Goals as goal
+use Rattle.gj_lex.proofs.printed.printed_number.Goals as goal
 
 pub returns-then-not-is_canonical-clause-none : goal.returns-then-not-is_canonical-clause-none
 returns-then-not-is_canonical-clause-none g c = λ n rest small none is.

@@ -1,7 +1,7 @@
 use Rattle.std.proofs.Common.{unsigned_abs, arith}
 use Rattle.std.proofs.lemmas.Int.{ints}
 use Rattle.gj_lex.proofs.PrintedNumbers.{minus_number}
-use Rattle.gj_lex.proofs.printed.whole_at.Goals as goal
+use Rattle.gj_lex.proofs.printed.printed_whole.Goals as goal
 
 pub returns-in_err-size-2-clause-none : goal.returns-in_err-size-2-clause-none
 returns-in_err-size-2-clause-none g c =

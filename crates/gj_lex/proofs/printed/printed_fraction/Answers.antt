@@ -6,7 +6,7 @@ use Rattle.gj_frac.specs.Lowest.{IsLowest}
 use Rattle.gj_frac.specs.SameParts.{same_parts_same}
 use Rattle.gj_lex.specs.NumberText.{denominator_text}
 use Rattle.gj_lex.proofs.PrintedNumbers.{fraction_stands}
-use Rattle.gj_lex.proofs.printed.fraction_at.Goals as goal
+use Rattle.gj_lex.proofs.printed.printed_fraction.Goals as goal
 use mir.Syntax.{w64}
 
 pub returns-in_err-num-clause-none : goal.returns-in_err-num-clause-none
