@@ -34,6 +34,22 @@ next_done R (suc i) (x ∷ xs) [] a y h below is = absurd h
 next_done R (suc i) (x ∷ xs) (z ∷ ys) a y h below is =
     (h.0, next_done R i xs ys a y h.1 (omega arith) is)
 
+-- one that stays as it was, where that is its change
+pub next_kept : {A : Type 0} (R : A → A → Type 0) (i : ℕ) (xs ys : List A) (a : A) →
+    AreDoneUpTo R i xs ys → i < length xs →
+    R (get_or xs i a) (get_or xs i a) → AreDoneUpTo R (suc i) xs ys
+next_kept R zero [] ys a h below is = absurd (omega arith)
+next_kept R zero (x ∷ xs) [] a h below is = absurd (longer (ap length h))
+  where
+    longer : {l : ℕ} → 0 ≡ suc l → ⊥
+    longer e = omega arith
+next_kept {A} R zero (x ∷ xs) (z ∷ ys) a h below is =
+    (subst (R x) (sym (ap (λ (l : List A). get_or l 0 a) h)) is, ap (drop 1) h)
+next_kept R (suc i) [] ys a h below is = absurd (omega arith)
+next_kept R (suc i) (x ∷ xs) [] a h below is = absurd h
+next_kept R (suc i) (x ∷ xs) (z ∷ ys) a h below is =
+    (h.0, next_kept R i xs ys a h.1 (omega arith) is)
+
 pub all_done : {A : Type 0} (R : A → A → Type 0) (i : ℕ) (xs ys : List A) → length xs ≤ i →
     AreDoneUpTo R i xs ys → AllZip R xs ys
 all_done {A} R zero [] ys end h = subst (λ (l : List A). AllZip R [] l) (sym h) tt

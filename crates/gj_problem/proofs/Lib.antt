@@ -24,4 +24,5 @@ pub mod WideScales
 mod Combinations
 mod Multiples
 mod DoneUpTo
+mod FractionsUpTo
 mod EntriesOver

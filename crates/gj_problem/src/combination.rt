@@ -262,9 +262,11 @@ fn fractions(alloc: Global, numerators: &[i128], denominator: i128) -> Result<Ve
     ensures { IfOk result (λ made. AllZip (λ n x. IsRatio x n denominator)
         numerators.now made.items) }
 {
-    let mut made = Vec::with_capacity(alloc, numerators.len())?;
-    for numerator in numerators {
-        made.push(fraction(*numerator, denominator)?)?;
+    let mut made = vec![in alloc; Frac::ratio(0, 1); numerators.len()]?;
+    for (i, numerator) in numerators.iter().enumerate() {
+        if *numerator != 0 {
+            made[i] = fraction(*numerator, denominator)?;
+        }
     }
     Ok(made)
 }
@@ -382,21 +384,12 @@ fn multiply(numbers: &mut Vec<i128>, factor: i128) -> Result<(), Wide>
     ensures { IfOk result (λ _. AllZip (IsTimes factor) numbers.old.items numbers.new.items) }
 {
     for i in 0..numbers.len() {
-        numbers[i] = scaled(numbers[i], factor)?;
+        if numbers[i] != 0 {
+            let product = checked_product(numbers[i], factor)?;
+            numbers[i] = product;
+        }
     }
     Ok(())
-}
-
-/// The product, if it fits.
-#[inline(always)]
-fn scaled(n: i128, factor: i128) -> Result<i128, Wide>
-    ensures { IfOk result (IsTimes factor n) }
-{
-    if n == 0 {
-        return Ok(0);
-    }
-    let product = checked_product(n, factor)?;
-    Ok(product)
 }
 
 /// A common denominator of the factors.
