@@ -1,6 +1,6 @@
 -- What is read of a word that may spell a number with an exponent.
 use Rattle.std.proofs.Common.{◌≡◌, ◌⊎◌, ⊎_elim, inl, inr, ℕ, zero, suc, ◌+◌, ◌-◌, ◌*◌, ◌^◌, ◌<◌}
-use Rattle.std.proofs.Common.{◌≤◌, pos, ◌*ℤ◌, neg_ℤ, unsigned_abs, Bool, true, false}
+use Rattle.std.proofs.Common.{◌≤◌, is_some, pos, ◌*ℤ◌, neg_ℤ, unsigned_abs, Bool, true, false}
 use Rattle.std.proofs.Common.{if◌then◌else◌, ◌==◌, Option, None, Some, IfNone, List, [], ◌∷◌, ◌++◌}
 use Rattle.std.proofs.Common.{length, get_or, take, drop, add-one, refl, sym, ap, ap₂, subst}
 use Rattle.std.proofs.Common.{subst₂, ◌∙◌, arith}
@@ -36,6 +36,10 @@ use Rattle.gj_problem_text.proofs.ScaledNumbers.{unlowered_back, too_large}
 pub none_then : {X P Q : Type 0} (r : Option X) → IfNone r P → (P → Q) → IfNone r Q
 none_then None h f = f h
 none_then (Some x) h f = tt
+
+pub none_by_test : {X P : Type 0} (r : Option X) → is_some r ≡ false → IfNone r P → P
+none_by_test None none h = h
+none_by_test (Some x) none h = absurd cc
 
 -- ---- a word is cut at its first mark
 

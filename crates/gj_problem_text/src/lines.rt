@@ -185,6 +185,7 @@ fn entry_in(rest: &[u8]) -> Result<Line<'_>, Reason>
 }
 
 /// The two words of the line, if it has two.
+#[inline(always)]
 pub fn two_words(line: &[u8]) -> Option<(&[u8], &[u8])>
     ensures found { IfSome result (λ r. word_texts line.now ≡ r.0.now ∷ r.1.now ∷ []) }
     ensures none { IfNone result ((first second : List ℕ) →

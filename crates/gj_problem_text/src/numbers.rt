@@ -84,10 +84,11 @@ pub fn number_of(word: &[u8]) -> Option<Frac>
     ensures found { IfSome result (IsNumberWord word.now) }
     ensures none { IfNone result ((x : Frac) → IsNumberWord word.now x → ⊥) }
 {
-    match fraction_of(Spelling::Lenient, word) {
-        Some(x) => Some(x),
-        None => scaled_number(word),
+    let mut number = fraction_of(Spelling::Lenient, word);
+    if number.is_none() {
+        number = scaled_number(word);
     }
+    number
 }
 
 /// The number that the word spells with an exponent.
