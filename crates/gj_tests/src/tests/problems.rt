@@ -172,6 +172,37 @@ fn ends(alloc: Global, read: u64, write: u64, ended: Status, written: &[u8]) -> 
     Some(status == ended && sink.taken() == written)
 }
 
+/// A text without its line `end`, with so many sums of 24,998 entries in a column and a constraint.
+/// 40,000 are within 10^9 steps.
+fn text_of_sums(alloc: Global, sums: u32) -> Option<Vec<u8>> {
+    let front = b"gj-problem 1\nrule gmic\ncolumn x whole 0 -\nconstraint c <= 7/2\n".as_slice();
+    let mut text = Vec::from_slice(alloc, front).ok()?;
+    for _ in 0..24_998 {
+        text.extend_from_slice(b"entry x 1\n").ok()?;
+    }
+    for _ in 0..sums {
+        text.extend_from_slice(b"sum 1\n").ok()?;
+    }
+    Some(text)
+}
+
+/// Whether a text of so many sums is refused by these bytes.
+fn is_refused(alloc: Global, sums: u32, written: &[u8]) -> Option<bool> {
+    let words = vec![in alloc; String::from_str(alloc, "problem").ok()?].ok()?;
+    let text = text_of_sums(alloc, sums)?;
+    let mut source = MemSource::new(alloc, text.as_slice(), &[]).ok()?;
+    let mut sink = MemSink::with_step(alloc, 100, 10, &[0]).ok()?;
+    let status = run(alloc, words.as_slice(), &mut source, &mut sink);
+    Some(status == Status::Input && sink.taken() == written)
+}
+
+#[test]
+fn many_sums(rt: HostRuntime) {
+    let alloc = rt.alloc();
+    assert!(rt; is_refused(alloc, 40_000, b"refused line 65003 form\n") == Some(true));
+    assert!(rt; is_refused(alloc, 40_001, b"refused line 65003 large\n") == Some(true));
+}
+
 #[test]
 fn runs_on_a_problem(rt: HostRuntime) {
     let alloc = rt.alloc();
