@@ -1,17 +1,19 @@
-//! Values of rules at fractions of any size, if they fit.
+//! Values of functions at fractions of any size, if they fit.
 ghost use Rattle.std.specs.Prelude.{◌≡◌, ◌↔◌, ◌<ℤ◌, pos, IfOk, OnErr, OnOk, IsTrue};
 ghost use Rattle.gj_frac.specs.declared.Frac.{Frac};
 ghost use Rattle.gj_frac.specs.Fraction.{SameValue, LessValue, fraction_of, quotient_of, IsInside};
 ghost use Rattle.gj_frac.specs.Fraction.{numerator};
 ghost use Rattle.gj_theory.specs.Cuts.{IsGmicValue};
 ghost use Rattle.gj_rule.specs.Kind.{IsKindValue};
+ghost use Rattle.gj_rule.specs.declared.kind.RuleKind.TheVariants.{Table};
 ghost use Rattle.gj_mixed.specs.Slopes.{IsWeight, AreGmicSlopes};
 ghost use Rattle.gj_safe_cut.specs.SafeCuts.{HasNoValue, IsTooFine};
 
 use gj_frac::{Frac, Wide};
 use gj_mixed::SlopesAtZero;
 use gj_problem::divided;
-use gj_rule::{Evaluator, Rule, is_in_range};
+use gj_rule::{is_in_range, table_value};
+use gj_shape::Shape;
 use std::cmp::Ordering;
 
 /// What has a value at each fraction, if it fits.
@@ -28,16 +30,17 @@ pub(crate) trait Values {
         ensures narrow { OnOk result (¬ is_out self.now x) };
 }
 
-/// The values of a rule at fractions with denominators below 2^31: those at their fractional parts.
-impl<E: Evaluator> Values for Rule<E> {
-    ghost has_value = { λ rule. IsKindValue rule.kind };
+/// The values of a function at fractions with denominators below 2^31: those at their fractional
+/// parts.
+impl Values for Shape {
+    ghost has_value = { λ f. IsKindValue (Table f) };
 
     ghost is_out = { λ _. IsTooFine };
 
     fn value(&self, x: Frac) -> Result<Frac, Wide> {
         let rest = x.fract();
         if is_in_range(rest) {
-            Ok(self.at(rest))
+            Ok(table_value(self, rest))
         } else {
             Err(Wide)
         }

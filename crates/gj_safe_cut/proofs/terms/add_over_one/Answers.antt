@@ -1,6 +1,5 @@
-use Rattle.std.proofs.Common.{◌⊎◌, ⊎_elim, List, length, refl, ap, subst, ◌∙◌}
+use Rattle.std.proofs.Common.{⊎_elim, List, length, refl, subst, ◌∙◌}
 use Rattle.std.proofs.lemmas.List.{take_all}
-use Rattle.gj_fields.specs.Rational.{Rational, rational, ◌+ℚ◌, ◌*ℚ◌, ◌-ℚ◌}
 use Rattle.gj_problem.specs.declared.pieces.Piece.{Piece}
 use Rattle.gj_problem.specs.declared.problem.Entry.{Entry}
 use Rattle.gj_problem.specs.Combinations.{IsAdded}

@@ -4,7 +4,6 @@ use Rattle.gj_fields.specs.Rational.{Rational, whole, rational, ◌-ℚ◌}
 use Rattle.gj_problem.specs.declared.problem.Inequality.{Inequality}
 use Rattle.gj_problem.specs.declared.pieces.Piece.{Piece}
 use Rattle.gj_problem.specs.Problems.{surplus_at, AreTermsWithin}
-use Rattle.gj_problem.specs.Rows.{dot}
 use Rattle.gj_problem.specs.Aggregates.{combined_at}
 use Rattle.gj_problem.proofs.AddedSums.{whole_ratio}
 use Rattle.gj_safe_cut.specs.SafeCuts.{IsCoefficient}

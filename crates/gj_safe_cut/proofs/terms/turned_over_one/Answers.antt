@@ -1,4 +1,4 @@
-use Rattle.std.proofs.Common.{⊎_elim, ◌<◌, ◌^◌, ◌++◌, ℕ, List, length, pos, ap, subst, subst₂, sym, ◌∙◌}
+use Rattle.std.proofs.Common.{⊎_elim, ◌<◌, ◌^◌, ◌++◌, ℕ, List, length, pos, ap, subst, sym, ◌∙◌}
 use Rattle.gj_frac.specs.declared.Frac.{Frac}
 use Rattle.gj_fields.specs.Rational.{Rational, whole, ◌-ℚ◌}
 use Rattle.gj_problem.specs.declared.pieces.Piece.{Piece}

@@ -7,7 +7,7 @@ use Rattle.gj_cut.proofs.RightSides.{part_inside}
 use Rattle.gj_theory.specs.Cuts.{IsGmicValue}
 use Rattle.gj_safe_cut.specs.SafeCuts.{HasNoValue, IsWideCut}
 use Rattle.gj_safe_cut.proofs.OneCut.{one_kind_value, one_part_and_slopes}
-use Rattle.gj_safe_cut.proofs.problem_cuts.gmic_cut_of_row.Goals as goal
+use Rattle.gj_safe_cut.proofs.cutters.ByGmicRowCutter.cut_of_row.Goals as goal
 
 pub returns-clause-cut : goal.returns-clause-cut
 returns-clause-cut c =
@@ -18,7 +18,7 @@ returns-clause-cut c =
       c.slopes.ensures,
       (
         side.0,
-        subst (λ (f : Frac). HasPart (Gmic f) c.args.row.now.right) (sym c.of-place.ensures) side.1,
+        subst (λ (f : Frac). HasPart (Gmic f) c.args.row.right) (sym c.of-place.ensures) side.1,
         c.in_ok-cut.ensures.cut,
       ),
     )
@@ -31,7 +31,7 @@ returns-in_err-cut-clause-wide c = λ fault.
       c.slopes.result.down,
       c.slopes.ensures,
       side.0,
-      subst (λ (f : Frac). HasPart (Gmic f) c.args.row.now.right) (sym c.of-place.ensures) side.1,
+      subst (λ (f : Frac). HasPart (Gmic f) c.args.row.right) (sym c.of-place.ensures) side.1,
       c.in_err-cut.ensures.wide
           (handed_on c.from_residual.result _ _ c.from_residual.ensures.1 fault),
     )
@@ -41,12 +41,12 @@ returns-clause-narrow c (g, up, down, slopes, not_whole, part, wide) =
     let f = c.of-place.result.f in
     let side = c.in-Some.ensures.side in
     let n = c.args.columns in
-    let pieces = c.args.row.now.slacks.items ++ c.args.row.now.bounds.items in
-    let here : HasPart (Gmic f) c.args.row.now.right =
-    subst (λ (x : Frac). HasPart (Gmic x) c.args.row.now.right)
+    let pieces = c.args.row.slacks.items ++ c.args.row.bounds.items in
+    let here : HasPart (Gmic f) c.args.row.right =
+    subst (λ (x : Frac). HasPart (Gmic x) c.args.row.right)
     (sym c.of-place.ensures) side.1 in
-    let inside = part_inside c.args.row.now.right f here side.0 in
-    let same = one_part_and_slopes c.args.row.now.right f g c.slopes.result.up up
+    let inside = part_inside c.args.row.right f here side.0 in
+    let same = one_part_and_slopes c.args.row.right f g c.slopes.result.up up
     c.slopes.result.down down side.0 here part c.slopes.ensures slopes in
     let by_f = subst (λ (x : Frac). IsWideCut (IsGmicValue x)
     (HasNoValue (IsGmicValue x)) up down n pieces) same.0 wide in
