@@ -9,6 +9,7 @@
 
 mod columns;
 mod cuts;
+mod cutters;
 mod forms;
 mod loose_pieces;
 mod problems;

@@ -5,7 +5,7 @@ use Rattle.gj_safe_cut.specs.SafeCuts.{IsOfProblem}
 use Rattle.gj_safe_cut.specs.declared.cut.SafeCut.TheVariants.{Wide}
 use Rattle.gj_relaxed.specs.declared.problems.RelaxedProblem.{RelaxedProblem}
 use Rattle.gj_relaxed.specs.RelaxedProblems.{IsRelaxedProblem, IsRelaxedOf}
-use Rattle.gj_relaxed.specs.RelaxedCuts.{IsOfRelaxedRow, IsRelaxedCutOf}
+use Rattle.gj_relaxed.specs.RelaxedCuts.{IsRelaxedCutOf}
 use Rattle.gj_relaxed.proofs.NarrowRelaxing.{narrow_of_relaxed_problem, narrow_of_free_side}
 use Rattle.gj_relaxed.proofs.RelaxedCuts.{of_relaxed_problem}
 use Rattle.gj_relaxed.proofs.cuts.cut_on_grid.Goals as goal
@@ -18,7 +18,7 @@ returns-in-Problem-clause-cut g c =
     let ups = c.args.at_upper.now in
     let p' = c.in-Problem.relaxed in
     let ms' = c.in-Problem.kept.items in
-    let IsCut = IsOfProblem (IsOfRelaxedRow c.args.to n (g.C.RowCut.is_cut c.args.by.now)) in
+    let IsCut = IsOfProblem (g.C.RowCutter.is_cut c.args.by.now) in
     let is : IsRelaxedProblem n p ms p' ms' =
     subst (λ (made : RelaxedProblem). IsRelaxedOf n p ms made) c.in-Problem.is
     c.in_ok-relaxed.ensures.relaxed in
@@ -33,7 +33,7 @@ returns-in-Problem-clause-wide g c = λ fault.
     let p = c.args.problem.now in
     let ms = c.args.multipliers.now in
     let p' = c.in-Problem.relaxed in
-    let IsCut = IsOfProblem (IsOfRelaxedRow c.args.to n (g.C.RowCut.is_cut c.args.by.now)) in
+    let IsCut = IsOfProblem (g.C.RowCutter.is_cut c.args.by.now) in
     inr (
       p',
       c.in-Problem.kept.items,
@@ -51,7 +51,7 @@ returns-in-Problem-clause-narrow g c =
     let ups = c.args.at_upper.now in
     let p' = c.in-Problem.relaxed in
     let ms' = c.in-Problem.kept.items in
-    let IsCut = IsOfProblem (IsOfRelaxedRow c.args.to n (g.C.RowCut.is_cut c.args.by.now)) in
+    let IsCut = IsOfProblem (g.C.RowCutter.is_cut c.args.by.now) in
     let is : IsRelaxedProblem n p ms p' ms' =
     subst (λ (made : RelaxedProblem). IsRelaxedOf n p ms made) c.in-Problem.is
     c.in_ok-relaxed.ensures.relaxed in
@@ -66,7 +66,7 @@ returns-in-Free-clause-narrow g c =
     let p = c.args.problem.now in
     let ms = c.args.multipliers.now in
     narrow_of_free_side n
-    (IsOfProblem (IsOfRelaxedRow c.args.to n (g.C.RowCut.is_cut c.args.by.now))) p ms
+    (IsOfProblem (g.C.RowCutter.is_cut c.args.by.now)) p ms
     c.args.at_upper.now
     c.in_ok-relaxed.ensures.narrow c.in-Free.column
     (subst (λ (made : RelaxedProblem). IsRelaxedOf n p ms made) c.in-Free.is

@@ -1,7 +1,5 @@
-use Rattle.std.proofs.Common.{⊎_elim, ℕ, List, Option, inr, subst}
-use Rattle.gj_problem.specs.declared.problem.Column.{Column}
+use Rattle.std.proofs.Common.{ℕ, inr, subst}
 use Rattle.gj_problem.proofs.WideRoundings.{handed_on}
-use Rattle.gj_relaxed.specs.RelaxedForms.{AreColumns}
 use Rattle.gj_relaxed.specs.RelaxedProblems.{AreWideSides}
 use Rattle.gj_relaxed.proofs.problems.relaxed_problem.Goals as goal
 
