@@ -10,6 +10,8 @@ use Rattle.gj_relaxed.proofs.cutters.OnGridRowCutter.cut_of_row.Goals as goal
 
 pub returns-clause-cut : goal.returns-clause-cut
 returns-clause-cut g c =
+    let to = c.args.self.now.to in
+    let n = c.args.self.now.grid in
     let IsOfRow = g.C.RowCutter.is_cut c.args.self.now.by in
     let pieces = c.args.row.slacks.items ++ c.args.row.bounds.items in
     let row = c.in_ok-loose.loose in
@@ -17,20 +19,23 @@ returns-clause-cut g c =
     let relaxed = c.in_ok-relaxed.relaxed in
     let others = relaxed.slacks.items ++ relaxed.bounds.items in
     IfOk-weaker c.cut_of_row.result (IsOfRow c.args.columns others relaxed.right)
-    (IsOfRelaxedRow c.args.self.now.to c.args.self.now.grid IsOfRow c.args.columns pieces c.args.row.right)
+    (IsOfRelaxedRow to n IsOfRow c.args.columns pieces c.args.row.right)
     (λ (cut : SafeCut) h.
-    of_loosened_row c.args.self.now.to c.args.self.now.grid IsOfRow c.args.columns pieces loose c.args.row.right
+    of_loosened_row to n IsOfRow c.args.columns pieces loose c.args.row.right
     row.right c.in_ok-loose.ensures.pieces
     c.in_ok-loose.ensures.right cut
-    (of_raised_row c.args.self.now.to c.args.self.now.grid IsOfRow c.args.columns loose others row.right relaxed.right
+    (of_raised_row to n IsOfRow c.args.columns loose others row.right relaxed.right
     c.in_ok-relaxed.ensures.relaxed cut h))
     c.cut_of_row.ensures.cut
 
 pub returns-clause-wide : goal.returns-clause-wide
 returns-clause-wide g c = λ fault.
+    let to = c.args.self.now.to in
+    let n = c.args.self.now.grid in
+    let IsOfRow = g.C.RowCutter.is_cut c.args.self.now.by in
     let row = c.in_ok-loose.loose in
     let relaxed = c.in_ok-relaxed.relaxed in
-    of_loosened_row c.args.self.now.to c.args.self.now.grid (g.C.RowCutter.is_cut c.args.self.now.by) c.args.columns
+    of_loosened_row to n IsOfRow c.args.columns
     (c.args.row.slacks.items ++ c.args.row.bounds.items)
     (row.slacks.items ++ row.bounds.items) c.args.row.right row.right c.in_ok-loose.ensures.pieces
     c.in_ok-loose.ensures.right Wide
@@ -44,8 +49,11 @@ returns-clause-wide g c = λ fault.
 
 pub returns-in_err-relaxed-clause-wide : goal.returns-in_err-relaxed-clause-wide
 returns-in_err-relaxed-clause-wide g c = λ fault.
+    let to = c.args.self.now.to in
+    let n = c.args.self.now.grid in
+    let IsOfRow = g.C.RowCutter.is_cut c.args.self.now.by in
     let row = c.in_ok-loose.loose in
-    of_loosened_row c.args.self.now.to c.args.self.now.grid (g.C.RowCutter.is_cut c.args.self.now.by) c.args.columns
+    of_loosened_row to n IsOfRow c.args.columns
     (c.args.row.slacks.items ++ c.args.row.bounds.items)
     (row.slacks.items ++ row.bounds.items) c.args.row.right row.right c.in_ok-loose.ensures.pieces
     c.in_ok-loose.ensures.right Wide
@@ -55,16 +63,18 @@ returns-in_err-relaxed-clause-wide g c = λ fault.
 
 pub returns-clause-narrow : goal.returns-clause-narrow
 returns-clause-narrow g c =
+    let to = c.args.self.now.to in
+    let n = c.args.self.now.grid in
     let IsOfRow = g.C.RowCutter.is_cut c.args.self.now.by in
     let row = c.in_ok-loose.loose in
     let loose = row.slacks.items ++ row.bounds.items in
     let relaxed = c.in_ok-relaxed.relaxed in
     on_ok_weaker c.cut_of_row.result
     (λ fits.
-    narrow_of_loosened_row c.args.self.now.to c.args.self.now.grid IsOfRow c.args.columns
+    narrow_of_loosened_row to n IsOfRow c.args.columns
     (c.args.row.slacks.items ++ c.args.row.bounds.items) loose
     c.args.row.right row.right c.in_ok-loose.ensures.pieces c.in_ok-loose.ensures.right
-    (narrow_of_raised_row c.args.self.now.to c.args.self.now.grid IsOfRow c.args.columns loose
+    (narrow_of_raised_row to n IsOfRow c.args.columns loose
     (relaxed.slacks.items ++ relaxed.bounds.items) row.right
     relaxed.right c.in_ok-relaxed.ensures.narrow c.in_ok-relaxed.ensures.relaxed fits))
     c.cut_of_row.ensures.narrow
