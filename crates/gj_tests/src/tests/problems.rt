@@ -1,16 +1,11 @@
 //! The cut of a problem by its multipliers, before and after it is rounded, and runs of
 //! `problem` over streams in steps.
-ghost use Rattle.gj_rule.specs.Kind.{IsKind};
-ghost use Rattle.gj_rule.specs.Kept.{Evaluates};
-ghost use Rattle.gj_mixed.specs.Slopes.{AreSlopesOfKind, IsSlope, Weighs};
-
 use gj_frac::Frac;
-use gj_mixed::{Slopes, SlopesAtZero};
+use gj_minimal::find_violation;
 use gj_port::{MemSink, MemSource};
 use gj_problem::{Column, Constraint, Entry, Inequality, Problem, RoundedCut, Sense, rounded};
-use gj_rule::{Evaluator, Rule, RuleKind, gmic_value};
-use gj_safe_cut::{SafeCut, gmic_safe_cut, safe_cut};
-use gj_shape::List;
+use gj_safe_cut::{SafeCut, function_safe_cut, gmic_safe_cut};
+use gj_shape::{List, Shape};
 use gj_top::{Status, run};
 use std::alloc::Global;
 
@@ -83,63 +78,40 @@ fn mixed_integer(alloc: Global) -> Option<bool> {
     Some(says(&cut, xy, xy, Frac::ratio(5, 6), Frac::ratio(-20, 3)))
 }
 
-/// The cut by any rule and slopes, and the same multipliers.
-fn cut_by<E: Evaluator, G: Evaluator>(
-    alloc: Global,
-    rule: &Rule<E>,
-    slopes: &Slopes<G>,
-    problem: &Problem,
-) -> Option<Inequality>
-    requires { AreSlopesOfKind rule.now.kind slopes.now.up slopes.now.down }
-{
+/// The function of the mixed-integer cut for 2/5, the fractional part of 12/5.
+fn function(alloc: Global) -> Option<Shape> {
+    let values = [
+        Frac::ratio(0, 1),
+        Frac::ratio(1, 2),
+        Frac::ratio(1, 1),
+        Frac::ratio(2, 3),
+        Frac::ratio(1, 3),
+    ];
+    Shape::new(alloc, 5, 2, &values, &values, &values).ok()
+}
+
+/// The function makes the cut that the mixed-integer cut makes.
+fn by_function(alloc: Global) -> Option<bool> {
+    let shape = function(alloc)?;
+    if let Some(_violation) = find_violation(&shape) {
+        return None;
+    }
+    if !shape.is_continuous() {
+        return None;
+    }
+    let problem = problem(alloc)?;
     let multipliers = [Frac::ratio(3, 5), Frac::ratio(-1, 5)];
     let at_upper = [false, false, false];
     if problem.constraints.as_slice().len() != 2 || problem.columns.as_slice().len() != 3 {
         return None;
     }
-    match safe_cut(alloc, rule, slopes, problem, &multipliers, &at_upper) {
-        Ok(SafeCut::Cut(cut)) => Some(cut),
+    match function_safe_cut(alloc, &shape, &problem, &multipliers, &at_upper) {
+        Ok(SafeCut::Cut(cut)) => {
+            let xy = Frac::ratio(-5, 3);
+            Some(says(&cut, xy, xy, Frac::ratio(5, 6), Frac::ratio(-20, 3)))
+        }
         _ => None,
     }
-}
-
-/// The rule of this kind with this evaluator, and these slopes with this one, make the cut that the
-/// mixed-integer cut makes.
-fn is_made_by<E: Evaluator, G: Evaluator>(
-    alloc: Global,
-    kind: RuleKind,
-    eval: E,
-    at_zero: SlopesAtZero,
-    weigh: G,
-) -> Option<bool>
-    requires kind { IsKind kind }
-    requires evaluates { Evaluates E.can_answer E.answers kind eval }
-    requires up { IsSlope at_zero.up }
-    requires down { IsSlope at_zero.down }
-    requires weighs { Weighs G.can_answer G.answers at_zero.up at_zero.down weigh }
-    requires slopes { AreSlopesOfKind kind at_zero.up at_zero.down }
-{
-    let rule = Rule::new(kind, eval);
-    let slopes = Slopes::new(at_zero.up, at_zero.down, weigh);
-    let cut = cut_by(alloc, &rule, &slopes, &problem(alloc)?)?;
-    let xy = Frac::ratio(-5, 3);
-    Some(says(&cut, xy, xy, Frac::ratio(5, 6), Frac::ratio(-20, 3)))
-}
-
-/// The rule of the mixed-integer cut for 2/5, the fractional part of 12/5.
-fn by_rule(alloc: Global) -> Option<bool> {
-    let f = Frac::ratio(2, 5);
-    if !RuleKind::Gmic(f).is_valid() {
-        return None;
-    }
-    let at_zero = SlopesAtZero::of_gmic(f);
-    is_made_by(
-        alloc,
-        RuleKind::Gmic(f),
-        |x| gmic_value(f, x),
-        at_zero,
-        |c| at_zero.weight(c),
-    )
 }
 
 /// In whole numbers it is -x - y + z >= -7: the coefficients go up, since all lower bounds are 0,
@@ -214,6 +186,6 @@ fn runs_on_a_problem(rt: HostRuntime) {
 #[test]
 fn problems(rt: HostRuntime) {
     assert!(rt; mixed_integer(rt.alloc()) == Some(true));
-    assert!(rt; by_rule(rt.alloc()) == Some(true));
+    assert!(rt; by_function(rt.alloc()) == Some(true));
     assert!(rt; rounded_cut(rt.alloc()) == Some(true));
 }
