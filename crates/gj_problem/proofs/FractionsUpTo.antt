@@ -40,9 +40,11 @@ pub next_zero : (d : ℤ) (z : Frac) (i : ℕ) (ns : List ℤ) (xs : List Frac) 
     AreMadeUpTo d z (suc i) ns xs
 next_zero d z i [] xs a zero_is h below none = absurd (omega arith)
 next_zero d z i (n ∷ ns) [] a zero_is h below none = absurd h
-next_zero d z zero (n ∷ ns) (y ∷ xs) a zero_is h below none =
-    (subst (λ (x : Frac). IsRatio x n d) (sym h.0)
-    (subst (λ (m : ℤ). IsRatio z m d) (sym none) zero_is), h.1)
+next_zero d z zero (n ∷ ns) (y ∷ xs) a zero_is h below none = (
+  subst (λ (x : Frac). IsRatio x n d) (sym h.0)
+      (subst (λ (m : ℤ). IsRatio z m d) (sym none) zero_is),
+  h.1,
+)
 next_zero d z (suc i) (n ∷ ns) (y ∷ xs) a zero_is h below none =
     (h.0, next_zero d z i ns xs a zero_is h.1 (omega arith) none)
 

@@ -1,4 +1,4 @@
-use Rattle.std.proofs.Common.{rules, ◌≡◌, ◌+◌, ℕ, ℤ, List, length, pos, get_or, slice_set, to_z, of_z, add-one, sym, subst, ap, ◌∙◌, arith}
+use Rattle.std.proofs.Common.{rules, ◌≡◌, ◌+◌, ℕ, ℤ, pos, get_or, slice_set, to_z, of_z, add-one, sym, subst, ap, ◌∙◌}
 use Rattle.std.specs.List.{AllZip}
 use Rattle.std.proofs.lemmas.Int.{to_z-of_z}
 use Rattle.gj_frac.specs.declared.Frac.{Frac}
@@ -29,7 +29,7 @@ loop-i-preserved c =
     let read : to_z w128 (of_z w128 (get_or ns i (pos 0))) ≡ get_or ns i (pos 0) =
     to_z-of_z w128 (get_or ns i (pos 0)) (search rules) in
     elim c.if-numerator-ne0.branch [
-      then-numerator-ne0+in_ok-made-2 w ↦ (
+      | then-numerator-ne0+in_ok-made-2 w ↦ (
         z,
         zero_is,
         subst (AreMadeUpTo d z (i + 1) ns) (sym (ap (λ v. v.items) w.made-is))

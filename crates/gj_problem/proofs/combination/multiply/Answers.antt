@@ -26,7 +26,7 @@ loop-i-preserved c =
     c.index.ensures ∙ next_same (IsTimes k) i ns ms old (pos 0) c.loop-i.invariant below in
     let read : to_z w128 (of_z w128 old) ≡ old = to_z-of_z w128 old (search rules) in
     elim c.if-index-ne0.branch [
-      then-index-ne0+in_ok-product w ↦
+      | then-index-ne0+in_ok-product w ↦
           let v = to_z w128 (of_z w128 w.in_ok-product.product) in
           let now = w.index-then-index-ne0.result.now in
           let now_is : to_z w128 (of_z w128 now) ≡ get_or ns i (pos 0) =
