@@ -11,7 +11,8 @@ pub(crate) struct Extent {
 }
 
 /// The absolute value; 2^64 - 1 if it is above.
-fn size(x: i128) -> u64
+#[inline(always)]
+pub fn size(x: i128) -> u64
     ensures { result < 2 ^ 63 → unsigned_abs x ≤ result }
 {
     let size = x.unsigned_abs();

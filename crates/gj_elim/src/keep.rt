@@ -15,14 +15,17 @@ use std::alloc::{AllocError, Global};
 /// Where a kept row comes from: its number among the inserted rows, the columns of the steps that
 /// reduced it, and the column of its pivot.
 #[derive(Clone, Copy)]
-pub(crate) struct Origin<'a> {
-    pub(crate) number: u64,
-    pub(crate) reduce: &'a [u32],
-    pub(crate) pivot: u32,
+pub struct Origin<'a> {
+    /// The row's number among all rows that were inserted, from 0.
+    pub number: u64,
+    /// The columns at which it was reduced, in this order.
+    pub reduce: &'a [u32],
+    /// The column of its pivot.
+    pub pivot: u32,
 }
 
-/// No column has a pivot.
-pub(crate) fn no_places(alloc: Global, columns: usize) -> Result<Vec<Option<u32>>, AllocError>
+/// For each of so many columns no place, since no column has a pivot.
+pub fn no_places(alloc: Global, columns: usize) -> Result<Vec<Option<u32>>, AllocError>
     ensures { IfOk result (λ v. ArePlaces columns [] v.items) }
 {
     vec![in alloc; None; columns]

@@ -20,20 +20,23 @@ use gj_shape::List;
 use std::alloc::AllocError;
 
 /// The products of a step in 64 bits are below it.
-const ROOM: u128 = 1 << 62;
+pub const ROOM: u128 = 1 << 62;
 
 /// The bound of a row whose steps may be in 64 bits is below it.
-pub(crate) const GREATEST_BOUND: u64 = 1 << 62;
+pub const GREATEST_BOUND: u64 = 1 << 62;
 
 /// The factors of a row and of a kept row in a step.
 #[derive(Clone, Copy)]
-struct Factors {
-    row: i64,
-    kept: i64,
+pub struct Factors {
+    /// That of the row.
+    pub row: i64,
+    /// That of the kept row.
+    pub kept: i64,
 }
 
 /// The factors at a column: if the pivot divides the entry, they are divided by it.
-fn factors_of(pivot: i64, entry: i64) -> Factors
+#[inline(always)]
+pub fn factors_of(pivot: i64, entry: i64) -> Factors
     requires positive { pos 0 <ℤ pivot }
     ensures { AreLazyFactors pivot entry result.row result.kept }
 {
@@ -166,8 +169,8 @@ pub(crate) fn load(row: &mut [i64], wide: &[i128])
     }
 }
 
-/// Writes a row.
-pub(crate) fn store(row: &[i64], wide: &mut [i128])
+/// Writes a row with 128 bits a number.
+pub fn store(row: &[i64], wide: &mut [i128])
     requires columns { length wide.old ≡ length row.now }
     ensures { wide.new ≡ row.now }
 {
@@ -177,7 +180,8 @@ pub(crate) fn store(row: &[i64], wide: &mut [i128])
 }
 
 /// The greatest common divisor of a number and of the absolute value of another.
-fn divisor_with(divisor: u64, x: i64) -> u64
+#[inline(always)]
+pub fn divisor_with(divisor: u64, x: i64) -> u64
     requires divisor { divisor < 2 ^ 63 }
     requires small { unsigned_abs x < 2 ^ 63 }
     ensures value { IsGcd divisor (unsigned_abs x) result }
@@ -318,7 +322,7 @@ pub(crate) fn step(
 }
 
 /// Where the steps in 64 bits come to.
-pub(crate) enum Reached {
+pub enum Reached {
     /// To the end, with something left of the row at this column, or with nothing.
     End(Option<u32>),
     /// To a column whose step may have large numbers.

@@ -7,6 +7,8 @@
 //! As long as the numbers of a row stay small, its steps are made in 64 bits and without divisions:
 //! what they leave is a positive multiple of the row of the definition, and marks nothing that
 //! passes.
+//!
+//! What elimination of rows that are kept in another form shares with it is public too.
 #![tactic(auto)]
 
 mod basis;
@@ -19,6 +21,10 @@ mod reduce;
 mod solve;
 
 pub use basis::Basis;
+pub use extent::size;
 pub use faults::ElimFault;
+pub use keep::{Origin, no_places};
+pub use lazy::{Factors, GREATEST_BOUND, ROOM, Reached, divisor_with, factors_of, store};
 pub use log::{Inserted, LogRow};
 pub use reduce::place_of;
+pub use solve::{multiply, unit_row};

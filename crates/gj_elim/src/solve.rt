@@ -11,11 +11,7 @@ use gj_loops::{common_divisor, product};
 use std::alloc::{AllocError, Global};
 
 /// 1 at the column, and 0 at the other columns.
-pub(crate) fn unit_row(
-    alloc: Global,
-    columns: usize,
-    column: usize,
-) -> Result<Vec<i128>, AllocError>
+pub fn unit_row(alloc: Global, columns: usize, column: usize) -> Result<Vec<i128>, AllocError>
     ensures { IfOk result (λ v. v.items ≡ unit_row columns column) }
 {
     (0..columns)
@@ -42,7 +38,7 @@ fn sum_behind(row: &[i128], numbers: &[i128], column: usize) -> Result<i128, Wid
 }
 
 /// Multiplies all numbers by the factor. After an error some are changed.
-fn multiply(factor: i128, numbers: &mut [i128]) -> Result<(), Wide>
+pub fn multiply(factor: i128, numbers: &mut [i128]) -> Result<(), Wide>
     ensures value { OnOk result (numbers.new ≡ scaled factor numbers.old) }
     ensures narrow { OnOk result (¬ Passes (scaled factor numbers.old)) }
     ensures wide { OnErr result (Passes (scaled factor numbers.old)) }

@@ -11,11 +11,10 @@ use Rattle.gj_theory.specs.TriangularRows.{AreTriangular}
 use Rattle.gj_elim.specs.Lazy.{IsExtent}
 use Rattle.gj_elim.specs.Data.{BasisData}
 use Rattle.gj_elim.specs.Tables.{ArePlaces}
-use Rattle.gj_elim.specs.Progress.{IsBehind, IsDone, rest}
+use Rattle.gj_elim.specs.Progress.{IsBehind, IsDone, IsReached, rest}
 use Rattle.gj_elim.proofs.Progressing.{behind_start}
-use Rattle.gj_sparse_elim.specs.Progress.{IsReached}
-use Rattle.gj_sparse_elim.specs.declared.progress.Reached.{Reached}
-use Rattle.gj_sparse_elim.specs.declared.progress.Reached.TheVariants.{End, Column}
+use Rattle.gj_elim.specs.declared.lazy.Reached.{Reached}
+use Rattle.gj_elim.specs.declared.lazy.Reached.TheVariants.{Column}
 use Rattle.gj_elim.specs.declared.log.LogRow.{LogRow}
 use Rattle.gj_elim.proofs.Places.{IsRowAt, IsPivotRow, place_found, entries_at, row_read, pivot_row}
 use Rattle.gj_elim.proofs.KeptTables.{place_at}
@@ -189,20 +188,6 @@ sparse_reached n m l log rows given row left exact r c reduce same same' len is 
     (rest whole_numbers (kept_sparse m log rows) (length exact) c exact))
     (same_insertion n m log rows given row same is) at)
 
--- the end is reached
-pub sparse_ended : (n m : ℕ) (log : List LogRow) (rows : List (List Entry)) (given : List Entry)
-    (row left exact : List ℤ) (r : Reached)
-    (o : Option ℕ) (reduce : List ℕ) → m ≡ n → row ≡ dense m given → r ≡ End o →
-    IsReached (kept_sparse m log rows) (inserted m (kept_sparse m log rows) row) r left exact reduce
-    →
-    IsDone whole_numbers (inserted n (kept_sparse n log rows) (dense n given)) o left reduce
-sparse_ended n m log rows given row left exact r o reduce same is r_is h =
-    let at : IsDone whole_numbers (inserted m (kept_sparse m log rows) row) o left reduce =
-    subst (λ (x : Reached). IsReached (kept_sparse m log rows)
-    (inserted m (kept_sparse m log rows) row) x left exact reduce) r_is h in
-    subst (λ (i : Insertion). IsDone whole_numbers i o left reduce)
-    (same_insertion n m log rows given row same is) at
-
 -- ---- one more row
 
 pub entries_pushed : (n m : ℕ) (rows rows' : List (List Entry)) (e : List Entry) (k : List ℤ) →
@@ -261,11 +246,3 @@ held n v r ws ok columns r_is len =
       is = is;
       columns = ap length is ∙ len ∙ ap length r_is ∙ columns;
     }
-
-pub held_twice : {X : Type 0} (n : ℕ) (v : Vec X Global) (r ws r' ws' : List X) →
-    v.len ≡ length v.items → length v.items ≡ n → r ≡ v.items →
-    length ws ≡ length r → r' ≡ (with_items v ws).items → length ws' ≡ length r' →
-    IsHeld n (with_items v ws) ws'
-held_twice n v r ws r' ws' ok columns r_is len r_is' len' =
-    let first = held n v r ws ok columns r_is len in
-    held n (with_items v ws) r' ws' (ok ∙ columns ∙ sym first.columns) first.columns r_is' len'

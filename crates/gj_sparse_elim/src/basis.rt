@@ -1,5 +1,5 @@
 //! Sparse rows that are kept by plain elimination.
-ghost use Rattle.std.specs.Prelude.{ℕ, ℤ, pos, ◌≡◌, ◌+◌, ◌<◌, ◌^◌, ◌<ℤ◌, ◌↔◌, [], List, length};
+ghost use Rattle.std.specs.Prelude.{ℤ, pos, ◌≡◌, ◌+◌, ◌<◌, ◌^◌, ◌<ℤ◌, ◌↔◌, [], List, length};
 ghost use Rattle.std.specs.Prelude.{map, All, Any, IfOk, IfSome, IsNone, OnOk, OnErr, IsErrOf};
 ghost use Rattle.gj_shape.specs.Elimination.{inserted, kernel, free_column, Passes};
 ghost use Rattle.gj_theory.specs.TriangularRows.{Solves, SolvesKept, AreTriangular};
@@ -11,12 +11,12 @@ ghost use Rattle.gj_sparse_elim.specs.Sparse.{AreSparse, dense};
 
 use crate::columns::no_columns;
 use crate::entry::Entry;
-use crate::keep::{Origin, keep, no_places};
+use crate::keep::keep;
 use crate::lazy::zeros;
 use crate::reduce::reduce_row;
 use crate::seen::{empty_rows, is_at, place_of};
-use crate::solve::{solve_at, unit_row};
-use gj_elim::{ElimFault, Inserted, LogRow};
+use crate::solve::solve_at;
+use gj_elim::{ElimFault, Inserted, LogRow, Origin, no_places, unit_row};
 use gj_loops::IndexSet;
 use gj_shape::List;
 use std::alloc::{AllocError, Global};

@@ -1,5 +1,5 @@
 //! Rows as their entries.
-ghost use Rattle.std.specs.Prelude.{ℕ, ◌≡◌, ◌<◌, ◌≤◌, ◌^◌, length, unsigned_abs, All, IfOk};
+ghost use Rattle.std.specs.Prelude.{ℕ, ◌≡◌, ◌<◌, ◌^◌, length, All, IfOk};
 ghost use Rattle.std.specs.Prelude.{ℤ, pos, List};
 ghost use Rattle.gj_shape.specs.Elimination.{at_column};
 ghost use Rattle.gj_shape.specs.SlopeRows.{sum_of_products};
@@ -8,6 +8,7 @@ ghost use Rattle.gj_frac.specs.Fraction.{Fits};
 ghost use Rattle.gj_elim.specs.Lazy.{IsExtent};
 ghost use Rattle.gj_sparse_elim.specs.Sparse.{AreSparse, dense, sum_of_entries};
 
+use gj_elim::size;
 use std::alloc::{AllocError, Global};
 
 /// An entry of a row, at one of its columns.
@@ -62,18 +63,6 @@ pub(crate) fn spread(entries: &[Entry], row: &mut [i128])
     erase(row);
     for entry in entries {
         row[entry.column as usize] = entry.factor;
-    }
-}
-
-/// The absolute value; 2^64 - 1 if it is above.
-fn size(x: i128) -> u64
-    ensures { result < 2 ^ 63 → unsigned_abs x ≤ result }
-{
-    let size = x.unsigned_abs();
-    if size < u128::from(u64::MAX) {
-        size as u64
-    } else {
-        u64::MAX
     }
 }
 

@@ -1,5 +1,5 @@
 //! What is left of a row is kept.
-ghost use Rattle.std.specs.Prelude.{◌≡◌, ◌<◌, ◌^◌, [], ◌∷◌, ◌++◌, length, map, All, IfOk, OnOk};
+ghost use Rattle.std.specs.Prelude.{◌≡◌, ◌<◌, ◌^◌, [], ◌∷◌, ◌++◌, length, map, All, OnOk};
 ghost use Rattle.std.specs.Prelude.{OnErr};
 ghost use Rattle.gj_elim.specs.Progress.{IsFreeColumn};
 ghost use Rattle.gj_elim.specs.Tables.{ArePlaces};
@@ -7,25 +7,9 @@ ghost use Rattle.gj_sparse_elim.specs.Sparse.{AreSparse, dense};
 ghost use Rattle.gj_sparse_elim.specs.Rows.{AreBounds};
 
 use crate::entry::{Entry, bound_of};
-use gj_elim::LogRow;
+use gj_elim::{LogRow, Origin};
 use gj_shape::List;
 use std::alloc::{AllocError, Global};
-
-/// Where a kept row comes from: its number among the inserted rows, the columns of the steps that
-/// reduced it, and the column of its pivot.
-#[derive(Clone, Copy)]
-pub(crate) struct Origin<'a> {
-    pub(crate) number: u64,
-    pub(crate) reduce: &'a [u32],
-    pub(crate) pivot: u32,
-}
-
-/// No column has a pivot.
-pub(crate) fn no_places(alloc: Global, columns: usize) -> Result<Vec<Option<u32>>, AllocError>
-    ensures { IfOk result (λ v. ArePlaces columns [] v.items) }
-{
-    vec![in alloc; None; columns]
-}
 
 /// Keeps a row with these entries, and writes to the log how it came to be kept. After an error
 /// nothing is changed.

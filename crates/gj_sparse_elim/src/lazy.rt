@@ -1,47 +1,17 @@
 //! Steps in 64 bits, without a division: they leave a positive multiple of the row that the
 //! definition has.
-ghost use Rattle.std.specs.Prelude.{ℕ, ℤ, pos, ◌≡◌, ◌≢◌, ◌<◌, ◌^◌, ◌*ℤ◌, ◌<ℤ◌, List, length};
+ghost use Rattle.std.specs.Prelude.{ℕ, ℤ, pos, ◌≡◌, ◌<◌, ◌^◌, ◌*ℤ◌, ◌<ℤ◌, List, length};
 ghost use Rattle.std.specs.Prelude.{unsigned_abs, IfOk, IfSome, IsNone};
 ghost use Rattle.gj_shape.specs.Elimination.{at_column, scaled, differences};
-ghost use Rattle.gj_elim.specs.Lazy.{IsMultipleRow, IsLazyStep, AreLazyFactors, IsExtent, HasRoom};
+ghost use Rattle.gj_elim.specs.Lazy.{IsMultipleRow, IsLazyStep, IsExtent, HasRoom};
 ghost use Rattle.gj_sparse_elim.specs.Sparse.{AreSparse, dense};
 ghost use Rattle.gj_sparse_elim.specs.Columns.{IsSupport};
 
 use crate::columns::{first_from, insert_column, remove_columns};
 use crate::entry::Entry;
+use gj_elim::{Factors, GREATEST_BOUND, ROOM, factors_of};
 use gj_loops::IndexSet;
 use std::alloc::{AllocError, Global};
-
-/// The products of a step in 64 bits are below it.
-const ROOM: u128 = 1 << 62;
-
-/// The bound of a row whose steps may be in 64 bits is below it.
-pub(crate) const GREATEST_BOUND: u64 = 1 << 62;
-
-/// The factors of a row and of a kept row in a step.
-#[derive(Clone, Copy)]
-struct Factors {
-    row: i64,
-    kept: i64,
-}
-
-/// The factors at a column: if the pivot divides the entry, they are divided by it.
-fn factors_of(pivot: i64, entry: i64) -> Factors
-    requires positive { pos 0 <ℤ pivot }
-    ensures { AreLazyFactors pivot entry result.row result.kept }
-{
-    if entry % pivot == 0 {
-        Factors {
-            row: 1,
-            kept: entry / pivot,
-        }
-    } else {
-        Factors {
-            row: pivot,
-            kept: entry,
-        }
-    }
-}
 
 /// The bound of the row after a step, if its numbers are small.
 fn room(factors: Factors, bound: u64, kept_bound: u64) -> Option<u64>
@@ -99,16 +69,6 @@ pub(crate) fn load(entries: &[Entry], row: &mut [i64], touched: &mut [IndexSet])
     for entry in entries {
         row[entry.column as usize] = entry.factor as i64;
         insert_column(touched, entry.column as usize);
-    }
-}
-
-/// Writes a row with 128 bits a number.
-pub(crate) fn store(row: &[i64], wide: &mut [i128])
-    requires columns { length wide.old ≡ length row.now }
-    ensures { wide.new ≡ row.now }
-{
-    for i in 0..wide.len() {
-        wide[i] = i128::from(row[i]);
     }
 }
 

@@ -19,7 +19,6 @@ mod exact;
 mod keep;
 mod lazy;
 mod left;
-mod progress;
 mod reduce;
 mod seen;
 mod solve;

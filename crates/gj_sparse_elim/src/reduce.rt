@@ -1,26 +1,25 @@
 //! A row goes through all columns, and is reduced by the kept rows.
-ghost use Rattle.std.specs.Prelude.{ℕ, ℤ, pos, ◌≡◌, ◌≢◌, ◌<◌, ◌^◌, ◌<ℤ◌, List, [], length, All};
-ghost use Rattle.std.specs.Prelude.{unsigned_abs, IfOk, IfSome, IsNone, OnOk, IsErrOf};
-ghost use Rattle.gj_shape.specs.Elimination.{at_column, whole_numbers, inserted, Passes};
+ghost use Rattle.std.specs.Prelude.{ℕ, ℤ, pos, ◌≡◌, ◌<◌, ◌^◌, ◌<ℤ◌, List, [], length, All};
+ghost use Rattle.std.specs.Prelude.{IfOk, IfSome, IsNone, OnOk, IsErrOf};
+ghost use Rattle.gj_shape.specs.Elimination.{at_column, inserted, Passes};
 ghost use Rattle.gj_theory.specs.TriangularRows.{AreTriangular};
 ghost use Rattle.gj_frac.specs.Fraction.{Fits};
 ghost use Rattle.gj_elim.specs.Lazy.{IsMultipleRow, IsLazyStep, IsExtent, IsExactly};
-ghost use Rattle.gj_elim.specs.Progress.{IsFreeColumn};
+ghost use Rattle.gj_elim.specs.Progress.{IsFreeColumn, IsReached};
 ghost use Rattle.gj_elim.specs.Tables.{ArePlaces};
 ghost use Rattle.gj_sparse_elim.specs.Sparse.{AreSparse, dense};
 ghost use Rattle.gj_sparse_elim.specs.Columns.{IsSupport};
 ghost use Rattle.gj_sparse_elim.specs.Left.{IsLeftAs};
 ghost use Rattle.gj_sparse_elim.specs.Rows.{kept_sparse, AreBounds};
-ghost use Rattle.gj_sparse_elim.specs.Progress.{IsReached, IsReachedWithin};
+ghost use Rattle.gj_sparse_elim.specs.Progress.{IsReachedWithin};
 
 use crate::columns::first_from;
 use crate::entry::{Entry, bound_of, spread};
 use crate::exact::reduce_exactly;
-use crate::lazy::{GREATEST_BOUND, load, step_once, store};
+use crate::lazy::{load, step_once};
 use crate::left::{Left, small_left, wide_left};
-use crate::progress::Reached;
 use crate::tighten::tighten;
-use gj_elim::{ElimFault, LogRow};
+use gj_elim::{ElimFault, GREATEST_BOUND, LogRow, Reached, store};
 use gj_loops::IndexSet;
 use gj_shape::List;
 use std::alloc::{AllocError, Global};

@@ -1,28 +1,15 @@
 //! Kept rows are solved, one after another.
 ghost use Rattle.std.specs.Prelude.{ℕ, pos, ◌≡◌, ◌<◌, ◌<ℤ◌, ◌++◌, length, IfOk, OnOk, OnErr};
-ghost use Rattle.gj_shape.specs.Elimination.{at_column, scaled, products_behind, partial_sums};
-ghost use Rattle.gj_shape.specs.Elimination.{solved_at, marked_in_solving, unit_row, Passes};
+ghost use Rattle.gj_shape.specs.Elimination.{at_column, products_behind, partial_sums};
+ghost use Rattle.gj_shape.specs.Elimination.{solved_at, marked_in_solving, Passes};
 ghost use Rattle.gj_shape.specs.SlopeRows.{total};
 ghost use Rattle.gj_frac.specs.Fraction.{Fits};
 ghost use Rattle.gj_sparse_elim.specs.Sparse.{AreSparse, dense};
 
 use crate::entry::Entry;
+use gj_elim::multiply;
 use gj_frac::{Wide, checked_total};
 use gj_loops::{common_divisor, product};
-use std::alloc::{AllocError, Global};
-
-/// 1 at the column, and 0 at the other columns.
-pub(crate) fn unit_row(
-    alloc: Global,
-    columns: usize,
-    column: usize,
-) -> Result<Vec<i128>, AllocError>
-    ensures { IfOk result (λ v. v.items ≡ unit_row columns column) }
-{
-    (0..columns)
-        .map(|i| if i == column { 1 } else { 0 })
-        .collect(alloc)
-}
 
 /// The sum of the products of the entries behind the first, which is at the column.
 fn sum_behind(row: &[Entry], numbers: &[i128], column: usize) -> Result<i128, Wide>
@@ -47,18 +34,6 @@ fn sum_behind(row: &[Entry], numbers: &[i128], column: usize) -> Result<i128, Wi
         total = checked_total(total, product(row[i].factor, number)?)?;
     }
     Ok(total)
-}
-
-/// Multiplies all numbers by the factor. After an error some are changed.
-fn multiply(factor: i128, numbers: &mut [i128]) -> Result<(), Wide>
-    ensures value { OnOk result (numbers.new ≡ scaled factor numbers.old) }
-    ensures narrow { OnOk result (¬ Passes (scaled factor numbers.old)) }
-    ensures wide { OnErr result (Passes (scaled factor numbers.old)) }
-{
-    for x in numbers.iter_mut() {
-        *x = product(factor, *x)?;
-    }
-    Ok(())
 }
 
 /// Multiplies the numbers, and sets that of the column, so that they solve the row with its pivot

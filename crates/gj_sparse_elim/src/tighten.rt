@@ -1,26 +1,12 @@
 //! A row of 64 bits is divided by the greatest common divisor of its entries.
 ghost use Rattle.std.specs.Prelude.{ℕ, pos, ◌≡◌, ◌<◌, ◌≤◌, ◌^◌, length, unsigned_abs};
-ghost use Rattle.std.specs.Int.{IsGcd};
 ghost use Rattle.gj_shape.specs.Elimination.{at_column, gcd_of_row, divided};
 ghost use Rattle.gj_elim.specs.Lazy.{IsExtent, IsZeroOutside};
 ghost use Rattle.gj_sparse_elim.specs.Columns.{IsSupport};
 
 use crate::columns::first_from;
-use gj_frac::gcd;
+use gj_elim::divisor_with;
 use gj_loops::IndexSet;
-
-/// The greatest common divisor of a number and of the absolute value of another.
-fn divisor_with(divisor: u64, x: i64) -> u64
-    requires divisor { divisor < 2 ^ 63 }
-    requires small { unsigned_abs x < 2 ^ 63 }
-    ensures value { IsGcd divisor (unsigned_abs x) result }
-    ensures small { result < 2 ^ 63 }
-{
-    if x == 0 {
-        return divisor;
-    }
-    gcd(u128::from(x.unsigned_abs()), u128::from(divisor)) as u64
-}
 
 /// The greatest common divisor of all entries of a row that is 0 before the column; 0 if all are 0.
 fn divisor_from(row: &[i64], touched: &[IndexSet], column: usize) -> u64
