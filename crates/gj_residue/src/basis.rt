@@ -8,11 +8,11 @@ ghost use Rattle.gj_theory.specs.TriangularResidues.{AreTriangularResidues, Solv
 ghost use Rattle.gj_elim.specs.Data.{behind_by};
 ghost use Rattle.gj_elim.specs.KeptRows.{log_row, answer_of};
 
-use crate::keep::{Origin, keep};
+use crate::keep::keep;
 use crate::reduce::reduce_row;
 use crate::residue::inverse_of;
 use crate::step::read;
-use gj_elim::{Inserted, LogRow};
+use gj_elim::{Inserted, LogRow, Origin};
 use gj_shape::List;
 use std::alloc::{AllocError, Global};
 use std::marker::Model;

@@ -1,23 +1,14 @@
 //! What is left of a row is kept.
-ghost use Rattle.std.specs.Prelude.{ℕ, pos, ◌≡◌, [], ◌∷◌, ◌++◌, length, map, IfOk, OnOk, OnErr};
+ghost use Rattle.std.specs.Prelude.{pos, ◌≡◌, [], ◌∷◌, ◌++◌, map, OnOk, OnErr};
 ghost use Rattle.gj_shape.specs.Elimination.{scaled};
 ghost use Rattle.gj_shape.specs.Residues.{residues};
 ghost use Rattle.gj_theory.specs.Modulus.{modulus};
 ghost use Rattle.gj_residue.specs.Rows.{numbers_of};
 
 use crate::step::multiply;
-use gj_elim::LogRow;
+use gj_elim::{LogRow, Origin};
 use gj_shape::List;
 use std::alloc::{AllocError, Global};
-
-/// Where a kept row comes from: its number among the inserted rows, the columns of the steps that
-/// reduced it, and the column of its pivot.
-#[derive(Clone, Copy)]
-pub(crate) struct Origin<'a> {
-    pub(crate) number: u64,
-    pub(crate) reduce: &'a [u32],
-    pub(crate) pivot: u32,
-}
 
 /// Keeps the row times the factor, and writes to the log how it came to be kept. After an error
 /// nothing is changed.
