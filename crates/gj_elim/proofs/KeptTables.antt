@@ -1,17 +1,25 @@
 -- The places of the kept rows, and their extents.
 use Rattle.std.proofs.Common.{◌≡◌, ◌≢◌, ℕ, ◌+◌, ◌<◌, ◌≤◌, ◌⊎◌, inl, inr, Bool, true, false, not, cond, Option, None, Some, ℤ, List, [], ◌∷◌, ◌++◌, length, get_or, set, below_more, refl, sym, ap, ap₂, subst, subst₂, ◌∙◌, arith}
-use Rattle.std.specs.Prelude.{nat_lt}
+use Rattle.std.specs.Prelude.{nat_lt, All, Vec}
+use Rattle.std.specs.Vec.{with_items}
+use Rattle.std.proofs.Common.{Global}
+use Rattle.std.proofs.lemmas.List.Elements.{All-get_or}
+use Rattle.gj_shape.specs.Elimination.{row_with_pivot}
+use Rattle.gj_theory.specs.TriangularRows.{AreTriangular}
+use Rattle.gj_frac.specs.Fraction.{Fits}
 use Rattle.std.specs.List.{position, position_or_len}
 use Rattle.std.proofs.lemmas.Bool.{cases_lt, lt-ltb, ltb-true, eq-eqb, ne_eqb}
-use Rattle.std.proofs.lemmas.List.{length_push, length-set, get_or_default, get_or-set_same, get_or-set_other, get_or_append_left, get_or_push}
+use Rattle.std.proofs.lemmas.List.{with_items_is, length_push, length-set, get_or_default, get_or-set_same, get_or-set_other, get_or_append_left, get_or_push}
 use Rattle.std.proofs.lemmas.List.Folds.{position_or_len_push}
 use Rattle.gj_lemmas.proofs.Choices.{never_true}
 use Rattle.gj_elim.specs.declared.log.LogRow.{LogRow}
 use Rattle.gj_elim.specs.Progress.{IsFreeColumn}
 use Rattle.gj_elim.specs.Lazy.{IsExtent}
-use Rattle.gj_elim.specs.Tables.{ArePlaces, AreExtents, no_extent}
+use Rattle.gj_elim.specs.Tables.{ArePlaces, AreExtents, AreKept, rows_of, no_extent}
+use Rattle.gj_elim.specs.KeptRows.{kept_rows}
+use Rattle.gj_elim.specs.declared.kept.KeptRows.{KeptRows}
 use Rattle.gj_elim.specs.declared.extent.Extent.{Extent}
-use Rattle.gj_elim.proofs.Places.{has}
+use Rattle.gj_elim.proofs.Places.{has, IsRowAt, IsPivotRow, place_found, place_none, entries_at, row_read, pivot_row}
 
 -- ---- the first place with one more element
 
@@ -201,3 +209,86 @@ pub row_pushed : (old old' new : List (List ℤ)) (row row' : List ℤ) → new 
     new ≡ old ++ row' ∷ []
 row_pushed old old' new row row' e f g = e
     ∙ ap₂ (λ (xs : List (List ℤ)) (r : List ℤ). xs ++ r ∷ []) f g
+
+-- ---- what the code reads of the kept rows at a column
+
+-- a kept row with its pivot at the column
+pub record IsRowRead (n : ℕ) (k : KeptRows) (c : ℕ) (e : List ℤ) : Type 0 where
+  pub here : IsRowAt (rows_of k) c e
+  pub pivot : IsPivotRow n c e
+  pub within : c < length e
+  pub fits : All Fits e
+
+pub kept_there : (n : ℕ) (k : KeptRows) (c i : ℕ) (x : Option ℕ) → AreKept n k → c < n →
+    x ≡ get_or k.places.items c x → x ≡ Some i →
+    (i < length k.rows.items) × IsRowAt (rows_of k) c (get_or k.rows.items i [])
+kept_there n k c i x h below x_is is =
+    let (inside, at) = place_found k.log.items k.rows.items c i h.lines
+    (place_read n k.log.items k.places.items c x (Some i) h.places below x_is is) in
+    (subst (λ m. i < m) h.lines inside, at)
+
+pub kept_row_read : (n : ℕ) (k : KeptRows) (c i : ℕ) (x : Option ℕ) (y e : List ℤ) → AreKept n k →
+    c < n → x ≡ get_or k.places.items c x → x ≡ Some i → y ≡ get_or k.rows.items i y → e ≡ y →
+    IsRowRead n k c e
+kept_row_read n k c i x y e h below x_is is y_is e_is =
+    let (inside, at) = kept_there n k c i x h below x_is is in
+    let read = row_read k.rows.items i y e inside y_is e_is in
+    let here = entries_at (rows_of k) c (get_or k.rows.items i []) e read at in
+    let pivot = pivot_row n (rows_of k) c e h.triangular here in record {
+      here = here;
+      pivot = pivot;
+      within = subst (λ m. c < m) (sym pivot.columns) below;
+      fits = subst (All Fits) (sym read) (All-get_or (All Fits) k.rows.items i [] inside h.fits);
+    }
+
+pub extent_read : (n : ℕ) (k : KeptRows) (c i : ℕ) (x : Option ℕ) (y e : List ℤ) (b : Extent) →
+    AreKept n k → c < n → x ≡ get_or k.places.items c x → x ≡ Some i →
+    y ≡ get_or k.rows.items i y → e ≡ y → b ≡ get_or k.extents.items i b → IsExtent b.bound b.end e
+extent_read n k c i x y e b h below x_is is y_is e_is b_is =
+    let (inside, at) = kept_there n k c i x h below x_is is in
+    let known : i < length k.extents.items = omega (arith, inside, h.extents.rows_are) in
+    subst₂ (λ (z : Extent) (zs : List ℤ). IsExtent z.bound z.end zs)
+    (sym (b_is ∙ get_or_default k.extents.items i b no_extent known))
+    (sym (row_read k.rows.items i y e inside y_is e_is)) (h.extents.extent i inside)
+
+pub none_there : (n : ℕ) (k : KeptRows) (c : ℕ) (x : Option ℕ) → AreKept n k → c < n →
+    x ≡ get_or k.places.items c x → x ≡ None → row_with_pivot (rows_of k) c ≡ None
+none_there n k c x h below x_is is =
+    place_none k.log.items k.rows.items c h.lines
+    (place_read n k.log.items k.places.items c x None h.places below x_is is)
+
+pub free_there : (n : ℕ) (k : KeptRows) (c : ℕ) (x : Option ℕ) → AreKept n k → c < n →
+    x ≡ get_or k.places.items c x → x ≡ None → IsFreeColumn n k.log.items c
+free_there n k c x h below x_is is = record {
+  below = below;
+  free = place_read n k.log.items k.places.items c x None h.places below x_is is;
+}
+
+-- ---- the kept rows as they were
+
+pub still_kept : (n : ℕ) (k k' : KeptRows) → k'.log.items ≡ k.log.items →
+    k'.rows.items ≡ k.rows.items → k'.extents.items ≡ k.extents.items →
+    k'.places.items ≡ k.places.items → AreKept n k → AreKept n k'
+still_kept n k k' log rows extents places h = record {
+  lines = ap length log ∙ h.lines ∙ sym (ap length rows);
+  triangular = subst (AreTriangular n) (sym (ap₂ kept_rows log rows)) h.triangular;
+  fits = subst (All (All Fits)) (sym rows) h.fits;
+  places = subst₂ (ArePlaces n) (sym log) (sym places) h.places;
+  extents = subst₂ AreExtents (sym rows) (sym extents) h.extents;
+  narrow = h.narrow;
+}
+
+-- ---- what is held behind writes to the slice of a vector
+
+pub record IsHeld {X : Type 0} (n : ℕ) (v : Vec X Global) (ws : List X) : Type 0 where
+  pub is : (with_items v ws).items ≡ ws
+  pub columns : length (with_items v ws).items ≡ n
+
+pub held : {X : Type 0} (n : ℕ) (v : Vec X Global) (r ws : List X) → v.len ≡ length v.items →
+    length v.items ≡ n → r ≡ v.items →
+    length ws ≡ length r → IsHeld n v ws
+held n v r ws ok columns r_is len =
+    let is = with_items_is v ws (len ∙ ap length r_is ∙ sym ok) in record {
+      is = is;
+      columns = ap length is ∙ len ∙ ap length r_is ∙ columns;
+    }

@@ -1,5 +1,5 @@
 //! Rows that are kept by plain elimination.
-ghost use Rattle.std.specs.Prelude.{ℕ, ℤ, pos, ◌≡◌, ◌+◌, ◌<◌, ◌^◌, ◌<ℤ◌, ◌↔◌, [], List, length};
+ghost use Rattle.std.specs.Prelude.{ℤ, pos, ◌≡◌, ◌+◌, ◌<◌, ◌^◌, ◌<ℤ◌, ◌↔◌, [], List, length};
 ghost use Rattle.std.specs.Prelude.{map, All, Any, IfOk, IfSome, IsNone, OnOk, OnErr, IsErrOf};
 ghost use Rattle.gj_shape.specs.Elimination.{inserted, kernel, Passes};
 ghost use Rattle.gj_theory.specs.TriangularRows.{Solves, SolvesKept, AreTriangular};
@@ -7,13 +7,12 @@ ghost use Rattle.gj_frac.specs.Fraction.{Fits};
 ghost use Rattle.gj_elim.specs.Data.{behind};
 ghost use Rattle.gj_elim.specs.KeptRows.{log_row, answer_of, marked_in};
 
-use crate::extent::Extent;
 use crate::faults::ElimFault;
 use crate::keep::{Origin, keep, no_places};
+use crate::kept::KeptRows;
 use crate::log::{Inserted, LogRow};
 use crate::reduce::{free_column, reduce_row};
 use crate::solve::{solve_at, unit_row};
-use gj_shape::List;
 use std::alloc::{AllocError, Global};
 use std::marker::Model;
 
@@ -33,13 +32,7 @@ pub struct Basis {
     alloc: Global,
     columns: u32,
     inserted: u64,
-    log: Vec<LogRow>,
-    /// The entries of the kept rows, in the order of the log.
-    rows: Vec<List<i128>>,
-    /// How far each kept row goes.
-    extents: Vec<Extent>,
-    /// For each column the place of the kept row with its pivot there.
-    places: Vec<Option<u32>>,
+    kept: KeptRows,
     /// The row that is being reduced, with 128 and with 64 bits a number, and the columns of its
     /// steps.
     row: Vec<i128>,
@@ -70,10 +63,12 @@ impl Basis {
             alloc,
             columns,
             inserted: 0,
-            log: Vec::new(alloc),
-            rows: Vec::new(alloc),
-            extents: Vec::new(alloc),
-            places: no_places(alloc, columns as usize)?,
+            kept: KeptRows {
+                log: Vec::new(alloc),
+                rows: Vec::new(alloc),
+                extents: Vec::new(alloc),
+                places: no_places(alloc, columns as usize)?,
+            },
             row: vec![in alloc; 0; columns as usize]?,
             small: vec![in alloc; 0; columns as usize]?,
             reduce: Vec::new(alloc),
@@ -103,10 +98,7 @@ impl Basis {
     {
         self.reduce.clear();
         let left = reduce_row(
-            self.log.as_slice(),
-            self.rows.as_slice(),
-            self.extents.as_slice(),
-            self.places.as_slice(),
+            &self.kept,
             row,
             self.row.as_mut_slice(),
             self.small.as_mut_slice(),
@@ -120,10 +112,7 @@ impl Basis {
             Some(column) => {
                 keep(
                     self.alloc,
-                    &mut self.log,
-                    &mut self.rows,
-                    &mut self.extents,
-                    self.places.as_mut_slice(),
+                    &mut self.kept,
                     Origin {
                         number: self.inserted,
                         reduce: self.reduce.as_slice(),
@@ -149,21 +138,21 @@ impl Basis {
         ensures count { result ≡ length self.now.kept }
         ensures triangular { AreTriangular self.now.columns self.now.kept }
     {
-        self.log.len() as u32
+        self.kept.log.len() as u32
     }
 
     /// How each kept row came to be kept, in the order of insertion.
     pub fn log(&self) -> &[LogRow]
         ensures { result.now ≡ map log_row self.now.kept }
     {
-        self.log.as_slice()
+        self.kept.log.as_slice()
     }
 
     /// How each kept row came to be kept, in the order of insertion.
     pub fn into_log(self) -> Vec<LogRow>
         ensures { result.items ≡ map log_row self.kept }
     {
-        self.log
+        self.kept.log
     }
 
     /// Numbers that solve all kept rows and are not all 0; None exactly if there are as many kept
@@ -181,14 +170,14 @@ impl Basis {
         ensures solves { IfOk result (λ o. IfSome o (λ v. SolvesKept v.items self.now.kept)) }
         ensures some { IfOk result (λ o. IfSome o (λ v. Any (λ x. pos 0 <ℤ x) v.items)) }
     {
-        let Some(free) = free_column(self.log.as_slice(), self.columns) else {
+        let Some(free) = free_column(self.kept.log.as_slice(), self.columns) else {
             return Ok(None);
         };
         let mut numbers = unit_row(self.alloc, self.columns as usize, free as usize)?;
         for column in (0..free).rev() {
-            if let Some(place) = self.places[column as usize] {
+            if let Some(place) = self.kept.places[column as usize] {
                 solve_at(
-                    self.rows[place as usize].as_slice(),
+                    self.kept.rows[place as usize].as_slice(),
                     column as usize,
                     numbers.as_mut_slice(),
                 )?;

@@ -1,5 +1,5 @@
 //! How far a row goes.
-ghost use Rattle.std.specs.Prelude.{ℕ, ℤ, pos, ◌≡◌, ◌<◌, ◌≤◌, ◌+◌, ◌^◌, length, unsigned_abs};
+ghost use Rattle.std.specs.Prelude.{pos, ◌≡◌, ◌<◌, ◌≤◌, ◌+◌, ◌^◌, unsigned_abs};
 ghost use Rattle.gj_elim.specs.Lazy.{IsExtent};
 
 /// A bound of the absolute values of a row, if it is below 2^63, and the column from which on the

@@ -6,17 +6,14 @@ ghost use Rattle.gj_shape.specs.Elimination.{at_column, gcd_of_row, divided, sca
 ghost use Rattle.gj_shape.specs.Elimination.{inserted};
 ghost use Rattle.std.specs.Int.{IsGcd};
 ghost use Rattle.gj_frac.specs.Fraction.{Fits};
-ghost use Rattle.gj_theory.specs.TriangularRows.{AreTriangular};
-ghost use Rattle.gj_elim.specs.KeptRows.{kept_rows};
 ghost use Rattle.gj_elim.specs.Progress.{IsReached, IsReachedWithin};
-ghost use Rattle.gj_elim.specs.Tables.{ArePlaces, AreExtents};
+ghost use Rattle.gj_elim.specs.Tables.{rows_of, AreKept};
 ghost use Rattle.gj_elim.specs.Lazy.{IsMultipleRow, IsLazyStep, AreLazyFactors, IsExtent, HasRoom};
 ghost use Rattle.gj_elim.specs.Lazy.{IsZeroOutside, IsExactly};
 
 use crate::extent::Extent;
-use crate::log::LogRow;
+use crate::kept::KeptRows;
 use gj_frac::gcd;
-use gj_shape::List;
 use std::alloc::AllocError;
 
 /// The products of a step in 64 bits are below it.
@@ -333,40 +330,32 @@ pub enum Reached {
 /// columns at which it is reduced. It becomes a multiple of the row of the definition; if a step
 /// may have large numbers, that row itself is written with 128 bits a number.
 pub(crate) fn reduce_lazily(
-    _log: &[LogRow],
-    rows: &[List<i128>],
-    extents: &[Extent],
-    places: &[Option<u32>],
+    kept: &KeptRows,
     row: &mut [i64],
     first_extent: Extent,
     exact: &mut [i128],
     reduce: &mut Vec<u32>,
 ) -> Result<Reached, AllocError>
-    requires lines { length _log.now ≡ length rows.now }
-    requires triangular { AreTriangular (length row.old) (kept_rows _log.now rows.now) }
-    requires extents { AreExtents rows.now extents.now }
-    requires places { ArePlaces (length row.old) _log.now places.now }
-    requires count { length row.old < 2 ^ 32 }
+    requires kept { AreKept (length row.old) kept.now }
     requires exact { length exact.old ≡ length row.old }
     requires extent { IsExtent first_extent.bound first_extent.end row.old }
     requires bound { first_extent.bound < 2 ^ 63 }
     requires empty { reduce.old.items ≡ [] }
-    ensures reached { IfOk result (λ r. IsReached (kept_rows _log.now rows.now)
-        (inserted (length row.old) (kept_rows _log.now rows.now) row.old)
-        r row.new exact.new reduce.new.items) }
+    ensures reached { IfOk result (λ r. IsReached (rows_of kept.now)
+        (inserted (length row.old) (rows_of kept.now) row.old) r row.new exact.new reduce.new.items) }
     ensures within { IfOk result (λ r. IsReachedWithin
-        (length row.old) _log.now r row.new exact.new) }
+        (length row.old) kept.now.log.items r row.new exact.new) }
 {
     let mut extent = first_extent;
     let mut is_stepped = false;
     for column in 0..row.len() {
         if row[column] != 0 {
-            let Some(place) = places[column] else {
+            let Some(place) = kept.places[column] else {
                 return Ok(Reached::End(Some(column as u32)));
             };
             let next = step(
-                rows[place as usize].as_slice(),
-                extents[place as usize],
+                kept.rows[place as usize].as_slice(),
+                kept.extents[place as usize],
                 row,
                 extent,
                 column,

@@ -15,6 +15,7 @@ mod basis;
 mod extent;
 mod faults;
 mod keep;
+mod kept;
 mod lazy;
 mod log;
 mod reduce;

@@ -1,6 +1,6 @@
 //! Kept rows are solved, one after another.
-ghost use Rattle.std.specs.Prelude.{ℕ, ℤ, pos, ◌≡◌, ◌≢◌, ◌<◌, ◌+◌, ◌^◌, ◌*ℤ◌, ◌<ℤ◌, ◌++◌, List};
-ghost use Rattle.std.specs.Prelude.{length, map, All, IfOk, OnOk, OnErr, unsigned_abs};
+ghost use Rattle.std.specs.Prelude.{ℤ, pos, ◌≡◌, ◌<◌, ◌+◌, ◌<ℤ◌, ◌++◌};
+ghost use Rattle.std.specs.Prelude.{length, map, All, IfOk, OnOk, OnErr};
 ghost use Rattle.gj_shape.specs.Elimination.{at_column, scaled, products_behind, partial_sums};
 ghost use Rattle.gj_shape.specs.Elimination.{solved_at, marked_in_solving, unit_row, Passes};
 ghost use Rattle.gj_shape.specs.SlopeRows.{total};

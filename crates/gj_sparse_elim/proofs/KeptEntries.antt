@@ -1,10 +1,8 @@
 -- The kept rows as their entries.
 use Rattle.std.proofs.Common.{◌≡◌, ℕ, ◌+◌, ◌<◌, ◌≤◌, ◌⊎◌, inl, inr, Bool, Option, None, Some, ℤ, pos, List, [], ◌∷◌, ◌++◌, length, map, get_or, refl, sym, ap, ap₂, subst, subst₂, ◌∙◌, below_more, arith}
-use Rattle.std.specs.Prelude.{All, Vec}
-use Rattle.std.specs.Vec.{with_items}
-use Rattle.std.proofs.Common.{Global}
+use Rattle.std.specs.Prelude.{All}
 use Rattle.std.proofs.lemmas.Bool.{cases_lt}
-use Rattle.std.proofs.lemmas.List.{with_items_is, length-map, map-append, length_push, get_or-map, get_or_append_left, get_or_push}
+use Rattle.std.proofs.lemmas.List.{length-map, map-append, length_push, get_or-map, get_or_append_left, get_or_push}
 use Rattle.std.proofs.lemmas.List.Elements.{All-get_or, All-push}
 use Rattle.gj_shape.specs.Elimination.{KeptRow, Insertion, whole_numbers, inserted, at_column}
 use Rattle.gj_theory.specs.TriangularRows.{AreTriangular}
@@ -232,17 +230,3 @@ insertion_sparse n b d log log' rows rows' given n_is same log_is rows_is kept_i
 pub given_columns : (b d : BasisData) (given : List Entry) → b ≡ d →
     length (dense d.columns given) ≡ b.columns
 given_columns b d given same = length-dense d.columns given ∙ sym (ap (λ x. x.columns) same)
-
--- what is held behind writes to the slice of a vector
-pub record IsHeld {X : Type 0} (n : ℕ) (v : Vec X Global) (ws : List X) : Type 0 where
-  pub is : (with_items v ws).items ≡ ws
-  pub columns : length (with_items v ws).items ≡ n
-
-pub held : {X : Type 0} (n : ℕ) (v : Vec X Global) (r ws : List X) → v.len ≡ length v.items →
-    length v.items ≡ n → r ≡ v.items →
-    length ws ≡ length r → IsHeld n v ws
-held n v r ws ok columns r_is len =
-    let is = with_items_is v ws (len ∙ ap length r_is ∙ sym ok) in record {
-      is = is;
-      columns = ap length is ∙ len ∙ ap length r_is ∙ columns;
-    }

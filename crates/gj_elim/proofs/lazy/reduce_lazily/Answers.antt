@@ -1,83 +1,69 @@
-use Rattle.std.proofs.Common.{rules, length, pos, get_or, None, Some, [], ◌∷◌, ◌++◌, refl, sym, ap, ◌∙◌, arith}
+use Rattle.std.proofs.Common.{rules, length, pos, get_or, [], ◌∷◌, ◌++◌, refl, sym, ap, ◌∙◌, arith}
 use Rattle.gj_shape.specs.Elimination.{inserted}
-use Rattle.gj_elim.specs.KeptRows.{kept_rows}
-use Rattle.gj_elim.proofs.KeptTables.{place_at, free_at}
-use Rattle.gj_elim.proofs.Places.{place_found, place_none, entries_at, row_read, pivot_row}
+use Rattle.gj_elim.specs.Tables.{rows_of}
+use Rattle.gj_elim.proofs.KeptTables.{kept_row_read, extent_read, none_there, free_there}
 use Rattle.gj_elim.proofs.LazyProgress.{lazy_start, lazy_zero, lazy_more, lazy_kept, lazy_end, lazy_exact, lazy_fits, zero_small, some_small}
 use Rattle.gj_elim.proofs.lazy.reduce_lazily.Goals as goal
 use Rattle.gj_elim.proofs.lazy.reduce_lazily.Goals.{then-row-column-ne0+in-Some+in-Some-next+in_ok-reserve-in-Some-next, else-row-column-ne0}
 
 pub loop-column-init : goal.loop-column-init
 loop-column-init c =
-    lazy_start (kept_rows c.args._log.now c.args.rows.now)
+    lazy_start (rows_of c.args.kept.now)
     (length c.args.row.now) c.args.row.now c.args.reduce.now.items c.args.first_extent.bound
     c.args.first_extent.end refl c.requires.empty
     c.requires.extent c.requires.bound
 
 pub returns-in_default-clause-reached : goal.returns-in_default-clause-reached
 returns-in_default-clause-reached c =
-    lazy_kept (inserted (length c.args.row.now) (kept_rows c.args._log.now c.args.rows.now)
-    c.args.row.now) (kept_rows c.args._log.now c.args.rows.now)
+    lazy_kept (inserted (length c.args.row.now) (rows_of c.args.kept.now)
+    c.args.row.now) (rows_of c.args.kept.now)
     (length c.args.row.now) c.loop-column.column
     c.loop-column.row c.loop-column.reduce.items c.loop-column.is_stepped c.loop-column.extent.bound
     c.loop-column.extent.end c.loop-column.invariant (omega arith)
     (some_small (get_or c.loop-column.row c.loop-column.column (pos 0))
     c.if-row-column-ne0.true)
-    (place_none c.args._log.now c.args.rows.now c.loop-column.column c.requires.lines
-    (place_at (length c.args.row.now) c.args._log.now c.args.places.now c.loop-column.column None
-    c.requires.places (omega arith) c.in_default.is))
+    (none_there (length c.args.row.now) c.args.kept.now c.loop-column.column c.index.result.now
+    c.requires.kept (omega arith) c.index.ensures c.in_default.is)
 
 pub returns-in_default-clause-within : goal.returns-in_default-clause-within
 returns-in_default-clause-within c = (
   lazy_fits c.loop-column.extent.bound c.loop-column.extent.end c.loop-column.row
       c.loop-column.invariant.extent c.loop-column.invariant.bounded,
-  free_at (length c.args.row.now) c.args._log.now c.args.places.now c.loop-column.column
-      c.requires.places (omega arith) c.in_default.is,
+  free_there (length c.args.row.now) c.args.kept.now c.loop-column.column c.index.result.now
+      c.requires.kept (omega arith) c.index.ensures c.in_default.is,
 )
 
 pub step-next-requires-clause-columns : goal.step-next-requires-clause-columns
 step-next-requires-clause-columns c =
-    let (inside, at) = place_found c.args._log.now c.args.rows.now c.loop-column.column
-    c.in-Some.place c.requires.lines
-    (place_at (length c.args.row.now) c.args._log.now c.args.places.now c.loop-column.column
-    (Some c.in-Some.place) c.requires.places (omega arith) c.in-Some.is) in
-    let read = row_read c.args.rows.now c.in-Some.place c.index-rows-place.result
-    c.as_slice.result.now (omega arith) c.index-rows-place.is c.as_slice.ensures in
-    (pivot_row (length c.args.row.now) (kept_rows c.args._log.now c.args.rows.now)
-    c.loop-column.column c.as_slice.result.now c.requires.triangular
-    (entries_at (kept_rows c.args._log.now c.args.rows.now) c.loop-column.column _
-    c.as_slice.result.now read at)).columns ∙ sym c.loop-column.auto.row
+    let row = kept_row_read (length c.args.row.now) c.args.kept.now c.loop-column.column c.in-Some.place
+    c.index.result.now _ c.as_slice.result.now c.requires.kept (omega arith) c.index.ensures
+    c.in-Some.is c.index-then-row-column-ne0.ensures c.as_slice.ensures in
+    row.pivot.columns ∙ sym c.loop-column.auto.row
+
+pub step-next-requires-clause-kept_extent : goal.step-next-requires-clause-kept_extent
+step-next-requires-clause-kept_extent c =
+    extent_read (length c.args.row.now) c.args.kept.now c.loop-column.column c.in-Some.place
+    c.index.result.now _ c.as_slice.result.now _ c.requires.kept (omega arith) c.index.ensures
+    c.in-Some.is c.index-then-row-column-ne0.ensures c.as_slice.ensures c.index-then-row-column-ne0-2.ensures
 
 pub step-next-requires-clause-kept_zero : goal.step-next-requires-clause-kept_zero
 step-next-requires-clause-kept_zero c =
-    let (inside, at) = place_found c.args._log.now c.args.rows.now c.loop-column.column
-    c.in-Some.place c.requires.lines
-    (place_at (length c.args.row.now) c.args._log.now c.args.places.now c.loop-column.column
-    (Some c.in-Some.place) c.requires.places (omega arith) c.in-Some.is) in
-    let read = row_read c.args.rows.now c.in-Some.place c.index-rows-place.result
-    c.as_slice.result.now (omega arith) c.index-rows-place.is c.as_slice.ensures in
-    (pivot_row (length c.args.row.now) (kept_rows c.args._log.now c.args.rows.now)
-    c.loop-column.column c.as_slice.result.now c.requires.triangular
-    (entries_at (kept_rows c.args._log.now c.args.rows.now) c.loop-column.column _
-    c.as_slice.result.now read at)).zero_before
+    let row = kept_row_read (length c.args.row.now) c.args.kept.now c.loop-column.column c.in-Some.place
+    c.index.result.now _ c.as_slice.result.now c.requires.kept (omega arith) c.index.ensures
+    c.in-Some.is c.index-then-row-column-ne0.ensures c.as_slice.ensures in
+    row.pivot.zero_before
 
 pub step-next-requires-clause-positive : goal.step-next-requires-clause-positive
 step-next-requires-clause-positive c =
-    let (inside, at) = place_found c.args._log.now c.args.rows.now c.loop-column.column
-    c.in-Some.place c.requires.lines
-    (place_at (length c.args.row.now) c.args._log.now c.args.places.now c.loop-column.column
-    (Some c.in-Some.place) c.requires.places (omega arith) c.in-Some.is) in
-    let read = row_read c.args.rows.now c.in-Some.place c.index-rows-place.result
-    c.as_slice.result.now (omega arith) c.index-rows-place.is c.as_slice.ensures in
-    (pivot_row (length c.args.row.now) (kept_rows c.args._log.now c.args.rows.now)
-    c.loop-column.column c.as_slice.result.now c.requires.triangular
-    (entries_at (kept_rows c.args._log.now c.args.rows.now) c.loop-column.column _
-    c.as_slice.result.now read at)).positive
+    let row = kept_row_read (length c.args.row.now) c.args.kept.now c.loop-column.column c.in-Some.place
+    c.index.result.now _ c.as_slice.result.now c.requires.kept (omega arith) c.index.ensures
+    c.in-Some.is c.index-then-row-column-ne0.ensures c.as_slice.ensures in
+    row.pivot.positive
 
 pub returns-in-None-clause-reached : goal.returns-in-None-clause-reached
 returns-in-None-clause-reached c =
-    lazy_exact (inserted (length c.args.row.now) (kept_rows c.args._log.now c.args.rows.now)
-    c.args.row.now) (kept_rows c.args._log.now c.args.rows.now)
+    lazy_exact (inserted (length c.args.row.now) (rows_of c.args.kept.now)
+    c.args.row.now) (rows_of c.args.kept.now)
     (length c.args.row.now) c.loop-column.column
     c.loop-column.row c.step-next.new.exact c.loop-column.reduce.items c.loop-column.is_stepped
     c.loop-column.extent.bound
@@ -87,15 +73,12 @@ pub loop-column-preserved : goal.loop-column-preserved
 loop-column-preserved c =
     elim c.if-row-column-ne0.branch [
       | then-row-column-ne0+in-Some+in-Some-next+in_ok-reserve-in-Some-next w ↦
-          let (inside, at) = place_found c.args._log.now c.args.rows.now c.loop-column.column
-          w.in-Some.place c.requires.lines
-          (place_at (length c.args.row.now) c.args._log.now c.args.places.now c.loop-column.column
-          (Some w.in-Some.place) c.requires.places (omega arith) w.in-Some.is) in
-          let read = row_read c.args.rows.now w.in-Some.place w.index-rows-place.result
-          w.as_slice.result.now (omega arith) w.index-rows-place.is w.as_slice.ensures in
+          let row = kept_row_read (length c.args.row.now) c.args.kept.now c.loop-column.column w.in-Some.place
+          w.index.result.now _ w.as_slice.result.now c.requires.kept (omega arith) w.index.ensures
+          w.in-Some.is w.index-then-row-column-ne0.ensures w.as_slice.ensures in
           let on = lazy_more (inserted (length c.args.row.now)
-          (kept_rows c.args._log.now c.args.rows.now) c.args.row.now)
-          (kept_rows c.args._log.now c.args.rows.now)
+          (rows_of c.args.kept.now) c.args.row.now)
+          (rows_of c.args.kept.now)
           (length c.args.row.now) c.loop-column.column
           c.loop-column.row w.step-next.new.row w.as_slice.result.now c.loop-column.reduce.items
           w.push_reserved.new.self.items c.loop-column.is_stepped
@@ -103,12 +86,8 @@ loop-column-preserved c =
           w.in-Some-next.after.end c.loop-column.invariant (omega arith)
           (some_small (get_or c.loop-column.row c.loop-column.column (pos 0))
           w.if-row-column-ne0.true)
-          (entries_at (kept_rows c.args._log.now c.args.rows.now) c.loop-column.column _
-          w.as_slice.result.now read at)
-          (pivot_row (length c.args.row.now) (kept_rows c.args._log.now c.args.rows.now)
-          c.loop-column.column w.as_slice.result.now c.requires.triangular
-          (entries_at (kept_rows c.args._log.now c.args.rows.now) c.loop-column.column _
-          w.as_slice.result.now read at))
+          row.here
+          row.pivot
           w.in-Some-next.ensures.step (w.push_reserved.ensures.items
           ∙ ap (λ xs. xs ++ c.loop-column.column ∷ [])
           w.in_ok-reserve-in-Some-next.ensures.items)
@@ -125,8 +104,8 @@ loop-column-preserved c =
           let zero = zero_small (get_or c.loop-column.row c.loop-column.column (pos 0))
           (search rules) w.if-row-column-ne0.false in
           let on = lazy_zero (inserted (length c.args.row.now)
-          (kept_rows c.args._log.now c.args.rows.now) c.args.row.now)
-          (kept_rows c.args._log.now c.args.rows.now)
+          (rows_of c.args.kept.now) c.args.row.now)
+          (rows_of c.args.kept.now)
           (length c.args.row.now) c.loop-column.column
           c.loop-column.row c.loop-column.reduce.items c.loop-column.is_stepped
           c.loop-column.extent.bound c.loop-column.extent.end c.loop-column.invariant
@@ -143,8 +122,8 @@ loop-column-preserved c =
 
 pub returns-clause-reached : goal.returns-clause-reached
 returns-clause-reached c =
-    lazy_end (inserted (length c.args.row.now) (kept_rows c.args._log.now c.args.rows.now)
-    c.args.row.now) (kept_rows c.args._log.now c.args.rows.now)
+    lazy_end (inserted (length c.args.row.now) (rows_of c.args.kept.now)
+    c.args.row.now) (rows_of c.args.kept.now)
     (length c.args.row.now) c.loop-column.column
     c.loop-column.row c.loop-column.reduce.items c.loop-column.is_stepped c.loop-column.extent.bound
     c.loop-column.extent.end c.loop-column.invariant (omega arith)

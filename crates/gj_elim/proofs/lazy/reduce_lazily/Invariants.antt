@@ -1,11 +1,11 @@
 use Rattle.std.proofs.Common.{length}
 use Rattle.gj_shape.specs.Elimination.{inserted}
-use Rattle.gj_elim.specs.KeptRows.{kept_rows}
+use Rattle.gj_elim.specs.Tables.{rows_of}
 use Rattle.gj_elim.proofs.LazyProgress.{IsLazy}
 use Rattle.gj_elim.proofs.lazy.reduce_lazily.Given as goal
 
 abbrev pub invariant-loop-column : goal.invariant-loop-column
 invariant-loop-column l =
-    IsLazy (inserted (length l.initial.row) (kept_rows l._log l.rows) l.initial.row)
-    (kept_rows l._log l.rows) (length l.initial.row)
+    IsLazy (inserted (length l.initial.row) (rows_of l.kept) l.initial.row)
+    (rows_of l.kept) (length l.initial.row)
     l.column l.row l.reduce.items l.is_stepped l.extent.bound l.extent.end

@@ -2,7 +2,7 @@ use Rattle.std.proofs.Common.{length}
 use Rattle.std.specs.Prelude.{All}
 use Rattle.gj_shape.specs.Elimination.{Insertion, whole_numbers}
 use Rattle.gj_frac.specs.Fraction.{Fits}
-use Rattle.gj_elim.specs.KeptRows.{kept_rows}
+use Rattle.gj_elim.specs.Tables.{rows_of}
 use Rattle.gj_elim.specs.Progress.{IsBehind, rest}
 use Rattle.gj_elim.proofs.reduce.reduce_exactly.Given as goal
 
@@ -10,9 +10,9 @@ abbrev pub invariant-loop-column : goal.invariant-loop-column
 invariant-loop-column l = record {
   behind : (i : Insertion) →
       IsBehind i l.initial.reduce.items
-      (rest whole_numbers (kept_rows l.log l.rows)
+      (rest whole_numbers (rows_of l.kept)
       (length l.initial.row) l.first l.initial.row) →
       IsBehind i l.reduce.items
-      (rest whole_numbers (kept_rows l.log l.rows) (length l.initial.row) l.column l.row);
+      (rest whole_numbers (rows_of l.kept) (length l.initial.row) l.column l.row);
   fits : All Fits l.row;
 }

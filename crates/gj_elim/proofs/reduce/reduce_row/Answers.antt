@@ -1,13 +1,11 @@
-use Rattle.std.proofs.Common.{ℕ, ℤ, ◌<◌, ◌^◌, List, length, sym, ap, subst, ◌∙◌}
+use Rattle.std.proofs.Common.{ℕ, ℤ, List, length, sym, ap, subst, ◌∙◌}
 use Rattle.std.specs.Prelude.{All}
 use Rattle.gj_frac.specs.Fraction.{Fits}
-use Rattle.gj_theory.specs.TriangularRows.{AreTriangular}
 use Rattle.gj_elim.specs.Lazy.{IsExtent}
 use Rattle.gj_elim.specs.Progress.{IsReachedWithin}
-use Rattle.gj_elim.specs.Tables.{ArePlaces}
+use Rattle.gj_elim.specs.Tables.{rows_of, AreKept}
 use Rattle.gj_elim.specs.declared.lazy.Reached.{Reached}
 use Rattle.gj_shape.specs.Elimination.{inserted}
-use Rattle.gj_elim.specs.KeptRows.{kept_rows}
 use Rattle.std.proofs.lemmas.Result.{err_from_is_err_and}
 use Rattle.gj_elim.proofs.LazyProgress.{start_at, reached_column, if_ok_more, on_ok_more}
 use Rattle.gj_elim.proofs.reduce.reduce_row.Goals as goal
@@ -20,38 +18,18 @@ copy_from_slice-requires c = c.requires.row_columns
 pub load-requires-clause-columns : goal.load-requires-clause-columns
 load-requires-clause-columns c = sym c.requires.small_columns
 
-pub reduce_exactly-requires-clause-triangular : goal.reduce_exactly-requires-clause-triangular
-reduce_exactly-requires-clause-triangular c =
-    subst (λ (n : ℕ). AreTriangular n (kept_rows c.args.log.now c.args.rows.now))
-    (sym (ap length c.copy_from_slice.ensures.after))
-    c.requires.triangular
-
-pub reduce_exactly-requires-clause-places : goal.reduce_exactly-requires-clause-places
-reduce_exactly-requires-clause-places c =
-    subst (λ (n : ℕ). ArePlaces n c.args.log.now c.args.places.now)
-    (sym (ap length c.copy_from_slice.ensures.after)) c.requires.places
-
-pub reduce_exactly-requires-clause-count : goal.reduce_exactly-requires-clause-count
-reduce_exactly-requires-clause-count c =
-    subst (λ n. n < 2 ^ 32) (sym (ap length c.copy_from_slice.ensures.after)) c.requires.count
+pub reduce_exactly-requires-clause-kept : goal.reduce_exactly-requires-clause-kept
+reduce_exactly-requires-clause-kept c =
+    subst (λ (n : ℕ). AreKept n c.args.kept.now) (sym (ap length c.copy_from_slice.ensures.after))
+    c.requires.kept
 
 pub reduce_exactly-requires-clause-fits : goal.reduce_exactly-requires-clause-fits
 reduce_exactly-requires-clause-fits c =
     subst (λ (xs : List ℤ). All Fits xs) (sym c.copy_from_slice.ensures.after) c.requires.fits
 
-pub reduce_lazily-requires-clause-triangular : goal.reduce_lazily-requires-clause-triangular
-reduce_lazily-requires-clause-triangular c =
-    subst (λ (n : ℕ). AreTriangular n (kept_rows c.args.log.now c.args.rows.now))
-    (sym (ap length c.load.ensures)) c.requires.triangular
-
-pub reduce_lazily-requires-clause-places : goal.reduce_lazily-requires-clause-places
-reduce_lazily-requires-clause-places c =
-    subst (λ (n : ℕ). ArePlaces n c.args.log.now c.args.places.now)
-    (sym (ap length c.load.ensures)) c.requires.places
-
-pub reduce_lazily-requires-clause-count : goal.reduce_lazily-requires-clause-count
-reduce_lazily-requires-clause-count c =
-    subst (λ n. n < 2 ^ 32) (sym (ap length c.load.ensures)) c.requires.count
+pub reduce_lazily-requires-clause-kept : goal.reduce_lazily-requires-clause-kept
+reduce_lazily-requires-clause-kept c =
+    subst (λ (n : ℕ). AreKept n c.args.kept.now) (sym (ap length c.load.ensures)) c.requires.kept
 
 pub reduce_lazily-requires-clause-exact : goal.reduce_lazily-requires-clause-exact
 reduce_lazily-requires-clause-exact c = c.requires.row_columns ∙ sym (ap length c.load.ensures)
@@ -62,29 +40,15 @@ reduce_lazily-requires-clause-extent c =
     xs) (sym c.load.ensures)
     c.extent_of-extent.ensures
 
-pub reduce_exactly-requires-in-Column-clause-triangular :
-    goal.reduce_exactly-requires-in-Column-clause-triangular
-reduce_exactly-requires-in-Column-clause-triangular c =
-    subst (λ (n : ℕ). AreTriangular n (kept_rows c.args.log.now c.args.rows.now))
-    (sym (c.reduce_lazily.auto.exact ∙ c.requires.row_columns)) c.requires.triangular
-
-pub reduce_exactly-requires-in-Column-clause-places :
-    goal.reduce_exactly-requires-in-Column-clause-places
-reduce_exactly-requires-in-Column-clause-places c =
-    subst (λ (n : ℕ). ArePlaces n c.args.log.now c.args.places.now)
-    (sym (c.reduce_lazily.auto.exact ∙ c.requires.row_columns))
-    c.requires.places
-
-pub reduce_exactly-requires-in-Column-clause-count :
-    goal.reduce_exactly-requires-in-Column-clause-count
-reduce_exactly-requires-in-Column-clause-count c =
-    subst (λ n. n < 2 ^ 32) (sym (c.reduce_lazily.auto.exact ∙ c.requires.row_columns))
-    c.requires.count
+pub reduce_exactly-requires-in-Column-clause-kept : goal.reduce_exactly-requires-in-Column-clause-kept
+reduce_exactly-requires-in-Column-clause-kept c =
+    subst (λ (n : ℕ). AreKept n c.args.kept.now)
+    (sym (c.reduce_lazily.auto.exact ∙ c.requires.row_columns)) c.requires.kept
 
 pub reduce_exactly-requires-in-Column-clause-fits :
     goal.reduce_exactly-requires-in-Column-clause-fits
 reduce_exactly-requires-in-Column-clause-fits c =
-    subst (λ (r : Reached). IsReachedWithin (length c.load.new.row) c.args.log.now r
+    subst (λ (r : Reached). IsReachedWithin (length c.load.new.row) c.args.kept.now.log.items r
     c.reduce_lazily.new.row c.reduce_lazily.new.exact)
     c.in-Column.is c.in_ok-reduce_lazily.ensures.within
 
@@ -95,9 +59,9 @@ pub returns-then-extent-ge-GREATEST_BOUND-clause-wide :
 returns-then-extent-ge-GREATEST_BOUND-clause-wide c =
     λ e.
     c.reduce_exactly.ensures.wide e
-    (inserted (length c.args.given.now) (kept_rows c.args.log.now c.args.rows.now)
+    (inserted (length c.args.given.now) (rows_of c.args.kept.now)
     c.args.given.now)
-    (start_at (kept_rows c.args.log.now c.args.rows.now) c.args.given.now c.copy_from_slice.new.self
+    (start_at (rows_of c.args.kept.now) c.args.given.now c.copy_from_slice.new.self
     c.args.reduce.now.items
     c.copy_from_slice.ensures.after c.requires.empty)
 
@@ -105,9 +69,9 @@ pub returns-in-Column-clause-wide : goal.returns-in-Column-clause-wide
 returns-in-Column-clause-wide c =
     λ e.
     c.reduce_exactly-in-Column.ensures.wide e
-    (inserted (length c.args.given.now) (kept_rows c.args.log.now c.args.rows.now)
+    (inserted (length c.args.given.now) (rows_of c.args.kept.now)
     c.args.given.now)
-    (reached_column (kept_rows c.args.log.now c.args.rows.now) c.args.given.now c.load.new.row
+    (reached_column (rows_of c.args.kept.now) c.args.given.now c.load.new.row
     c.reduce_lazily.new.row c.reduce_lazily.new.exact
     c.in_ok-reduce_lazily.field-0 c.in-Column.column c.reduce_lazily.new.reduce.items c.load.ensures
     c.in-Column.is
@@ -117,9 +81,9 @@ pub returns-then-extent-ge-GREATEST_BOUND-clause-left :
     goal.returns-then-extent-ge-GREATEST_BOUND-clause-left
 returns-then-extent-ge-GREATEST_BOUND-clause-left c =
     if_ok_more c.reduce_exactly.result _ _ c.reduce_exactly.ensures.done
-    (λ left h. (h (inserted (length c.args.given.now) (kept_rows c.args.log.now c.args.rows.now)
+    (λ left h. (h (inserted (length c.args.given.now) (rows_of c.args.kept.now)
     c.args.given.now)
-    (start_at (kept_rows c.args.log.now c.args.rows.now) c.args.given.now c.copy_from_slice.new.self
+    (start_at (rows_of c.args.kept.now) c.args.given.now c.copy_from_slice.new.self
     c.args.reduce.now.items
     c.copy_from_slice.ensures.after c.requires.empty)).left_is)
 
@@ -127,18 +91,18 @@ pub returns-then-extent-ge-GREATEST_BOUND-clause-narrow :
     goal.returns-then-extent-ge-GREATEST_BOUND-clause-narrow
 returns-then-extent-ge-GREATEST_BOUND-clause-narrow c =
     on_ok_more c.reduce_exactly.result _ _ c.reduce_exactly.ensures.done
-    (λ left h. (h (inserted (length c.args.given.now) (kept_rows c.args.log.now c.args.rows.now)
+    (λ left h. (h (inserted (length c.args.given.now) (rows_of c.args.kept.now)
     c.args.given.now)
-    (start_at (kept_rows c.args.log.now c.args.rows.now) c.args.given.now c.copy_from_slice.new.self
+    (start_at (rows_of c.args.kept.now) c.args.given.now c.copy_from_slice.new.self
     c.args.reduce.now.items
     c.copy_from_slice.ensures.after c.requires.empty)).narrow)
 
 pub returns-in-Column-clause-left : goal.returns-in-Column-clause-left
 returns-in-Column-clause-left c =
     if_ok_more c.reduce_exactly-in-Column.result _ _ c.reduce_exactly-in-Column.ensures.done
-    (λ left h. (h (inserted (length c.args.given.now) (kept_rows c.args.log.now c.args.rows.now)
+    (λ left h. (h (inserted (length c.args.given.now) (rows_of c.args.kept.now)
     c.args.given.now)
-    (reached_column (kept_rows c.args.log.now c.args.rows.now) c.args.given.now c.load.new.row
+    (reached_column (rows_of c.args.kept.now) c.args.given.now c.load.new.row
     c.reduce_lazily.new.row c.reduce_lazily.new.exact
     c.in_ok-reduce_lazily.field-0 c.in-Column.column c.reduce_lazily.new.reduce.items c.load.ensures
     c.in-Column.is
@@ -147,9 +111,9 @@ returns-in-Column-clause-left c =
 pub returns-in-Column-clause-narrow : goal.returns-in-Column-clause-narrow
 returns-in-Column-clause-narrow c =
     on_ok_more c.reduce_exactly-in-Column.result _ _ c.reduce_exactly-in-Column.ensures.done
-    (λ left h. (h (inserted (length c.args.given.now) (kept_rows c.args.log.now c.args.rows.now)
+    (λ left h. (h (inserted (length c.args.given.now) (rows_of c.args.kept.now)
     c.args.given.now)
-    (reached_column (kept_rows c.args.log.now c.args.rows.now) c.args.given.now c.load.new.row
+    (reached_column (rows_of c.args.kept.now) c.args.given.now c.load.new.row
     c.reduce_lazily.new.row c.reduce_lazily.new.exact
     c.in_ok-reduce_lazily.field-0 c.in-Column.column c.reduce_lazily.new.reduce.items c.load.ensures
     c.in-Column.is

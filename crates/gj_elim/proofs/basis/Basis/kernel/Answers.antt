@@ -1,15 +1,11 @@
-use Rattle.std.proofs.Common.{[], None, Some, Option, ◌≡◌, ℕ, ◌+◌, ◌-◌, ◌<◌, List, ℤ, length, get_or, refl, ap, sym, subst, ◌∙◌, arith}
+use Rattle.std.proofs.Common.{None, Some, Option, ◌≡◌, ℕ, ◌+◌, ◌-◌, ◌<◌, List, ℤ, length, get_or, refl, ap, sym, subst, ◌∙◌, arith}
 use Rattle.std.proofs.lemmas.List.{with_items_is}
 use Rattle.gj_shape.specs.Elimination.{free_column, solved_at, marked_in_solving, Passes}
-use Rattle.std.specs.Prelude.{All}
-use Rattle.std.proofs.lemmas.List.Elements.{All-get_or}
-use Rattle.gj_frac.specs.Fraction.{Fits}
-use Rattle.gj_theory.specs.TriangularRows.{AreTriangular}
 use Rattle.gj_elim.specs.declared.log.LogRow.{LogRow}
 use Rattle.gj_elim.specs.KeptRows.{kept_rows}
-use Rattle.gj_elim.specs.Tables.{ArePlaces}
-use Rattle.gj_elim.proofs.Places.{IsRowAt, IsPivotRow, place_found, place_none, entries_at, row_read, pivot_row}
-use Rattle.gj_elim.proofs.KeptTables.{place_read}
+use Rattle.gj_elim.specs.Tables.{AreKept, rows_of}
+use Rattle.gj_elim.specs.declared.kept.KeptRows.{KeptRows}
+use Rattle.gj_elim.proofs.KeptTables.{IsRowRead, kept_there, kept_row_read, none_there}
 use Rattle.gj_elim.proofs.KernelSteps.{IsSolvedTo, solved_start, solved_more, solved_wide, solved_end, no_kernel, row_there, free_below}
 use Rattle.gj_elim.proofs.basis.Basis.kernel.Goals as goal
 
@@ -22,44 +18,21 @@ free_read n log read rows o is same lines = is rows (ap length same ∙ lines)
     ∙ ap (λ ls. free_column n (kept_rows ls rows)) same
 
 -- the kept row with its pivot at a column before the free one
-record IsRowRead (n : ℕ) (log : List LogRow) (rows : List (List ℤ)) (c : ℕ) (e : List ℤ) :
-    Type 0 where
-  here : IsRowAt (kept_rows log rows) c e
-  pivot : IsPivotRow n c e
-  within : c < length e
-  fits : All Fits e
-
-row_there_read : (n : ℕ) (log : List LogRow) (rows : List (List ℤ)) (places : List (Option ℕ))
-    (free c i : ℕ) (x : Option ℕ) (y e : List ℤ) →
-    length log ≡ length rows → AreTriangular n (kept_rows log rows) → All (All Fits) rows →
-    ArePlaces n log places →
-    Some free ≡ free_column n (kept_rows log rows) → c < free → x ≡ get_or places c x → x ≡ Some i →
-    y ≡ get_or rows i y → e ≡ y →
-    IsRowRead n log rows c e
-row_there_read n log rows places free c i x y e lines triangular fits are free_is before x_is is
-    y_is e_is =
-    let below = free_below (kept_rows log rows) n free free_is in
-    let (inside, at) = place_found log rows c i lines
-    (place_read n log places c x (Some i) are (omega arith) x_is is) in
-    let read = row_read rows i y e (omega arith) y_is e_is in
-    let here = entries_at (kept_rows log rows) c (get_or rows i []) e read at in
-    let pivot = pivot_row n (kept_rows log rows) c e triangular here in
-    let columns = pivot.columns in
-    record {
-      here = here;
-      pivot = pivot;
-      within = omega arith;
-      fits = subst (All Fits) (sym read) (All-get_or (All Fits) rows i [] (omega arith) fits);
-    }
+row_before : (n : ℕ) (k : KeptRows) (free c i : ℕ) (x : Option ℕ) (y e : List ℤ) → AreKept n k →
+    Some free ≡ free_column n (rows_of k) → c < free → x ≡ get_or k.places.items c x → x ≡ Some i →
+    y ≡ get_or k.rows.items i y → e ≡ y → IsRowRead n k c e
+row_before n k free c i x y e h free_is before x_is is y_is e_is =
+    let below = free_below (rows_of k) n free free_is in
+    kept_row_read n k c i x y e h (omega arith) x_is is y_is e_is
 
 pub returns-in_default : goal.returns-in_default
 returns-in_default c =
     let s = c.self.inside in
-    let free_is = free_read s.columns s.log.items _ s.rows.items None c.in_default.ensures
-    c.as_slice.ensures.value c.self.invariant.lines in
-    let no = no_kernel c.args.self.now (kept_rows s.log.items s.rows.items) s.columns
+    let free_is = free_read s.columns s.kept.log.items _ s.kept.rows.items None c.in_default.ensures
+    c.as_slice.ensures.value c.self.invariant.kept.lines in
+    let no = no_kernel c.args.self.now (rows_of s.kept) s.columns
     (ap (λ d. d.kept) c.self.view_is)
-    (ap (λ d. d.columns) c.self.view_is) c.self.invariant.triangular free_is in
+    (ap (λ d. d.columns) c.self.view_is) c.self.invariant.kept.triangular free_is in
     record {
       none = (λ e. no.full, λ full. refl);
       value = tt;
@@ -71,44 +44,39 @@ returns-in_default c =
 
 pub loop-column-init : goal.loop-column-init
 loop-column-init c =
-    solved_start (kept_rows c.self.inside.log.items c.self.inside.rows.items) c.self.inside.columns
+    solved_start (rows_of c.self.inside.kept) c.self.inside.columns
     c.in-Some.free c.in_ok-numbers.numbers.items c.in_ok-numbers.ensures
 
 pub index-requires : goal.index-requires
 index-requires c =
     let s = c.self.inside in
-    let columns = c.self.invariant.places.columns_are in
-    let len = s.places.ok.0 in
-    let below = free_below (kept_rows s.log.items s.rows.items) s.columns c.in-Some.free
-    (free_read s.columns s.log.items _ s.rows.items _ c.in-Some.ensures c.as_slice.ensures.value
-    c.self.invariant.lines) in
+    let columns = c.self.invariant.kept.places.columns_are in
+    let len = s.kept.places.ok.0 in
+    let below = free_below (rows_of s.kept) s.columns c.in-Some.free
+    (free_read s.columns s.kept.log.items _ s.kept.rows.items _ c.in-Some.ensures c.as_slice.ensures.value
+    c.self.invariant.kept.lines) in
     omega arith
 
 pub index-requires-in-Some-index : goal.index-requires-in-Some-index
 index-requires-in-Some-index c =
     let s = c.self.inside in
-    let below = free_below (kept_rows s.log.items s.rows.items) s.columns c.in-Some.free
-    (free_read s.columns s.log.items _ s.rows.items _ c.in-Some.ensures c.as_slice.ensures.value
-    c.self.invariant.lines) in
-    let (inside, at) = place_found s.log.items s.rows.items
-    (c.loop-column.column - 1) c.in-Some-index.place c.self.invariant.lines
-    (place_read s.columns s.log.items s.places.items (c.loop-column.column - 1) c.index.result.now
-    (Some c.in-Some-index.place)
-    c.self.invariant.places (omega arith) c.index.ensures c.in-Some-index.is) in
-    let lines = c.self.invariant.lines in
-    let len = s.rows.ok.0 in
+    let below = free_below (rows_of s.kept) s.columns c.in-Some.free
+    (free_read s.columns s.kept.log.items _ s.kept.rows.items _ c.in-Some.ensures c.as_slice.ensures.value
+    c.self.invariant.kept.lines) in
+    let (inside, at) = kept_there s.columns s.kept (c.loop-column.column - 1) c.in-Some-index.place
+    c.index.result.now c.self.invariant.kept (omega arith) c.index.ensures c.in-Some-index.is in
+    let lines = c.self.invariant.kept.lines in
+    let len = s.kept.rows.ok.0 in
     omega arith
 
 pub solve_at-requires : goal.solve_at-requires
 solve_at-requires c =
     let s = c.self.inside in
-    let free_is = free_read s.columns s.log.items _ s.rows.items _ c.in-Some.ensures
-    c.as_slice.ensures.value c.self.invariant.lines in
-    let row = row_there_read s.columns s.log.items s.rows.items s.places.items c.in-Some.free
-    (c.loop-column.column - 1) c.in-Some-index.place
-    _ _ c.as_slice-in-Some-index.result.now c.self.invariant.lines c.self.invariant.triangular
-    c.self.invariant.fits c.self.invariant.places
-    free_is (omega arith) c.index.ensures c.in-Some-index.is c.index-in-Some-index.ensures
+    let free_is = free_read s.columns s.kept.log.items _ s.kept.rows.items _ c.in-Some.ensures
+    c.as_slice.ensures.value c.self.invariant.kept.lines in
+    let row = row_before s.columns s.kept c.in-Some.free (c.loop-column.column - 1)
+    c.in-Some-index.place _ _ c.as_slice-in-Some-index.result.now c.self.invariant.kept free_is (omega arith) c.index.ensures
+    c.in-Some-index.is c.index-in-Some-index.ensures
     c.as_slice-in-Some-index.ensures in
     record {
       columns = row.pivot.columns
@@ -122,22 +90,20 @@ pub loop-column-preserved-in-Continue-branch-2 : goal.loop-column-preserved-in-C
 loop-column-preserved-in-Continue-branch-2 c =
     let s = c.self.inside in
     let row_now = c.as_slice-in-Some-index.result.now in
-    let free_is = free_read s.columns s.log.items _ s.rows.items _ c.in-Some.ensures
-    c.as_slice.ensures.value c.self.invariant.lines in
-    let row = row_there_read s.columns s.log.items s.rows.items s.places.items c.in-Some.free
-    (c.loop-column.column - 1) c.in-Some-index.place
-    _ _ row_now c.self.invariant.lines c.self.invariant.triangular c.self.invariant.fits
-    c.self.invariant.places
-    free_is (omega arith) c.index.ensures c.in-Some-index.is c.index-in-Some-index.ensures
+    let free_is = free_read s.columns s.kept.log.items _ s.kept.rows.items _ c.in-Some.ensures
+    c.as_slice.ensures.value c.self.invariant.kept.lines in
+    let row = row_before s.columns s.kept c.in-Some.free (c.loop-column.column - 1)
+    c.in-Some-index.place _ _ row_now c.self.invariant.kept free_is (omega arith) c.index.ensures
+    c.in-Some-index.is c.index-in-Some-index.ensures
     c.as_slice-in-Some-index.ensures in
     let next : c.loop-column.column ≡ c.loop-column.column - 1 + 1 = omega arith in
-    let before = subst (λ (m : ℕ). IsSolvedTo (kept_rows s.log.items s.rows.items) s.columns
+    let before = subst (λ (m : ℕ). IsSolvedTo (rows_of s.kept) s.columns
     c.in-Some.free m c.loop-column.numbers.items)
     next c.loop-column.invariant in
     let held = with_items_is c.loop-column.numbers c.solve_at.new.numbers
     (c.solve_at.auto.numbers ∙ ap length c.as_mut_slice.ensures.value
     ∙ sym c.loop-column.numbers.ok.0) in
-    solved_more (kept_rows s.log.items s.rows.items) s.columns c.in-Some.free
+    solved_more (rows_of s.kept) s.columns c.in-Some.free
     (c.loop-column.column - 1) c.loop-column.numbers.items _
     row_now before row.here
     (subst (λ (w : List ℤ). Passes (marked_in_solving row_now (c.loop-column.column - 1) w) →
@@ -150,19 +116,17 @@ pub returns-in_err-solve_at-clause-wide : goal.returns-in_err-solve_at-clause-wi
 returns-in_err-solve_at-clause-wide c =
     let s = c.self.inside in
     let row_now = c.as_slice-in-Some-index.result.now in
-    let free_is = free_read s.columns s.log.items _ s.rows.items _ c.in-Some.ensures
-    c.as_slice.ensures.value c.self.invariant.lines in
-    let row = row_there_read s.columns s.log.items s.rows.items s.places.items c.in-Some.free
-    (c.loop-column.column - 1) c.in-Some-index.place
-    _ _ row_now c.self.invariant.lines c.self.invariant.triangular c.self.invariant.fits
-    c.self.invariant.places
-    free_is (omega arith) c.index.ensures c.in-Some-index.is c.index-in-Some-index.ensures
+    let free_is = free_read s.columns s.kept.log.items _ s.kept.rows.items _ c.in-Some.ensures
+    c.as_slice.ensures.value c.self.invariant.kept.lines in
+    let row = row_before s.columns s.kept c.in-Some.free (c.loop-column.column - 1)
+    c.in-Some-index.place _ _ row_now c.self.invariant.kept free_is (omega arith) c.index.ensures
+    c.in-Some-index.is c.index-in-Some-index.ensures
     c.as_slice-in-Some-index.ensures in
     let next : c.loop-column.column ≡ c.loop-column.column - 1 + 1 = omega arith in
-    let before = subst (λ (m : ℕ). IsSolvedTo (kept_rows s.log.items s.rows.items) s.columns
+    let before = subst (λ (m : ℕ). IsSolvedTo (rows_of s.kept) s.columns
     c.in-Some.free m c.loop-column.numbers.items)
     next c.loop-column.invariant in
-    λ e. solved_wide c.args.self.now (kept_rows s.log.items s.rows.items) s.columns c.in-Some.free
+    λ e. solved_wide c.args.self.now (rows_of s.kept) s.columns c.in-Some.free
     (c.loop-column.column - 1)
     c.loop-column.numbers.items row_now (ap (λ d. d.kept) c.self.view_is)
     (ap (λ d. d.columns) c.self.view_is)
@@ -174,25 +138,23 @@ returns-in_err-solve_at-clause-wide c =
 pub loop-column-preserved : goal.loop-column-preserved
 loop-column-preserved c =
     let s = c.self.inside in
-    let free_is = free_read s.columns s.log.items _ s.rows.items _ c.in-Some.ensures
-    c.as_slice.ensures.value c.self.invariant.lines in
-    let below = free_below (kept_rows s.log.items s.rows.items) s.columns c.in-Some.free free_is in
-    let none = place_none s.log.items s.rows.items (c.loop-column.column - 1) c.self.invariant.lines
-    (place_read s.columns s.log.items s.places.items (c.loop-column.column - 1) c.index.result.now
-    None c.self.invariant.places (omega arith)
-    c.index.ensures c.in_default-index.is) in
-    absurd (row_there (kept_rows s.log.items s.rows.items) s.columns c.in-Some.free
+    let free_is = free_read s.columns s.kept.log.items _ s.kept.rows.items _ c.in-Some.ensures
+    c.as_slice.ensures.value c.self.invariant.kept.lines in
+    let below = free_below (rows_of s.kept) s.columns c.in-Some.free free_is in
+    let none = none_there s.columns s.kept (c.loop-column.column - 1) c.index.result.now
+    c.self.invariant.kept (omega arith) c.index.ensures c.in_default-index.is in
+    absurd (row_there (rows_of s.kept) s.columns c.in-Some.free
     (c.loop-column.column - 1) free_is (omega arith) none)
 
 pub returns : goal.returns
 returns c =
     let s = c.self.inside in
-    let free_is = free_read s.columns s.log.items _ s.rows.items _ c.in-Some.ensures
-    c.as_slice.ensures.value c.self.invariant.lines in
-    let end = solved_end c.args.self.now (kept_rows s.log.items s.rows.items) s.columns
+    let free_is = free_read s.columns s.kept.log.items _ s.kept.rows.items _ c.in-Some.ensures
+    c.as_slice.ensures.value c.self.invariant.kept.lines in
+    let end = solved_end c.args.self.now (rows_of s.kept) s.columns
     c.in-Some.free c.loop-column.column
     c.loop-column.numbers.items (ap (λ d. d.kept) c.self.view_is)
-    (ap (λ d. d.columns) c.self.view_is) c.self.invariant.triangular free_is
+    (ap (λ d. d.columns) c.self.view_is) c.self.invariant.kept.triangular free_is
     c.loop-column.invariant (omega arith) in
     record {
       none = (λ e. absurd cc, λ full. absurd (end.some full));

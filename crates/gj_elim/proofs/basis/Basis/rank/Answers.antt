@@ -7,15 +7,15 @@ use Rattle.gj_elim.proofs.basis.Basis.rank.Goals as goal
 pub overflow_cast-result : goal.overflow_cast-result
 overflow_cast-result c =
     let most = rank_at_most c.self.inside.columns
-    (kept_rows c.self.inside.log.items c.self.inside.rows.items) c.self.invariant.triangular in
-    let same = length-kept_rows c.self.inside.log.items c.self.inside.rows.items
-    c.self.invariant.lines in
-    let len = c.self.inside.log.ok.0 in
+    (kept_rows c.self.inside.kept.log.items c.self.inside.kept.rows.items) c.self.invariant.kept.triangular in
+    let same = length-kept_rows c.self.inside.kept.log.items c.self.inside.kept.rows.items
+    c.self.invariant.kept.lines in
+    let len = c.self.inside.kept.log.ok.0 in
     omega arith
 
 pub returns-clause-count : goal.returns-clause-count
 returns-clause-count c =
-    c.len.ensures ∙ c.self.inside.log.ok.0
-    ∙ sym (length-kept_rows c.self.inside.log.items c.self.inside.rows.items
-    c.self.invariant.lines)
+    c.len.ensures ∙ c.self.inside.kept.log.ok.0
+    ∙ sym (length-kept_rows c.self.inside.kept.log.items c.self.inside.kept.rows.items
+    c.self.invariant.kept.lines)
     ∙ ap (λ b. length b.kept) c.self.view_is

@@ -17,7 +17,8 @@ use Rattle.gj_sparse_elim.specs.Sparse.{dense, AreSparse}
 use Rattle.gj_sparse_elim.proofs.SparseRows.{length-dense}
 use Rattle.gj_sparse_elim.proofs.LeftRows.{nothing_left, something_left}
 use Rattle.gj_sparse_elim.proofs.SeenRows.{seen_behind}
-use Rattle.gj_sparse_elim.proofs.KeptEntries.{lines_too, insertion_sparse, given_columns, held}
+use Rattle.gj_sparse_elim.proofs.KeptEntries.{lines_too, insertion_sparse, given_columns}
+use Rattle.gj_elim.proofs.KeptTables.{held}
 use Rattle.gj_sparse_elim.proofs.basis.SparseBasis.insert_new.Goals as goal
 
 pub returns-in_err-left-clause-wide : goal.returns-in_err-left-clause-wide
