@@ -2,24 +2,25 @@
 use Rattle.std.proofs.Common.{◌≡◌, ℕ, ◌+◌, ◌<◌, ◌≤◌, ◌⊎◌, inl, inr, Bool, Option, None, Some, ℤ, pos, List, [], ◌∷◌, ◌++◌, length, map, get_or, refl, sym, ap, ap₂, subst, subst₂, ◌∙◌, below_more, arith}
 use Rattle.std.specs.Prelude.{All}
 use Rattle.std.proofs.lemmas.Bool.{cases_lt}
-use Rattle.std.proofs.lemmas.List.{length-map, map-append, length_push, get_or-map, get_or_append_left, get_or_push}
+use Rattle.std.proofs.lemmas.List.{get_or_default, length-map, map-append, length_push, get_or-map, get_or_append_left, get_or_push}
 use Rattle.std.proofs.lemmas.List.Elements.{All-get_or, All-push}
-use Rattle.gj_shape.specs.Elimination.{KeptRow, Insertion, whole_numbers, inserted, at_column}
+use Rattle.gj_shape.specs.Elimination.{KeptRow, Insertion, whole_numbers, inserted, at_column, row_with_pivot}
 use Rattle.gj_theory.specs.TriangularRows.{AreTriangular}
 use Rattle.gj_elim.specs.Lazy.{IsExtent}
 use Rattle.gj_elim.specs.Data.{BasisData}
 use Rattle.gj_elim.specs.Tables.{ArePlaces}
-use Rattle.gj_elim.specs.Progress.{IsBehind, IsDone, IsReached, rest}
+use Rattle.gj_elim.specs.Progress.{IsBehind, IsDone, IsFreeColumn, IsReached, rest}
 use Rattle.gj_elim.proofs.Progressing.{behind_start}
 use Rattle.gj_elim.specs.declared.lazy.Reached.{Reached}
 use Rattle.gj_elim.specs.declared.lazy.Reached.TheVariants.{Column}
 use Rattle.gj_elim.specs.declared.log.LogRow.{LogRow}
-use Rattle.gj_elim.proofs.Places.{IsRowAt, IsPivotRow, place_found, entries_at, row_read, pivot_row}
-use Rattle.gj_elim.proofs.KeptTables.{place_at}
+use Rattle.gj_elim.proofs.Places.{IsRowAt, IsPivotRow, place_found, place_none, entries_at, row_read, pivot_row}
+use Rattle.gj_elim.proofs.KeptTables.{place_read}
 use Rattle.gj_elim.proofs.LazyProgress.{IsLazy, lazy_zero, lazy_end}
 use Rattle.gj_sparse_elim.specs.declared.entry.Entry.{Entry}
 use Rattle.gj_sparse_elim.specs.Sparse.{dense, AreSparse}
-use Rattle.gj_sparse_elim.specs.Rows.{kept_sparse, AreBounds}
+use Rattle.gj_sparse_elim.specs.Rows.{kept_sparse, sparse_rows, AreBounds, AreKeptSparse}
+use Rattle.gj_sparse_elim.specs.declared.kept.KeptSparse.{KeptSparse}
 use Rattle.gj_sparse_elim.proofs.ColumnSets.{IsNextColumn}
 use Rattle.gj_sparse_elim.proofs.SparseRows.{length-dense}
 use Rattle.gj_sparse_elim.proofs.SparseSteps.{further}
@@ -27,11 +28,10 @@ use Rattle.gj_sparse_elim.proofs.SparseSteps.{further}
 -- ---- the row with a pivot
 
 -- the kept row with its pivot at the column, which stands at this place with these entries
-pub record IsSparsePivot (n c i : ℕ) (log : List LogRow) (rows : List (List Entry))
-    (e : List Entry) : Type 0 where
-  pub inside : i < length rows
-  pub is : e ≡ get_or rows i []
-  pub here : IsRowAt (kept_sparse n log rows) c (dense n e)
+pub record IsSparsePivot (n c i : ℕ) (k : KeptSparse) (e : List Entry) : Type 0 where
+  pub inside : i < length k.rows.items
+  pub is : e ≡ get_or k.rows.items i []
+  pub here : IsRowAt (sparse_rows n k) c (dense n e)
   pub pivot : IsPivotRow n c (dense n e)
   pub sparse : AreSparse n e
 
@@ -39,42 +39,57 @@ pub lines_too : (n : ℕ) (log : List LogRow) (rows : List (List Entry)) → len
     length log ≡ length (map (dense n) rows)
 lines_too n log rows lines = lines ∙ sym (length-map rows (dense n))
 
-pub place_inside : (n : ℕ) (log : List LogRow) (rows : List (List Entry)) (places : List (Option ℕ))
-    (c i : ℕ) → length log ≡ length rows →
-    ArePlaces n log places → c < n → get_or places c None ≡ Some i → i < length rows
-place_inside n log rows places c i lines are below is =
-    let (inside, at) = place_found log (map (dense n) rows) c i (lines_too n log rows lines)
-    (place_at n log places c (Some i) are below is) in
-    omega arith
+-- what the code reads at a column of the places
+pub place_there : (n : ℕ) (k : KeptSparse) (c i : ℕ) (x : Option ℕ) → AreKeptSparse n k → c < n →
+    x ≡ get_or k.places.items c x → x ≡ Some i →
+    (i < length k.rows.items)
+    × IsRowAt (sparse_rows n k) c (get_or (map (dense n) k.rows.items) i [])
+place_there n k c i x h below x_is is =
+    let (inside, at) = place_found k.log.items (map (dense n) k.rows.items) c i
+    (lines_too n k.log.items k.rows.items h.lines)
+    (place_read n k.log.items k.places.items c x (Some i) h.places below x_is is) in
+    (subst (λ m. i < m) h.lines inside, at)
 
-pub sparse_pivot : (n : ℕ) (log : List LogRow) (rows : List (List Entry)) (places : List (Option ℕ))
-    (c i : ℕ) (x y : List Entry) →
-    length log ≡ length rows → All (AreSparse n) rows → AreTriangular n (kept_sparse n log rows) →
-    ArePlaces n log places → c < n →
-    get_or places c None ≡ Some i → x ≡ get_or rows i x → y ≡ x → IsSparsePivot n c i log rows y
-sparse_pivot n log rows places c i x y lines sparse triangular are below is x_is y_is =
-    let (in_log, at) = place_found log (map (dense n) rows) c i (lines_too n log rows lines)
-    (place_at n log places c (Some i) are below is) in
-    let inside : i < length rows = omega arith in
-    let read : y ≡ get_or rows i [] = row_read rows i x y inside x_is y_is in
-    let whole : dense n y ≡ get_or (map (dense n) rows) i [] = ap (dense n) read
+pub sparse_pivot : (n : ℕ) (k : KeptSparse) (c i : ℕ) (x : Option ℕ) (y e : List Entry) →
+    AreKeptSparse n k → c < n → x ≡ get_or k.places.items c x → x ≡ Some i →
+    y ≡ get_or k.rows.items i y → e ≡ y → IsSparsePivot n c i k e
+sparse_pivot n k c i x y e h below x_is is y_is e_is =
+    let (inside, at) = place_there n k c i x h below x_is is in
+    let rows = k.rows.items in
+    let read : e ≡ get_or rows i [] = row_read rows i y e inside y_is e_is in
+    let whole : dense n e ≡ get_or (map (dense n) rows) i [] = ap (dense n) read
     ∙ sym (get_or-map (dense n) rows i [] [] inside) in
-    let here = entries_at (kept_sparse n log rows) c (get_or (map (dense n) rows) i []) (dense n y)
+    let here = entries_at (sparse_rows n k) c (get_or (map (dense n) rows) i []) (dense n e)
     whole at in record {
       inside = inside;
       is = read;
       here = here;
-      pivot = pivot_row n (kept_sparse n log rows) c (dense n y) triangular here;
-      sparse = subst (AreSparse n) (sym read) (All-get_or (AreSparse n) rows i [] inside sparse);
+      pivot = pivot_row n (sparse_rows n k) c (dense n e) h.triangular here;
+      sparse = subst (AreSparse n) (sym read) (All-get_or (AreSparse n) rows i [] inside h.sparse);
     }
 
+pub none_there : (n : ℕ) (k : KeptSparse) (c : ℕ) (x : Option ℕ) → AreKeptSparse n k → c < n →
+    x ≡ get_or k.places.items c x → x ≡ None → row_with_pivot (sparse_rows n k) c ≡ None
+none_there n k c x h below x_is is =
+    place_none k.log.items (map (dense n) k.rows.items) c
+    (lines_too n k.log.items k.rows.items h.lines)
+    (place_read n k.log.items k.places.items c x None h.places below x_is is)
+
+pub free_there : (n : ℕ) (k : KeptSparse) (c : ℕ) (x : Option ℕ) → AreKeptSparse n k → c < n →
+    x ≡ get_or k.places.items c x → x ≡ None → IsFreeColumn n k.log.items c
+free_there n k c x h below x_is is = record {
+  below = below;
+  free = place_read n k.log.items k.places.items c x None h.places below x_is is;
+}
+
 -- the bound of the row at a place
-pub bound_read : (n i b : ℕ) (rows : List (List Entry)) (bounds : List ℕ) (e : List Entry) →
-    AreBounds n rows bounds → i < length rows →
-    b ≡ get_or bounds i 0 → e ≡ get_or rows i [] → IsExtent b n (dense n e)
-bound_read n i b rows bounds e h inside b_is e_is =
-    subst₂ (λ (m : ℕ) (xs : List Entry). IsExtent m n (dense n xs)) (sym b_is) (sym e_is)
-    (h.bound i inside)
+pub bound_read : (n i b : ℕ) (k : KeptSparse) (e : List Entry) → AreKeptSparse n k →
+    i < length k.rows.items → b ≡ get_or k.bounds.items i b → e ≡ get_or k.rows.items i [] →
+    IsExtent b n (dense n e)
+bound_read n i b k e h inside b_is e_is =
+    let known : i < length k.bounds.items = omega (arith, inside, h.bounds.rows_are) in
+    subst₂ (λ (m : ℕ) (xs : List Entry). IsExtent m n (dense n xs))
+    (sym (b_is ∙ get_or_default k.bounds.items i b 0 known)) (sym e_is) (h.bounds.bound i inside)
 
 -- one more row with its bound
 pub bounds_more : (n : ℕ) (rows rows' : List (List Entry)) (bounds bounds' : List ℕ)
@@ -202,14 +217,22 @@ sparse_pushed n m rows rows' e all is same e_is =
     subst (All (AreSparse n)) (sym is)
     (All-push (AreSparse n) rows e all (subst (λ (l : ℕ). AreSparse l e) same e_is))
 
-pub same_sparse : (n : ℕ) (rows rows' : List (List Entry)) → rows' ≡ rows → All (AreSparse n) rows →
-    All (AreSparse n) rows'
-same_sparse n rows rows' is all = subst (All (AreSparse n)) (sym is) all
+-- the kept rows as they were
+pub still_kept : (n : ℕ) (k k' : KeptSparse) → k'.log.items ≡ k.log.items →
+    k'.rows.items ≡ k.rows.items → k'.bounds.items ≡ k.bounds.items →
+    k'.places.items ≡ k.places.items → AreKeptSparse n k → AreKeptSparse n k'
+still_kept n k k' log rows bounds places h = record {
+  lines = ap length log ∙ h.lines ∙ sym (ap length rows);
+  sparse = subst (All (AreSparse n)) (sym rows) h.sparse;
+  triangular = subst (AreTriangular n) (sym (ap₂ (kept_sparse n) log rows)) h.triangular;
+  places = subst₂ (ArePlaces n) (sym log) (sym places) h.places;
+  bounds = subst₂ (AreBounds n) (sym rows) (sym bounds) h.bounds;
+  narrow = h.narrow;
+}
 
-pub same_bounds : (n : ℕ) (rows rows' : List (List Entry)) (bounds bounds' : List ℕ) →
-    rows' ≡ rows → bounds' ≡ bounds →
-    AreBounds n rows bounds → AreBounds n rows' bounds'
-same_bounds n rows rows' bounds bounds' is is' h = subst₂ (AreBounds n) (sym is) (sym is') h
+pub still_rows : (log log' : List LogRow) (rows rows' : List (List Entry)) → log' ≡ log →
+    rows' ≡ rows → (n : ℕ) → kept_sparse n log' rows' ≡ kept_sparse n log rows
+still_rows log log' rows rows' same same' n = ap₂ (kept_sparse n) same same'
 
 -- ---- the basis behind an insertion
 

@@ -12,6 +12,7 @@ ghost use Rattle.gj_sparse_elim.specs.Sparse.{AreSparse, dense};
 use crate::columns::no_columns;
 use crate::entry::Entry;
 use crate::keep::keep;
+use crate::kept::KeptSparse;
 use crate::lazy::zeros;
 use crate::reduce::reduce_row;
 use crate::seen::{empty_rows, is_at, place_of};
@@ -58,13 +59,7 @@ pub struct SparseBasis {
     alloc: Global,
     columns: u32,
     inserted: u64,
-    log: Vec<LogRow>,
-    /// The entries of the kept rows, in the order of the log.
-    rows: Vec<List<Entry>>,
-    /// A bound of the absolute values of each kept row.
-    bounds: Vec<u64>,
-    /// For each column the place of the kept row with its pivot there.
-    places: Vec<Option<u32>>,
+    kept: KeptSparse,
     /// The row that is being reduced, and a kept row, with 128 bits a number.
     row: Vec<i128>,
     kept_row: Vec<i128>,
@@ -100,10 +95,12 @@ impl SparseBasis {
             alloc,
             columns,
             inserted: 0,
-            log: Vec::new(alloc),
-            rows: Vec::new(alloc),
-            bounds: Vec::new(alloc),
-            places: no_places(alloc, columns as usize)?,
+            kept: KeptSparse {
+                log: Vec::new(alloc),
+                rows: Vec::new(alloc),
+                bounds: Vec::new(alloc),
+                places: no_places(alloc, columns as usize)?,
+            },
             row: vec![in alloc; 0; columns as usize]?,
             kept_row: vec![in alloc; 0; columns as usize]?,
             small: zeros(alloc, columns as usize)?,
@@ -114,8 +111,9 @@ impl SparseBasis {
     }
 
     /// Inserts the row with these entries: it is reduced by the kept rows, and what is left of it
-    /// is kept. A row that was inserted shortly before is known again without a step. `Wide` exactly if one of the numbers that the elimination marks passes 2^127 - 1 in
-    /// absolute value. After an error the basis is as it was.
+    /// is kept. A row that was inserted shortly before is known again without a step. `Wide`
+    /// exactly if one of the numbers that the elimination marks passes 2^127 - 1 in absolute value.
+    /// After an error the basis is as it was.
     pub fn insert(&mut self, row: &[Entry]) -> Result<Inserted, ElimFault>
         requires sparse { AreSparse self.old.columns row.now }
         requires count { self.old.inserted + 1 < 2 ^ 64 }
@@ -167,10 +165,7 @@ impl SparseBasis {
         self.reduce.clear();
         let left = reduce_row(
             self.alloc,
-            self.log.as_slice(),
-            self.rows.as_slice(),
-            self.bounds.as_slice(),
-            self.places.as_slice(),
+            &self.kept,
             row,
             self.row.as_mut_slice(),
             self.kept_row.as_mut_slice(),
@@ -187,10 +182,7 @@ impl SparseBasis {
                 let column = left.column;
                 keep(
                     self.alloc,
-                    &mut self.log,
-                    &mut self.rows,
-                    &mut self.bounds,
-                    self.places.as_mut_slice(),
+                    &mut self.kept,
                     Origin {
                         number: self.inserted,
                         reduce: self.reduce.as_slice(),
@@ -219,21 +211,21 @@ impl SparseBasis {
         ensures full { result ≡ self.now.columns → (w : List ℤ) → length w ≡ self.now.columns →
             SolvesKept w self.now.kept → All (λ x. x ≡ pos 0) w }
     {
-        self.log.len() as u32
+        self.kept.log.len() as u32
     }
 
     /// How each kept row came to be kept, in the order of insertion.
     pub fn log(&self) -> &[LogRow]
         ensures { result.now ≡ map log_row self.now.kept }
     {
-        self.log.as_slice()
+        self.kept.log.as_slice()
     }
 
     /// How each kept row came to be kept, in the order of insertion.
     pub fn into_log(self) -> Vec<LogRow>
         ensures { result.items ≡ map log_row self.kept }
     {
-        self.log
+        self.kept.log
     }
 
     /// Numbers that solve all kept rows and are not all 0; None exactly if there are as many kept
@@ -251,14 +243,14 @@ impl SparseBasis {
         ensures solves { IfOk result (λ o. IfSome o (λ v. SolvesKept v.items self.now.kept)) }
         ensures some { IfOk result (λ o. IfSome o (λ v. Any (λ x. pos 0 <ℤ x) v.items)) }
     {
-        let Some(free) = free_column(self.places.as_slice()) else {
+        let Some(free) = free_column(self.kept.places.as_slice()) else {
             return Ok(None);
         };
         let mut numbers = unit_row(self.alloc, self.columns as usize, free as usize)?;
         for column in (0..free).rev() {
-            if let Some(place) = self.places[column as usize] {
+            if let Some(place) = self.kept.places[column as usize] {
                 solve_at(
-                    self.rows[place as usize].as_slice(),
+                    self.kept.rows[place as usize].as_slice(),
                     column as usize,
                     numbers.as_mut_slice(),
                 )?;

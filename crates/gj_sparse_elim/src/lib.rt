@@ -17,6 +17,7 @@ mod columns;
 mod entry;
 mod exact;
 mod keep;
+mod kept;
 mod lazy;
 mod left;
 mod reduce;

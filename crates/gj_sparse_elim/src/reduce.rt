@@ -2,26 +2,24 @@
 ghost use Rattle.std.specs.Prelude.{ℕ, ℤ, pos, ◌≡◌, ◌<◌, ◌^◌, ◌<ℤ◌, List, [], length, All};
 ghost use Rattle.std.specs.Prelude.{IfOk, IfSome, IsNone, OnOk, IsErrOf};
 ghost use Rattle.gj_shape.specs.Elimination.{at_column, inserted, Passes};
-ghost use Rattle.gj_theory.specs.TriangularRows.{AreTriangular};
 ghost use Rattle.gj_frac.specs.Fraction.{Fits};
 ghost use Rattle.gj_elim.specs.Lazy.{IsMultipleRow, IsLazyStep, IsExtent, IsExactly};
 ghost use Rattle.gj_elim.specs.Progress.{IsFreeColumn, IsReached};
-ghost use Rattle.gj_elim.specs.Tables.{ArePlaces};
 ghost use Rattle.gj_sparse_elim.specs.Sparse.{AreSparse, dense};
 ghost use Rattle.gj_sparse_elim.specs.Columns.{IsSupport};
 ghost use Rattle.gj_sparse_elim.specs.Left.{IsLeftAs};
-ghost use Rattle.gj_sparse_elim.specs.Rows.{kept_sparse, AreBounds};
+ghost use Rattle.gj_sparse_elim.specs.Rows.{sparse_rows, AreKeptSparse};
 ghost use Rattle.gj_sparse_elim.specs.Progress.{IsReachedWithin};
 
 use crate::columns::first_from;
 use crate::entry::{Entry, bound_of, spread};
 use crate::exact::reduce_exactly;
+use crate::kept::KeptSparse;
 use crate::lazy::{load, step_once};
 use crate::left::{Left, small_left, wide_left};
 use crate::tighten::tighten;
-use gj_elim::{ElimFault, GREATEST_BOUND, LogRow, Reached, store};
+use gj_elim::{ElimFault, GREATEST_BOUND, Reached, store};
 use gj_loops::IndexSet;
-use gj_shape::List;
 use std::alloc::{AllocError, Global};
 
 /// A step at the column, if its numbers are small, or are small once the row is divided. Only a row
@@ -80,34 +78,25 @@ fn step(
 /// columns at which it is reduced. It becomes a multiple of the row of the definition; if a step
 /// may have large numbers, that row itself is written with 128 bits a number.
 fn reduce_lazily(
-    _log: &[LogRow],
-    rows: &[List<Entry>],
-    bounds: &[u64],
-    places: &[Option<u32>],
+    kept: &KeptSparse,
     row: &mut [i64],
     touched: &mut [IndexSet],
     first_bound: u64,
     exact: &mut [i128],
     reduce: &mut Vec<u32>,
 ) -> Result<Reached, AllocError>
-    requires lines { length _log.now ≡ length rows.now }
-    requires sparse { All (AreSparse (length row.old)) rows.now }
-    requires triangular { AreTriangular (length row.old)
-        (kept_sparse (length row.old) _log.now rows.now) }
-    requires bounds { AreBounds (length row.old) rows.now bounds.now }
-    requires places { ArePlaces (length row.old) _log.now places.now }
-    requires count { length row.old < 2 ^ 32 }
+    requires kept { AreKeptSparse (length row.old) kept.now }
     requires exact { length exact.old ≡ length row.old }
     requires extent { IsExtent first_bound (length row.old) row.old }
     requires bound { first_bound < 2 ^ 63 }
     requires support { IsSupport touched.old row.old }
     requires empty { reduce.old.items ≡ [] }
     ensures reached { IfOk result (λ r.
-        IsReached (kept_sparse (length row.old) _log.now rows.now)
-        (inserted (length row.old) (kept_sparse (length row.old) _log.now rows.now) row.old)
+        IsReached (sparse_rows (length row.old) kept.now)
+        (inserted (length row.old) (sparse_rows (length row.old) kept.now) row.old)
         r row.new exact.new reduce.new.items) }
     ensures within { IfOk result (λ r. IsReachedWithin
-        (length row.old) _log.now r row.new exact.new) }
+        (length row.old) kept.now.log.items r row.new exact.new) }
     ensures support { IsSupport touched.new row.new }
 {
     let mut bound = first_bound;
@@ -115,12 +104,12 @@ fn reduce_lazily(
     let mut next = 0;
     while let Some(column) = first_from(touched, next) {
         if row[column] != 0 {
-            let Some(place) = places[column] else {
+            let Some(place) = kept.places[column] else {
                 return Ok(Reached::End(Some(column as u32)));
             };
             let after = step(
-                rows[place as usize].as_slice(),
-                bounds[place as usize],
+                kept.rows[place as usize].as_slice(),
+                kept.bounds[place as usize],
                 row,
                 touched,
                 bound,
@@ -147,10 +136,7 @@ fn reduce_lazily(
 /// answer is what is left of the row. After an error the rows and the columns are no longer used.
 pub(crate) fn reduce_row(
     alloc: Global,
-    log: &[LogRow],
-    rows: &[List<Entry>],
-    bounds: &[u64],
-    places: &[Option<u32>],
+    kept: &KeptSparse,
     given: &[Entry],
     row: &mut [i128],
     kept_row: &mut [i128],
@@ -158,45 +144,37 @@ pub(crate) fn reduce_row(
     touched: &mut [IndexSet],
     reduce: &mut Vec<u32>,
 ) -> Result<Option<Left>, ElimFault>
-    requires lines { length log.now ≡ length rows.now }
-    requires rows { All (AreSparse (length row.old)) rows.now }
-    requires triangular { AreTriangular (length row.old)
-        (kept_sparse (length row.old) log.now rows.now) }
-    requires bounds { AreBounds (length row.old) rows.now bounds.now }
-    requires places { ArePlaces (length row.old) log.now places.now }
-    requires count { length row.old < 2 ^ 32 }
+    requires kept { AreKeptSparse (length row.old) kept.now }
     requires sparse { AreSparse (length row.old) given.now }
     requires kept_columns { length kept_row.old ≡ length row.old }
     requires small_columns { length small.old ≡ length row.old }
     requires support { IsSupport touched.old small.old }
     requires empty { reduce.old.items ≡ [] }
     ensures left { IfOk result (IsLeftAs (length row.old) (inserted (length row.old)
-        (kept_sparse (length row.old) log.now rows.now) (dense (length row.old) given.now))
+        (sparse_rows (length row.old) kept.now) (dense (length row.old) given.now))
         reduce.new.items) }
     ensures within { IfOk result (λ left. IfSome left
-        (λ l. IsFreeColumn (length row.old) log.now l.column)) }
+        (λ l. IsFreeColumn (length row.old) kept.now.log.items l.column)) }
     ensures narrow { OnOk result (¬ Passes (inserted (length row.old)
-        (kept_sparse (length row.old) log.now rows.now)
+        (sparse_rows (length row.old) kept.now)
         (dense (length row.old) given.now)).marked) }
     ensures wide { IsErrOf result ElimFault.Wide → Passes (inserted (length row.old)
-        (kept_sparse (length row.old) log.now rows.now)
+        (sparse_rows (length row.old) kept.now)
         (dense (length row.old) given.now)).marked }
     ensures support { IsSupport touched.new small.new }
 {
     let bound = bound_of(given);
     if bound >= GREATEST_BOUND {
         spread(given, row);
-        let left = reduce_exactly(log, rows, places, row, kept_row, 0, reduce)?;
+        let left = reduce_exactly(kept, row, kept_row, 0, reduce)?;
         return Ok(wide_left(alloc, row, left)?);
     }
     load(given, small, touched);
-    match reduce_lazily(
-        log, rows, bounds, places, small, touched, bound, row, reduce,
-    )? {
+    match reduce_lazily(kept, small, touched, bound, row, reduce)? {
         Reached::End(None) => Ok(None),
         Reached::End(Some(column)) => Ok(Some(small_left(alloc, small, touched, column)?)),
         Reached::Column(column) => {
-            let left = reduce_exactly(log, rows, places, row, kept_row, column, reduce)?;
+            let left = reduce_exactly(kept, row, kept_row, column, reduce)?;
             Ok(wide_left(alloc, row, left)?)
         }
     }

@@ -1,50 +1,46 @@
-use Rattle.std.proofs.Common.{rules, ◌≡◌, ℕ, ℤ, ◌<◌, ◌<ℤ◌, List, length, pos, get_or, None, [], ◌∷◌, ◌++◌, refl, sym, ap, subst, ◌∙◌, arith}
+use Rattle.std.proofs.Common.{rules, ◌≡◌, ℕ, ℤ, ◌<◌, ◌<ℤ◌, List, length, pos, get_or, [], ◌∷◌, ◌++◌, refl, sym, ap, subst, ◌∙◌, arith}
 use Rattle.gj_shape.specs.Elimination.{inserted, at_column}
 use Rattle.gj_elim.specs.Lazy.{IsMultipleRow, IsLazyStep, IsExactly, IsExtent}
-use Rattle.gj_elim.proofs.KeptTables.{place_at, free_at}
-use Rattle.gj_elim.proofs.Places.{place_none}
 use Rattle.gj_elim.proofs.LazyProgress.{lazy_start, lazy_zero, lazy_more, lazy_kept, lazy_exact, lazy_fits, zero_small, some_small}
 use Rattle.gj_sparse_elim.specs.Sparse.{AreSparse, dense}
-use Rattle.gj_sparse_elim.specs.Rows.{kept_sparse}
+use Rattle.gj_sparse_elim.specs.Rows.{sparse_rows}
 use Rattle.gj_sparse_elim.proofs.ColumnSets.{next_column}
-use Rattle.gj_sparse_elim.proofs.KeptEntries.{lines_too, sparse_pivot, bound_read, lazy_to, lazy_done}
+use Rattle.gj_sparse_elim.proofs.KeptEntries.{sparse_pivot, bound_read, none_there, free_there, lazy_to, lazy_done}
 use Rattle.gj_sparse_elim.proofs.reduce.reduce_lazily.Goals as goal
-use Rattle.gj_sparse_elim.proofs.reduce.reduce_lazily.Goals.{then-row-column-ne0+in-Some-places+in-Some-after+in_ok-reserve-in-Some-after, else-row-column-ne0}
+use Rattle.gj_sparse_elim.proofs.reduce.reduce_lazily.Goals.{then-row-column-ne0+in-Some-index+in-Some-after+in_ok-reserve-in-Some-after, else-row-column-ne0}
 
 pub loop-column-init : goal.loop-column-init
 loop-column-init c = record {
-  reached = lazy_start (kept_sparse (length c.args.row.now) c.args._log.now c.args.rows.now)
+  reached = lazy_start (sparse_rows (length c.args.row.now) c.args.kept.now)
       (length c.args.row.now) c.args.row.now c.args.reduce.now.items c.args.first_bound
       (length c.args.row.now) refl c.requires.empty
       c.requires.extent c.requires.bound;
   support = c.requires.support;
 }
 
-pub returns-in_default-places-clause-reached : goal.returns-in_default-places-clause-reached
-returns-in_default-places-clause-reached c =
+pub returns-in_default-index-clause-reached : goal.returns-in_default-index-clause-reached
+returns-in_default-index-clause-reached c =
     let next = next_column c.loop-column.touched c.loop-column.row c.loop-column.next
     c.in-Some.column c.loop-column.invariant.support
     c.in-Some.ensures in
     let inside = next.inside in
     lazy_kept (inserted (length c.args.row.now)
-    (kept_sparse (length c.args.row.now) c.args._log.now c.args.rows.now) c.args.row.now)
-    (kept_sparse (length c.args.row.now) c.args._log.now c.args.rows.now) (length c.args.row.now)
+    (sparse_rows (length c.args.row.now) c.args.kept.now) c.args.row.now)
+    (sparse_rows (length c.args.row.now) c.args.kept.now) (length c.args.row.now)
     c.in-Some.column c.loop-column.row c.loop-column.reduce.items c.loop-column.is_stepped
     c.loop-column.bound (length c.args.row.now)
     (lazy_to (inserted (length c.args.row.now)
-    (kept_sparse (length c.args.row.now) c.args._log.now c.args.rows.now) c.args.row.now)
-    (kept_sparse (length c.args.row.now) c.args._log.now c.args.rows.now) (length c.args.row.now)
+    (sparse_rows (length c.args.row.now) c.args.kept.now) c.args.row.now)
+    (sparse_rows (length c.args.row.now) c.args.kept.now) (length c.args.row.now)
     c.loop-column.next c.in-Some.column c.loop-column.row c.loop-column.reduce.items
     c.loop-column.is_stepped
     c.loop-column.bound (length c.args.row.now) c.loop-column.invariant.reached next) (omega arith)
     (some_small (get_or c.loop-column.row c.in-Some.column (pos 0)) c.if-row-column-ne0.true)
-    (place_none c.args._log.now _ c.in-Some.column
-    (lines_too (length c.args.row.now) c.args._log.now c.args.rows.now c.requires.lines)
-    (place_at (length c.args.row.now) c.args._log.now c.args.places.now c.in-Some.column None
-    c.requires.places (omega arith) c.in_default-places.is))
+    (none_there (length c.args.row.now) c.args.kept.now c.in-Some.column c.index.result.now
+    c.requires.kept (omega arith) c.index.ensures c.in_default-index.is)
 
-pub returns-in_default-places-clause-within : goal.returns-in_default-places-clause-within
-returns-in_default-places-clause-within c =
+pub returns-in_default-index-clause-within : goal.returns-in_default-index-clause-within
+returns-in_default-index-clause-within c =
     let next = next_column c.loop-column.touched c.loop-column.row c.loop-column.next
     c.in-Some.column c.loop-column.invariant.support
     c.in-Some.ensures in
@@ -54,16 +50,16 @@ returns-in_default-places-clause-within c =
     let bounded = c.loop-column.invariant.reached.bounded in (
       record {
         zero_before = (lazy_to (inserted (length c.args.row.now)
-            (kept_sparse (length c.args.row.now) c.args._log.now c.args.rows.now) c.args.row.now)
-            (kept_sparse (length c.args.row.now) c.args._log.now c.args.rows.now)
+            (sparse_rows (length c.args.row.now) c.args.kept.now) c.args.row.now)
+            (sparse_rows (length c.args.row.now) c.args.kept.now)
             (length c.args.row.now) c.loop-column.next c.in-Some.column c.loop-column.row
             c.loop-column.reduce.items c.loop-column.is_stepped
             c.loop-column.bound (length c.args.row.now) c.loop-column.invariant.reached
             next).zero_before;
         small = λ k. let low = small k in omega arith;
       },
-      free_at (length c.args.row.now) c.args._log.now c.args.places.now c.in-Some.column
-          c.requires.places (omega arith) c.in_default-places.is,
+      free_there (length c.args.row.now) c.args.kept.now c.in-Some.column c.index.result.now
+          c.requires.kept (omega arith) c.index.ensures c.in_default-index.is,
     )
 
 pub step-after-requires-clause-sparse : goal.step-after-requires-clause-sparse
@@ -72,11 +68,10 @@ step-after-requires-clause-sparse c =
     c.in-Some.column c.loop-column.invariant.support
     c.in-Some.ensures in
     let inside = next.inside in
-    let e = sparse_pivot (length c.args.row.now) c.args._log.now c.args.rows.now c.args.places.now
-    c.in-Some.column c.in-Some-places.place
-    c.index-rows-place.result c.as_slice.result.now c.requires.lines c.requires.sparse
-    c.requires.triangular c.requires.places (omega arith)
-    c.in-Some-places.is c.index-rows-place.is c.as_slice.ensures in
+    let e = sparse_pivot (length c.args.row.now) c.args.kept.now c.in-Some.column
+    c.in-Some-index.place c.index.result.now _ c.as_slice.result.now c.requires.kept
+    (omega arith) c.index.ensures c.in-Some-index.is c.index-then-row-column-ne0.ensures
+    c.as_slice.ensures in
     subst (λ (n : ℕ). AreSparse n c.as_slice.result.now) (sym c.loop-column.auto.row) e.sparse
 
 pub step-after-requires-clause-kept_extent : goal.step-after-requires-clause-kept_extent
@@ -85,15 +80,14 @@ step-after-requires-clause-kept_extent c =
     c.in-Some.column c.loop-column.invariant.support
     c.in-Some.ensures in
     let inside = next.inside in
-    let e = sparse_pivot (length c.args.row.now) c.args._log.now c.args.rows.now c.args.places.now
-    c.in-Some.column c.in-Some-places.place
-    c.index-rows-place.result c.as_slice.result.now c.requires.lines c.requires.sparse
-    c.requires.triangular c.requires.places (omega arith)
-    c.in-Some-places.is c.index-rows-place.is c.as_slice.ensures in
-    subst (λ (n : ℕ). IsExtent (get_or c.args.bounds.now c.in-Some-places.place 0) n
+    let e = sparse_pivot (length c.args.row.now) c.args.kept.now c.in-Some.column
+    c.in-Some-index.place c.index.result.now _ c.as_slice.result.now c.requires.kept
+    (omega arith) c.index.ensures c.in-Some-index.is c.index-then-row-column-ne0.ensures
+    c.as_slice.ensures in
+    subst (λ (n : ℕ). IsExtent c.index-then-row-column-ne0-2.result.now n
     (dense n c.as_slice.result.now)) (sym c.loop-column.auto.row)
-    (bound_read (length c.args.row.now) c.in-Some-places.place _ c.args.rows.now c.args.bounds.now
-    c.as_slice.result.now c.requires.bounds e.inside refl e.is)
+    (bound_read (length c.args.row.now) c.in-Some-index.place _ c.args.kept.now
+    c.as_slice.result.now c.requires.kept e.inside c.index-then-row-column-ne0-2.ensures e.is)
 
 pub step-after-requires-clause-extent : goal.step-after-requires-clause-extent
 step-after-requires-clause-extent c =
@@ -106,11 +100,10 @@ step-after-requires-clause-kept_zero c =
     c.in-Some.column c.loop-column.invariant.support
     c.in-Some.ensures in
     let inside = next.inside in
-    let e = sparse_pivot (length c.args.row.now) c.args._log.now c.args.rows.now c.args.places.now
-    c.in-Some.column c.in-Some-places.place
-    c.index-rows-place.result c.as_slice.result.now c.requires.lines c.requires.sparse
-    c.requires.triangular c.requires.places (omega arith)
-    c.in-Some-places.is c.index-rows-place.is c.as_slice.ensures in
+    let e = sparse_pivot (length c.args.row.now) c.args.kept.now c.in-Some.column
+    c.in-Some-index.place c.index.result.now _ c.as_slice.result.now c.requires.kept
+    (omega arith) c.index.ensures c.in-Some-index.is c.index-then-row-column-ne0.ensures
+    c.as_slice.ensures in
     subst (λ (n : ℕ). (k : ℕ) → k < c.in-Some.column →
     at_column (dense n c.as_slice.result.now) k ≡ pos 0) (sym c.loop-column.auto.row)
     e.pivot.zero_before
@@ -122,8 +115,8 @@ step-after-requires-clause-row_zero c =
     c.in-Some.ensures in
     let inside = next.inside in
     (lazy_to (inserted (length c.args.row.now)
-    (kept_sparse (length c.args.row.now) c.args._log.now c.args.rows.now) c.args.row.now)
-    (kept_sparse (length c.args.row.now) c.args._log.now c.args.rows.now) (length c.args.row.now)
+    (sparse_rows (length c.args.row.now) c.args.kept.now) c.args.row.now)
+    (sparse_rows (length c.args.row.now) c.args.kept.now) (length c.args.row.now)
     c.loop-column.next c.in-Some.column c.loop-column.row c.loop-column.reduce.items
     c.loop-column.is_stepped
     c.loop-column.bound (length c.args.row.now) c.loop-column.invariant.reached next).zero_before
@@ -134,11 +127,10 @@ step-after-requires-clause-positive c =
     c.in-Some.column c.loop-column.invariant.support
     c.in-Some.ensures in
     let inside = next.inside in
-    let e = sparse_pivot (length c.args.row.now) c.args._log.now c.args.rows.now c.args.places.now
-    c.in-Some.column c.in-Some-places.place
-    c.index-rows-place.result c.as_slice.result.now c.requires.lines c.requires.sparse
-    c.requires.triangular c.requires.places (omega arith)
-    c.in-Some-places.is c.index-rows-place.is c.as_slice.ensures in
+    let e = sparse_pivot (length c.args.row.now) c.args.kept.now c.in-Some.column
+    c.in-Some-index.place c.index.result.now _ c.as_slice.result.now c.requires.kept
+    (omega arith) c.index.ensures c.in-Some-index.is c.index-then-row-column-ne0.ensures
+    c.as_slice.ensures in
     subst (λ (n : ℕ). pos 0 <ℤ at_column (dense n c.as_slice.result.now) c.in-Some.column)
     (sym c.loop-column.auto.row) e.pivot.positive
 
@@ -149,14 +141,14 @@ returns-in-None-clause-reached c =
     c.in-Some.ensures in
     let inside = next.inside in
     lazy_exact (inserted (length c.args.row.now)
-    (kept_sparse (length c.args.row.now) c.args._log.now c.args.rows.now) c.args.row.now)
-    (kept_sparse (length c.args.row.now) c.args._log.now c.args.rows.now) (length c.args.row.now)
+    (sparse_rows (length c.args.row.now) c.args.kept.now) c.args.row.now)
+    (sparse_rows (length c.args.row.now) c.args.kept.now) (length c.args.row.now)
     c.in-Some.column c.loop-column.row c.step-after.new.exact c.loop-column.reduce.items
     c.loop-column.is_stepped
     c.loop-column.bound (length c.args.row.now)
     (lazy_to (inserted (length c.args.row.now)
-    (kept_sparse (length c.args.row.now) c.args._log.now c.args.rows.now) c.args.row.now)
-    (kept_sparse (length c.args.row.now) c.args._log.now c.args.rows.now) (length c.args.row.now)
+    (sparse_rows (length c.args.row.now) c.args.kept.now) c.args.row.now)
+    (sparse_rows (length c.args.row.now) c.args.kept.now) (length c.args.row.now)
     c.loop-column.next c.in-Some.column c.loop-column.row c.loop-column.reduce.items
     c.loop-column.is_stepped
     c.loop-column.bound (length c.args.row.now) c.loop-column.invariant.reached next)
@@ -165,16 +157,15 @@ returns-in-None-clause-reached c =
 pub loop-column-preserved : goal.loop-column-preserved
 loop-column-preserved c =
     elim c.if-row-column-ne0.branch [
-      | then-row-column-ne0+in-Some-places+in-Some-after+in_ok-reserve-in-Some-after w ↦
+      | then-row-column-ne0+in-Some-index+in-Some-after+in_ok-reserve-in-Some-after w ↦
           let next = next_column c.loop-column.touched c.loop-column.row c.loop-column.next
           c.in-Some.column c.loop-column.invariant.support
           c.in-Some.ensures in
           let inside = next.inside in
-          let e = sparse_pivot (length c.args.row.now) c.args._log.now c.args.rows.now
-          c.args.places.now c.in-Some.column w.in-Some-places.place
-          w.index-rows-place.result w.as_slice.result.now c.requires.lines c.requires.sparse
-          c.requires.triangular c.requires.places (omega arith)
-          w.in-Some-places.is w.index-rows-place.is w.as_slice.ensures in
+          let e = sparse_pivot (length c.args.row.now) c.args.kept.now c.in-Some.column
+          w.in-Some-index.place w.index.result.now _ w.as_slice.result.now c.requires.kept
+          (omega arith) w.index.ensures w.in-Some-index.is w.index-then-row-column-ne0.ensures
+          w.as_slice.ensures in
           let step = subst (λ (n : ℕ). (other : List ℤ) → IsMultipleRow other c.loop-column.row →
           IsExactly c.loop-column.is_stepped other c.loop-column.row →
           IsLazyStep (dense n w.as_slice.result.now) other w.step-after.new.row c.in-Some.column)
@@ -183,16 +174,16 @@ loop-column-preserved c =
           (w.step-after.auto.row ∙ c.loop-column.auto.row)
           w.in-Some-after.ensures.extent in
           let on = lazy_more (inserted (length c.args.row.now)
-          (kept_sparse (length c.args.row.now) c.args._log.now c.args.rows.now) c.args.row.now)
-          (kept_sparse (length c.args.row.now) c.args._log.now c.args.rows.now)
+          (sparse_rows (length c.args.row.now) c.args.kept.now) c.args.row.now)
+          (sparse_rows (length c.args.row.now) c.args.kept.now)
           (length c.args.row.now) c.in-Some.column
           c.loop-column.row w.step-after.new.row
           (dense (length c.args.row.now) w.as_slice.result.now) c.loop-column.reduce.items
           w.push_reserved.new.self.items c.loop-column.is_stepped
           c.loop-column.bound (length c.args.row.now) w.in-Some-after.least (length c.args.row.now)
           (lazy_to (inserted (length c.args.row.now)
-          (kept_sparse (length c.args.row.now) c.args._log.now c.args.rows.now) c.args.row.now)
-          (kept_sparse (length c.args.row.now) c.args._log.now c.args.rows.now)
+          (sparse_rows (length c.args.row.now) c.args.kept.now) c.args.row.now)
+          (sparse_rows (length c.args.row.now) c.args.kept.now)
           (length c.args.row.now) c.loop-column.next c.in-Some.column c.loop-column.row
           c.loop-column.reduce.items c.loop-column.is_stepped
           c.loop-column.bound (length c.args.row.now) c.loop-column.invariant.reached next)
@@ -214,13 +205,13 @@ loop-column-preserved c =
           let none = zero_small (get_or c.loop-column.row c.in-Some.column (pos 0)) (search rules)
           w.if-row-column-ne0.false in
           let on = lazy_zero (inserted (length c.args.row.now)
-          (kept_sparse (length c.args.row.now) c.args._log.now c.args.rows.now) c.args.row.now)
-          (kept_sparse (length c.args.row.now) c.args._log.now c.args.rows.now)
+          (sparse_rows (length c.args.row.now) c.args.kept.now) c.args.row.now)
+          (sparse_rows (length c.args.row.now) c.args.kept.now)
           (length c.args.row.now) c.in-Some.column c.loop-column.row c.loop-column.reduce.items
           c.loop-column.is_stepped c.loop-column.bound (length c.args.row.now)
           (lazy_to (inserted (length c.args.row.now)
-          (kept_sparse (length c.args.row.now) c.args._log.now c.args.rows.now) c.args.row.now)
-          (kept_sparse (length c.args.row.now) c.args._log.now c.args.rows.now)
+          (sparse_rows (length c.args.row.now) c.args.kept.now) c.args.row.now)
+          (sparse_rows (length c.args.row.now) c.args.kept.now)
           (length c.args.row.now) c.loop-column.next c.in-Some.column c.loop-column.row
           c.loop-column.reduce.items c.loop-column.is_stepped
           c.loop-column.bound (length c.args.row.now) c.loop-column.invariant.reached next)
@@ -234,8 +225,8 @@ loop-column-preserved c =
 pub returns-clause-reached : goal.returns-clause-reached
 returns-clause-reached c =
     lazy_done (inserted (length c.args.row.now)
-    (kept_sparse (length c.args.row.now) c.args._log.now c.args.rows.now) c.args.row.now)
-    (kept_sparse (length c.args.row.now) c.args._log.now c.args.rows.now) (length c.args.row.now)
+    (sparse_rows (length c.args.row.now) c.args.kept.now) c.args.row.now)
+    (sparse_rows (length c.args.row.now) c.args.kept.now) (length c.args.row.now)
     c.loop-column.next c.loop-column.row c.loop-column.reduce.items c.loop-column.is_stepped
     c.loop-column.bound (length c.args.row.now)
     c.loop-column.invariant.reached

@@ -2,14 +2,14 @@ use Rattle.std.proofs.Common.{◌-◌, length}
 use Rattle.gj_shape.specs.Elimination.{inserted}
 use Rattle.gj_elim.proofs.LazyProgress.{IsLazy}
 use Rattle.gj_sparse_elim.specs.Columns.{IsSupport}
-use Rattle.gj_sparse_elim.specs.Rows.{kept_sparse}
+use Rattle.gj_sparse_elim.specs.Rows.{sparse_rows}
 use Rattle.gj_sparse_elim.proofs.reduce.reduce_lazily.Given as goal
 
 abbrev pub invariant-loop-column : goal.invariant-loop-column
 invariant-loop-column l = record {
   reached : IsLazy (inserted (length l.initial.row)
-      (kept_sparse (length l.initial.row) l._log l.rows) l.initial.row)
-      (kept_sparse (length l.initial.row) l._log l.rows) (length l.initial.row)
+      (sparse_rows (length l.initial.row) l.kept) l.initial.row)
+      (sparse_rows (length l.initial.row) l.kept) (length l.initial.row)
       l.next l.row l.reduce.items l.is_stepped l.bound (length l.initial.row);
   support : IsSupport l.touched l.row;
 }

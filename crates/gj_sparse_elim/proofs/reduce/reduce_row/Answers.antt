@@ -4,7 +4,7 @@ use Rattle.gj_frac.specs.Fraction.{Fits}
 use Rattle.gj_shape.specs.Elimination.{inserted}
 use Rattle.gj_elim.proofs.Keeping.{same_error}
 use Rattle.gj_sparse_elim.specs.Sparse.{dense}
-use Rattle.gj_sparse_elim.specs.Rows.{kept_sparse}
+use Rattle.gj_sparse_elim.specs.Rows.{sparse_rows}
 use Rattle.gj_sparse_elim.proofs.SparseRows.{dense_fits}
 use Rattle.gj_sparse_elim.proofs.KeptEntries.{sparse_start, sparse_reached}
 use Rattle.gj_sparse_elim.proofs.reduce.reduce_row.Goals as goal
@@ -18,9 +18,9 @@ pub returns-then-bound-ge-GREATEST_BOUND-clause-left :
     goal.returns-then-bound-ge-GREATEST_BOUND-clause-left
 returns-then-bound-ge-GREATEST_BOUND-clause-left c =
     let done = c.in_ok-left.ensures.done (inserted (length c.args.row.now)
-    (kept_sparse (length c.args.row.now) c.args.log.now c.args.rows.now)
+    (sparse_rows (length c.args.row.now) c.args.kept.now)
     (dense (length c.args.row.now) c.args.given.now))
-    (sparse_start (length c.args.row.now) _ c.args.log.now c.args.rows.now c.args.given.now
+    (sparse_start (length c.args.row.now) _ c.args.kept.now.log.items c.args.kept.now.rows.items c.args.given.now
     c.spread.new.row c.args.reduce.now.items
     c.spread.auto.row c.spread.ensures c.requires.empty) in record {
       row = c.reduce_exactly.new.row;
@@ -34,9 +34,9 @@ pub returns-then-bound-ge-GREATEST_BOUND-clause-narrow :
     goal.returns-then-bound-ge-GREATEST_BOUND-clause-narrow
 returns-then-bound-ge-GREATEST_BOUND-clause-narrow c =
     (c.in_ok-left.ensures.done (inserted (length c.args.row.now)
-    (kept_sparse (length c.args.row.now) c.args.log.now c.args.rows.now)
+    (sparse_rows (length c.args.row.now) c.args.kept.now)
     (dense (length c.args.row.now) c.args.given.now))
-    (sparse_start (length c.args.row.now) _ c.args.log.now c.args.rows.now c.args.given.now
+    (sparse_start (length c.args.row.now) _ c.args.kept.now.log.items c.args.kept.now.rows.items c.args.given.now
     c.spread.new.row c.args.reduce.now.items
     c.spread.auto.row c.spread.ensures c.requires.empty)).narrow
 
@@ -45,9 +45,9 @@ returns-in_err-left-clause-wide c = λ e.
     c.in_err-left.ensures.wide (same_error c.from_residual.result c.in_err-left.field-0.0 _
     c.from_residual.ensures.0 c.from_residual.ensures.1 e)
     (inserted (length c.args.row.now)
-    (kept_sparse (length c.args.row.now) c.args.log.now c.args.rows.now)
+    (sparse_rows (length c.args.row.now) c.args.kept.now)
     (dense (length c.args.row.now) c.args.given.now))
-    (sparse_start (length c.args.row.now) _ c.args.log.now c.args.rows.now c.args.given.now
+    (sparse_start (length c.args.row.now) _ c.args.kept.now.log.items c.args.kept.now.rows.items c.args.given.now
     c.spread.new.row c.args.reduce.now.items
     c.spread.auto.row c.spread.ensures c.requires.empty)
 
@@ -55,10 +55,10 @@ pub returns-in_ok-wide_left-in-Column-clause-left :
     goal.returns-in_ok-wide_left-in-Column-clause-left
 returns-in_ok-wide_left-in-Column-clause-left c =
     let done = c.in_ok-left-in-Column.ensures.done (inserted (length c.args.row.now)
-    (kept_sparse (length c.args.row.now) c.args.log.now c.args.rows.now)
+    (sparse_rows (length c.args.row.now) c.args.kept.now)
     (dense (length c.args.row.now) c.args.given.now))
     (sparse_reached (length c.args.row.now) (length c.load.new.row)
-    (length c.reduce_lazily.new.exact) c.args.log.now c.args.rows.now
+    (length c.reduce_lazily.new.exact) c.args.kept.now.log.items c.args.kept.now.rows.items
     c.args.given.now c.load.new.row c.reduce_lazily.new.row c.reduce_lazily.new.exact
     c.in_ok-reduce_lazily.field-0 c.in-Column.column
     c.reduce_lazily.new.reduce.items (c.load.auto.row ∙ c.requires.small_columns)
@@ -76,10 +76,10 @@ pub returns-in_ok-wide_left-in-Column-clause-narrow :
     goal.returns-in_ok-wide_left-in-Column-clause-narrow
 returns-in_ok-wide_left-in-Column-clause-narrow c =
     (c.in_ok-left-in-Column.ensures.done (inserted (length c.args.row.now)
-    (kept_sparse (length c.args.row.now) c.args.log.now c.args.rows.now)
+    (sparse_rows (length c.args.row.now) c.args.kept.now)
     (dense (length c.args.row.now) c.args.given.now))
     (sparse_reached (length c.args.row.now) (length c.load.new.row)
-    (length c.reduce_lazily.new.exact) c.args.log.now c.args.rows.now
+    (length c.reduce_lazily.new.exact) c.args.kept.now.log.items c.args.kept.now.rows.items
     c.args.given.now c.load.new.row c.reduce_lazily.new.row c.reduce_lazily.new.exact
     c.in_ok-reduce_lazily.field-0 c.in-Column.column
     c.reduce_lazily.new.reduce.items (c.load.auto.row ∙ c.requires.small_columns)
@@ -93,10 +93,10 @@ returns-in_err-left-in-Column-clause-wide c = λ e.
     c.in_err-left-in-Column.field-0.0 _ c.from_residual-in_err-left-in-Column.ensures.0
     c.from_residual-in_err-left-in-Column.ensures.1 e)
     (inserted (length c.args.row.now)
-    (kept_sparse (length c.args.row.now) c.args.log.now c.args.rows.now)
+    (sparse_rows (length c.args.row.now) c.args.kept.now)
     (dense (length c.args.row.now) c.args.given.now))
     (sparse_reached (length c.args.row.now) (length c.load.new.row)
-    (length c.reduce_lazily.new.exact) c.args.log.now c.args.rows.now
+    (length c.reduce_lazily.new.exact) c.args.kept.now.log.items c.args.kept.now.rows.items
     c.args.given.now c.load.new.row c.reduce_lazily.new.row c.reduce_lazily.new.exact
     c.in_ok-reduce_lazily.field-0 c.in-Column.column
     c.reduce_lazily.new.reduce.items (c.load.auto.row ∙ c.requires.small_columns)

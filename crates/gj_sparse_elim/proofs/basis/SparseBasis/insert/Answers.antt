@@ -35,7 +35,7 @@ returns-then-is_at-clause-solutions c w =
     (ap (λ xs. get_or xs c.place_of-place.result []) (sym seen)
     ∙ c.is_at.ensures c.if-is_at.true) in
     solutions_from D c.args.self.now (dense c.args.self.now.columns c.args.row.now) w _
-    c.self.view_is c.self.invariant.triangular
+    c.self.view_is c.self.invariant.kept.triangular
     (length-dense c.args.self.now.columns c.args.row.now) told.rows
 
 pub invariant_of-self-2 : goal.invariant_of-self-2
@@ -52,16 +52,11 @@ invariant_of-self-2 c =
     (just_seen old.columns old.inserted old.kept c.args.row.now c.requires.sparse
     c.in_ok-inserted.ensures.narrow)) in
     record {
-      lines = c.self-2.invariant.lines;
-      sparse = c.self-2.invariant.sparse;
-      triangular = c.self-2.invariant.triangular;
+      kept = c.self-2.invariant.kept;
       columns = c.self-2.invariant.columns;
       kept_columns = c.self-2.invariant.kept_columns;
       small_columns = c.self-2.invariant.small_columns;
-      places = c.self-2.invariant.places;
-      bounds = c.self-2.invariant.bounds;
       support = c.self-2.invariant.support;
-      narrow = c.self-2.invariant.narrow;
       seen = All-set (IsSeen D.columns D.kept) c.self-2.inside.seen.items
           c.place_of-place-2.result c.of-copy.result new c.self-2.invariant.seen;
       some = let some = c.self-2.invariant.some in omega (

@@ -6,7 +6,7 @@ use Rattle.gj_sparse_elim.proofs.basis.SparseBasis.into_log.Goals as goal
 
 pub returns : goal.returns
 returns c =
-    log_of_kept c.self.inside.log.items _
-    (lines_too c.self.inside.columns c.self.inside.log.items c.self.inside.rows.items
-    c.self.invariant.lines)
+    log_of_kept c.self.inside.kept.log.items _
+    (lines_too c.self.inside.columns c.self.inside.kept.log.items c.self.inside.kept.rows.items
+    c.self.invariant.kept.lines)
     ∙ ap (λ b. map log_row b.kept) c.self.view_is

@@ -1,15 +1,13 @@
-use Rattle.std.proofs.Common.{None, Some, Option, ◌≡◌, ℕ, ◌+◌, ◌-◌, ◌<◌, List, ℤ, pos, ◌<ℤ◌, length, map, get_or, refl, ap, sym, subst, ◌∙◌, arith}
-use Rattle.std.proofs.lemmas.List.{with_items_is, get_or_default}
+use Rattle.std.proofs.Common.{None, Some, Option, ◌≡◌, ℕ, ◌+◌, ◌-◌, ◌<◌, List, ℤ, pos, ◌<ℤ◌, length, map, refl, ap, sym, subst, ◌∙◌, arith}
+use Rattle.std.proofs.lemmas.List.{with_items_is}
 use Rattle.gj_shape.specs.Elimination.{at_column, free_column, solved_at, marked_in_solving, Passes}
 use Rattle.gj_elim.specs.declared.log.LogRow.{LogRow}
 use Rattle.gj_elim.specs.KeptRows.{kept_rows}
 use Rattle.gj_elim.specs.Tables.{ArePlaces}
-use Rattle.gj_elim.proofs.Places.{place_none}
-use Rattle.gj_elim.proofs.KeptTables.{place_read}
 use Rattle.gj_elim.proofs.KernelSteps.{IsSolvedTo, solved_start, solved_more, solved_wide, solved_end, no_kernel, row_there, free_below}
-use Rattle.gj_sparse_elim.specs.Rows.{kept_sparse}
+use Rattle.gj_sparse_elim.specs.Rows.{sparse_rows}
 use Rattle.gj_sparse_elim.specs.Sparse.{dense, AreSparse}
-use Rattle.gj_sparse_elim.proofs.KeptEntries.{lines_too, sparse_pivot, place_inside}
+use Rattle.gj_sparse_elim.proofs.KeptEntries.{lines_too, sparse_pivot, place_there, none_there}
 use Rattle.gj_sparse_elim.proofs.basis.SparseBasis.kernel.Goals as goal
 
 -- the free column, if there is one, by the places as the code reads them
@@ -26,93 +24,75 @@ free_read n log rows read places o is same are lines =
     (subst (λ (m : ℕ). ArePlaces m log places) (sym n_is) are))
     ∙ ap (λ m. free_column m (kept_rows log rows)) n_is
 
--- what the code's `places[c]` is
-place_at_index : (n : ℕ) (places : List (Option ℕ)) (c i : ℕ) (x : Option ℕ) (log : List LogRow) →
-    ArePlaces n log places → c < n →
-    x ≡ get_or places c x → x ≡ Some i → get_or places c None ≡ Some i
-place_at_index n places c i x log are below x_is is =
-    let columns = are.columns_are in
-    sym (get_or_default places c x None (omega arith)) ∙ sym x_is ∙ is
-
 pub returns-in_default-clause-none : goal.returns-in_default-clause-none
 returns-in_default-clause-none c =
     let s = c.self.inside in
-    let no = no_kernel c.args.self.now (kept_sparse s.columns s.log.items s.rows.items) s.columns
+    let no = no_kernel c.args.self.now (sparse_rows s.columns s.kept) s.columns
     (ap (λ d. d.kept) c.self.view_is)
-    (ap (λ d. d.columns) c.self.view_is) c.self.invariant.triangular
-    (free_read s.columns s.log.items (map (dense s.columns) s.rows.items) c.as_slice.result.now
-    s.places.items None
-    c.in_default.ensures c.as_slice.ensures.value c.self.invariant.places
-    (lines_too s.columns s.log.items s.rows.items c.self.invariant.lines)) in
+    (ap (λ d. d.columns) c.self.view_is) c.self.invariant.kept.triangular
+    (free_read s.columns s.kept.log.items (map (dense s.columns) s.kept.rows.items) c.as_slice.result.now
+    s.kept.places.items None
+    c.in_default.ensures c.as_slice.ensures.value c.self.invariant.kept.places
+    (lines_too s.columns s.kept.log.items s.kept.rows.items c.self.invariant.kept.lines)) in
     (λ e. no.full, λ full. refl)
 
 pub returns-in_default-clause-narrow : goal.returns-in_default-clause-narrow
 returns-in_default-clause-narrow c =
     let s = c.self.inside in
-    let no = no_kernel c.args.self.now (kept_sparse s.columns s.log.items s.rows.items) s.columns
+    let no = no_kernel c.args.self.now (sparse_rows s.columns s.kept) s.columns
     (ap (λ d. d.kept) c.self.view_is)
-    (ap (λ d. d.columns) c.self.view_is) c.self.invariant.triangular
-    (free_read s.columns s.log.items (map (dense s.columns) s.rows.items) c.as_slice.result.now
-    s.places.items None
-    c.in_default.ensures c.as_slice.ensures.value c.self.invariant.places
-    (lines_too s.columns s.log.items s.rows.items c.self.invariant.lines)) in
+    (ap (λ d. d.columns) c.self.view_is) c.self.invariant.kept.triangular
+    (free_read s.columns s.kept.log.items (map (dense s.columns) s.kept.rows.items) c.as_slice.result.now
+    s.kept.places.items None
+    c.in_default.ensures c.as_slice.ensures.value c.self.invariant.kept.places
+    (lines_too s.columns s.kept.log.items s.kept.rows.items c.self.invariant.kept.lines)) in
     no.narrow
 
 pub loop-column-init : goal.loop-column-init
 loop-column-init c =
-    solved_start (kept_sparse c.self.inside.columns c.self.inside.log.items
-    c.self.inside.rows.items) c.self.inside.columns c.in-Some.free
+    solved_start (sparse_rows c.self.inside.columns c.self.inside.kept) c.self.inside.columns c.in-Some.free
     c.in_ok-numbers.numbers.items c.in_ok-numbers.ensures
 
 pub index-requires : goal.index-requires
 index-requires c =
     let s = c.self.inside in
-    let kept = kept_sparse s.columns s.log.items s.rows.items in
-    let free_is = free_read s.columns s.log.items (map (dense s.columns) s.rows.items)
-    c.as_slice.result.now s.places.items (Some c.in-Some.free)
-    c.in-Some.ensures c.as_slice.ensures.value c.self.invariant.places
-    (lines_too s.columns s.log.items s.rows.items c.self.invariant.lines) in
-    let columns = c.self.invariant.places.columns_are in
-    let len = s.places.ok.0 in
+    let kept = sparse_rows s.columns s.kept in
+    let free_is = free_read s.columns s.kept.log.items (map (dense s.columns) s.kept.rows.items)
+    c.as_slice.result.now s.kept.places.items (Some c.in-Some.free)
+    c.in-Some.ensures c.as_slice.ensures.value c.self.invariant.kept.places
+    (lines_too s.columns s.kept.log.items s.kept.rows.items c.self.invariant.kept.lines) in
+    let columns = c.self.invariant.kept.places.columns_are in
+    let len = s.kept.places.ok.0 in
     let below = free_below kept s.columns c.in-Some.free free_is in
     omega arith
 
 pub index-requires-in-Some-index : goal.index-requires-in-Some-index
 index-requires-in-Some-index c =
     let s = c.self.inside in
-    let kept = kept_sparse s.columns s.log.items s.rows.items in
-    let free_is = free_read s.columns s.log.items (map (dense s.columns) s.rows.items)
-    c.as_slice.result.now s.places.items (Some c.in-Some.free)
-    c.in-Some.ensures c.as_slice.ensures.value c.self.invariant.places
-    (lines_too s.columns s.log.items s.rows.items c.self.invariant.lines) in
+    let kept = sparse_rows s.columns s.kept in
+    let free_is = free_read s.columns s.kept.log.items (map (dense s.columns) s.kept.rows.items)
+    c.as_slice.result.now s.kept.places.items (Some c.in-Some.free)
+    c.in-Some.ensures c.as_slice.ensures.value c.self.invariant.kept.places
+    (lines_too s.columns s.kept.log.items s.kept.rows.items c.self.invariant.kept.lines) in
     let below = free_below kept s.columns c.in-Some.free free_is in
-    let inside = place_inside s.columns s.log.items s.rows.items s.places.items
-    (c.loop-column.column - 1) c.in-Some-index.place
-    c.self.invariant.lines c.self.invariant.places (omega arith)
-    (place_at_index s.columns s.places.items (c.loop-column.column - 1) c.in-Some-index.place
-    c.index.result.now s.log.items c.self.invariant.places
-    (omega arith) c.index.ensures c.in-Some-index.is) in
-    let len = s.rows.ok.0 in
+    let (inside, at) = place_there s.columns s.kept (c.loop-column.column - 1) c.in-Some-index.place
+    c.index.result.now c.self.invariant.kept (omega arith) c.index.ensures c.in-Some-index.is in
+    let len = s.kept.rows.ok.0 in
     omega arith
 
 pub solve_at-requires-clause-sparse : goal.solve_at-requires-clause-sparse
 solve_at-requires-clause-sparse c =
     let s = c.self.inside in
-    let kept = kept_sparse s.columns s.log.items s.rows.items in
-    let free_is = free_read s.columns s.log.items (map (dense s.columns) s.rows.items)
-    c.as_slice.result.now s.places.items (Some c.in-Some.free)
-    c.in-Some.ensures c.as_slice.ensures.value c.self.invariant.places
-    (lines_too s.columns s.log.items s.rows.items c.self.invariant.lines) in
+    let kept = sparse_rows s.columns s.kept in
+    let free_is = free_read s.columns s.kept.log.items (map (dense s.columns) s.kept.rows.items)
+    c.as_slice.result.now s.kept.places.items (Some c.in-Some.free)
+    c.in-Some.ensures c.as_slice.ensures.value c.self.invariant.kept.places
+    (lines_too s.columns s.kept.log.items s.kept.rows.items c.self.invariant.kept.lines) in
     let below = free_below kept s.columns c.in-Some.free free_is in
-    let row = sparse_pivot s.columns s.log.items s.rows.items s.places.items
-    (c.loop-column.column - 1) c.in-Some-index.place
-    c.index-in-Some-index.result.now c.as_slice-in-Some-index.result.now c.self.invariant.lines
-    c.self.invariant.sparse
-    c.self.invariant.triangular c.self.invariant.places (omega arith)
-    (place_at_index s.columns s.places.items (c.loop-column.column - 1) c.in-Some-index.place
-    c.index.result.now s.log.items c.self.invariant.places
-    (omega arith) c.index.ensures c.in-Some-index.is)
-    c.index-in-Some-index.ensures c.as_slice-in-Some-index.ensures in
+    let row = sparse_pivot s.columns s.kept (c.loop-column.column - 1) c.in-Some-index.place
+    c.index.result.now _ c.as_slice-in-Some-index.result.now c.self.invariant.kept (omega arith)
+    c.index.ensures c.in-Some-index.is c.index-in-Some-index.ensures
+    c.as_slice-in-Some-index.ensures in
     let w_is : length c.as_mut_slice.result.now ≡ s.columns = ap length c.as_mut_slice.ensures.value
     ∙ c.loop-column.invariant.columns in
     subst (λ (n : ℕ). AreSparse n c.as_slice-in-Some-index.result.now) (sym w_is) row.sparse
@@ -120,21 +100,16 @@ solve_at-requires-clause-sparse c =
 pub solve_at-requires-clause-within : goal.solve_at-requires-clause-within
 solve_at-requires-clause-within c =
     let s = c.self.inside in
-    let kept = kept_sparse s.columns s.log.items s.rows.items in
-    let free_is = free_read s.columns s.log.items (map (dense s.columns) s.rows.items)
-    c.as_slice.result.now s.places.items (Some c.in-Some.free)
-    c.in-Some.ensures c.as_slice.ensures.value c.self.invariant.places
-    (lines_too s.columns s.log.items s.rows.items c.self.invariant.lines) in
+    let kept = sparse_rows s.columns s.kept in
+    let free_is = free_read s.columns s.kept.log.items (map (dense s.columns) s.kept.rows.items)
+    c.as_slice.result.now s.kept.places.items (Some c.in-Some.free)
+    c.in-Some.ensures c.as_slice.ensures.value c.self.invariant.kept.places
+    (lines_too s.columns s.kept.log.items s.kept.rows.items c.self.invariant.kept.lines) in
     let below = free_below kept s.columns c.in-Some.free free_is in
-    let row = sparse_pivot s.columns s.log.items s.rows.items s.places.items
-    (c.loop-column.column - 1) c.in-Some-index.place
-    c.index-in-Some-index.result.now c.as_slice-in-Some-index.result.now c.self.invariant.lines
-    c.self.invariant.sparse
-    c.self.invariant.triangular c.self.invariant.places (omega arith)
-    (place_at_index s.columns s.places.items (c.loop-column.column - 1) c.in-Some-index.place
-    c.index.result.now s.log.items c.self.invariant.places
-    (omega arith) c.index.ensures c.in-Some-index.is)
-    c.index-in-Some-index.ensures c.as_slice-in-Some-index.ensures in
+    let row = sparse_pivot s.columns s.kept (c.loop-column.column - 1) c.in-Some-index.place
+    c.index.result.now _ c.as_slice-in-Some-index.result.now c.self.invariant.kept (omega arith)
+    c.index.ensures c.in-Some-index.is c.index-in-Some-index.ensures
+    c.as_slice-in-Some-index.ensures in
     let w_is : length c.as_mut_slice.result.now ≡ s.columns = ap length c.as_mut_slice.ensures.value
     ∙ c.loop-column.invariant.columns in
     omega arith
@@ -142,21 +117,16 @@ solve_at-requires-clause-within c =
 pub solve_at-requires-clause-zero : goal.solve_at-requires-clause-zero
 solve_at-requires-clause-zero c =
     let s = c.self.inside in
-    let kept = kept_sparse s.columns s.log.items s.rows.items in
-    let free_is = free_read s.columns s.log.items (map (dense s.columns) s.rows.items)
-    c.as_slice.result.now s.places.items (Some c.in-Some.free)
-    c.in-Some.ensures c.as_slice.ensures.value c.self.invariant.places
-    (lines_too s.columns s.log.items s.rows.items c.self.invariant.lines) in
+    let kept = sparse_rows s.columns s.kept in
+    let free_is = free_read s.columns s.kept.log.items (map (dense s.columns) s.kept.rows.items)
+    c.as_slice.result.now s.kept.places.items (Some c.in-Some.free)
+    c.in-Some.ensures c.as_slice.ensures.value c.self.invariant.kept.places
+    (lines_too s.columns s.kept.log.items s.kept.rows.items c.self.invariant.kept.lines) in
     let below = free_below kept s.columns c.in-Some.free free_is in
-    let row = sparse_pivot s.columns s.log.items s.rows.items s.places.items
-    (c.loop-column.column - 1) c.in-Some-index.place
-    c.index-in-Some-index.result.now c.as_slice-in-Some-index.result.now c.self.invariant.lines
-    c.self.invariant.sparse
-    c.self.invariant.triangular c.self.invariant.places (omega arith)
-    (place_at_index s.columns s.places.items (c.loop-column.column - 1) c.in-Some-index.place
-    c.index.result.now s.log.items c.self.invariant.places
-    (omega arith) c.index.ensures c.in-Some-index.is)
-    c.index-in-Some-index.ensures c.as_slice-in-Some-index.ensures in
+    let row = sparse_pivot s.columns s.kept (c.loop-column.column - 1) c.in-Some-index.place
+    c.index.result.now _ c.as_slice-in-Some-index.result.now c.self.invariant.kept (omega arith)
+    c.index.ensures c.in-Some-index.is c.index-in-Some-index.ensures
+    c.as_slice-in-Some-index.ensures in
     let w_is : length c.as_mut_slice.result.now ≡ s.columns = ap length c.as_mut_slice.ensures.value
     ∙ c.loop-column.invariant.columns in
     subst (λ (n : ℕ). (k : ℕ) → k < c.loop-column.column - 1 →
@@ -166,21 +136,16 @@ solve_at-requires-clause-zero c =
 pub solve_at-requires-clause-positive : goal.solve_at-requires-clause-positive
 solve_at-requires-clause-positive c =
     let s = c.self.inside in
-    let kept = kept_sparse s.columns s.log.items s.rows.items in
-    let free_is = free_read s.columns s.log.items (map (dense s.columns) s.rows.items)
-    c.as_slice.result.now s.places.items (Some c.in-Some.free)
-    c.in-Some.ensures c.as_slice.ensures.value c.self.invariant.places
-    (lines_too s.columns s.log.items s.rows.items c.self.invariant.lines) in
+    let kept = sparse_rows s.columns s.kept in
+    let free_is = free_read s.columns s.kept.log.items (map (dense s.columns) s.kept.rows.items)
+    c.as_slice.result.now s.kept.places.items (Some c.in-Some.free)
+    c.in-Some.ensures c.as_slice.ensures.value c.self.invariant.kept.places
+    (lines_too s.columns s.kept.log.items s.kept.rows.items c.self.invariant.kept.lines) in
     let below = free_below kept s.columns c.in-Some.free free_is in
-    let row = sparse_pivot s.columns s.log.items s.rows.items s.places.items
-    (c.loop-column.column - 1) c.in-Some-index.place
-    c.index-in-Some-index.result.now c.as_slice-in-Some-index.result.now c.self.invariant.lines
-    c.self.invariant.sparse
-    c.self.invariant.triangular c.self.invariant.places (omega arith)
-    (place_at_index s.columns s.places.items (c.loop-column.column - 1) c.in-Some-index.place
-    c.index.result.now s.log.items c.self.invariant.places
-    (omega arith) c.index.ensures c.in-Some-index.is)
-    c.index-in-Some-index.ensures c.as_slice-in-Some-index.ensures in
+    let row = sparse_pivot s.columns s.kept (c.loop-column.column - 1) c.in-Some-index.place
+    c.index.result.now _ c.as_slice-in-Some-index.result.now c.self.invariant.kept (omega arith)
+    c.index.ensures c.in-Some-index.is c.index-in-Some-index.ensures
+    c.as_slice-in-Some-index.ensures in
     let w_is : length c.as_mut_slice.result.now ≡ s.columns = ap length c.as_mut_slice.ensures.value
     ∙ c.loop-column.invariant.columns in
     subst (λ (n : ℕ). pos 0 <ℤ at_column (dense n c.as_slice-in-Some-index.result.now)
@@ -189,21 +154,16 @@ solve_at-requires-clause-positive c =
 pub loop-column-preserved-in-Continue-branch-2 : goal.loop-column-preserved-in-Continue-branch-2
 loop-column-preserved-in-Continue-branch-2 c =
     let s = c.self.inside in
-    let kept = kept_sparse s.columns s.log.items s.rows.items in
-    let free_is = free_read s.columns s.log.items (map (dense s.columns) s.rows.items)
-    c.as_slice.result.now s.places.items (Some c.in-Some.free)
-    c.in-Some.ensures c.as_slice.ensures.value c.self.invariant.places
-    (lines_too s.columns s.log.items s.rows.items c.self.invariant.lines) in
+    let kept = sparse_rows s.columns s.kept in
+    let free_is = free_read s.columns s.kept.log.items (map (dense s.columns) s.kept.rows.items)
+    c.as_slice.result.now s.kept.places.items (Some c.in-Some.free)
+    c.in-Some.ensures c.as_slice.ensures.value c.self.invariant.kept.places
+    (lines_too s.columns s.kept.log.items s.kept.rows.items c.self.invariant.kept.lines) in
     let below = free_below kept s.columns c.in-Some.free free_is in
-    let row = sparse_pivot s.columns s.log.items s.rows.items s.places.items
-    (c.loop-column.column - 1) c.in-Some-index.place
-    c.index-in-Some-index.result.now c.as_slice-in-Some-index.result.now c.self.invariant.lines
-    c.self.invariant.sparse
-    c.self.invariant.triangular c.self.invariant.places (omega arith)
-    (place_at_index s.columns s.places.items (c.loop-column.column - 1) c.in-Some-index.place
-    c.index.result.now s.log.items c.self.invariant.places
-    (omega arith) c.index.ensures c.in-Some-index.is)
-    c.index-in-Some-index.ensures c.as_slice-in-Some-index.ensures in
+    let row = sparse_pivot s.columns s.kept (c.loop-column.column - 1) c.in-Some-index.place
+    c.index.result.now _ c.as_slice-in-Some-index.result.now c.self.invariant.kept (omega arith)
+    c.index.ensures c.in-Some-index.is c.index-in-Some-index.ensures
+    c.as_slice-in-Some-index.ensures in
     let w_is : length c.as_mut_slice.result.now ≡ s.columns = ap length c.as_mut_slice.ensures.value
     ∙ c.loop-column.invariant.columns in
     let e = c.as_slice-in-Some-index.result.now in
@@ -230,21 +190,16 @@ loop-column-preserved-in-Continue-branch-2 c =
 pub returns-in_err-solve_at-clause-wide : goal.returns-in_err-solve_at-clause-wide
 returns-in_err-solve_at-clause-wide c =
     let s = c.self.inside in
-    let kept = kept_sparse s.columns s.log.items s.rows.items in
-    let free_is = free_read s.columns s.log.items (map (dense s.columns) s.rows.items)
-    c.as_slice.result.now s.places.items (Some c.in-Some.free)
-    c.in-Some.ensures c.as_slice.ensures.value c.self.invariant.places
-    (lines_too s.columns s.log.items s.rows.items c.self.invariant.lines) in
+    let kept = sparse_rows s.columns s.kept in
+    let free_is = free_read s.columns s.kept.log.items (map (dense s.columns) s.kept.rows.items)
+    c.as_slice.result.now s.kept.places.items (Some c.in-Some.free)
+    c.in-Some.ensures c.as_slice.ensures.value c.self.invariant.kept.places
+    (lines_too s.columns s.kept.log.items s.kept.rows.items c.self.invariant.kept.lines) in
     let below = free_below kept s.columns c.in-Some.free free_is in
-    let row = sparse_pivot s.columns s.log.items s.rows.items s.places.items
-    (c.loop-column.column - 1) c.in-Some-index.place
-    c.index-in-Some-index.result.now c.as_slice-in-Some-index.result.now c.self.invariant.lines
-    c.self.invariant.sparse
-    c.self.invariant.triangular c.self.invariant.places (omega arith)
-    (place_at_index s.columns s.places.items (c.loop-column.column - 1) c.in-Some-index.place
-    c.index.result.now s.log.items c.self.invariant.places
-    (omega arith) c.index.ensures c.in-Some-index.is)
-    c.index-in-Some-index.ensures c.as_slice-in-Some-index.ensures in
+    let row = sparse_pivot s.columns s.kept (c.loop-column.column - 1) c.in-Some-index.place
+    c.index.result.now _ c.as_slice-in-Some-index.result.now c.self.invariant.kept (omega arith)
+    c.index.ensures c.in-Some-index.is c.index-in-Some-index.ensures
+    c.as_slice-in-Some-index.ensures in
     let w_is : length c.as_mut_slice.result.now ≡ s.columns = ap length c.as_mut_slice.ensures.value
     ∙ c.loop-column.invariant.columns in
     let e = c.as_slice-in-Some-index.result.now in
@@ -266,87 +221,83 @@ returns-in_err-solve_at-clause-wide c =
 pub loop-column-preserved : goal.loop-column-preserved
 loop-column-preserved c =
     let s = c.self.inside in
-    let kept = kept_sparse s.columns s.log.items s.rows.items in
-    let free_is = free_read s.columns s.log.items (map (dense s.columns) s.rows.items)
-    c.as_slice.result.now s.places.items (Some c.in-Some.free)
-    c.in-Some.ensures c.as_slice.ensures.value c.self.invariant.places
-    (lines_too s.columns s.log.items s.rows.items c.self.invariant.lines) in
+    let kept = sparse_rows s.columns s.kept in
+    let free_is = free_read s.columns s.kept.log.items (map (dense s.columns) s.kept.rows.items)
+    c.as_slice.result.now s.kept.places.items (Some c.in-Some.free)
+    c.in-Some.ensures c.as_slice.ensures.value c.self.invariant.kept.places
+    (lines_too s.columns s.kept.log.items s.kept.rows.items c.self.invariant.kept.lines) in
     let below = free_below kept s.columns c.in-Some.free free_is in
-    let none = place_none s.log.items (map (dense s.columns) s.rows.items)
-    (c.loop-column.column - 1)
-    (lines_too s.columns s.log.items s.rows.items c.self.invariant.lines)
-    (place_read s.columns s.log.items s.places.items (c.loop-column.column - 1) c.index.result.now
-    None c.self.invariant.places (omega arith)
-    c.index.ensures c.in_default-index.is) in
+    let none = none_there s.columns s.kept (c.loop-column.column - 1) c.index.result.now
+    c.self.invariant.kept (omega arith) c.index.ensures c.in_default-index.is in
     absurd (row_there kept s.columns c.in-Some.free (c.loop-column.column - 1) free_is (omega arith)
     none)
 
 pub returns-clause-none : goal.returns-clause-none
 returns-clause-none c =
     let s = c.self.inside in
-    let kept = kept_sparse s.columns s.log.items s.rows.items in
-    let free_is = free_read s.columns s.log.items (map (dense s.columns) s.rows.items)
-    c.as_slice.result.now s.places.items (Some c.in-Some.free)
-    c.in-Some.ensures c.as_slice.ensures.value c.self.invariant.places
-    (lines_too s.columns s.log.items s.rows.items c.self.invariant.lines) in
+    let kept = sparse_rows s.columns s.kept in
+    let free_is = free_read s.columns s.kept.log.items (map (dense s.columns) s.kept.rows.items)
+    c.as_slice.result.now s.kept.places.items (Some c.in-Some.free)
+    c.in-Some.ensures c.as_slice.ensures.value c.self.invariant.kept.places
+    (lines_too s.columns s.kept.log.items s.kept.rows.items c.self.invariant.kept.lines) in
     let end = solved_end c.args.self.now kept s.columns c.in-Some.free c.loop-column.column
     c.loop-column.numbers.items (ap (λ d. d.kept) c.self.view_is)
-    (ap (λ d. d.columns) c.self.view_is) c.self.invariant.triangular free_is
+    (ap (λ d. d.columns) c.self.view_is) c.self.invariant.kept.triangular free_is
     c.loop-column.invariant (omega arith) in
     (λ e. absurd cc, λ full. absurd (end.some full))
 
 pub returns-clause-value : goal.returns-clause-value
 returns-clause-value c =
     let s = c.self.inside in
-    let kept = kept_sparse s.columns s.log.items s.rows.items in
-    let free_is = free_read s.columns s.log.items (map (dense s.columns) s.rows.items)
-    c.as_slice.result.now s.places.items (Some c.in-Some.free)
-    c.in-Some.ensures c.as_slice.ensures.value c.self.invariant.places
-    (lines_too s.columns s.log.items s.rows.items c.self.invariant.lines) in
+    let kept = sparse_rows s.columns s.kept in
+    let free_is = free_read s.columns s.kept.log.items (map (dense s.columns) s.kept.rows.items)
+    c.as_slice.result.now s.kept.places.items (Some c.in-Some.free)
+    c.in-Some.ensures c.as_slice.ensures.value c.self.invariant.kept.places
+    (lines_too s.columns s.kept.log.items s.kept.rows.items c.self.invariant.kept.lines) in
     let end = solved_end c.args.self.now kept s.columns c.in-Some.free c.loop-column.column
     c.loop-column.numbers.items (ap (λ d. d.kept) c.self.view_is)
-    (ap (λ d. d.columns) c.self.view_is) c.self.invariant.triangular free_is
+    (ap (λ d. d.columns) c.self.view_is) c.self.invariant.kept.triangular free_is
     c.loop-column.invariant (omega arith) in
     end.value
 
 pub returns-clause-narrow : goal.returns-clause-narrow
 returns-clause-narrow c =
     let s = c.self.inside in
-    let kept = kept_sparse s.columns s.log.items s.rows.items in
-    let free_is = free_read s.columns s.log.items (map (dense s.columns) s.rows.items)
-    c.as_slice.result.now s.places.items (Some c.in-Some.free)
-    c.in-Some.ensures c.as_slice.ensures.value c.self.invariant.places
-    (lines_too s.columns s.log.items s.rows.items c.self.invariant.lines) in
+    let kept = sparse_rows s.columns s.kept in
+    let free_is = free_read s.columns s.kept.log.items (map (dense s.columns) s.kept.rows.items)
+    c.as_slice.result.now s.kept.places.items (Some c.in-Some.free)
+    c.in-Some.ensures c.as_slice.ensures.value c.self.invariant.kept.places
+    (lines_too s.columns s.kept.log.items s.kept.rows.items c.self.invariant.kept.lines) in
     let end = solved_end c.args.self.now kept s.columns c.in-Some.free c.loop-column.column
     c.loop-column.numbers.items (ap (λ d. d.kept) c.self.view_is)
-    (ap (λ d. d.columns) c.self.view_is) c.self.invariant.triangular free_is
+    (ap (λ d. d.columns) c.self.view_is) c.self.invariant.kept.triangular free_is
     c.loop-column.invariant (omega arith) in
     end.narrow
 
 pub returns-clause-solves : goal.returns-clause-solves
 returns-clause-solves c =
     let s = c.self.inside in
-    let kept = kept_sparse s.columns s.log.items s.rows.items in
-    let free_is = free_read s.columns s.log.items (map (dense s.columns) s.rows.items)
-    c.as_slice.result.now s.places.items (Some c.in-Some.free)
-    c.in-Some.ensures c.as_slice.ensures.value c.self.invariant.places
-    (lines_too s.columns s.log.items s.rows.items c.self.invariant.lines) in
+    let kept = sparse_rows s.columns s.kept in
+    let free_is = free_read s.columns s.kept.log.items (map (dense s.columns) s.kept.rows.items)
+    c.as_slice.result.now s.kept.places.items (Some c.in-Some.free)
+    c.in-Some.ensures c.as_slice.ensures.value c.self.invariant.kept.places
+    (lines_too s.columns s.kept.log.items s.kept.rows.items c.self.invariant.kept.lines) in
     let end = solved_end c.args.self.now kept s.columns c.in-Some.free c.loop-column.column
     c.loop-column.numbers.items (ap (λ d. d.kept) c.self.view_is)
-    (ap (λ d. d.columns) c.self.view_is) c.self.invariant.triangular free_is
+    (ap (λ d. d.columns) c.self.view_is) c.self.invariant.kept.triangular free_is
     c.loop-column.invariant (omega arith) in
     end.solves
 
 pub returns-clause-some : goal.returns-clause-some
 returns-clause-some c =
     let s = c.self.inside in
-    let kept = kept_sparse s.columns s.log.items s.rows.items in
-    let free_is = free_read s.columns s.log.items (map (dense s.columns) s.rows.items)
-    c.as_slice.result.now s.places.items (Some c.in-Some.free)
-    c.in-Some.ensures c.as_slice.ensures.value c.self.invariant.places
-    (lines_too s.columns s.log.items s.rows.items c.self.invariant.lines) in
+    let kept = sparse_rows s.columns s.kept in
+    let free_is = free_read s.columns s.kept.log.items (map (dense s.columns) s.kept.rows.items)
+    c.as_slice.result.now s.kept.places.items (Some c.in-Some.free)
+    c.in-Some.ensures c.as_slice.ensures.value c.self.invariant.kept.places
+    (lines_too s.columns s.kept.log.items s.kept.rows.items c.self.invariant.kept.lines) in
     let end = solved_end c.args.self.now kept s.columns c.in-Some.free c.loop-column.column
     c.loop-column.numbers.items (ap (λ d. d.kept) c.self.view_is)
-    (ap (λ d. d.columns) c.self.view_is) c.self.invariant.triangular free_is
+    (ap (λ d. d.columns) c.self.view_is) c.self.invariant.kept.triangular free_is
     c.loop-column.invariant (omega arith) in
     end.positive

@@ -11,21 +11,21 @@ use Rattle.gj_sparse_elim.proofs.basis.SparseBasis.rank.Goals as goal
 pub overflow_cast-result : goal.overflow_cast-result
 overflow_cast-result c =
     let most = rank_at_most c.self.inside.columns
-    (kept_sparse c.self.inside.columns c.self.inside.log.items c.self.inside.rows.items)
-    c.self.invariant.triangular in
-    let same = length-kept_rows c.self.inside.log.items _
-    (lines_too c.self.inside.columns c.self.inside.log.items c.self.inside.rows.items
-    c.self.invariant.lines) in
-    let len = c.self.inside.log.ok.0 in
-    let narrow = c.self.invariant.narrow in
+    (kept_sparse c.self.inside.columns c.self.inside.kept.log.items c.self.inside.kept.rows.items)
+    c.self.invariant.kept.triangular in
+    let same = length-kept_rows c.self.inside.kept.log.items _
+    (lines_too c.self.inside.columns c.self.inside.kept.log.items c.self.inside.kept.rows.items
+    c.self.invariant.kept.lines) in
+    let len = c.self.inside.kept.log.ok.0 in
+    let narrow = c.self.invariant.kept.narrow in
     omega arith
 
 pub returns-clause-count : goal.returns-clause-count
 returns-clause-count c =
-    c.len.ensures ∙ c.self.inside.log.ok.0
-    ∙ sym (length-kept_rows c.self.inside.log.items _
-    (lines_too c.self.inside.columns c.self.inside.log.items c.self.inside.rows.items
-    c.self.invariant.lines))
+    c.len.ensures ∙ c.self.inside.kept.log.ok.0
+    ∙ sym (length-kept_rows c.self.inside.kept.log.items _
+    (lines_too c.self.inside.columns c.self.inside.kept.log.items c.self.inside.kept.rows.items
+    c.self.invariant.kept.lines))
     ∙ ap (λ b. length b.kept) c.self.view_is
 
 full : (b d : BasisData) (r : ℕ) (w : List ℤ) → b ≡ d → AreTriangular b.columns b.kept →
@@ -37,9 +37,9 @@ full b d r w same triangular count all len solves =
 
 pub returns-clause-full : goal.returns-clause-full
 returns-clause-full c all w len solves =
-    full _ c.args.self.now _ w c.self.view_is c.self.invariant.triangular
-    (c.len.ensures ∙ c.self.inside.log.ok.0
-    ∙ sym (length-kept_rows c.self.inside.log.items _
-    (lines_too c.self.inside.columns c.self.inside.log.items c.self.inside.rows.items
-    c.self.invariant.lines))
+    full _ c.args.self.now _ w c.self.view_is c.self.invariant.kept.triangular
+    (c.len.ensures ∙ c.self.inside.kept.log.ok.0
+    ∙ sym (length-kept_rows c.self.inside.kept.log.items _
+    (lines_too c.self.inside.columns c.self.inside.kept.log.items c.self.inside.kept.rows.items
+    c.self.invariant.kept.lines))
     ∙ ap (λ b. length b.kept) c.self.view_is) all len solves
