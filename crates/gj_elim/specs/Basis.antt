@@ -12,8 +12,8 @@ data_of b = record {
   kept = rows_of b.kept;
 }
 
--- the kept rows have the columns of the basis, and the row that is reduced has its length, once with
--- 128 bits a number and once with 64
+-- the kept rows have the columns of the basis, and so has the row that is reduced, once with 128
+-- bits a number and once with 64
 pub record IsBasis (b : Inside) : Type 0 where
   pub kept : AreKept b.columns b.kept
   pub columns : length b.row.items ≡ b.columns

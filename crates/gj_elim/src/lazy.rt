@@ -342,7 +342,8 @@ pub(crate) fn reduce_lazily(
     requires bound { first_extent.bound < 2 ^ 63 }
     requires empty { reduce.old.items ≡ [] }
     ensures reached { IfOk result (λ r. IsReached (rows_of kept.now)
-        (inserted (length row.old) (rows_of kept.now) row.old) r row.new exact.new reduce.new.items) }
+        (inserted (length row.old) (rows_of kept.now) row.old)
+        r row.new exact.new reduce.new.items) }
     ensures within { IfOk result (λ r. IsReachedWithin
         (length row.old) kept.now.log.items r row.new exact.new) }
 {

@@ -52,7 +52,8 @@ fn reduce_exactly(
         IsBehind i reduce.old.items (rest whole_numbers (rows_of kept.now)
         (length row.old) first row.old) →
         IsDone whole_numbers i left row.new reduce.new.items) }
-    ensures within { IfOk result (λ left. IfSome left (IsFreeColumn (length row.old) kept.now.log.items)) }
+    ensures within { IfOk result (λ left. IfSome left
+        (IsFreeColumn (length row.old) kept.now.log.items)) }
     ensures fits { OnOk result (All Fits row.new) }
     ensures wide { IsErrOf result ElimFault.Wide → (i : Insertion) →
         IsBehind i reduce.old.items (rest whole_numbers (rows_of kept.now)
@@ -91,7 +92,8 @@ pub(crate) fn reduce_row(
     ensures left { IfOk result (λ left. IsLeft whole_numbers (inserted (length given.now)
         (rows_of kept.now) given.now) left row.new
         reduce.new.items) }
-    ensures within { IfOk result (λ left. IfSome left (IsFreeColumn (length given.now) kept.now.log.items)) }
+    ensures within { IfOk result (λ left. IfSome left
+        (IsFreeColumn (length given.now) kept.now.log.items)) }
     ensures fits { IfOk result (λ left. IfSome left (λ _. All Fits row.new)) }
     ensures narrow { OnOk result (¬ Passes (inserted (length given.now)
         (rows_of kept.now) given.now).marked) }

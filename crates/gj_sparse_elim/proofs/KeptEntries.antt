@@ -237,15 +237,11 @@ still_rows log log' rows rows' same same' n = ap₂ (kept_sparse n) same same'
 -- ---- the basis behind an insertion
 
 -- the insertion as the code has it
-pub insertion_sparse : (n : ℕ) (b d : BasisData) (log log' : List LogRow)
-    (rows rows' : List (List Entry)) (given : List Entry) →
-    n ≡ b.columns → b ≡ d → log' ≡ log → rows' ≡ rows → b.kept ≡ kept_sparse b.columns log rows →
-    inserted n (kept_sparse n log' rows') (dense n given) ≡ inserted b.columns b.kept
-    (dense d.columns given)
-insertion_sparse n b d log log' rows rows' given n_is same log_is rows_is kept_is =
-    ap (λ m. inserted m (kept_sparse m log' rows') (dense m given)) n_is
-    ∙ ap₂ (λ ls rs. inserted b.columns (kept_sparse b.columns ls rs) (dense b.columns given)) log_is
-    rows_is
+pub insertion_sparse : (n : ℕ) (b d : BasisData) (k : KeptSparse) (given : List Entry) →
+    n ≡ b.columns → b ≡ d → b.kept ≡ sparse_rows b.columns k →
+    inserted n (sparse_rows n k) (dense n given) ≡ inserted b.columns b.kept (dense d.columns given)
+insertion_sparse n b d k given n_is same kept_is =
+    ap (λ m. inserted m (sparse_rows m k) (dense m given)) n_is
     ∙ ap (λ ks. inserted b.columns ks (dense b.columns given)) (sym kept_is)
     ∙ ap (λ x. inserted b.columns b.kept (dense x.columns given)) same
 

@@ -14,8 +14,8 @@ data_of b = record {
   kept = sparse_rows b.columns b.kept;
 }
 
--- the kept rows and the rows for work have the columns of the basis, and the row of 64 bits is 0 but
--- at the columns of its set; of the seen rows nothing is left
+-- the kept rows and the rows for work have the columns of the basis, and the row of 64 bits is 0
+-- but at the columns of its set; of the seen rows nothing is left
 pub record IsSparseBasis (b : Inside) : Type 0 where
   pub kept : AreKeptSparse b.columns b.kept
   pub columns : length b.row.items ≡ b.columns

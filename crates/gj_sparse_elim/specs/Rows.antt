@@ -24,8 +24,8 @@ pub record AreBounds (n : ℕ) (rows : List (List Entry)) (bounds : List ℕ) : 
 abbrev pub sparse_rows : ℕ → KeptSparse → List KeptRow
 sparse_rows n k = kept_sparse n k.log.items k.rows.items
 
--- the log has a line for each row, the rows are sparse and triangular with n columns, and the tables
--- tell of them
+-- the log has a line for each row, the rows are sparse and triangular with n columns, and the
+-- tables tell of them
 pub record AreKeptSparse (n : ℕ) (k : KeptSparse) : Type 0 where
   pub lines : length k.log.items ≡ length k.rows.items
   pub sparse : All (AreSparse n) k.rows.items

@@ -44,8 +44,8 @@ fn free_column(places: &[Option<u32>]) -> Option<u32>
 /// Rows of whole numbers, given and kept by their entries that are not 0, of which plain
 /// elimination keeps those that are needed. Contracts see how many columns they have, how many rows
 /// were inserted, and the kept rows, as those of `gj_elim::Basis`. It takes some 50 bytes a column,
-/// 80 bytes a kept row, 4 bytes a step of the log, and 32 bytes an entry that is kept. Beside them it
-/// remembers the last rows, up to four a column.
+/// 80 bytes a kept row, 4 bytes a step of the log, and 32 bytes an entry that is kept. Beside them
+/// it remembers the last rows, up to four a column.
 ///
 /// ```rust
 /// let mut basis = SparseBasis::new(alloc, 3)?;

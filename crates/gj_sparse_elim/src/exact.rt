@@ -28,7 +28,8 @@ pub(crate) fn reduce_exactly(
         IsBehind i reduce.old.items (rest whole_numbers
         (sparse_rows (length row.old) kept.now) (length row.old) first row.old) →
         IsDone whole_numbers i left row.new reduce.new.items) }
-    ensures within { IfOk result (λ left. IfSome left (IsFreeColumn (length row.old) kept.now.log.items)) }
+    ensures within { IfOk result (λ left. IfSome left
+        (IsFreeColumn (length row.old) kept.now.log.items)) }
     ensures fits { OnOk result (All Fits row.new) }
     ensures wide { IsErrOf result ElimFault.Wide → (i : Insertion) →
         IsBehind i reduce.old.items (rest whole_numbers

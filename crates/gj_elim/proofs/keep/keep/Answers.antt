@@ -64,7 +64,8 @@ pub returns-clause-kept : goal.returns-clause-kept
 returns-clause-kept c triangular =
     let k = c.args.kept.now in
     let log_is = pushed _ _ _ _ c.push_reserved.ensures.items c.in_ok-reserve.ensures.items in
-    let rows_is = row_pushed _ _ _ _ _ c.push_reserved-2.ensures.items c.in_ok-reserve-2.ensures.items
+    let rows_is = row_pushed _ _ _ _ _ c.push_reserved-2.ensures.items
+    c.in_ok-reserve-2.ensures.items
     (held c) in
     record {
       lines = same_length _ _ _ _ _ _ c.requires.kept.lines log_is rows_is;
@@ -116,7 +117,8 @@ returns-in_err-reserve c =
       entries = rw failed.1 tt;
       kept = rw failed.1 tt;
       unchanged = on_err _ _
-          (still_kept (length c.args.row.now) c.args.kept.now _ c.in_err-reserve.ensures.items refl refl refl
+          (still_kept (length c.args.row.now) c.args.kept.now _ c.in_err-reserve.ensures.items refl
+          refl refl
           c.requires.kept);
       same = on_err _ _ (ap₂ kept_rows c.in_err-reserve.ensures.items refl);
     }
@@ -129,9 +131,11 @@ returns-in_err-reserve-2 c =
       entries = rw failed.1 tt;
       kept = rw failed.1 tt;
       unchanged = on_err _ _
-          (still_kept (length c.args.row.now) c.args.kept.now _ c.in_ok-reserve.ensures.items c.in_err-reserve-2.ensures.items refl refl
+          (still_kept (length c.args.row.now) c.args.kept.now _ c.in_ok-reserve.ensures.items
+          c.in_err-reserve-2.ensures.items refl refl
           c.requires.kept);
-      same = on_err _ _ (ap₂ kept_rows c.in_ok-reserve.ensures.items c.in_err-reserve-2.ensures.items);
+      same = on_err _ _ (ap₂ kept_rows c.in_ok-reserve.ensures.items
+          c.in_err-reserve-2.ensures.items);
     }
 
 pub returns-in_err-reserve-3 : goal.returns-in_err-reserve-3
@@ -142,7 +146,9 @@ returns-in_err-reserve-3 c =
       entries = rw failed.1 tt;
       kept = rw failed.1 tt;
       unchanged = on_err _ _
-          (still_kept (length c.args.row.now) c.args.kept.now _ c.in_ok-reserve.ensures.items c.in_ok-reserve-2.ensures.items c.in_err-reserve-3.ensures.items refl
+          (still_kept (length c.args.row.now) c.args.kept.now _ c.in_ok-reserve.ensures.items
+          c.in_ok-reserve-2.ensures.items c.in_err-reserve-3.ensures.items refl
           c.requires.kept);
-      same = on_err _ _ (ap₂ kept_rows c.in_ok-reserve.ensures.items c.in_ok-reserve-2.ensures.items);
+      same = on_err _ _ (ap₂ kept_rows c.in_ok-reserve.ensures.items
+          c.in_ok-reserve-2.ensures.items);
     }

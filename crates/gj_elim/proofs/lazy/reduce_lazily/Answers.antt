@@ -35,7 +35,8 @@ returns-in_default-clause-within c = (
 
 pub step-next-requires-clause-columns : goal.step-next-requires-clause-columns
 step-next-requires-clause-columns c =
-    let row = kept_row_read (length c.args.row.now) c.args.kept.now c.loop-column.column c.in-Some.place
+    let row = kept_row_read (length c.args.row.now) c.args.kept.now c.loop-column.column
+    c.in-Some.place
     c.index.result.now _ c.as_slice.result.now c.requires.kept (omega arith) c.index.ensures
     c.in-Some.is c.index-then-row-column-ne0.ensures c.as_slice.ensures in
     row.pivot.columns ∙ sym c.loop-column.auto.row
@@ -44,18 +45,21 @@ pub step-next-requires-clause-kept_extent : goal.step-next-requires-clause-kept_
 step-next-requires-clause-kept_extent c =
     extent_read (length c.args.row.now) c.args.kept.now c.loop-column.column c.in-Some.place
     c.index.result.now _ c.as_slice.result.now _ c.requires.kept (omega arith) c.index.ensures
-    c.in-Some.is c.index-then-row-column-ne0.ensures c.as_slice.ensures c.index-then-row-column-ne0-2.ensures
+    c.in-Some.is c.index-then-row-column-ne0.ensures c.as_slice.ensures
+    c.index-then-row-column-ne0-2.ensures
 
 pub step-next-requires-clause-kept_zero : goal.step-next-requires-clause-kept_zero
 step-next-requires-clause-kept_zero c =
-    let row = kept_row_read (length c.args.row.now) c.args.kept.now c.loop-column.column c.in-Some.place
+    let row = kept_row_read (length c.args.row.now) c.args.kept.now c.loop-column.column
+    c.in-Some.place
     c.index.result.now _ c.as_slice.result.now c.requires.kept (omega arith) c.index.ensures
     c.in-Some.is c.index-then-row-column-ne0.ensures c.as_slice.ensures in
     row.pivot.zero_before
 
 pub step-next-requires-clause-positive : goal.step-next-requires-clause-positive
 step-next-requires-clause-positive c =
-    let row = kept_row_read (length c.args.row.now) c.args.kept.now c.loop-column.column c.in-Some.place
+    let row = kept_row_read (length c.args.row.now) c.args.kept.now c.loop-column.column
+    c.in-Some.place
     c.index.result.now _ c.as_slice.result.now c.requires.kept (omega arith) c.index.ensures
     c.in-Some.is c.index-then-row-column-ne0.ensures c.as_slice.ensures in
     row.pivot.positive
@@ -73,7 +77,8 @@ pub loop-column-preserved : goal.loop-column-preserved
 loop-column-preserved c =
     elim c.if-row-column-ne0.branch [
       | then-row-column-ne0+in-Some+in-Some-next+in_ok-reserve-in-Some-next w ↦
-          let row = kept_row_read (length c.args.row.now) c.args.kept.now c.loop-column.column w.in-Some.place
+          let row = kept_row_read (length c.args.row.now) c.args.kept.now c.loop-column.column
+          w.in-Some.place
           w.index.result.now _ w.as_slice.result.now c.requires.kept (omega arith) w.index.ensures
           w.in-Some.is w.index-then-row-column-ne0.ensures w.as_slice.ensures in
           let on = lazy_more (inserted (length c.args.row.now)

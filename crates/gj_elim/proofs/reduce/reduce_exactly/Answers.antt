@@ -27,21 +27,24 @@ returns-in-None-clause-within c =
 
 pub reduce_by-requires-clause-columns : goal.reduce_by-requires-clause-columns
 reduce_by-requires-clause-columns c =
-    let row = kept_row_read (length c.args.row.now) c.args.kept.now c.loop-column.column c.in-Some.place
+    let row = kept_row_read (length c.args.row.now) c.args.kept.now c.loop-column.column
+    c.in-Some.place
     c.index.result.now _ c.as_slice.result.now c.requires.kept (omega arith) c.index.ensures
     c.in-Some.is c.index-in-Some.ensures c.as_slice.ensures in
     row.pivot.columns ∙ sym c.loop-column.auto.row
 
 pub reduce_by-requires-clause-positive : goal.reduce_by-requires-clause-positive
 reduce_by-requires-clause-positive c =
-    let row = kept_row_read (length c.args.row.now) c.args.kept.now c.loop-column.column c.in-Some.place
+    let row = kept_row_read (length c.args.row.now) c.args.kept.now c.loop-column.column
+    c.in-Some.place
     c.index.result.now _ c.as_slice.result.now c.requires.kept (omega arith) c.index.ensures
     c.in-Some.is c.index-in-Some.ensures c.as_slice.ensures in
     row.pivot.positive
 
 pub returns-in_err-reduce_by-in-Some-clause-wide : goal.returns-in_err-reduce_by-in-Some-clause-wide
 returns-in_err-reduce_by-in-Some-clause-wide c =
-    let row = kept_row_read (length c.args.row.now) c.args.kept.now c.loop-column.column c.in-Some.place
+    let row = kept_row_read (length c.args.row.now) c.args.kept.now c.loop-column.column
+    c.in-Some.place
     c.index.result.now _ c.as_slice.result.now c.requires.kept (omega arith) c.index.ensures
     c.in-Some.is c.index-in-Some.ensures c.as_slice.ensures in
     λ e i start. behind_wide whole_numbers i c.loop-column.reduce.items
@@ -56,7 +59,8 @@ pub loop-column-preserved : goal.loop-column-preserved
 loop-column-preserved c =
     elim c.if-row-column-ne0.branch [
       | then-row-column-ne0+in-Some+in_ok-reduce_by-in-Some+in_ok-reserve-in-Some w ↦
-          let row = kept_row_read (length c.args.row.now) c.args.kept.now c.loop-column.column w.in-Some.place
+          let row = kept_row_read (length c.args.row.now) c.args.kept.now c.loop-column.column
+          w.in-Some.place
           w.index.result.now _ w.as_slice.result.now c.requires.kept (omega arith) w.index.ensures
           w.in-Some.is w.index-in-Some.ensures w.as_slice.ensures in
           record {

@@ -40,7 +40,8 @@ reduce_lazily-requires-clause-extent c =
     xs) (sym c.load.ensures)
     c.extent_of-extent.ensures
 
-pub reduce_exactly-requires-in-Column-clause-kept : goal.reduce_exactly-requires-in-Column-clause-kept
+pub reduce_exactly-requires-in-Column-clause-kept :
+    goal.reduce_exactly-requires-in-Column-clause-kept
 reduce_exactly-requires-in-Column-clause-kept c =
     subst (λ (n : ℕ). AreKept n c.args.kept.now)
     (sym (c.reduce_lazily.auto.exact ∙ c.requires.row_columns)) c.requires.kept

@@ -101,7 +101,8 @@ returns-in_err-reserve-2 c =
       unchanged = on_err _ _
           (still_kept (length c.args.kept.now.places.items) c.args.kept.now _
           c.in_ok-reserve.ensures.items c.in_err-reserve-2.ensures.items refl refl c.requires.kept);
-      same = on_err _ _ (still_rows _ _ _ _ c.in_ok-reserve.ensures.items c.in_err-reserve-2.ensures.items);
+      same = on_err _ _ (still_rows _ _ _ _ c.in_ok-reserve.ensures.items
+          c.in_err-reserve-2.ensures.items);
     }
 
 pub returns-in_err-reserve-3 : goal.returns-in_err-reserve-3
@@ -113,6 +114,8 @@ returns-in_err-reserve-3 c =
       kept = rw failed.1 tt;
       unchanged = on_err _ _
           (still_kept (length c.args.kept.now.places.items) c.args.kept.now _
-          c.in_ok-reserve.ensures.items c.in_ok-reserve-2.ensures.items c.in_err-reserve-3.ensures.items refl c.requires.kept);
-      same = on_err _ _ (still_rows _ _ _ _ c.in_ok-reserve.ensures.items c.in_ok-reserve-2.ensures.items);
+          c.in_ok-reserve.ensures.items c.in_ok-reserve-2.ensures.items
+          c.in_err-reserve-3.ensures.items refl c.requires.kept);
+      same = on_err _ _ (still_rows _ _ _ _ c.in_ok-reserve.ensures.items
+          c.in_ok-reserve-2.ensures.items);
     }

@@ -20,7 +20,8 @@ returns-then-bound-ge-GREATEST_BOUND-clause-left c =
     let done = c.in_ok-left.ensures.done (inserted (length c.args.row.now)
     (sparse_rows (length c.args.row.now) c.args.kept.now)
     (dense (length c.args.row.now) c.args.given.now))
-    (sparse_start (length c.args.row.now) _ c.args.kept.now.log.items c.args.kept.now.rows.items c.args.given.now
+    (sparse_start (length c.args.row.now) _ c.args.kept.now.log.items c.args.kept.now.rows.items
+    c.args.given.now
     c.spread.new.row c.args.reduce.now.items
     c.spread.auto.row c.spread.ensures c.requires.empty) in record {
       row = c.reduce_exactly.new.row;
@@ -36,7 +37,8 @@ returns-then-bound-ge-GREATEST_BOUND-clause-narrow c =
     (c.in_ok-left.ensures.done (inserted (length c.args.row.now)
     (sparse_rows (length c.args.row.now) c.args.kept.now)
     (dense (length c.args.row.now) c.args.given.now))
-    (sparse_start (length c.args.row.now) _ c.args.kept.now.log.items c.args.kept.now.rows.items c.args.given.now
+    (sparse_start (length c.args.row.now) _ c.args.kept.now.log.items c.args.kept.now.rows.items
+    c.args.given.now
     c.spread.new.row c.args.reduce.now.items
     c.spread.auto.row c.spread.ensures c.requires.empty)).narrow
 
@@ -47,7 +49,8 @@ returns-in_err-left-clause-wide c = λ e.
     (inserted (length c.args.row.now)
     (sparse_rows (length c.args.row.now) c.args.kept.now)
     (dense (length c.args.row.now) c.args.given.now))
-    (sparse_start (length c.args.row.now) _ c.args.kept.now.log.items c.args.kept.now.rows.items c.args.given.now
+    (sparse_start (length c.args.row.now) _ c.args.kept.now.log.items c.args.kept.now.rows.items
+    c.args.given.now
     c.spread.new.row c.args.reduce.now.items
     c.spread.auto.row c.spread.ensures c.requires.empty)
 

@@ -7,7 +7,8 @@ use Rattle.gj_elim.specs.Tables.{AreKept, rows_of}
 use Rattle.std.specs.Prelude.{All, IfSome}
 use Rattle.gj_frac.specs.Fraction.{Fits}
 use Rattle.gj_theory.specs.TriangularRows.{AreTriangular}
-use Rattle.gj_elim.proofs.Keeping.{insertion_read, nothing_inserted, row_inserted, triangular_from, solutions_from, same_error}
+use Rattle.gj_elim.specs.declared.log.Inserted.TheVariants.{Pivot}
+use Rattle.gj_elim.proofs.Keeping.{IsInserted, insertion_read, nothing_inserted, row_inserted, triangular_from, solutions_from, same_error}
 use Rattle.gj_frac.proofs.Refusals.{on_err}
 use Rattle.std.proofs.lemmas.Result.{err_from_is_err_and}
 use Rattle.gj_elim.proofs.KeptTables.{held}
@@ -33,7 +34,8 @@ returns-in-None c =
     let D = data_of c.self.inside in
     let columns : length c.args.row.now ≡ D.columns = c.requires.columns
     ∙ sym (ap (λ d. d.columns) c.self.view_is) in
-    let whole = insertion_read D D c.self.inside.kept.log.items c.self.inside.kept.rows.items c.args.row.now
+    let whole = insertion_read D D c.self.inside.kept.log.items c.self.inside.kept.rows.items
+    c.args.row.now
     c.args.row.now refl refl refl
     columns in
     let left = subst (λ (i : Insertion). IsLeft whole_numbers i c.in_ok-left.left
@@ -52,7 +54,8 @@ returns-in-None c =
       unchanged = tt;
       solutions = λ w. solutions_from D c.args.self.now c.args.row.now w _ c.self.view_is
           c.self.invariant.kept.triangular c.requires.columns told.rows;
-      triangular = triangular_from D c.args.row.now _ c.self.invariant.kept.triangular columns told.rows;
+      triangular = triangular_from D c.args.row.now _ c.self.invariant.kept.triangular columns
+          told.rows;
     }
 
 -- ---- what a call needs
@@ -82,7 +85,8 @@ reduce_row-requires-clause-empty c = c.clear.ensures.items
 free_column : (c : goal.After-as_slice-in-Some) →
     IsFreeColumn (length c.args.row.now) c.self.inside.kept.log.items c.in-Some.column
 free_column c =
-    subst (λ (o : Option ℕ). IfSome o (IsFreeColumn (length c.args.row.now) c.self.inside.kept.log.items))
+    subst (λ (o : Option ℕ). IfSome o (IsFreeColumn (length c.args.row.now)
+    c.self.inside.kept.log.items))
     c.in-Some.is
     c.in_ok-left.ensures.within
 
@@ -128,15 +132,19 @@ invariant_of-self-in_err-keep-in-Some c =
           c.in_err-keep-in-Some.ensures.unchanged;
       columns = row.columns;
       small_columns = (held _ c.self.inside.small _ _ c.self.inside.small.ok.0
-          c.self.invariant.small_columns c.as_mut_slice-2.ensures.value c.reduce_row.auto.small).columns;
+          c.self.invariant.small_columns c.as_mut_slice-2.ensures.value
+          c.reduce_row.auto.small).columns;
     }
 
-pub invariant_of-self-in-Some : goal.invariant_of-self-in-Some
-invariant_of-self-in-Some c =
+-- what is left is kept
+row_told : (c : goal.After-self-in-Some-1) → IsInserted whole_numbers (data_of c.self.inside)
+    c.args.self.now c.args.row.now (rows_of c.keep.new.kept) (Pivot c.in-Some.column)
+row_told c =
     let D = data_of c.self.inside in
     let columns : length c.args.row.now ≡ D.columns = c.requires.columns
     ∙ sym (ap (λ d. d.columns) c.self.view_is) in
-    let whole = insertion_read D D c.self.inside.kept.log.items c.self.inside.kept.rows.items c.args.row.now
+    let whole = insertion_read D D c.self.inside.kept.log.items c.self.inside.kept.rows.items
+    c.args.row.now
     c.args.row.now refl refl refl
     columns in
     let left = subst (λ (i : Insertion). IsLeft whole_numbers i c.in_ok-left.left
@@ -144,10 +152,10 @@ invariant_of-self-in-Some c =
     c.in_ok-left.ensures.left in
     let row = held _ c.self.inside.row _ _ c.self.inside.row.ok.0 c.self.invariant.columns
     c.as_mut_slice.ensures.value c.reduce_row.auto.row in
-    let row_columns = ap length c.as_slice-in-Some.ensures.value ∙ row.columns in
-    let told = row_inserted whole_numbers D c.args.self.now c.args.row.now c.reduce_row.new.row
+    row_inserted whole_numbers D c.args.self.now c.args.row.now c.reduce_row.new.row
     c.reduce_row.new.reduce.items c.in_ok-left.left
-    c.self.inside.kept.log.items c.keep.new.kept.log.items c.self.inside.kept.rows.items c.keep.new.kept.rows.items
+    c.self.inside.kept.log.items c.keep.new.kept.log.items c.self.inside.kept.rows.items
+    c.keep.new.kept.rows.items
     record {
       number = c.self.inside.inserted;
       reduce = c.as_slice.result.now;
@@ -159,15 +167,24 @@ invariant_of-self-in-Some c =
     c.in_ok-keep-in-Some.ensures.entries refl
     c.as_slice.ensures.value
     (ap (λ xs. Some (kept_entries xs c.in-Some.column))
-    (sym (c.as_slice-in-Some.ensures.value ∙ row.is))) in
+    (sym (c.as_slice-in-Some.ensures.value ∙ row.is)))
+
+pub invariant_of-self-in-Some : goal.invariant_of-self-in-Some
+invariant_of-self-in-Some c =
+    let columns = c.requires.columns ∙ sym (ap (λ d. d.columns) c.self.view_is) in
+    let row = held _ c.self.inside.row _ _ c.self.inside.row.ok.0 c.self.invariant.columns
+    c.as_mut_slice.ensures.value c.reduce_row.auto.row in
+    let row_columns = ap length c.as_slice-in-Some.ensures.value ∙ row.columns in
     record {
       kept = subst (λ (n : ℕ). AreKept n c.keep.new.kept) row_columns
           (c.in_ok-keep-in-Some.ensures.kept
           (subst (λ (n : ℕ). AreTriangular n (rows_of c.keep.new.kept)) (sym row_columns)
-          (triangular_from D c.args.row.now _ c.self.invariant.kept.triangular columns told.rows)));
+          (triangular_from (data_of c.self.inside) c.args.row.now _
+          c.self.invariant.kept.triangular columns (row_told c).rows)));
       columns = row.columns;
       small_columns = (held _ c.self.inside.small _ _ c.self.inside.small.ok.0
-          c.self.invariant.small_columns c.as_mut_slice-2.ensures.value c.reduce_row.auto.small).columns;
+          c.self.invariant.small_columns c.as_mut_slice-2.ensures.value
+          c.reduce_row.auto.small).columns;
     }
 
 pub returns-in_ok-keep-in-Some : goal.returns-in_ok-keep-in-Some
@@ -175,29 +192,9 @@ returns-in_ok-keep-in-Some c =
     let D = data_of c.self.inside in
     let columns : length c.args.row.now ≡ D.columns = c.requires.columns
     ∙ sym (ap (λ d. d.columns) c.self.view_is) in
-    let whole = insertion_read D D c.self.inside.kept.log.items c.self.inside.kept.rows.items c.args.row.now
-    c.args.row.now refl refl refl
-    columns in
-    let left = subst (λ (i : Insertion). IsLeft whole_numbers i c.in_ok-left.left
-    c.reduce_row.new.row c.reduce_row.new.reduce.items) whole
-    c.in_ok-left.ensures.left in
-    let row = held _ c.self.inside.row _ _ c.self.inside.row.ok.0 c.self.invariant.columns
-    c.as_mut_slice.ensures.value c.reduce_row.auto.row in
-    let told = row_inserted whole_numbers D c.args.self.now c.args.row.now c.reduce_row.new.row
-    c.reduce_row.new.reduce.items c.in_ok-left.left
-    c.self.inside.kept.log.items c.keep.new.kept.log.items c.self.inside.kept.rows.items c.keep.new.kept.rows.items
-    record {
-      number = c.self.inside.inserted;
-      reduce = c.as_slice.result.now;
-      pivot =
-          c.in-Some.column;
-    }
-    (kept_entries c.as_slice-in-Some.result.now c.in-Some.column) c.self.view_is left
-    c.in-Some.is refl c.self.invariant.kept.lines c.in_ok-keep-in-Some.ensures.line
-    c.in_ok-keep-in-Some.ensures.entries refl
-    c.as_slice.ensures.value
-    (ap (λ xs. Some (kept_entries xs c.in-Some.column))
-    (sym (c.as_slice-in-Some.ensures.value ∙ row.is))) in
+    let whole = insertion_read D D c.self.inside.kept.log.items c.self.inside.kept.rows.items
+    c.args.row.now c.args.row.now refl refl refl columns in
+    let told = row_told c in
     record {
       kept = told.kept;
       answer = told.answer;
@@ -208,7 +205,8 @@ returns-in_ok-keep-in-Some c =
       unchanged = tt;
       solutions = λ w. solutions_from D c.args.self.now c.args.row.now w _ c.self.view_is
           c.self.invariant.kept.triangular c.requires.columns told.rows;
-      triangular = triangular_from D c.args.row.now _ c.self.invariant.kept.triangular columns told.rows;
+      triangular = triangular_from D c.args.row.now _ c.self.invariant.kept.triangular columns
+          told.rows;
     }
 
 pub invariant_of-self : goal.invariant_of-self
@@ -217,7 +215,8 @@ invariant_of-self c = record {
   columns = (held _ c.self.inside.row _ _ c.self.inside.row.ok.0 c.self.invariant.columns
       c.as_mut_slice.ensures.value c.reduce_row.auto.row).columns;
   small_columns = (held _ c.self.inside.small _ _ c.self.inside.small.ok.0
-      c.self.invariant.small_columns c.as_mut_slice-2.ensures.value c.reduce_row.auto.small).columns;
+      c.self.invariant.small_columns c.as_mut_slice-2.ensures.value
+      c.reduce_row.auto.small).columns;
 }
 
 pub invariant_of-self-in-None : goal.invariant_of-self-in-None
@@ -226,7 +225,8 @@ invariant_of-self-in-None c = record {
   columns = (held _ c.self.inside.row _ _ c.self.inside.row.ok.0 c.self.invariant.columns
       c.as_mut_slice.ensures.value c.reduce_row.auto.row).columns;
   small_columns = (held _ c.self.inside.small _ _ c.self.inside.small.ok.0
-      c.self.invariant.small_columns c.as_mut_slice-2.ensures.value c.reduce_row.auto.small).columns;
+      c.self.invariant.small_columns c.as_mut_slice-2.ensures.value
+      c.reduce_row.auto.small).columns;
 }
 
 pub returns-in_err-left-clause-kept : goal.returns-in_err-left-clause-kept

@@ -53,7 +53,8 @@ index-requires c =
     let columns = c.self.invariant.kept.places.columns_are in
     let len = s.kept.places.ok.0 in
     let below = free_below (rows_of s.kept) s.columns c.in-Some.free
-    (free_read s.columns s.kept.log.items _ s.kept.rows.items _ c.in-Some.ensures c.as_slice.ensures.value
+    (free_read s.columns s.kept.log.items _ s.kept.rows.items _ c.in-Some.ensures
+    c.as_slice.ensures.value
     c.self.invariant.kept.lines) in
     omega arith
 
@@ -61,7 +62,8 @@ pub index-requires-in-Some-index : goal.index-requires-in-Some-index
 index-requires-in-Some-index c =
     let s = c.self.inside in
     let below = free_below (rows_of s.kept) s.columns c.in-Some.free
-    (free_read s.columns s.kept.log.items _ s.kept.rows.items _ c.in-Some.ensures c.as_slice.ensures.value
+    (free_read s.columns s.kept.log.items _ s.kept.rows.items _ c.in-Some.ensures
+    c.as_slice.ensures.value
     c.self.invariant.kept.lines) in
     let (inside, at) = kept_there s.columns s.kept (c.loop-column.column - 1) c.in-Some-index.place
     c.index.result.now c.self.invariant.kept (omega arith) c.index.ensures c.in-Some-index.is in
@@ -75,7 +77,8 @@ solve_at-requires c =
     let free_is = free_read s.columns s.kept.log.items _ s.kept.rows.items _ c.in-Some.ensures
     c.as_slice.ensures.value c.self.invariant.kept.lines in
     let row = row_before s.columns s.kept c.in-Some.free (c.loop-column.column - 1)
-    c.in-Some-index.place _ _ c.as_slice-in-Some-index.result.now c.self.invariant.kept free_is (omega arith) c.index.ensures
+    c.in-Some-index.place _ _ c.as_slice-in-Some-index.result.now c.self.invariant.kept free_is
+    (omega arith) c.index.ensures
     c.in-Some-index.is c.index-in-Some-index.ensures
     c.as_slice-in-Some-index.ensures in
     record {

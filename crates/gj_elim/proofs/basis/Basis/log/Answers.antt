@@ -6,5 +6,6 @@ use Rattle.gj_elim.proofs.basis.Basis.log.Goals as goal
 pub returns : goal.returns
 returns c =
     c.as_slice.ensures.value
-    ∙ log_of_kept c.self.inside.kept.log.items c.self.inside.kept.rows.items c.self.invariant.kept.lines
+    ∙ log_of_kept c.self.inside.kept.log.items c.self.inside.kept.rows.items
+    c.self.invariant.kept.lines
     ∙ ap (λ b. map log_row b.kept) c.self.view_is

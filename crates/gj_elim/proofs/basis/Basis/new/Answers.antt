@@ -18,7 +18,8 @@ invariant_of-result c = record {
         (sym (ap₂ kept_rows c.new.ensures.items c.new-2.ensures.items))
         (no_rows_triangular c.args.columns);
     fits = subst (All (All Fits)) (sym c.new-2.ensures.items) (All-nil (All Fits));
-    places = subst (λ (ls : List LogRow). ArePlaces c.args.columns ls c.in_ok-no_places.field-0.items)
+    places = subst (λ (ls : List LogRow). ArePlaces c.args.columns ls
+        c.in_ok-no_places.field-0.items)
         (sym c.new.ensures.items)
         c.in_ok-no_places.ensures;
     extents = no_extents c.new-2.result.items c.new-3.result.items c.new-2.ensures.items

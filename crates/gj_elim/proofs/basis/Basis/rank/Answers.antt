@@ -7,7 +7,8 @@ use Rattle.gj_elim.proofs.basis.Basis.rank.Goals as goal
 pub overflow_cast-result : goal.overflow_cast-result
 overflow_cast-result c =
     let most = rank_at_most c.self.inside.columns
-    (kept_rows c.self.inside.kept.log.items c.self.inside.kept.rows.items) c.self.invariant.kept.triangular in
+    (kept_rows c.self.inside.kept.log.items c.self.inside.kept.rows.items)
+    c.self.invariant.kept.triangular in
     let same = length-kept_rows c.self.inside.kept.log.items c.self.inside.kept.rows.items
     c.self.invariant.kept.lines in
     let len = c.self.inside.kept.log.ok.0 in

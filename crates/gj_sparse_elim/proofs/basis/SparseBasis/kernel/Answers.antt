@@ -1,172 +1,116 @@
-use Rattle.std.proofs.Common.{None, Some, Option, ◌≡◌, ℕ, ◌+◌, ◌-◌, ◌<◌, List, ℤ, pos, ◌<ℤ◌, length, map, refl, ap, sym, subst, ◌∙◌, arith}
+use Rattle.std.proofs.Common.{None, Some, Option, ◌≡◌, ℕ, ◌+◌, ◌-◌, ◌<◌, List, ℤ, pos, ◌<ℤ◌, length, map, get_or, refl, ap, sym, subst, ◌∙◌, arith}
 use Rattle.std.proofs.lemmas.List.{with_items_is}
 use Rattle.gj_shape.specs.Elimination.{at_column, free_column, solved_at, marked_in_solving, Passes}
 use Rattle.gj_elim.specs.declared.log.LogRow.{LogRow}
 use Rattle.gj_elim.specs.KeptRows.{kept_rows}
 use Rattle.gj_elim.specs.Tables.{ArePlaces}
 use Rattle.gj_elim.proofs.KernelSteps.{IsSolvedTo, solved_start, solved_more, solved_wide, solved_end, no_kernel, row_there, free_below}
-use Rattle.gj_sparse_elim.specs.Rows.{sparse_rows}
+use Rattle.gj_sparse_elim.specs.Rows.{sparse_rows, AreKeptSparse}
 use Rattle.gj_sparse_elim.specs.Sparse.{dense, AreSparse}
-use Rattle.gj_sparse_elim.proofs.KeptEntries.{lines_too, sparse_pivot, place_there, none_there}
+use Rattle.gj_sparse_elim.specs.declared.entry.Entry.{Entry}
+use Rattle.gj_sparse_elim.specs.declared.kept.KeptSparse.{KeptSparse}
+use Rattle.gj_sparse_elim.proofs.KeptEntries.{IsSparsePivot, lines_too, sparse_pivot, place_there, none_there}
 use Rattle.gj_sparse_elim.proofs.basis.SparseBasis.kernel.Goals as goal
 
 -- the free column, if there is one, by the places as the code reads them
-free_read : (n : ℕ) (log : List LogRow) (rows : List (List ℤ)) (read places : List (Option ℕ))
-    (o : Option ℕ) →
+free_read : (n : ℕ) (k : KeptSparse) (read : List (Option ℕ)) (o : Option ℕ) →
     ((ls : List LogRow) (rs : List (List ℤ)) → length ls ≡ length rs →
-    ArePlaces (length read) ls read →
-    o ≡ free_column (length read) (kept_rows ls rs)) → read ≡ places → ArePlaces n log places →
-    length log ≡ length rows →
-    o ≡ free_column n (kept_rows log rows)
-free_read n log rows read places o is same are lines =
-    let n_is : length read ≡ n = ap length same ∙ are.columns_are in
-    is log rows lines (subst (λ (ps : List (Option ℕ)). ArePlaces (length read) log ps) (sym same)
-    (subst (λ (m : ℕ). ArePlaces m log places) (sym n_is) are))
-    ∙ ap (λ m. free_column m (kept_rows log rows)) n_is
+    ArePlaces (length read) ls read → o ≡ free_column (length read) (kept_rows ls rs)) →
+    read ≡ k.places.items → AreKeptSparse n k → o ≡ free_column n (sparse_rows n k)
+free_read n k read o is same h =
+    let n_is : length read ≡ n = ap length same ∙ h.places.columns_are in
+    is k.log.items (map (dense n) k.rows.items) (lines_too n k.log.items k.rows.items h.lines)
+    (subst (λ (ps : List (Option ℕ)). ArePlaces (length read) k.log.items ps) (sym same)
+    (subst (λ (m : ℕ). ArePlaces m k.log.items k.places.items) (sym n_is) h.places))
+    ∙ ap (λ m. free_column m (sparse_rows n k)) n_is
 
-pub returns-in_default-clause-none : goal.returns-in_default-clause-none
-returns-in_default-clause-none c =
+-- the kept row with its pivot at a column before the free one
+row_before : (n : ℕ) (k : KeptSparse) (free c i : ℕ) (x : Option ℕ) (y e : List Entry) →
+    AreKeptSparse n k → Some free ≡ free_column n (sparse_rows n k) → c < free →
+    x ≡ get_or k.places.items c x → x ≡ Some i → y ≡ get_or k.rows.items i y → e ≡ y →
+    IsSparsePivot n c i k e
+row_before n k free c i x y e h free_is before x_is is y_is e_is =
+    let below = free_below (sparse_rows n k) n free free_is in
+    sparse_pivot n k c i x y e h (omega arith) x_is is y_is e_is
+
+pub returns-in_default : goal.returns-in_default
+returns-in_default c =
     let s = c.self.inside in
     let no = no_kernel c.args.self.now (sparse_rows s.columns s.kept) s.columns
     (ap (λ d. d.kept) c.self.view_is)
     (ap (λ d. d.columns) c.self.view_is) c.self.invariant.kept.triangular
-    (free_read s.columns s.kept.log.items (map (dense s.columns) s.kept.rows.items) c.as_slice.result.now
-    s.kept.places.items None
-    c.in_default.ensures c.as_slice.ensures.value c.self.invariant.kept.places
-    (lines_too s.columns s.kept.log.items s.kept.rows.items c.self.invariant.kept.lines)) in
-    (λ e. no.full, λ full. refl)
-
-pub returns-in_default-clause-narrow : goal.returns-in_default-clause-narrow
-returns-in_default-clause-narrow c =
-    let s = c.self.inside in
-    let no = no_kernel c.args.self.now (sparse_rows s.columns s.kept) s.columns
-    (ap (λ d. d.kept) c.self.view_is)
-    (ap (λ d. d.columns) c.self.view_is) c.self.invariant.kept.triangular
-    (free_read s.columns s.kept.log.items (map (dense s.columns) s.kept.rows.items) c.as_slice.result.now
-    s.kept.places.items None
-    c.in_default.ensures c.as_slice.ensures.value c.self.invariant.kept.places
-    (lines_too s.columns s.kept.log.items s.kept.rows.items c.self.invariant.kept.lines)) in
-    no.narrow
+    (free_read s.columns s.kept c.as_slice.result.now None c.in_default.ensures
+    c.as_slice.ensures.value c.self.invariant.kept) in
+    record {
+      none = (λ e. no.full, λ full. refl);
+      value = tt;
+      narrow = no.narrow;
+      wide = λ e. absurd cc;
+      solves = tt;
+      some = tt;
+    }
 
 pub loop-column-init : goal.loop-column-init
 loop-column-init c =
-    solved_start (sparse_rows c.self.inside.columns c.self.inside.kept) c.self.inside.columns c.in-Some.free
-    c.in_ok-numbers.numbers.items c.in_ok-numbers.ensures
+    solved_start (sparse_rows c.self.inside.columns c.self.inside.kept) c.self.inside.columns
+    c.in-Some.free c.in_ok-numbers.numbers.items c.in_ok-numbers.ensures
 
 pub index-requires : goal.index-requires
 index-requires c =
     let s = c.self.inside in
-    let kept = sparse_rows s.columns s.kept in
-    let free_is = free_read s.columns s.kept.log.items (map (dense s.columns) s.kept.rows.items)
-    c.as_slice.result.now s.kept.places.items (Some c.in-Some.free)
-    c.in-Some.ensures c.as_slice.ensures.value c.self.invariant.kept.places
-    (lines_too s.columns s.kept.log.items s.kept.rows.items c.self.invariant.kept.lines) in
     let columns = c.self.invariant.kept.places.columns_are in
     let len = s.kept.places.ok.0 in
-    let below = free_below kept s.columns c.in-Some.free free_is in
+    let below = free_below (sparse_rows s.columns s.kept) s.columns c.in-Some.free
+    (free_read s.columns s.kept c.as_slice.result.now _ c.in-Some.ensures c.as_slice.ensures.value
+    c.self.invariant.kept) in
     omega arith
 
 pub index-requires-in-Some-index : goal.index-requires-in-Some-index
 index-requires-in-Some-index c =
     let s = c.self.inside in
-    let kept = sparse_rows s.columns s.kept in
-    let free_is = free_read s.columns s.kept.log.items (map (dense s.columns) s.kept.rows.items)
-    c.as_slice.result.now s.kept.places.items (Some c.in-Some.free)
-    c.in-Some.ensures c.as_slice.ensures.value c.self.invariant.kept.places
-    (lines_too s.columns s.kept.log.items s.kept.rows.items c.self.invariant.kept.lines) in
-    let below = free_below kept s.columns c.in-Some.free free_is in
+    let below = free_below (sparse_rows s.columns s.kept) s.columns c.in-Some.free
+    (free_read s.columns s.kept c.as_slice.result.now _ c.in-Some.ensures c.as_slice.ensures.value
+    c.self.invariant.kept) in
     let (inside, at) = place_there s.columns s.kept (c.loop-column.column - 1) c.in-Some-index.place
     c.index.result.now c.self.invariant.kept (omega arith) c.index.ensures c.in-Some-index.is in
     let len = s.kept.rows.ok.0 in
     omega arith
 
-pub solve_at-requires-clause-sparse : goal.solve_at-requires-clause-sparse
-solve_at-requires-clause-sparse c =
+pub solve_at-requires : goal.solve_at-requires
+solve_at-requires c =
     let s = c.self.inside in
-    let kept = sparse_rows s.columns s.kept in
-    let free_is = free_read s.columns s.kept.log.items (map (dense s.columns) s.kept.rows.items)
-    c.as_slice.result.now s.kept.places.items (Some c.in-Some.free)
-    c.in-Some.ensures c.as_slice.ensures.value c.self.invariant.kept.places
-    (lines_too s.columns s.kept.log.items s.kept.rows.items c.self.invariant.kept.lines) in
-    let below = free_below kept s.columns c.in-Some.free free_is in
-    let row = sparse_pivot s.columns s.kept (c.loop-column.column - 1) c.in-Some-index.place
-    c.index.result.now _ c.as_slice-in-Some-index.result.now c.self.invariant.kept (omega arith)
+    let e = c.as_slice-in-Some-index.result.now in
+    let free_is = free_read s.columns s.kept c.as_slice.result.now _ c.in-Some.ensures
+    c.as_slice.ensures.value c.self.invariant.kept in
+    let below = free_below (sparse_rows s.columns s.kept) s.columns c.in-Some.free free_is in
+    let row = row_before s.columns s.kept c.in-Some.free (c.loop-column.column - 1)
+    c.in-Some-index.place c.index.result.now _ e c.self.invariant.kept free_is (omega arith)
     c.index.ensures c.in-Some-index.is c.index-in-Some-index.ensures
     c.as_slice-in-Some-index.ensures in
     let w_is : length c.as_mut_slice.result.now ≡ s.columns = ap length c.as_mut_slice.ensures.value
     ∙ c.loop-column.invariant.columns in
-    subst (λ (n : ℕ). AreSparse n c.as_slice-in-Some-index.result.now) (sym w_is) row.sparse
-
-pub solve_at-requires-clause-within : goal.solve_at-requires-clause-within
-solve_at-requires-clause-within c =
-    let s = c.self.inside in
-    let kept = sparse_rows s.columns s.kept in
-    let free_is = free_read s.columns s.kept.log.items (map (dense s.columns) s.kept.rows.items)
-    c.as_slice.result.now s.kept.places.items (Some c.in-Some.free)
-    c.in-Some.ensures c.as_slice.ensures.value c.self.invariant.kept.places
-    (lines_too s.columns s.kept.log.items s.kept.rows.items c.self.invariant.kept.lines) in
-    let below = free_below kept s.columns c.in-Some.free free_is in
-    let row = sparse_pivot s.columns s.kept (c.loop-column.column - 1) c.in-Some-index.place
-    c.index.result.now _ c.as_slice-in-Some-index.result.now c.self.invariant.kept (omega arith)
-    c.index.ensures c.in-Some-index.is c.index-in-Some-index.ensures
-    c.as_slice-in-Some-index.ensures in
-    let w_is : length c.as_mut_slice.result.now ≡ s.columns = ap length c.as_mut_slice.ensures.value
-    ∙ c.loop-column.invariant.columns in
-    omega arith
-
-pub solve_at-requires-clause-zero : goal.solve_at-requires-clause-zero
-solve_at-requires-clause-zero c =
-    let s = c.self.inside in
-    let kept = sparse_rows s.columns s.kept in
-    let free_is = free_read s.columns s.kept.log.items (map (dense s.columns) s.kept.rows.items)
-    c.as_slice.result.now s.kept.places.items (Some c.in-Some.free)
-    c.in-Some.ensures c.as_slice.ensures.value c.self.invariant.kept.places
-    (lines_too s.columns s.kept.log.items s.kept.rows.items c.self.invariant.kept.lines) in
-    let below = free_below kept s.columns c.in-Some.free free_is in
-    let row = sparse_pivot s.columns s.kept (c.loop-column.column - 1) c.in-Some-index.place
-    c.index.result.now _ c.as_slice-in-Some-index.result.now c.self.invariant.kept (omega arith)
-    c.index.ensures c.in-Some-index.is c.index-in-Some-index.ensures
-    c.as_slice-in-Some-index.ensures in
-    let w_is : length c.as_mut_slice.result.now ≡ s.columns = ap length c.as_mut_slice.ensures.value
-    ∙ c.loop-column.invariant.columns in
-    subst (λ (n : ℕ). (k : ℕ) → k < c.loop-column.column - 1 →
-    at_column (dense n c.as_slice-in-Some-index.result.now) k ≡ pos 0) (sym w_is)
-    row.pivot.zero_before
-
-pub solve_at-requires-clause-positive : goal.solve_at-requires-clause-positive
-solve_at-requires-clause-positive c =
-    let s = c.self.inside in
-    let kept = sparse_rows s.columns s.kept in
-    let free_is = free_read s.columns s.kept.log.items (map (dense s.columns) s.kept.rows.items)
-    c.as_slice.result.now s.kept.places.items (Some c.in-Some.free)
-    c.in-Some.ensures c.as_slice.ensures.value c.self.invariant.kept.places
-    (lines_too s.columns s.kept.log.items s.kept.rows.items c.self.invariant.kept.lines) in
-    let below = free_below kept s.columns c.in-Some.free free_is in
-    let row = sparse_pivot s.columns s.kept (c.loop-column.column - 1) c.in-Some-index.place
-    c.index.result.now _ c.as_slice-in-Some-index.result.now c.self.invariant.kept (omega arith)
-    c.index.ensures c.in-Some-index.is c.index-in-Some-index.ensures
-    c.as_slice-in-Some-index.ensures in
-    let w_is : length c.as_mut_slice.result.now ≡ s.columns = ap length c.as_mut_slice.ensures.value
-    ∙ c.loop-column.invariant.columns in
-    subst (λ (n : ℕ). pos 0 <ℤ at_column (dense n c.as_slice-in-Some-index.result.now)
-    (c.loop-column.column - 1)) (sym w_is) row.pivot.positive
+    record {
+      sparse = subst (λ (n : ℕ). AreSparse n e) (sym w_is) row.sparse;
+      within = omega arith;
+      zero = subst (λ (n : ℕ). (k : ℕ) → k < c.loop-column.column - 1 →
+          at_column (dense n e) k ≡ pos 0) (sym w_is) row.pivot.zero_before;
+      positive = subst (λ (n : ℕ). pos 0 <ℤ at_column (dense n e) (c.loop-column.column - 1))
+          (sym w_is) row.pivot.positive;
+    }
 
 pub loop-column-preserved-in-Continue-branch-2 : goal.loop-column-preserved-in-Continue-branch-2
 loop-column-preserved-in-Continue-branch-2 c =
     let s = c.self.inside in
     let kept = sparse_rows s.columns s.kept in
-    let free_is = free_read s.columns s.kept.log.items (map (dense s.columns) s.kept.rows.items)
-    c.as_slice.result.now s.kept.places.items (Some c.in-Some.free)
-    c.in-Some.ensures c.as_slice.ensures.value c.self.invariant.kept.places
-    (lines_too s.columns s.kept.log.items s.kept.rows.items c.self.invariant.kept.lines) in
-    let below = free_below kept s.columns c.in-Some.free free_is in
-    let row = sparse_pivot s.columns s.kept (c.loop-column.column - 1) c.in-Some-index.place
-    c.index.result.now _ c.as_slice-in-Some-index.result.now c.self.invariant.kept (omega arith)
+    let e = c.as_slice-in-Some-index.result.now in
+    let free_is = free_read s.columns s.kept c.as_slice.result.now _ c.in-Some.ensures
+    c.as_slice.ensures.value c.self.invariant.kept in
+    let row = row_before s.columns s.kept c.in-Some.free (c.loop-column.column - 1)
+    c.in-Some-index.place c.index.result.now _ e c.self.invariant.kept free_is (omega arith)
     c.index.ensures c.in-Some-index.is c.index-in-Some-index.ensures
     c.as_slice-in-Some-index.ensures in
     let w_is : length c.as_mut_slice.result.now ≡ s.columns = ap length c.as_mut_slice.ensures.value
     ∙ c.loop-column.invariant.columns in
-    let e = c.as_slice-in-Some-index.result.now in
     let next : c.loop-column.column ≡ c.loop-column.column - 1 + 1 = omega arith in
     let before = subst (λ (m : ℕ). IsSolvedTo kept s.columns c.in-Some.free m
     c.loop-column.numbers.items)
@@ -191,18 +135,15 @@ pub returns-in_err-solve_at-clause-wide : goal.returns-in_err-solve_at-clause-wi
 returns-in_err-solve_at-clause-wide c =
     let s = c.self.inside in
     let kept = sparse_rows s.columns s.kept in
-    let free_is = free_read s.columns s.kept.log.items (map (dense s.columns) s.kept.rows.items)
-    c.as_slice.result.now s.kept.places.items (Some c.in-Some.free)
-    c.in-Some.ensures c.as_slice.ensures.value c.self.invariant.kept.places
-    (lines_too s.columns s.kept.log.items s.kept.rows.items c.self.invariant.kept.lines) in
-    let below = free_below kept s.columns c.in-Some.free free_is in
-    let row = sparse_pivot s.columns s.kept (c.loop-column.column - 1) c.in-Some-index.place
-    c.index.result.now _ c.as_slice-in-Some-index.result.now c.self.invariant.kept (omega arith)
+    let e = c.as_slice-in-Some-index.result.now in
+    let free_is = free_read s.columns s.kept c.as_slice.result.now _ c.in-Some.ensures
+    c.as_slice.ensures.value c.self.invariant.kept in
+    let row = row_before s.columns s.kept c.in-Some.free (c.loop-column.column - 1)
+    c.in-Some-index.place c.index.result.now _ e c.self.invariant.kept free_is (omega arith)
     c.index.ensures c.in-Some-index.is c.index-in-Some-index.ensures
     c.as_slice-in-Some-index.ensures in
     let w_is : length c.as_mut_slice.result.now ≡ s.columns = ap length c.as_mut_slice.ensures.value
     ∙ c.loop-column.invariant.columns in
-    let e = c.as_slice-in-Some-index.result.now in
     let next : c.loop-column.column ≡ c.loop-column.column - 1 + 1 = omega arith in
     let before = subst (λ (m : ℕ). IsSolvedTo kept s.columns c.in-Some.free m
     c.loop-column.numbers.items)
@@ -222,82 +163,29 @@ pub loop-column-preserved : goal.loop-column-preserved
 loop-column-preserved c =
     let s = c.self.inside in
     let kept = sparse_rows s.columns s.kept in
-    let free_is = free_read s.columns s.kept.log.items (map (dense s.columns) s.kept.rows.items)
-    c.as_slice.result.now s.kept.places.items (Some c.in-Some.free)
-    c.in-Some.ensures c.as_slice.ensures.value c.self.invariant.kept.places
-    (lines_too s.columns s.kept.log.items s.kept.rows.items c.self.invariant.kept.lines) in
+    let free_is = free_read s.columns s.kept c.as_slice.result.now _ c.in-Some.ensures
+    c.as_slice.ensures.value c.self.invariant.kept in
     let below = free_below kept s.columns c.in-Some.free free_is in
     let none = none_there s.columns s.kept (c.loop-column.column - 1) c.index.result.now
     c.self.invariant.kept (omega arith) c.index.ensures c.in_default-index.is in
     absurd (row_there kept s.columns c.in-Some.free (c.loop-column.column - 1) free_is (omega arith)
     none)
 
-pub returns-clause-none : goal.returns-clause-none
-returns-clause-none c =
+pub returns : goal.returns
+returns c =
     let s = c.self.inside in
-    let kept = sparse_rows s.columns s.kept in
-    let free_is = free_read s.columns s.kept.log.items (map (dense s.columns) s.kept.rows.items)
-    c.as_slice.result.now s.kept.places.items (Some c.in-Some.free)
-    c.in-Some.ensures c.as_slice.ensures.value c.self.invariant.kept.places
-    (lines_too s.columns s.kept.log.items s.kept.rows.items c.self.invariant.kept.lines) in
-    let end = solved_end c.args.self.now kept s.columns c.in-Some.free c.loop-column.column
+    let free_is = free_read s.columns s.kept c.as_slice.result.now _ c.in-Some.ensures
+    c.as_slice.ensures.value c.self.invariant.kept in
+    let end = solved_end c.args.self.now (sparse_rows s.columns s.kept) s.columns c.in-Some.free
+    c.loop-column.column
     c.loop-column.numbers.items (ap (λ d. d.kept) c.self.view_is)
     (ap (λ d. d.columns) c.self.view_is) c.self.invariant.kept.triangular free_is
     c.loop-column.invariant (omega arith) in
-    (λ e. absurd cc, λ full. absurd (end.some full))
-
-pub returns-clause-value : goal.returns-clause-value
-returns-clause-value c =
-    let s = c.self.inside in
-    let kept = sparse_rows s.columns s.kept in
-    let free_is = free_read s.columns s.kept.log.items (map (dense s.columns) s.kept.rows.items)
-    c.as_slice.result.now s.kept.places.items (Some c.in-Some.free)
-    c.in-Some.ensures c.as_slice.ensures.value c.self.invariant.kept.places
-    (lines_too s.columns s.kept.log.items s.kept.rows.items c.self.invariant.kept.lines) in
-    let end = solved_end c.args.self.now kept s.columns c.in-Some.free c.loop-column.column
-    c.loop-column.numbers.items (ap (λ d. d.kept) c.self.view_is)
-    (ap (λ d. d.columns) c.self.view_is) c.self.invariant.kept.triangular free_is
-    c.loop-column.invariant (omega arith) in
-    end.value
-
-pub returns-clause-narrow : goal.returns-clause-narrow
-returns-clause-narrow c =
-    let s = c.self.inside in
-    let kept = sparse_rows s.columns s.kept in
-    let free_is = free_read s.columns s.kept.log.items (map (dense s.columns) s.kept.rows.items)
-    c.as_slice.result.now s.kept.places.items (Some c.in-Some.free)
-    c.in-Some.ensures c.as_slice.ensures.value c.self.invariant.kept.places
-    (lines_too s.columns s.kept.log.items s.kept.rows.items c.self.invariant.kept.lines) in
-    let end = solved_end c.args.self.now kept s.columns c.in-Some.free c.loop-column.column
-    c.loop-column.numbers.items (ap (λ d. d.kept) c.self.view_is)
-    (ap (λ d. d.columns) c.self.view_is) c.self.invariant.kept.triangular free_is
-    c.loop-column.invariant (omega arith) in
-    end.narrow
-
-pub returns-clause-solves : goal.returns-clause-solves
-returns-clause-solves c =
-    let s = c.self.inside in
-    let kept = sparse_rows s.columns s.kept in
-    let free_is = free_read s.columns s.kept.log.items (map (dense s.columns) s.kept.rows.items)
-    c.as_slice.result.now s.kept.places.items (Some c.in-Some.free)
-    c.in-Some.ensures c.as_slice.ensures.value c.self.invariant.kept.places
-    (lines_too s.columns s.kept.log.items s.kept.rows.items c.self.invariant.kept.lines) in
-    let end = solved_end c.args.self.now kept s.columns c.in-Some.free c.loop-column.column
-    c.loop-column.numbers.items (ap (λ d. d.kept) c.self.view_is)
-    (ap (λ d. d.columns) c.self.view_is) c.self.invariant.kept.triangular free_is
-    c.loop-column.invariant (omega arith) in
-    end.solves
-
-pub returns-clause-some : goal.returns-clause-some
-returns-clause-some c =
-    let s = c.self.inside in
-    let kept = sparse_rows s.columns s.kept in
-    let free_is = free_read s.columns s.kept.log.items (map (dense s.columns) s.kept.rows.items)
-    c.as_slice.result.now s.kept.places.items (Some c.in-Some.free)
-    c.in-Some.ensures c.as_slice.ensures.value c.self.invariant.kept.places
-    (lines_too s.columns s.kept.log.items s.kept.rows.items c.self.invariant.kept.lines) in
-    let end = solved_end c.args.self.now kept s.columns c.in-Some.free c.loop-column.column
-    c.loop-column.numbers.items (ap (λ d. d.kept) c.self.view_is)
-    (ap (λ d. d.columns) c.self.view_is) c.self.invariant.kept.triangular free_is
-    c.loop-column.invariant (omega arith) in
-    end.positive
+    record {
+      none = (λ e. absurd cc, λ full. absurd (end.some full));
+      value = end.value;
+      narrow = end.narrow;
+      wide = λ e. absurd cc;
+      solves = end.solves;
+      some = end.positive;
+    }

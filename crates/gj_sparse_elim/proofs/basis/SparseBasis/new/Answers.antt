@@ -20,10 +20,12 @@ invariant_of-result c = record {
     triangular = subst (AreTriangular c.args.columns)
         (sym (ap₂ (kept_sparse c.args.columns) c.new.ensures.items c.new-2.ensures.items))
         (no_rows_triangular c.args.columns);
-    places = subst (λ (ls : List LogRow). ArePlaces c.args.columns ls c.in_ok-no_places.field-0.items)
+    places = subst (λ (ls : List LogRow). ArePlaces c.args.columns ls
+        c.in_ok-no_places.field-0.items)
         (sym c.new.ensures.items)
         c.in_ok-no_places.ensures;
-    bounds = no_bounds c.args.columns c.new-2.result.items c.new-3.result.items c.new-2.ensures.items
+    bounds = no_bounds c.args.columns c.new-2.result.items c.new-3.result.items
+        c.new-2.ensures.items
         c.new-3.ensures.items;
     narrow = c.ranges.columns.fits;
   };
