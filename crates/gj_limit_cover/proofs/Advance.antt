@@ -15,8 +15,9 @@ use Rattle.gj_loops.specs.declared.index_set.IndexSet.{IndexSet}
 use Rattle.gj_cover.specs.Progress.{unnumbered}
 use Rattle.gj_limit_cover.specs.Progress.{IsProgress, AreClasses}
 use Rattle.gj_limit_cover.specs.declared.progress.Progress.{Progress}
-use Rattle.gj_limit_cover.proofs.NextLines.{next_to, in_turn, numbers, joined_classes, opened_classes, near_more, free_more, one_less, from_below}
-use Rattle.gj_limit_cover.proofs.Pending.{read}
+use Rattle.gj_limit_cover.proofs.NextLines.{next_to, in_turn, numbers, joined_classes, opened_classes, near_more, from_below}
+use Rattle.gj_cover.proofs.NextLines.{free_more, one_less}
+use Rattle.gj_cover.proofs.Pending.{read}
 
 -- the state is the old one with one more line, but for the count
 pub record HasLineMore (q : ℕ) (T : FaceKind → ℕ → ℕ → ℕ →

@@ -3,7 +3,7 @@ use Rattle.std.proofs.Common.{◌≡◌, ◌≢◌, ℕ, ◌%◌, ◌<◌, ◌�
 use Rattle.std.specs.List.{Contains}
 use Rattle.std.specs.List.Sorted.{IsStrictlyIncreasing}
 use Rattle.std.proofs.Math.Nat.{mod-lt, mod-eq_of_lt}
-use Rattle.std.proofs.lemmas.Bool.{cases_order, cases_Bool, and_parts, and_from, and_right, or_cases, or_left, or_right, or_from, not-true, not_from_true, not_from_false, eqb-false, eqb-true, eq-eqb, ne_eqb}
+use Rattle.std.proofs.lemmas.Bool.{cases_Bool, and_parts, and_from, and_right, or_cases, or_left, or_right, or_from, not-true, not_from_true, not_from_false, eqb-false, eqb-true, eq-eqb, ne_eqb}
 use Rattle.gj_shape.specs.declared.faces.FaceKind.{FaceKind}
 use Rattle.gj_loops.specs.IndexSets.{has, IsFirst}
 use Rattle.gj_loops.specs.declared.index_set.IndexSet.{IndexSet}
@@ -15,22 +15,13 @@ use Rattle.gj_limit_cover.specs.declared.reached.Reached.{Reached}
 use Rattle.gj_limit_cover.proofs.Ends.{joined_rests}
 use Rattle.gj_limit_cover.proofs.Joining.{joined_turned, leads_turned}
 use Rattle.gj_limit_cover.proofs.Joining.{leads_on, covered_on}
+use Rattle.gj_cover.proofs.Classes.{one_least}
 use Rattle.gj_cover.proofs.Counts.{fewer_below}
 
 -- ---- the least uncovered interval
 
 abbrev pub IsUncovered : ℕ → (FaceKind → ℕ → ℕ → ℕ → Type 0) → ℕ → Type 0
 IsUncovered q T i = (i < q) × (IsCovered q T i → ⊥)
-
--- there is one least
-pub one_least : (P : ℕ → Type 0) (a b : ℕ) → IsLeastFrom 0 P a → IsLeastFrom 0 P b → a ≡ b
-one_least P a b h k = elim (cases_order a b) [
-  | inl e ↦ e
-  | inr d ↦ elim d [
-    | inl below ↦ absurd (k.least a (omega arith) below h.holds)
-    | inr above ↦ absurd (h.least b (omega arith) above k.holds)
-  ]
-]
 
 -- no interval is uncovered
 pub none_uncovered : (q : ℕ) (T : FaceKind → ℕ → ℕ → ℕ → Type 0) (free : IndexSet) (list : List ℕ) →

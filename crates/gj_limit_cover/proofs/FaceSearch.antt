@@ -1,5 +1,5 @@
 -- The first of the faces that join two intervals.
-use Rattle.std.proofs.Common.{◌≡◌, ℕ, ◌+◌, ◌%◌, ◌<◌, ◌⊎◌, Bool, true, false, Option, Some, None, IfSome, IfNone, inl, inr, refl, sym, ap, subst, ◌∙◌, arith}
+use Rattle.std.proofs.Common.{◌≡◌, ℕ, ◌+◌, ◌%◌, ◌<◌, ◌⊎◌, Bool, Option, Some, None, IfSome, IfNone, inl, inr, refl, sym, ap, subst, ◌∙◌, arith}
 use Rattle.std.proofs.Math.Nat.{mod-lt, mod-mod, mod-eq_of_lt}
 use Rattle.gj_faces.proofs.Periods.{same_sum}
 use Rattle.gj_cover.specs.FirstFound.{AddsFirst, IsFaceReached}
@@ -10,7 +10,7 @@ use Rattle.gj_shape.specs.declared.faces.Face.{Face}
 use Rattle.gj_shape.specs.declared.faces.FaceKind.{FaceKind}
 use Rattle.gj_shape.specs.declared.faces.FaceKind.TheVariants.{Vertex, Horizontal, Vertical, Diagonal, Lower, Upper}
 use Rattle.gj_limit_cover.specs.FirstFaces.{LinksAs, IsOneOfThree, IsSquareBelow}
-use Rattle.gj_limit_cover.specs.LimitCover.{LinksBy, JoinsAs, AreJoined, IsJoiningFace}
+use Rattle.gj_limit_cover.specs.LimitCover.{LinksBy, JoinsAs}
 use Rattle.gj_limit_cover.proofs.Complexes.{IsComplex}
 use Rattle.gj_limit_cover.proofs.LinkRows.{one_place}
 use Rattle.gj_limit_cover.proofs.Reductions.{joins_reduced}
@@ -189,17 +189,3 @@ joining_none q T complex some asked i j x (Some f) h k = tt
 joining_none q T complex some asked i j x None h k = λ kind a b p.
     reached q T asked i j x None h k kind (a % q) (b % q) (mod-lt a some) (mod-lt b some)
     (joins_reduced q T complex asked i j kind a b p)
-
--- ---- faces with all corners tight come first
-
-pub second_choice : (q : ℕ) (T : FaceKind → ℕ → ℕ → ℕ → Type 0) (i j : ℕ) (r : Option Face) →
-    ((kind : FaceKind) (a b : ℕ) → JoinsAs q T true i j kind a b → ⊥) →
-    IfSome r (IsFirstFace q (JoinsAs q T false i j)) → IfSome r (IsJoiningFace q T i j)
-second_choice q T i j None none h = tt
-second_choice q T i j (Some f) none h = inr (none, h)
-
-pub not_joined : (q : ℕ) (T : FaceKind → ℕ → ℕ → ℕ → Type 0) (i j : ℕ) (r : Option Face) →
-    IfNone r ((kind : FaceKind) (a b : ℕ) → JoinsAs q T false i j kind a b → ⊥) →
-    IfNone r (AreJoined q T i j → ⊥)
-not_joined q T i j (Some f) h = tt
-not_joined q T i j None h = λ (kind, a, b, l). h kind a b ((λ e. absurd cc), l)

@@ -1,9 +1,8 @@
 -- What one more cover line changes.
-use Rattle.std.proofs.Common.{◌≡◌, ◌≢◌, ℕ, ◌⊎◌, ◌+◌, ◌%◌, ◌<◌, List, [], ◌∷◌, ◌++◌, length, get_or, ◌&&◌, ◌||◌, not, eqb, IsTrue, Option, Some, None, cond, refl, sym, ap, ◌∙◌, subst, inl, inr, arith}
-use Rattle.std.specs.Option.{unwrap_or, is_none}
+use Rattle.std.proofs.Common.{◌≡◌, ◌≢◌, ℕ, ◌⊎◌, ◌+◌, ◌%◌, ◌<◌, List, [], ◌∷◌, ◌++◌, length, ◌||◌, IsTrue, Option, Some, None, refl, sym, ap, ◌∙◌, subst, inl, inr, arith}
+use Rattle.std.specs.Option.{unwrap_or}
 use Rattle.std.proofs.Math.ListN.{set}
-use Rattle.std.proofs.lemmas.Bool.{or_cases, or_left, and_parts, and_from, not-true, not_from_false, eqb-false, ne_eqb}
-use Rattle.std.proofs.lemmas.List.Sums.{sum_by-set}
+use Rattle.std.proofs.lemmas.Bool.{or_cases, or_left}
 use Rattle.gj_shape.specs.declared.faces.FaceKind.{FaceKind}
 use Rattle.gj_shape.specs.Cover.{HasComponent, opened, joined, components_in}
 use Rattle.gj_limit_cover.specs.LimitCover.{AreJoined, IsDirectlyCovered, LeadsTo, here, onward, IsCovered, JoinsLines, IsNextLine}
@@ -11,9 +10,9 @@ use Rattle.gj_shape.specs.declared.extremality.CoverLine.{CoverLine}
 use Rattle.gj_cover.specs.CoverOf.{number_at}
 use Rattle.gj_loops.specs.IndexSets.{has}
 use Rattle.gj_loops.specs.declared.index_set.IndexSet.{IndexSet}
-use Rattle.gj_cover.specs.Progress.{AreNumbered, AreFree, unnumbered}
+use Rattle.gj_cover.specs.Progress.{AreNumbered}
 use Rattle.gj_limit_cover.specs.Progress.{AreInTurn, AreClasses, AreNear}
-use Rattle.gj_cover.proofs.LineLists.{split_end, component_stays, line_number, number_line, no_number, no_line, number_same, number_other, number_from, none_from, number_stays, number_within}
+use Rattle.gj_cover.proofs.LineLists.{split_end, component_stays, line_number, number_line, no_number, no_line, number_same, number_from, none_from, number_stays, number_within}
 use Rattle.gj_limit_cover.proofs.Joining.{joined_turned, leads_turned}
 use Rattle.gj_limit_cover.proofs.Joining.{covered_on, covered_directly}
 
@@ -375,33 +374,6 @@ near_more q T lines c near linked new l m len h h' in' free before told whole is
             ],
       );
 }
-
-pub free_more : (q : ℕ) (c : List (Option ℕ)) (old new : IndexSet) (x m : ℕ) → x < length c →
-    AreFree q c old →
-    ((k : ℕ) → has new k ≡ (has old k && not (eqb k x))) → AreFree q (set c x (Some m)) new
-free_more q c old new x m within h is = record {
-  each = λ i. (
-    λ e.
-        let both = and_parts (has old i) (not (eqb i x)) (sym (is i) ∙ e) in
-        let at = (h.each i).0 both.0 in
-        let other = eqb-false i x (not-true (eqb i x) both.1) in
-        (at.0, number_other c x m i other ∙ at.1),
-    λ (below, none).
-        let at = none_from c x m i within none in
-        is i ∙ and_from (has old i) (not (eqb i x)) ((h.each i).1 (below, at.1))
-        (not_from_false (eqb i x) (ne_eqb i x at.0)),
-  );
-}
-
--- ---- how many have no number
-
-pub one_less : (c : List (Option ℕ)) (x m : ℕ) → x < length c → number_at c x ≡ None →
-    unnumbered (set c x (Some m)) + 1 ≡ unnumbered c
-one_less c x m within free =
-    let sums = sum_by-set (λ o. cond (is_none o) 1 0) c x (Some m) None within in
-    let was : ◌≡◌ {A = ℕ} (cond (is_none (get_or c x None)) 1 0) 1 = ap (λ o. cond (is_none o) 1 0)
-    free in
-    omega (arith, sums, was)
 
 -- ---- the interval from which a line joins
 

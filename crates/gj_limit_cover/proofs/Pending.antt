@@ -1,12 +1,11 @@
 -- What is read from the lists of numbers, and where the search for lines begins and goes on.
-use Rattle.std.proofs.Common.{◌≡◌, ℕ, ◌<◌, ◌≤◌, ◌↔◌, ◌&&◌, ltb, List, [], length, get_or, Bool, true, false, not, IsTrue, Option, Some, None, replicate, refl, sym, ap, ◌∙◌, inl, inr, arith}
-use Rattle.std.specs.Option.{is_some, is_none}
+use Rattle.std.proofs.Common.{◌≡◌, ℕ, ◌<◌, ◌≤◌, ◌↔◌, ◌&&◌, ltb, List, [], length, get_or, true, false, not, IsTrue, Option, None, replicate, refl, sym, ap, ◌∙◌, inl, inr, arith}
+use Rattle.std.specs.Option.{is_none}
 use Rattle.std.proofs.lemmas.List.Sums.{count_by-le-length}
 use Rattle.gj_shape.specs.declared.faces.FaceKind.{FaceKind}
 use Rattle.gj_limit_cover.specs.declared.progress.Progress.{Progress}
 use Rattle.std.proofs.Math.ListN.{length-replicate}
-use Rattle.std.proofs.lemmas.Bool.{cases_lt, ltb-true, lt-ltb, and_parts, and_from, not-true, not_from_false, false_from_ne_true}
-use Rattle.std.proofs.lemmas.List.{get_or_default, get_or_past, get_or-replicate}
+use Rattle.std.proofs.lemmas.Bool.{and_parts, and_from, not-true, not_from_false, false_from_ne_true}
 use Rattle.gj_loops.specs.IndexSets.{has, IsFirst}
 use Rattle.gj_loops.specs.declared.index_set.IndexSet.{IndexSet}
 use Rattle.gj_shape.specs.Cover.{IsFirstFace}
@@ -17,35 +16,10 @@ use Rattle.gj_shape.specs.declared.faces.Face.{Face}
 use Rattle.gj_cover.specs.CoverOf.{number_at}
 use Rattle.gj_cover.specs.Progress.{AreNumbered, AreFree}
 use Rattle.gj_limit_cover.specs.Progress.{IsProgress, AreInTurn, AreClasses, AreNear}
+use Rattle.gj_cover.proofs.Pending.{free_none, all_none, numbered_none}
 use Rattle.gj_cover.proofs.LineLists.{no_end, no_number, no_line, number_cases, number_line, line_number}
 
--- ---- reads
-
-pub read : (xs : List (Option ℕ)) (i : ℕ) (o : Option ℕ) → i < length xs → o ≡ get_or xs i o →
-    number_at xs i ≡ o
-read xs i o within e = sym (e ∙ get_or_default xs i o None within)
-
-pub is_free : (o : Option ℕ) (b : Bool) → is_some o ≡ not b → b ≡ true → o ≡ None
-is_free None b e t = refl
-is_free (Some n) b e t = let clash : true ≡ not true = e ∙ ap not t in absurd (cc)
-
 -- ---- the beginning
-
-pub all_none : (n i : ℕ) → number_at (replicate n None) i ≡ None
-all_none n i = elim (cases_lt i n) [
-  | inl below ↦ get_or-replicate n i None None below
-  | inr past ↦
-      let long = length-replicate {A = Option ℕ} n None in
-      get_or_past (replicate n None) i None (let le : length (replicate {A = Option ℕ} n None) ≤
-      i = omega arith in le)
-]
-
-pub numbered_none : (c : List (Option ℕ)) → ((i : ℕ) → number_at c i ≡ None) → AreNumbered [] c
-numbered_none c none = record {
-  opened = λ before l after e same. absurd (no_end before l after e);
-  joined = λ before l after e other. absurd (no_end before l after e);
-  shown = λ i n e. let free = none i in absurd (cc (e, free));
-}
 
 pub turn_none : (q : ℕ) (T : FaceKind → ℕ → ℕ → ℕ → Type 0) → AreInTurn q T []
 turn_none q T = record { each = λ before l after e. absurd (no_end before l after e) }
@@ -64,12 +38,6 @@ classes_none q T c none = record {
 no_lines : (i : ℕ) → ((k : ℕ) × (x : CoverLine) × (k < length {A = CoverLine} []) × (get_or [] k
     x ≡ x) × (x.interval ≡ i)) → ⊥
 no_lines i (k, x, below, is, e) = omega arith
-
-pub free_none : (q : ℕ) (c : List (Option ℕ)) (free : IndexSet) → ((i : ℕ) → number_at c i ≡ None) →
-    ((i : ℕ) → has free i ≡ ltb i q) → AreFree q c free
-free_none q c free none is = record {
-  each = λ i. (λ e. (ltb-true i q (sym (is i) ∙ e), none i), λ (below, _). is i ∙ lt-ltb i q below);
-}
 
 pub near_none : (q : ℕ) (T : FaceKind → ℕ → ℕ → ℕ →
     Type 0) (c : List (Option ℕ)) (near : IndexSet) → ((i : ℕ) → has near i ≡ false) →
@@ -102,12 +70,6 @@ near_joined q T lines c free near i j h f n at =
     let none = no_number lines c i h at.no_line in
     and_from (has near i) (has free i) ((n.each i at.first_within none).1 (j, at))
     ((f.each i).1 (at.first_within, none))
-
-pub is_open : (q : ℕ) (c : List (Option ℕ)) (free near set : IndexSet) (x : ℕ) → AreFree q c free →
-    ((i : ℕ) → has set i ≡ (has near i && has free i)) → IsFirst set 0 x →
-    (x < q) × (number_at c x ≡ None)
-is_open q c free near set x f is first = (f.each x).0 (and_parts (has near x) (has free x)
-    (sym (is x) ∙ first.found)).1
 
 -- the least of them
 pub next_interval : (q : ℕ) (T : FaceKind → ℕ → ℕ → ℕ →

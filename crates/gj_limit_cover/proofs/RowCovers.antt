@@ -449,13 +449,6 @@ upper_found q T a i b low h not d = record {
 abbrev pub NoneInRows : ℕ → (FaceKind → ℕ → ℕ → ℕ → Type 0) → ℕ → ℕ → Type 0
 NoneInRows q T i n = (kind : FaceKind) (a b : ℕ) → a < n → b < q → Covers q T kind a b i → ⊥
 
-pub none_in_rows : (q : ℕ) (T : FaceKind → ℕ → ℕ → ℕ → Type 0) (i n : ℕ) → NoneInRows q T i n →
-    FindsFirst (IsInRow q n) (λ kind c b. Covers q T kind c b i) None → NoneInRows q T i (n + 1)
-none_in_rows q T i n h none kind a b low below d = elim (cases_lt a n) [
-  | inl before ↦ h kind a b before below d
-  | inr last ↦ none kind a b ((let same : a ≡ n = omega arith in same), below) d
-]
-
 pub row_found : (q : ℕ) (T : FaceKind → ℕ → ℕ → ℕ → Type 0) (i n : ℕ) (f : Face) → n < q →
     NoneInRows q T i n →
     FindsFirst (IsInRow q n) (λ kind c b. Covers q T kind c b i) (Some f) →

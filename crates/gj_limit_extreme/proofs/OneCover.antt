@@ -13,7 +13,7 @@ use Rattle.gj_shape.specs.declared.faces.Face.{Face}
 use Rattle.gj_shape.specs.declared.faces.FaceKind.{FaceKind}
 use Rattle.gj_jumps.specs.LimitCover.{IsTightAt}
 use Rattle.gj_limit_cover.specs.LimitCover.{JoinsAs, Covers, JoinsLines, IsJoiningFace, IsOpen, IsNextLine, AreCoverLines}
-use Rattle.gj_limit_cover.proofs.Classes.{one_least}
+use Rattle.gj_cover.proofs.Classes.{one_least}
 use Rattle.gj_limit_system.proofs.Components.{length_is, number_is}
 use Rattle.gj_limit_extreme.specs.Decision.{AreAllCovered}
 

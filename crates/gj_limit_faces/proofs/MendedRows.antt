@@ -1,6 +1,6 @@
 -- Rows of limits that are made of a row of values.
-use Rattle.std.proofs.Common.{◌≡◌, ◌≢◌, ◌↔◌, ◌⊎◌, ℕ, ◌+◌, ◌-◌, ◌%◌, ◌<◌, ◌≤◌, pos, Bool, true, eqb, cond, List, [], ◌∷◌, ◌++◌, length, get_or, inl, inr, refl, sym, ap, subst, ◌∙◌, arith}
-use Rattle.std.proofs.Math.Nat.{mod-eq_of_lt, mod-add-mod, add-mod_right}
+use Rattle.std.proofs.Common.{◌≡◌, ◌≢◌, ◌↔◌, ◌⊎◌, ℕ, ◌+◌, ◌%◌, ◌<◌, pos, Bool, true, eqb, cond, List, [], ◌∷◌, ◌++◌, length, get_or, inl, inr, refl, sym, ap, subst, ◌∙◌, arith}
+use Rattle.std.proofs.Math.Nat.{mod-add-mod}
 use Rattle.std.proofs.lemmas.Bool.{cases_lt, cases_eq, eq-eqb, ne_eqb}
 use Rattle.std.proofs.lemmas.List.{get_or_append_left, get_or_push, length_push}
 use Rattle.std.proofs.lemmas.Nat.{mod_below}
@@ -14,34 +14,6 @@ use Rattle.gj_limit_faces.specs.declared.terms.Side.{Side}
 use Rattle.gj_limit_faces.specs.declared.terms.Side.TheVariants.{Left, Value, Right}
 use Rattle.gj_limit_faces.specs.declared.terms.Terms.{Terms}
 use Rattle.gj_limit_faces.proofs.RowSets.{Tells}
-
--- what a sum modulo q says of it
-sum_is : (q b by index : ℕ) → by < q → b < q → (b + by) % q ≡ index →
-    (b + by ≡ index) ⊎ (b + by ≡ index + q)
-sum_is q b by index by_low low is = elim (cases_lt (b + by) q) [
-  | inl small ↦ inl (sym (mod-eq_of_lt small) ∙ is)
-  | inr large ↦
-      let whole : b + by - q + q ≡ b + by = omega (arith, large) in
-      let less : b + by - q < q = omega (arith, by_low, low, large) in
-      let rest : b + by - q ≡ index =
-      sym (mod-eq_of_lt less) ∙ sym (add-mod_right (b + by - q) q) ∙ ap (λ k. k % q) whole ∙ is in
-      inr (omega (arith, rest, large))
-]
-
--- the one index from which a step leads to another
-pub before_low : (q b by index : ℕ) → by < q → by ≤ index → b < q → (b + by) % q ≡ index →
-    b ≡ index - by
-before_low q b by index by_low most low is = elim (sum_is q b by index by_low low is) [
-  | inl e ↦ omega (arith, e)
-  | inr e ↦ absurd (omega (arith, e, low, most))
-]
-
-pub before_high : (q b by index : ℕ) → by < q → index < by → b < q → (b + by) % q ≡ index →
-    b ≡ index + q - by
-before_high q b by index by_low most low is = elim (sum_is q b by index by_low low is) [
-  | inl e ↦ absurd (omega (arith, e, most))
-  | inr e ↦ omega (arith, e)
-]
 
 -- one more point at which the function may jump
 pub jumps_more : (f : FunctionData) (jumps : List ℕ) (i : ℕ) →
@@ -224,10 +196,3 @@ module _ (f : FunctionData) (bounds : IsWithinBounds f) where
           let whole : a + t.right + t.above + d ≡ a + t.right + (d + t.above) = omega arith in
           other (at_c d low (ap (λ k. k % f.order) turned
           ∙ mod-add-mod (a + t.right + t.above) f.order d ∙ ap (λ k. k % f.order) whole ∙ sum))
-
--- all is mended
-pub mended_all : (f : FunctionData) (t : Terms) (a n : ℕ) (jumps : List ℕ) (set : IndexSet) →
-    IsMended f t a jumps n set → length jumps ≤ n → (b : ℕ) →
-    Tells (has set b) b f.order (limit_by f t a b ≡ pos 0)
-mended_all f t a n jumps set done past b =
-    done.each b (λ m most below touched. omega (arith, past, most, below))

@@ -1,5 +1,6 @@
 use Rattle.gj_jumps.specs.LimitCover.{IsTightAt}
-use Rattle.gj_limit_cover.proofs.Pending.{none_pending, next_interval, next_from, none_from_it, is_open}
+use Rattle.gj_cover.proofs.Pending.{is_open}
+use Rattle.gj_limit_cover.proofs.Pending.{none_pending, next_interval, next_from, none_from_it}
 use Rattle.gj_limit_cover.proofs.progress.Progress.next_joined.Goals as goal
 
 pub returns-in_default-clause-none : goal.returns-in_default-clause-none
