@@ -3,6 +3,7 @@ use Rattle.std.proofs.Common.{◌≡◌, ℕ, ◌%◌, ◌<◌, Some, sym, ap, �
 use Rattle.std.proofs.Math.Nat.{mod-mod, mod-lt, mod-eq_of_lt}
 use Rattle.gj_shape.specs.Cover.{AreJoined, IsDirectlyCovered, LeadsTo, here, onward, IsCovered, AreCoverLines}
 use Rattle.gj_cover.specs.CoverOf.{number_at, AreComponents}
+use Rattle.gj_cover.specs.Linking.{tight_linking}
 use Rattle.gj_cover.specs.Progress.{IsProgress, IsComplete}
 use Rattle.gj_cover.specs.Reached.{AreUncovered}
 use Rattle.gj_cover.specs.declared.progress.Progress.{Progress}
@@ -67,7 +68,7 @@ covered_number q T p i below h end (j, direct, list) =
 
 pub uncovered : (q : ℕ) (T : ℕ → ℕ → Type 0) (p : Progress) → IsProgress q T p →
     IsComplete q T p.lines.items →
-    AreUncovered q T p.free
+    AreUncovered (tight_linking q T) p.free
 uncovered q T p h end = record {
   within = λ i e. ((h.free.each i).0 e).0;
   none = λ i e covered.

@@ -1,5 +1,6 @@
 pub mod Parts
 pub mod Joining
+pub mod Linked
 pub mod Edges
 pub mod WalkPlaces
 pub mod Onto

@@ -4,6 +4,7 @@ pub mod Sides
 pub mod Mirrored
 pub mod Table
 pub mod FirstFound
+pub mod Linking
 pub mod Links
 pub mod Progress
 pub mod Reached

@@ -4,6 +4,7 @@ ghost use Rattle.std.specs.List.Sorted.{IsStrictlyIncreasing};
 ghost use Rattle.gj_loops.specs.IndexSets.{has};
 ghost use Rattle.gj_shape.specs.Limits.{greatest_order};
 ghost use Rattle.gj_cover.specs.CoverOf.{IsLeastClass};
+ghost use Rattle.gj_cover.specs.Linking.{tight_linking};
 ghost use Rattle.gj_cover.specs.Reached.{AreUncovered};
 ghost use Rattle.gj_cover.specs.Table.{IsTightInTable};
 
@@ -19,7 +20,7 @@ pub(crate) fn least_class(
     table: &Table,
     free: &IndexSet,
 ) -> Result<Vec<u32>, AllocError>
-    requires { AreUncovered table.now.order (IsTightInTable table.now) free.now }
+    requires { AreUncovered (tight_linking table.now.order (IsTightInTable table.now)) free.now }
     ensures { IfOk result (λ v. IsLeastClass table.now.order (IsTightInTable table.now) v.items) }
 {
     let Some(least) = free.first() else {

@@ -2,6 +2,7 @@
 ghost use Rattle.std.specs.Prelude.{ℕ, ◌↔◌, ◌<◌, IsTrue};
 ghost use Rattle.gj_loops.specs.IndexSets.{has};
 ghost use Rattle.gj_shape.specs.Cover.{IsInClassOf};
+ghost use Rattle.gj_cover.specs.Linking.{tight_linking};
 ghost use Rattle.gj_cover.specs.Table.{IsTightInTable};
 
 use crate::joined::joined;
@@ -17,11 +18,11 @@ pub(crate) struct Reached {
 }
 
 impl Reached {
-    ghost use Rattle.gj_cover.specs.Reached.{AreUncovered, AreReached, IsReachedFrom};
+    ghost use Rattle.gj_cover.specs.Reached.{reached_data, AreUncovered, AreReached, IsReachedFrom};
 
     /// The class of an interval that is not covered, if the free intervals are the uncovered ones.
     pub(crate) fn from(table: &Table, free: &IndexSet, start: u32) -> IndexSet
-        requires uncovered { AreUncovered table.now.order (IsTightInTable table.now) free.now }
+        requires uncovered { AreUncovered (tight_linking table.now.order (IsTightInTable table.now)) free.now }
         requires start { IsTrue (has free.now start) }
         ensures { (i : ℕ) →
             IsTrue (has result i) ↔ ((i < table.now.order) × IsInClassOf table.now.order
@@ -37,7 +38,8 @@ impl Reached {
     /// The start alone.
     fn new(table: &Table, start: u32) -> Reached
         requires { start < table.now.order }
-        ensures { AreReached table.now.order (IsTightInTable table.now) start result }
+        ensures { AreReached (tight_linking table.now.order (IsTightInTable table.now)) start
+            (reached_data result) }
     {
         let mut reached = IndexSet::empty();
         reached.insert(start as usize);
@@ -52,8 +54,9 @@ impl Reached {
         requires within { interval < table.now.order }
         requires reached { IsTrue (has self.old.reached interval) }
         requires waits { IsTrue (has self.old.waiting interval) }
-        ensures { IsReachedFrom table.now.order
-            (IsTightInTable table.now) interval free.now self.old self.new }
+        ensures { IsReachedFrom
+            (tight_linking table.now.order (IsTightInTable table.now))
+            interval free.now (reached_data self.old) (reached_data self.new) }
     {
         let more = joined(table, interval).and(free).and_not(&self.reached);
         self.reached = self.reached.or(&more);

@@ -6,7 +6,8 @@ use Rattle.gj_limit_cover.specs.LimitCover.{AreJoined, IsDirectlyCovered, LeadsT
 use Rattle.gj_cover.specs.CoverOf.{number_at}
 use Rattle.gj_limit_cover.specs.CoverOf.{AreComponents}
 use Rattle.gj_limit_cover.specs.Progress.{IsProgress, IsComplete}
-use Rattle.gj_limit_cover.specs.Reached.{AreUncovered}
+use Rattle.gj_limit_cover.specs.Linking.{limit_linking}
+use Rattle.gj_cover.specs.Reached.{AreUncovered}
 use Rattle.gj_limit_cover.specs.declared.progress.Progress.{Progress}
 use Rattle.gj_limit_cover.proofs.Joining.{joined_turned}
 use Rattle.gj_limit_cover.proofs.Joining.{joined_same, directly_same}
@@ -72,7 +73,7 @@ covered_number q T p i below h end (j, direct, list) =
 
 pub uncovered : (q : ℕ) (T : FaceKind → ℕ → ℕ → ℕ → Type 0) (p : Progress) → IsProgress q T p →
     IsComplete q T p.lines.items →
-    AreUncovered q T p.free
+    AreUncovered (limit_linking q T) p.free
 uncovered q T p h end = record {
   within = λ i e. ((h.free.each i).0 e).0;
   none = λ i e covered.

@@ -1,9 +1,9 @@
 pub mod Joining
+pub mod Linked
 pub mod NextLines
 pub mod Pending
 pub mod Advance
 pub mod Ends
-pub mod Classes
 pub mod Complexes
 pub mod LinkRows
 pub mod Reductions

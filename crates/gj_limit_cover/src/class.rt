@@ -3,9 +3,10 @@ ghost use Rattle.std.specs.Prelude.{ℕ, ◌↔◌, ◌<◌, ◌≤◌, Contains
 ghost use Rattle.std.specs.List.Sorted.{IsStrictlyIncreasing};
 ghost use Rattle.gj_loops.specs.IndexSets.{has};
 ghost use Rattle.gj_shape.specs.Limits.{greatest_order};
+ghost use Rattle.gj_cover.specs.Reached.{AreUncovered};
 ghost use Rattle.gj_jumps.specs.LimitCover.{IsTightAt};
 ghost use Rattle.gj_limit_cover.specs.CoverOf.{IsLeastClass};
-ghost use Rattle.gj_limit_cover.specs.Reached.{AreUncovered};
+ghost use Rattle.gj_limit_cover.specs.Linking.{limit_linking};
 ghost use Rattle.gj_limit_cover.specs.Table.{IsTableOf};
 
 use crate::reached::Reached;
@@ -23,7 +24,7 @@ pub(crate) fn least_class(
     free: &IndexSet,
 ) -> Result<Vec<u32>, AllocError>
     requires table { IsTableOf shape.now table.now }
-    requires uncovered { AreUncovered shape.now.order (IsTightAt shape.now) free.now }
+    requires uncovered { AreUncovered (limit_linking shape.now.order (IsTightAt shape.now)) free.now }
     ensures { IfOk result (λ v. IsLeastClass shape.now.order (IsTightAt shape.now) v.items) }
 {
     let Some(least) = free.first() else {

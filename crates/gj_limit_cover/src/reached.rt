@@ -2,6 +2,7 @@
 ghost use Rattle.std.specs.Prelude.{ℕ, ◌↔◌, ◌<◌, IsTrue};
 ghost use Rattle.gj_loops.specs.IndexSets.{has};
 ghost use Rattle.gj_jumps.specs.LimitCover.{IsTightAt};
+ghost use Rattle.gj_limit_cover.specs.Linking.{limit_linking};
 ghost use Rattle.gj_limit_cover.specs.LimitCover.{IsInClassOf};
 ghost use Rattle.gj_limit_cover.specs.Table.{IsTableOf};
 
@@ -18,12 +19,13 @@ pub(crate) struct Reached {
 }
 
 impl Reached {
-    ghost use Rattle.gj_limit_cover.specs.Reached.{AreUncovered, AreReached, IsReachedFrom};
+    ghost use Rattle.gj_cover.specs.Reached.{AreUncovered, AreReached, IsReachedFrom};
+    ghost use Rattle.gj_limit_cover.specs.Reached.{reached_data};
 
     /// The class of an interval that is not covered, if the free intervals are the uncovered ones.
     pub(crate) fn from(shape: &Shape, table: &Table, free: &IndexSet, start: u32) -> IndexSet
         requires table { IsTableOf shape.now table.now }
-        requires uncovered { AreUncovered shape.now.order (IsTightAt shape.now) free.now }
+        requires uncovered { AreUncovered (limit_linking shape.now.order (IsTightAt shape.now)) free.now }
         requires start { IsTrue (has free.now start) }
         ensures { (i : ℕ) →
             IsTrue (has result i) ↔ ((i < shape.now.order) × IsInClassOf shape.now.order
@@ -40,7 +42,8 @@ impl Reached {
     fn new(shape: &Shape, table: &Table, start: u32) -> Reached
         requires table { IsTableOf shape.now table.now }
         requires start { start < shape.now.order }
-        ensures { AreReached shape.now.order (IsTightAt shape.now) start result }
+        ensures { AreReached (limit_linking shape.now.order (IsTightAt shape.now)) start
+            (reached_data result) }
     {
         let mut reached = IndexSet::empty();
         reached.insert(start as usize);
@@ -56,8 +59,9 @@ impl Reached {
         requires within { interval < shape.now.order }
         requires reached { IsTrue (has self.old.reached interval) }
         requires waits { IsTrue (has self.old.waiting interval) }
-        ensures { IsReachedFrom shape.now.order
-            (IsTightAt shape.now) interval free.now self.old self.new }
+        ensures { IsReachedFrom
+            (limit_linking shape.now.order (IsTightAt shape.now))
+            interval free.now (reached_data self.old) (reached_data self.new) }
     {
         let more = table
             .joined(shape, interval)

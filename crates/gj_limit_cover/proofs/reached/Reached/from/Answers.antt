@@ -1,5 +1,8 @@
 use Rattle.gj_jumps.specs.LimitCover.{IsTightAt}
-use Rattle.gj_limit_cover.proofs.Classes.{reached_on, reached_all}
+use Rattle.gj_limit_cover.specs.Linking.{limit_linking}
+use Rattle.gj_limit_cover.proofs.Linked.{limit_linked}
+use Rattle.gj_limit_cover.specs.Reached.{reached_data}
+use Rattle.gj_cover.proofs.Classes.{reached_on, reached_all}
 use Rattle.gj_limit_cover.proofs.reached.Reached.from.Goals as goal
 
 pub new-found-requires-clause-start : goal.new-found-requires-clause-start
@@ -21,8 +24,9 @@ reach-requires-clause-waits c = c.in-Some.ensures.found
 pub loop-interval-preserved : goal.loop-interval-preserved
 loop-interval-preserved c =
     let t = c.args.shape.now in
-    reached_on t.order (IsTightAt t) c.args.free.now c.args.start c.in-Some.interval
-    c.loop-interval.found c.reach.new.self
+    reached_on (limit_linking t.order (IsTightAt t)) (limit_linked t.order (IsTightAt t))
+    c.args.free.now c.args.start c.in-Some.interval
+    (reached_data c.loop-interval.found) (reached_data c.reach.new.self)
     c.requires.uncovered c.requires.start c.loop-interval.invariant c.in-Some.ensures.found
     c.reach.ensures
 
@@ -32,6 +36,7 @@ loop-interval-smaller c = c.reach.ensures.fewer
 pub returns : goal.returns
 returns c =
     let t = c.args.shape.now in
-    reached_all t.order (IsTightAt t) c.args.start c.loop-interval.found
+    reached_all (limit_linking t.order (IsTightAt t)) (limit_linked t.order (IsTightAt t))
+    c.args.start (reached_data c.loop-interval.found)
     (c.requires.uncovered.within c.args.start c.requires.start)
     c.loop-interval.invariant c.in_default.ensures
