@@ -2,19 +2,19 @@
 use Rattle.std.proofs.Common.{◌≡◌, ◌≢◌, ℕ, ◌+◌, ◌<◌, ◌≤◌, ◌↔◌, ◌&&◌, ltb, List, [], length, get_or, Bool, true, false, not, IsTrue, Option, Some, None, replicate, refl, sym, ap, subst, ◌∙◌, inl, inr, arith}
 use Rattle.std.specs.Option.{is_some, is_none}
 use Rattle.std.proofs.lemmas.List.Sums.{count_by-le-length}
-use Rattle.gj_cover.specs.declared.progress.Progress.{Progress}
 use Rattle.std.proofs.Math.ListN.{length-replicate}
 use Rattle.std.proofs.lemmas.Bool.{cases_lt, ltb-true, lt-ltb, and_parts, and_from, not-true, not_from_false, false_from_ne_true}
 use Rattle.std.proofs.lemmas.List.{get_or_default, get_or_past, get_or-replicate}
 use Rattle.gj_loops.specs.IndexSets.{has, IsFirst}
 use Rattle.gj_loops.specs.declared.index_set.IndexSet.{IndexSet}
-use Rattle.gj_shape.specs.Cover.{AreJoined, JoinsLines, IsOpen, IsOpeningLine, Covers, IsFirstFace, IsDirectlyCovered}
+use Rattle.gj_shape.specs.Cover.{JoinsLines, IsOpen, IsOpeningLine, Covers, IsFirstFace, IsDirectlyCovered}
 use Rattle.gj_shape.specs.FirstViolation.{IsLeastFrom}
 use Rattle.gj_shape.specs.declared.extremality.CoverLine.{CoverLine}
 use Rattle.gj_shape.specs.declared.faces.Face.{Face}
 use Rattle.gj_cover.specs.CoverOf.{number_at}
-use Rattle.gj_cover.specs.Progress.{IsProgress, AreInTurn, AreNumbered, AreClasses, AreFree, AreNear, AreSearched}
-use Rattle.gj_cover.proofs.LineLists.{no_end, no_number, no_line, number_cases, number_line, line_number}
+use Rattle.gj_cover.specs.Linking.{Linking}
+use Rattle.gj_cover.specs.Progress.{ProgressData, IsKept, JoinsNumbers, AreInTurn, AreNumbered, AreClasses, AreFree, AreNear, AreSearched}
+use Rattle.gj_cover.proofs.LineLists.{no_end, no_number, no_line, number_cases}
 
 -- ---- reads
 
@@ -44,13 +44,12 @@ numbered_none c none = record {
   shown = λ i n e. let free = none i in absurd (cc (e, free));
 }
 
-pub turn_none : (q : ℕ) (T : ℕ → ℕ → Type 0) → AreInTurn q T []
-turn_none q T = record { each = λ before l after e. absurd (no_end before l after e) }
+pub turn_none : (Next : List CoverLine → CoverLine → Type 0) → AreInTurn Next []
+turn_none Next = record { each = λ before l after e. absurd (no_end before l after e) }
 
-pub classes_none : (q : ℕ) (T : ℕ → ℕ → Type 0) (c : List (Option ℕ)) →
-    ((i : ℕ) → number_at c i ≡ None) →
-    AreClasses q T c 0
-classes_none q T c none = record {
+pub classes_none : (J : Linking) (c : List (Option ℕ)) → ((i : ℕ) → number_at c i ≡ None) →
+    AreClasses J c 0
+classes_none J c none = record {
   one = λ i j m n a e f. let free = none i in absurd (cc (e, free));
   last = λ i j n below a e f. let free = none i in absurd (cc (e, free));
   linked = λ i j n e f. let free = none i in absurd (cc (e, free));
@@ -58,25 +57,18 @@ classes_none q T c none = record {
   covered = λ i n e. let free = none i in absurd (cc (e, free));
 }
 
-no_lines : (i : ℕ) →
-    ((k : ℕ) × (x : CoverLine) × (k < length {A = CoverLine} []) × (get_or [] k x ≡ x)
-    × (x.interval ≡ i)) → ⊥
-no_lines i (k, x, below, is, e) = omega arith
-
 pub free_none : (q : ℕ) (c : List (Option ℕ)) (free : IndexSet) → ((i : ℕ) → number_at c i ≡ None) →
     ((i : ℕ) → has free i ≡ ltb i q) → AreFree q c free
 free_none q c free none is = record {
   each = λ i. (λ e. (ltb-true i q (sym (is i) ∙ e), none i), λ (below, _). is i ∙ lt-ltb i q below);
 }
 
-pub near_none : (q : ℕ) (T : ℕ → ℕ → Type 0) (c : List (Option ℕ)) (near : IndexSet) →
-    ((i : ℕ) → has near i ≡ false) →
-    AreNear q T [] c near
-near_none q T c near none = record {
-  each = λ i below free. (
-    λ e. let not = none i in
-        absurd (cc (e, not)),
-    λ (j, at). absurd (no_lines j at.line),
+pub near_none : (J : Linking) (c : List (Option ℕ)) (near : IndexSet) →
+    ((i : ℕ) → number_at c i ≡ None) → ((i : ℕ) → has near i ≡ false) → AreNear J c near
+near_none J c near free none = record {
+  each = λ i below at. (
+    λ e. let not = none i in absurd (cc (e, not)),
+    λ (j, h). let is = h.number.1 in let not = free j in absurd (cc (is, not)),
   );
 }
 
@@ -99,122 +91,124 @@ searched_more q T c n h here = record {
 
 -- ---- the next interval that is joined
 
--- an interval of the set that is free is joined to one with a line
-joined_near : (q : ℕ) (T : ℕ → ℕ → Type 0) (lines : List CoverLine) (c : List (Option ℕ))
-    (free near : IndexSet) (i : ℕ) →
-    AreFree q c free → AreNear q T lines c near → (has near i && has free i) ≡ true →
-    (j : ℕ) × JoinsLines q T lines i j
-joined_near q T lines c free near i f n e =
-    let both = and_parts (has near i) (has free i) e in
-    let at = (f.each i).0 both.1 in
-    (n.each i at.0 at.1).0 both.0
-
-near_joined : (q : ℕ) (T : ℕ → ℕ → Type 0) (lines : List CoverLine) (c : List (Option ℕ))
-    (free near : IndexSet) (i j : ℕ) →
-    AreNumbered lines c → AreFree q c free → AreNear q T lines c near → JoinsLines q T lines i j →
-    (has near i && has free i) ≡ true
-near_joined q T lines c free near i j h f n at =
-    let none = no_number lines c i h at.no_line in
-    and_from (has near i) (has free i) ((n.each i at.first_within none).1 (j, at))
-    ((f.each i).1 (at.first_within, none))
-
 pub is_open : (q : ℕ) (c : List (Option ℕ)) (free near set : IndexSet) (x : ℕ) → AreFree q c free →
     ((i : ℕ) → has set i ≡ (has near i && has free i)) → IsFirst set 0 x →
     (x < q) × (number_at c x ≡ None)
 is_open q c free near set x f is first =
     (f.each x).0 (and_parts (has near x) (has free x) (sym (is x) ∙ first.found)).1
 
--- the least of them
-pub next_interval : (q : ℕ) (T : ℕ → ℕ → Type 0) (lines : List CoverLine) (c : List (Option ℕ))
-    (free near : IndexSet)
-    (set : IndexSet) (x : ℕ) → AreNumbered lines c → AreFree q c free → AreNear q T lines c near →
-    ((i : ℕ) → has set i ≡ (has near i && has free i)) → IsFirst set 0 x →
-    IsLeastFrom 0 (λ i. (n : ℕ) × JoinsLines q T lines i n) x
-next_interval q T lines c free near set x h f n is first = record {
-  from = omega arith;
-  holds = joined_near q T lines c free near x f n (sym (is x) ∙ first.found);
-  least = λ i low below (j, at).
-      let not = first.before i (omega arith) below in
-      let yes' = is i ∙ near_joined q T lines c free near i j h f n at in
-      cc (not, yes');
-}
+module _ (J : Linking) (Lines : ℕ → ℕ → Type 0) (c : List (Option ℕ)) (free near : IndexSet)
+    (f : AreFree J.order c free) (told : (i j : ℕ) → Lines i j ↔ JoinsNumbers J c i j) where
+  -- an interval of the set that is free is joined to one with a line
+  joined_near : (i : ℕ) → AreNear J c near → (has near i && has free i) ≡ true →
+      (j : ℕ) × Lines i j
+  joined_near i n e =
+      let both = and_parts (has near i) (has free i) e in
+      let at = (f.each i).0 both.1 in
+      let found = (n.each i at.0 at.1).0 both.0 in
+      (found.0, (told i found.0).1 found.1)
 
-pub none_pending : (q : ℕ) (T : ℕ → ℕ → Type 0) (lines : List CoverLine) (c : List (Option ℕ))
-    (free near set : IndexSet) →
-    AreNumbered lines c → AreFree q c free → AreNear q T lines c near →
-    ((i : ℕ) → has set i ≡ (has near i && has free i)) → ((i : ℕ) → has set i ≡ false) →
-    (i j : ℕ) → JoinsLines q T lines i j → ⊥
-none_pending q T lines c free near set h f n is none i j at =
-    let not = none i in
-    let yes' = is i ∙ near_joined q T lines c free near i j h f n at in
-    cc (not, yes')
+  near_joined : (i j : ℕ) → AreNear J c near → Lines i j → (has near i && has free i) ≡ true
+  near_joined i j n at =
+      let h = (told i j).0 at in
+      and_from (has near i) (has free i) ((n.each i h.first_within h.free).1 (j, h))
+      ((f.each i).1 (h.first_within, h.free))
 
--- the intervals with a line to which a free one is joined
-lines_joined : (q : ℕ) (T : ℕ → ℕ → Type 0) (lines : List CoverLine) (c : List (Option ℕ))
-    (free joined : IndexSet) (x j : ℕ) →
-    AreNumbered lines c → AreFree q c free → x < q → number_at c x ≡ None →
-    ((k : ℕ) → IsTrue (has joined k) → k < q) →
-    ((k : ℕ) → k < q → x ≢ k → IsTrue (has joined k) ↔ AreJoined q T x k) →
-    (has joined j && not (has free j)) ≡ true → JoinsLines q T lines x j
-lines_joined q T lines c free joined x j h f below none within told e =
-    let both = and_parts (has joined j) (not (has free j)) e in
-    let j_below = within j both.0 in
-    let taken = not-true (has free j) both.1 in
+  -- the least of them
+  pub next_interval : (set : IndexSet) (x : ℕ) → AreNear J c near →
+      ((i : ℕ) → has set i ≡ (has near i && has free i)) → IsFirst set 0 x →
+      IsLeastFrom 0 (λ i. (n : ℕ) × Lines i n) x
+  next_interval set x n is first = record {
+    from = omega arith;
+    holds = joined_near x n (sym (is x) ∙ first.found);
+    least = λ i low below (j, at).
+        let not = first.before i (omega arith) below in
+        let yes' = is i ∙ near_joined i j n at in
+        cc (not, yes');
+  }
+
+  pub none_pending : (set : IndexSet) → AreNear J c near →
+      ((i : ℕ) → has set i ≡ (has near i && has free i)) → ((i : ℕ) → has set i ≡ false) →
+      (i j : ℕ) → Lines i j → ⊥
+  none_pending set n is none i j at =
+      let not = none i in
+      let yes' = is i ∙ near_joined i j n at in
+      cc (not, yes')
+
+-- with each interval that has a line and is joined to x the set has this or an earlier one
+abbrev pub HasLeast : Linking → IndexSet → IndexSet → ℕ → Type 0
+HasLeast J free joined x =
+    (j : ℕ) → j < J.order → has free j ≡ false → J.Joined x j →
+    (k : ℕ) × (k ≤ j) × IsTrue (has joined k) × (has free k ≡ false)
+
+module _ (J : Linking) (Lines : ℕ → ℕ → Type 0) (c : List (Option ℕ)) (free joined : IndexSet)
+    (x : ℕ) (f : AreFree J.order c free) (told : (j : ℕ) → Lines x j ↔ JoinsNumbers J c x j)
+    (least : HasLeast J free joined x) where
+  -- the intervals with a line to which a free one is joined
+  lines_joined : (j : ℕ) → x < J.order → number_at c x ≡ None →
+      ((k : ℕ) → IsTrue (has joined k) → k < J.order) →
+      ((k : ℕ) → k < J.order → x ≢ k → IsTrue (has joined k) → J.Joined x k) →
+      (has joined j && not (has free j)) ≡ true → Lines x j
+  lines_joined j below none within all e =
+      let both = and_parts (has joined j) (not (has free j)) e in
+      let j_below = within j both.0 in
+      let taken = not-true (has free j) both.1 in
+      let other : x ≢ j = λ same.
+      let free' = (f.each j).1 (j_below, ap (number_at c) (sym same) ∙ none) in cc (free', taken) in
+      elim (number_cases (number_at c j)) [
+        | inl free' ↦ let at = (f.each j).1 (j_below, free') in absurd (cc (at, taken))
+        | inr number ↦ (told j).1 (record {
+          first_within = below;
+          second_within = j_below;
+          free = none;
+          number = number;
+          joined = all j j_below other both.0;
+        })
+      ]
+
+  least_lined : (j : ℕ) → Lines x j →
+      (k : ℕ) × (k ≤ j) × ((has joined k && not (has free k)) ≡ true)
+  least_lined j at =
+      let h = (told j).0 at in
+      let is = h.number.1 in
+      let taken : has free j ≡ false =
+      false_from_ne_true (has free j) (λ e. let free' = ((f.each j).0 e).1 in cc (free', is)) in
+      let (k, low, yes', open') = least j h.second_within taken h.joined in
+      (k, low, and_from (has joined k) (not (has free k)) yes' (not_from_false (has free k) open'))
+
+  pub next_from : (set : IndexSet) (j : ℕ) → x < J.order → number_at c x ≡ None →
+      ((k : ℕ) → IsTrue (has joined k) → k < J.order) →
+      ((k : ℕ) → k < J.order → x ≢ k → IsTrue (has joined k) → J.Joined x k) →
+      ((k : ℕ) → has set k ≡ (has joined k && not (has free k))) → IsFirst set 0 j →
+      IsLeastFrom 0 (Lines x) j
+  next_from set j below none within all is first = record {
+    from = omega arith;
+    holds = lines_joined j below none within all (sym (is j) ∙ first.found);
+    least = λ k low k_below at.
+        let (i, before, there) = least_lined k at in
+        let not' = first.before i (omega arith) (omega arith) in
+        let yes' = is i ∙ there in
+        cc (not', yes');
+  }
+
+  pub none_from_it : (set : IndexSet) →
+      ((k : ℕ) → has set k ≡ (has joined k && not (has free k))) →
+      ((k : ℕ) → has set k ≡ false) → ((j : ℕ) × Lines x j) → ⊥
+  none_from_it set is empty (j, at) =
+      let (i, before, there) = least_lined j at in
+      let not' = empty i in
+      let yes' = is i ∙ there in
+      cc (not', yes')
+
+-- all that are joined to x and no others are with the least of them
+pub has_all : (J : Linking) (c : List (Option ℕ)) (free joined : IndexSet) (x : ℕ) →
+    AreFree J.order c free → x < J.order → number_at c x ≡ None →
+    ((k : ℕ) → k < J.order → x ≢ k → IsTrue (has joined k) ↔ J.Joined x k) →
+    HasLeast J free joined x
+has_all J c free joined x f low none told j below taken at =
     let other : x ≢ j = λ same.
-    let free' = (f.each j).1 (j_below, ap (number_at c) (sym same) ∙ none) in cc (free', taken) in
-    elim (number_cases (number_at c j)) [
-      | inl free' ↦ let at = (f.each j).1 (j_below, free') in absurd (cc (at, taken))
-      | inr (n, number) ↦ record {
-        first_within = below;
-        second_within = j_below;
-        no_line = no_line lines c x h none;
-        line = number_line lines c j n h number;
-        joined = (told j j_below other).0 both.0;
-      }
-    ]
-
-joined_lines : (q : ℕ) (T : ℕ → ℕ → Type 0) (lines : List CoverLine) (c : List (Option ℕ))
-    (free joined : IndexSet) (x j : ℕ) →
-    AreNumbered lines c → AreFree q c free → number_at c x ≡ None →
-    ((k : ℕ) → k < q → x ≢ k → IsTrue (has joined k) ↔ AreJoined q T x k) →
-    JoinsLines q T lines x j →
-    (has joined j && not (has free j)) ≡ true
-joined_lines q T lines c free joined x j h f none told at =
-    let number = line_number lines c j h at.line in
-    let is = number.1 in
-    let other : x ≢ j = λ same. let clash = ap (number_at c) same in cc (clash, none, is) in
-    let taken : has free j ≡ false =
-    false_from_ne_true (has free j) (λ e. let free' = ((f.each j).0 e).1 in cc (free', is)) in
-    and_from (has joined j) (not (has free j)) ((told j at.second_within other).1 at.joined)
-    (not_from_false (has free j) taken)
-
-pub next_from : (q : ℕ) (T : ℕ → ℕ → Type 0) (lines : List CoverLine) (c : List (Option ℕ))
-    (free joined set : IndexSet) (x j : ℕ) →
-    AreNumbered lines c → AreFree q c free → x < q → number_at c x ≡ None →
-    ((k : ℕ) → IsTrue (has joined k) → k < q) →
-    ((k : ℕ) → k < q → x ≢ k → IsTrue (has joined k) ↔ AreJoined q T x k) →
-    ((k : ℕ) → has set k ≡ (has joined k && not (has free k))) → IsFirst set 0 j →
-    IsLeastFrom 0 (JoinsLines q T lines x) j
-next_from q T lines c free joined set x j h f below none within told is first = record {
-  from = omega arith;
-  holds = lines_joined q T lines c free joined x j h f below none within told
-      (sym (is j) ∙ first.found);
-  least = λ k low k_below at.
-      let not = first.before k (omega arith) k_below in
-      let yes' = is k ∙ joined_lines q T lines c free joined x k h f none told at in
-      cc (not, yes');
-}
-
-pub none_from_it : (q : ℕ) (T : ℕ → ℕ → Type 0) (lines : List CoverLine) (c : List (Option ℕ))
-    (free joined set : IndexSet) (x : ℕ) →
-    AreNumbered lines c → AreFree q c free → number_at c x ≡ None →
-    ((k : ℕ) → k < q → x ≢ k → IsTrue (has joined k) ↔ AreJoined q T x k) →
-    ((k : ℕ) → has set k ≡ (has joined k && not (has free k))) → ((k : ℕ) → has set k ≡ false) →
-    ((j : ℕ) × JoinsLines q T lines x j) → ⊥
-none_from_it q T lines c free joined set x h f none told is empty (j, at) =
-    let not = empty j in
-    let yes' = is j ∙ joined_lines q T lines c free joined x j h f none told at in
-    cc (not, yes')
+    let free' = (f.each j).1 (below, ap (number_at c) (sym same) ∙ none) in cc (free', taken) in
+    (j, omega arith, (told j below other).1 at, taken)
 
 -- ---- the next interval that opens a component
 
@@ -248,24 +242,23 @@ none_open q n T lines c h all searched i at =
 
 -- ---- no line yet
 
-pub begun : (q n : ℕ) (T : ℕ → ℕ → Type 0) (p : Progress) → n ≡ q →
-    p.component.items ≡ replicate n None →
-    ((i : ℕ) → has p.free i ≡ ltb i n) → ((i : ℕ) → has p.near i ≡ false) → p.lines.items ≡ [] →
-    p.count ≡ 0 → p.searched ≡ 0 → IsProgress q T p
-begun q n T p is component free near lines count searched =
+pub begun : (J : Linking) (Next : List CoverLine → CoverLine → Type 0) (n : ℕ) (p : ProgressData) →
+    n ≡ J.order → p.component ≡ replicate n None →
+    ((i : ℕ) → has p.free i ≡ ltb i n) → ((i : ℕ) → has p.near i ≡ false) → p.lines ≡ [] →
+    p.count ≡ 0 → IsKept J Next p
+begun J Next n p is component free near lines count =
     let long : length (replicate {A = Option ℕ} n None) ≡ n = length-replicate n None in
-    let c : (i : ℕ) → number_at p.component.items i ≡ None = λ i. ap (λ l. number_at l i) component
+    let c : (i : ℕ) → number_at p.component i ≡ None = λ i. ap (λ l. number_at l i) component
     ∙ all_none n i in
-    let few = count_by-le-length is_none p.component.items in
-    let len : length p.component.items ≡ q = ap (λ l. length l) component ∙ long ∙ is in
+    let few = count_by-le-length is_none p.component in
+    let len : length p.component ≡ J.order = ap (λ l. length l) component ∙ long ∙ is in
     record {
       component_length = len;
-      lines = rw lines (turn_none q T);
-      numbers = rw lines (numbered_none p.component.items c);
+      lines = rw lines (turn_none Next);
+      numbers = rw lines (numbered_none p.component c);
       count = rw (lines, count) refl;
       few = omega (arith, few, len, count);
-      classes = rw count (classes_none q T p.component.items c);
-      free = free_none q p.component.items p.free c (λ i. free i ∙ ap (λ k. ltb i k) is);
-      near = rw lines (near_none q T p.component.items p.near near);
-      searched = rw searched (searched_none q T p.component.items);
+      classes = rw count (classes_none J p.component c);
+      free = free_none J.order p.component p.free c (λ i. free i ∙ ap (λ k. ltb i k) is);
+      near = near_none J p.component p.near c near;
     }

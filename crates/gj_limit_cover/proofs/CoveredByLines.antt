@@ -8,10 +8,13 @@ use Rattle.gj_jumps.specs.LimitCover.{IsTightAt, Links, IsCoveredByLimits}
 use Rattle.gj_jumps.specs.LimitCover.Links.{horizontal, vertical, diagonal, lower_horizontal, lower_vertical, lower_diagonal, upper_horizontal, upper_vertical, upper_diagonal}
 use Rattle.gj_jumps.specs.LimitCover.IsCoveredByLimits.{lower, upper, to, from, turned}
 use Rattle.gj_cover.proofs.LineLists.{line_number, number_line}
-use Rattle.gj_limit_cover.specs.LimitCover.{LinksBy, AreJoined, Covers, LeadsTo, here, onward, IsCovered}
-use Rattle.gj_limit_cover.specs.Progress.{IsProgress, IsComplete}
+use Rattle.gj_limit_cover.specs.LimitCover.{LinksBy, AreJoined, Covers, LeadsTo, here, onward, IsCovered, IsNextLine}
+use Rattle.gj_limit_cover.specs.Progress.{IsProgress, IsComplete, progress_data}
 use Rattle.gj_limit_cover.specs.declared.progress.Progress.{Progress}
-use Rattle.gj_limit_cover.proofs.Ends.{covered_number}
+use Rattle.gj_cover.proofs.Ends.{covered_number}
+use Rattle.gj_limit_cover.specs.Linking.{limit_linking}
+use Rattle.gj_limit_cover.proofs.Ends.{ended}
+use Rattle.gj_limit_cover.proofs.Linked.{limit_linked}
 use Rattle.gj_limit_cover.proofs.Joining.{joined_turned, leads_on, covered_on, covered_directly}
 
 module _ (f : FunctionData) where
@@ -116,6 +119,7 @@ module _ (f : FunctionData) where
         let at = line_number p.lines.items p.component.items i h.numbers line in
         by_limits i (h.classes.covered i at.0 at.1),
     λ covered.
-        let at = covered_number q T p i below h end (from_limits i covered) in
+        let at = covered_number (limit_linking q T) (limit_linked q T) (IsNextLine q T) (progress_data p) h
+        (ended q T p h end) i below (from_limits i covered) in
         number_line p.lines.items p.component.items i at.0 h.numbers at.1,
   )

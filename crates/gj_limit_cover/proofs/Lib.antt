@@ -2,7 +2,6 @@ pub mod Joining
 pub mod Linked
 pub mod NextLines
 pub mod Pending
-pub mod Advance
 pub mod Ends
 pub mod Complexes
 pub mod LinkRows

@@ -1,7 +1,12 @@
 use Rattle.std.proofs.Common.{◌+◌, Some, refl, arith}
 use Rattle.std.specs.Vec.{with_item}
 use Rattle.gj_cover.specs.Table.{IsTightInTable}
-use Rattle.gj_cover.proofs.Advance.{line_more, joined_on, opened_on, fewer}
+use Rattle.gj_cover.proofs.Advance.{line_more, joined_line, opened_line, fewer}
+use Rattle.gj_cover.proofs.Linked.{tight_linked}
+use Rattle.gj_cover.proofs.NextLines.{next_to}
+use Rattle.gj_cover.specs.Linking.{tight_linking}
+use Rattle.gj_cover.specs.Progress.{progress_data}
+use Rattle.gj_shape.specs.Cover.{IsNextLine}
 use Rattle.gj_cover.specs.declared.progress.Progress.{Progress}
 use Rattle.gj_cover.proofs.progress.Progress.add.Goals as goal
 
@@ -18,12 +23,14 @@ returns-then-line-clause-progress c =
       count = c.args.self.now.count;
       searched = c.args.self.now.searched;
     } in
-    let more = line_more q T c.args.self.now new c.args.line c.unwrap_or-number.result
+    let more = line_more (tight_linking q T) (tight_linked q T) (IsNextLine q T) (next_to q T)
+    (progress_data c.args.self.now) (progress_data new) c.args.line c.unwrap_or-number.result
     c.index.result.now
-    c.requires.progress c.requires.next c.index.ensures c.unwrap_or-number.ensures
+    c.requires.progress.kept c.requires.next c.index.ensures c.unwrap_or-number.ensures
     c.in_ok-push.ensures.items refl
-    c.remove.ensures c.args.joined.now c.requires.joined c.or-self.ensures in
-    joined_on q T c.args.self.now new c.args.line c.unwrap_or-number.result c.requires.progress
+    c.remove.ensures c.args.joined.now (λ k low other. (c.requires.joined k low other).0)
+    (λ k low other _ _ at. (c.requires.joined k low other).1 at) c.or-self.ensures in
+    joined_line q T c.args.self.now new c.args.line c.unwrap_or-number.result c.requires.progress
     c.requires.next more
     c.if-line.true refl refl
 
@@ -40,13 +47,16 @@ returns-then-line-clause-fewer c =
       count = c.args.self.now.count;
       searched = c.args.self.now.searched;
     } in
-    let more = line_more q T c.args.self.now new c.args.line c.unwrap_or-number.result
+    let more = line_more (tight_linking q T) (tight_linked q T) (IsNextLine q T) (next_to q T)
+    (progress_data c.args.self.now) (progress_data new) c.args.line c.unwrap_or-number.result
     c.index.result.now
-    c.requires.progress c.requires.next c.index.ensures c.unwrap_or-number.ensures
+    c.requires.progress.kept c.requires.next c.index.ensures c.unwrap_or-number.ensures
     c.in_ok-push.ensures.items refl
-    c.remove.ensures c.args.joined.now c.requires.joined c.or-self.ensures in
-    let less = fewer q T c.args.self.now new c.args.line c.unwrap_or-number.result
-    c.requires.progress c.requires.next more in
+    c.remove.ensures c.args.joined.now (λ k low other. (c.requires.joined k low other).0)
+    (λ k low other _ _ at. (c.requires.joined k low other).1 at) c.or-self.ensures in
+    let less = fewer (tight_linking q T) (tight_linked q T) (IsNextLine q T) (next_to q T)
+    (progress_data c.args.self.now) (progress_data new) c.args.line c.unwrap_or-number.result
+    c.requires.progress.kept c.requires.next more in
     omega (arith, less)
 
 pub returns-clause-progress : goal.returns-clause-progress
@@ -62,12 +72,14 @@ returns-clause-progress c =
       count = c.args.self.now.count + 1;
       searched = c.args.line.interval;
     } in
-    let more = line_more q T c.args.self.now new c.args.line c.unwrap_or-number.result
+    let more = line_more (tight_linking q T) (tight_linked q T) (IsNextLine q T) (next_to q T)
+    (progress_data c.args.self.now) (progress_data new) c.args.line c.unwrap_or-number.result
     c.index.result.now
-    c.requires.progress c.requires.next c.index.ensures c.unwrap_or-number.ensures
+    c.requires.progress.kept c.requires.next c.index.ensures c.unwrap_or-number.ensures
     c.in_ok-push.ensures.items refl
-    c.remove.ensures c.args.joined.now c.requires.joined c.or-self.ensures in
-    opened_on q T c.args.self.now new c.args.line c.unwrap_or-number.result c.requires.progress
+    c.remove.ensures c.args.joined.now (λ k low other. (c.requires.joined k low other).0)
+    (λ k low other _ _ at. (c.requires.joined k low other).1 at) c.or-self.ensures in
+    opened_line q T c.args.self.now new c.args.line c.unwrap_or-number.result c.requires.progress
     c.requires.next more
     c.if-line.false refl refl
 
@@ -84,11 +96,14 @@ returns-clause-fewer c =
       count = c.args.self.now.count + 1;
       searched = c.args.line.interval;
     } in
-    let more = line_more q T c.args.self.now new c.args.line c.unwrap_or-number.result
+    let more = line_more (tight_linking q T) (tight_linked q T) (IsNextLine q T) (next_to q T)
+    (progress_data c.args.self.now) (progress_data new) c.args.line c.unwrap_or-number.result
     c.index.result.now
-    c.requires.progress c.requires.next c.index.ensures c.unwrap_or-number.ensures
+    c.requires.progress.kept c.requires.next c.index.ensures c.unwrap_or-number.ensures
     c.in_ok-push.ensures.items refl
-    c.remove.ensures c.args.joined.now c.requires.joined c.or-self.ensures in
-    let less = fewer q T c.args.self.now new c.args.line c.unwrap_or-number.result
-    c.requires.progress c.requires.next more in
+    c.remove.ensures c.args.joined.now (λ k low other. (c.requires.joined k low other).0)
+    (λ k low other _ _ at. (c.requires.joined k low other).1 at) c.or-self.ensures in
+    let less = fewer (tight_linking q T) (tight_linked q T) (IsNextLine q T) (next_to q T)
+    (progress_data c.args.self.now) (progress_data new) c.args.line c.unwrap_or-number.result
+    c.requires.progress.kept c.requires.next more in
     omega (arith, less)

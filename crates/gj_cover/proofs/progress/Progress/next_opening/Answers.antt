@@ -14,7 +14,7 @@ returns-in-Some-clause-found c =
     let below : x < t.order = omega arith in
     let within : x < length p.component.items = omega arith in
     next_opening t.order (IsTightInTable t) p.lines.items p.component.items x c.in-Some.face
-    c.requires.progress.numbers below
+    c.requires.progress.kept.numbers below
     (read p.component.items x c.index.result.now within c.index.ensures
     ∙ is_free c.index.result.now c.is_none.result c.is_none.ensures c.if-is_none.true)
     c.requires.none_joins c.loop-interval.invariant c.in-Some.ensures.found
@@ -25,7 +25,7 @@ returns-clause-none c =
     let t = c.args.table.now in
     let all : t.order ≤ c.loop-interval.interval = omega arith in
     none_open t.order c.loop-interval.interval (IsTightInTable t) p.lines.items p.component.items
-    c.requires.progress.numbers all c.loop-interval.invariant
+    c.requires.progress.kept.numbers all c.loop-interval.invariant
 
 -- a number that is there
 has_number : (o : Option ℕ) (b : Bool) → is_some o ≡ not b → b ≡ false → o ≡ None → ⊥

@@ -1,7 +1,12 @@
 use Rattle.std.proofs.Common.{◌+◌, Some, refl, arith}
 use Rattle.std.specs.Vec.{with_item}
 use Rattle.gj_jumps.specs.LimitCover.{IsTightAt}
-use Rattle.gj_limit_cover.proofs.Advance.{line_more, joined_on, opened_on, fewer}
+use Rattle.gj_limit_cover.specs.LimitCover.{IsNextLine}
+use Rattle.gj_limit_cover.specs.Linking.{limit_linking}
+use Rattle.gj_limit_cover.specs.Progress.{progress_data}
+use Rattle.gj_limit_cover.proofs.Linked.{limit_linked}
+use Rattle.gj_limit_cover.proofs.NextLines.{next_to}
+use Rattle.gj_cover.proofs.Advance.{line_more, joined_on, opened_on, fewer}
 use Rattle.gj_limit_cover.specs.declared.progress.Progress.{Progress}
 use Rattle.gj_limit_cover.proofs.progress.Progress.add.Goals as goal
 
@@ -17,13 +22,15 @@ returns-then-line-clause-progress c =
       lines = c.push.new.self;
       count = c.args.self.now.count;
     } in
-    let more = line_more q T c.args.self.now new c.args.line c.unwrap_or-number.result
+    let more = line_more (limit_linking q T) (limit_linked q T) (IsNextLine q T) (next_to q T)
+    (progress_data c.args.self.now) (progress_data new) c.args.line c.unwrap_or-number.result
     c.index.result.now
     c.requires.progress c.requires.next c.index.ensures c.unwrap_or-number.ensures
     c.in_ok-push.ensures.items refl
     c.remove.ensures c.args.joined.now c.requires.joined.joined c.requires.joined.whole
     c.or-self.ensures in
-    joined_on q T c.args.self.now new c.args.line c.unwrap_or-number.result c.requires.progress
+    joined_on (limit_linking q T) (limit_linked q T) (IsNextLine q T) (next_to q T)
+    (progress_data c.args.self.now) (progress_data new) c.args.line c.unwrap_or-number.result c.requires.progress
     c.requires.next more
     c.if-line.true refl
 
@@ -39,13 +46,15 @@ returns-then-line-clause-fewer c =
       lines = c.push.new.self;
       count = c.args.self.now.count;
     } in
-    let more = line_more q T c.args.self.now new c.args.line c.unwrap_or-number.result
+    let more = line_more (limit_linking q T) (limit_linked q T) (IsNextLine q T) (next_to q T)
+    (progress_data c.args.self.now) (progress_data new) c.args.line c.unwrap_or-number.result
     c.index.result.now
     c.requires.progress c.requires.next c.index.ensures c.unwrap_or-number.ensures
     c.in_ok-push.ensures.items refl
     c.remove.ensures c.args.joined.now c.requires.joined.joined c.requires.joined.whole
     c.or-self.ensures in
-    let less = fewer q T c.args.self.now new c.args.line c.unwrap_or-number.result
+    let less = fewer (limit_linking q T) (limit_linked q T) (IsNextLine q T) (next_to q T)
+    (progress_data c.args.self.now) (progress_data new) c.args.line c.unwrap_or-number.result
     c.requires.progress c.requires.next more in
     omega (arith, less)
 
@@ -61,13 +70,15 @@ returns-clause-progress c =
       lines = c.push.new.self;
       count = c.args.self.now.count + 1;
     } in
-    let more = line_more q T c.args.self.now new c.args.line c.unwrap_or-number.result
+    let more = line_more (limit_linking q T) (limit_linked q T) (IsNextLine q T) (next_to q T)
+    (progress_data c.args.self.now) (progress_data new) c.args.line c.unwrap_or-number.result
     c.index.result.now
     c.requires.progress c.requires.next c.index.ensures c.unwrap_or-number.ensures
     c.in_ok-push.ensures.items refl
     c.remove.ensures c.args.joined.now c.requires.joined.joined c.requires.joined.whole
     c.or-self.ensures in
-    opened_on q T c.args.self.now new c.args.line c.unwrap_or-number.result c.requires.progress
+    opened_on (limit_linking q T) (limit_linked q T) (IsNextLine q T) (next_to q T)
+    (progress_data c.args.self.now) (progress_data new) c.args.line c.unwrap_or-number.result c.requires.progress
     c.requires.next more
     c.if-line.false refl
 
@@ -83,12 +94,14 @@ returns-clause-fewer c =
       lines = c.push.new.self;
       count = c.args.self.now.count + 1;
     } in
-    let more = line_more q T c.args.self.now new c.args.line c.unwrap_or-number.result
+    let more = line_more (limit_linking q T) (limit_linked q T) (IsNextLine q T) (next_to q T)
+    (progress_data c.args.self.now) (progress_data new) c.args.line c.unwrap_or-number.result
     c.index.result.now
     c.requires.progress c.requires.next c.index.ensures c.unwrap_or-number.ensures
     c.in_ok-push.ensures.items refl
     c.remove.ensures c.args.joined.now c.requires.joined.joined c.requires.joined.whole
     c.or-self.ensures in
-    let less = fewer q T c.args.self.now new c.args.line c.unwrap_or-number.result
+    let less = fewer (limit_linking q T) (limit_linked q T) (IsNextLine q T) (next_to q T)
+    (progress_data c.args.self.now) (progress_data new) c.args.line c.unwrap_or-number.result
     c.requires.progress c.requires.next more in
     omega (arith, less)

@@ -1,5 +1,8 @@
 use Rattle.std.proofs.Common.{◌≡◌, None, replicate, refl, rules}
-use Rattle.gj_limit_cover.proofs.Pending.{begun}
+use Rattle.gj_cover.proofs.Pending.{begun}
+use Rattle.gj_limit_cover.specs.LimitCover.{IsNextLine}
+use Rattle.gj_limit_cover.specs.Linking.{limit_linking}
+use Rattle.gj_limit_cover.specs.Progress.{progress_data}
 use Rattle.gj_limit_cover.specs.declared.progress.Progress.{Progress}
 use Rattle.gj_jumps.specs.LimitCover.{IsTightAt}
 use Rattle.gj_limit_cover.proofs.progress.Progress.new.Goals as goal
@@ -14,6 +17,7 @@ returns c =
       lines = c.new.result;
       count = 0;
     } in
-    begun c.args.shape.now.order c.order-order.result (IsTightAt c.args.shape.now) p
-    c.order-order.ensures.value
+    let t = c.args.shape.now in
+    begun (limit_linking t.order (IsTightAt t)) (IsNextLine t.order (IsTightAt t))
+    c.order-order.result (progress_data p) c.order-order.ensures.value
     none c.below.ensures c.empty.ensures c.new.ensures.items refl

@@ -1,6 +1,6 @@
 use Rattle.std.proofs.Common.{◌≡◌, ◌↔◌, ℕ, ◌<◌, Bool, true, List, get_or, length, ap, sym, subst, ◌∙◌, arith}
 use Rattle.std.proofs.lemmas.List.{get_or_default}
-use Rattle.gj_loops.specs.IndexSets.{has, no_set}
+use Rattle.gj_loops.specs.IndexSets.{has}
 use Rattle.gj_loops.specs.declared.index_set.IndexSet.{IndexSet}
 use Rattle.gj_jumps.specs.LimitCover.{IsTightAt}
 use Rattle.gj_shape.specs.FunctionData.{FunctionData}
