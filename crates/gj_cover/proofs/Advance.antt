@@ -1,5 +1,5 @@
 -- The search for lines goes on by one line.
-use Rattle.std.proofs.Common.{◌≡◌, ◌≢◌, ℕ, ◌+◌, ◌<◌, ◌≤◌, List, [], ◌∷◌, ◌++◌, length, get_or, ◌&&◌, ◌||◌, not, eqb, IsTrue, None, false, refl, Option, Some, cond, eq-eqb, sym, ap, ◌∙◌, inl, inr, arith}
+use Rattle.std.proofs.Common.{◌≡◌, ◌≢◌, ℕ, ◌+◌, ◌<◌, ◌≤◌, List, [], ◌∷◌, ◌++◌, length, get_or, ◌&&◌, ◌||◌, not, eqb, IsTrue, false, refl, Option, Some, cond, eq-eqb, sym, ap, ◌∙◌, inl, inr, arith}
 use Rattle.std.specs.Option.{unwrap_or}
 use Rattle.std.proofs.Math.ListN.{set, length-set}
 use Rattle.std.specs.Bool.{◌==◌}
@@ -17,19 +17,19 @@ use Rattle.gj_cover.proofs.Linked.{AreLinked, tight_linked}
 use Rattle.gj_cover.proofs.NextLines.{IsNextTo, IsOpeningOf, next_to, searched_on, searched_to, in_turn, numbers, joined_classes, opened_classes, near_more, free_more, one_less}
 use Rattle.gj_cover.proofs.Pending.{read}
 
--- the state is the old one with one more line, but for the count
-pub record HasLineMore (J : Linking) (old new : ProgressData) (l : CoverLine) (m : ℕ) :
-    Type 0 where
-  pub number : m ≡ unwrap_or (number_at old.component l.from) old.count
+-- the state is the old one with one more line, but for the count: m is the number of its interval,
+-- by what is read at the interval from which it joins, and the set is of intervals joined to its own
+pub record HasLineMore (J : Linking) (old new : ProgressData) (l : CoverLine) (m : ℕ)
+    (read : Option ℕ) (joined : IndexSet) : Type 0 where
+  pub was : read ≡ get_or old.component l.from read
+  pub number : m ≡ unwrap_or read old.count
   pub lines : new.lines ≡ old.lines ++ l ∷ []
   pub component : new.component ≡ set old.component l.interval (Some m)
   pub free : (k : ℕ) → has new.free k ≡ (has old.free k && not (eqb k l.interval))
-  pub joined : IndexSet
-  pub told : (k : ℕ) → k < J.order → l.interval ≢ k → IsTrue (has joined k) →
-      J.Joined l.interval k
-  pub whole : (k : ℕ) → k < J.order → l.interval ≢ k → number_at old.component k ≡ None →
-      J.Joined l.interval k → IsTrue (has new.near k)
   pub near : (k : ℕ) → has new.near k ≡ (has old.near k || has joined k)
+  pub told : (k : ℕ) → k < J.order → l.interval ≢ k → IsTrue (has joined k) → J.Joined l.interval k
+  pub whole : (k : ℕ) → k < J.order → l.interval ≢ k → IsTrue (has old.free k) →
+      has old.near k ≡ false → J.Joined l.interval k → IsTrue (has joined k)
 
 opened_joining : (lines : List CoverLine) (l : CoverLine) → l.from ≢ l.interval →
     components_in (lines ++ l ∷ []) ≡ components_in lines
@@ -49,168 +49,126 @@ opened_opening lines l same =
     let sums = sum_by-append f lines (l ∷ []) in
     omega (arith, sums, last)
 
--- the facts on the lists alone
-pub record IsAdded (J : Linking) (old : ProgressData) (l : CoverLine) (m count : ℕ) :
-    Type 0 where
-  pub is_count : count ≡ components_in (old.lines ++ l ∷ [])
-  pub few : count + unnumbered (set old.component l.interval (Some m)) ≤ J.order
-  pub classes : AreClasses J (set old.component l.interval (Some m)) count
-
 module _ (J : Linking) (laws : AreLinked J) (Next : List CoverLine → CoverLine → Type 0)
     (to : (lines : List CoverLine) (c : List (Option ℕ)) (count : ℕ) (l : CoverLine) (m : ℕ) →
     AreNumbered lines c → m ≡ unwrap_or (number_at c l.from) count → Next lines l →
     IsNextTo J c count l m) where
-  assembled : (old new : ProgressData) (l : CoverLine) (m : ℕ) →
-      IsKept J Next old →
-      Next old.lines l → HasLineMore J old new l m →
-      IsAdded J old l m new.count →
-      IsKept J Next new
-  assembled old new l m h next more added =
-      let to' = to old.lines old.component old.count l m h.numbers more.number
-      next in
-      let number = numbers J laws old.lines old.component old.count l m h.component_length
-      h.numbers h.count to' in
-      record {
-        component_length = rw more.component (length-set old.component l.interval (Some m)
-            ∙ h.component_length);
-        lines = rw more.lines (in_turn Next old.lines l h.lines next);
-        numbers = rw (more.lines, more.component) number;
-        count = rw more.lines added.is_count;
-        few = rw more.component added.few;
-        classes = rw more.component added.classes;
-        free = rw more.component (free_more J.order old.component old.free new.free l.interval m
-            (let within : l.interval < length old.component =
-            omega (arith, to'.within, h.component_length) in within) h.free more.free);
-        near = rw more.component
-            (near_more J laws old.component old.near more.joined new.near l m h.component_length
-            to'.within to'.free h.near more.told more.whole more.near);
-      }
+  -- the line's interval has no number, and there is one less of these with it
+  pub fewer : (old : ProgressData) (l : CoverLine) (m : ℕ) → IsKept J Next old →
+      Next old.lines l →
+      unnumbered (set old.component l.interval (Some m)) + 1 ≡ unnumbered old.component
+  fewer old l m h next =
+      let at = to old.lines old.component old.count l
+      (unwrap_or (number_at old.component l.from) old.count) h.numbers refl next in
+      one_less old.component l.interval m
+      (let within : l.interval < length old.component =
+      omega (arith, at.within, h.component_length) in within) at.free
 
-  pub fewer : (old new : ProgressData) (l : CoverLine) (m : ℕ) →
-      IsKept J Next old →
-      Next old.lines l → HasLineMore J old new l m →
-      unnumbered new.component + 1 ≡ unnumbered old.component
-  fewer old new l m h next more =
-      let to' = to old.lines old.component old.count l m h.numbers more.number
-      next in
-      let within : l.interval < length old.component =
-      omega (arith, to'.within, h.component_length) in
-      ap (λ c. unnumbered c + 1) more.component
-      ∙ one_less old.component l.interval m within to'.free
+  module _ (old new : ProgressData) (l : CoverLine) (m : ℕ) (o : Option ℕ) (joined : IndexSet)
+      (h : IsKept J Next old) (next : Next old.lines l)
+      (more : HasLineMore J old new l m o joined) where
+    pub next_at : IsNextTo J old.component old.count l m
+    next_at =
+        let from = (to old.lines old.component old.count l
+        (unwrap_or (number_at old.component l.from) old.count) h.numbers refl next).from_within in
+        let within : l.from < length old.component = omega (arith, from, h.component_length) in
+        to old.lines old.component old.count l m h.numbers
+        (more.number ∙ ap (λ x. unwrap_or x old.count)
+        (sym (read old.component l.from o within more.was))) next
 
-  pub joined_on : (old new : ProgressData) (l : CoverLine) (m : ℕ) →
-      IsKept J Next old →
-      Next old.lines l → HasLineMore J old new l m → l.from ≢ l.interval →
-      new.count ≡ old.count → IsKept J Next new
-  joined_on old new l m h next more other count =
-      let to' = to old.lines old.component old.count l m h.numbers more.number
-      next in
-      let within : l.interval < length old.component =
-      omega (arith, to'.within, h.component_length) in
-      let less = one_less old.component l.interval m within to'.free in
-      let size = h.few in
-      elim to'.kind [
-        | inl j ↦ assembled old new l m h next more (record {
-          is_count = count ∙ h.count ∙ sym (opened_joining old.lines l other);
-          few = omega arith;
-          classes = rw count (joined_classes J laws old.component old.count l m h.component_length
-              h.classes to'.within to'.free j);
-        })
-        | inr o ↦ absurd (other o.same)
-      ]
+    pub next_within : l.interval < length old.component
+    next_within = let at = next_at in omega (arith, at.within, h.component_length)
 
-  pub opened_on : (old new : ProgressData) (l : CoverLine) (m : ℕ) →
-      IsKept J Next old →
-      Next old.lines l → HasLineMore J old new l m → l.from ≡ l.interval →
-      new.count ≡ old.count + 1 → IsKept J Next new
-  opened_on old new l m h next more same count =
-      let to' = to old.lines old.component old.count l m h.numbers more.number
-      next in
-      let within : l.interval < length old.component =
-      omega (arith, to'.within, h.component_length) in
-      let less = one_less old.component l.interval m within to'.free in
-      let size = h.few in
-      elim to'.kind [
-        | inl j ↦ absurd (j.other same)
-        | inr o ↦ assembled old new l m h next more (record {
-          is_count = count ∙ ap (λ n. n + 1) h.count ∙ sym (opened_opening old.lines l same);
-          few = omega arith;
-          classes = rw count (opened_classes J laws old.component old.count l m h.component_length
-              h.classes to'.within to'.free o);
-        })
-      ]
+    assembled : new.count ≡ components_in (old.lines ++ l ∷ []) →
+        new.count + unnumbered (set old.component l.interval (Some m)) ≤ J.order →
+        AreClasses J (set old.component l.interval (Some m)) new.count → IsKept J Next new
+    assembled count few classes =
+        let at = next_at in
+        let number = numbers J laws old.lines old.component old.count l m h.component_length
+        h.numbers h.count at in
+        record {
+          component_length = rw more.component (length-set old.component l.interval (Some m)
+              ∙ h.component_length);
+          lines = rw more.lines (in_turn Next old.lines l h.lines next);
+          numbers = rw (more.lines, more.component) number;
+          count = rw more.lines count;
+          few = rw more.component few;
+          classes = rw more.component classes;
+          free = rw more.component (free_more J.order old.component old.free new.free l.interval m
+              next_within h.free more.free);
+          near = rw more.component (near_more J laws old.component old.near joined new.near l m
+              h.component_length at.within at.free h.near more.told
+              (λ k low other none both. more.near k ∙ elim (cases_Bool (has old.near k)) [
+                | inl yes' ↦ or_left (has old.near k) (has joined k) yes'
+                | inr no' ↦ or_right (has old.near k) (has joined k)
+                    (more.whole k low other ((h.free.each k).1 (low, none)) no' both)
+              ])
+              more.near);
+        }
 
-  -- the state with one more line, from what is read and written
-  pub line_more : (old new : ProgressData) (l : CoverLine) (m : ℕ) (o : Option ℕ) →
-      IsKept J Next old → Next old.lines l → o ≡ get_or old.component l.from o →
-      m ≡ unwrap_or o old.count → new.lines ≡ old.lines ++ l ∷ [] →
-      new.component ≡ set old.component l.interval (Some m) →
-      ((k : ℕ) → has new.free k ≡ (has old.free k && not (eqb k l.interval))) →
-      (joined : IndexSet) →
-      ((k : ℕ) → k < J.order → l.interval ≢ k → IsTrue (has joined k) → J.Joined l.interval k) →
-      ((k : ℕ) → k < J.order → l.interval ≢ k → IsTrue (has old.free k) → has old.near k ≡ false →
-      J.Joined l.interval k → IsTrue (has joined k)) →
-      ((k : ℕ) → has new.near k ≡ (has old.near k || has joined k)) →
-      HasLineMore J old new l m
-  line_more old new l m o h next was number lines component free joined told whole near =
-      let from = (to old.lines old.component old.count l
-      (unwrap_or (number_at old.component l.from) old.count) h.numbers refl next).from_within in
-      let within : l.from < length old.component = omega (arith, from, h.component_length) in
-      record {
-        number = number ∙ ap (λ x. unwrap_or x old.count)
-            (sym (read old.component l.from o within was));
-        lines = lines;
-        component = component;
-        free = free;
-        joined = joined;
-        told = told;
-        whole = λ k low other none at. near k ∙ elim (cases_Bool (has old.near k)) [
-          | inl yes' ↦ or_left (has old.near k) (has joined k) yes'
-          | inr no' ↦ or_right (has old.near k) (has joined k)
-              (whole k low other ((h.free.each k).1 (low, none)) no' at)
-        ];
-        near = near;
-      }
+    pub joined_on : l.from ≢ l.interval → new.count ≡ old.count → IsKept J Next new
+    joined_on other count =
+        let at = next_at in
+        let less = fewer old l m h next in
+        let size = h.few in
+        elim at.kind [
+          | inl j ↦ assembled (count ∙ h.count ∙ sym (opened_joining old.lines l other))
+              (omega arith)
+              (rw count (joined_classes J laws old.component old.count l m h.component_length
+              h.classes at.within at.free j))
+          | inr o ↦ absurd (other o.same)
+        ]
+
+    pub opened_on : l.from ≡ l.interval → new.count ≡ old.count + 1 → IsKept J Next new
+    opened_on same count =
+        let at = next_at in
+        let less = fewer old l m h next in
+        let size = h.few in
+        elim at.kind [
+          | inl j ↦ absurd (j.other same)
+          | inr o ↦ assembled
+              (count ∙ ap (λ n. n + 1) h.count ∙ sym (opened_opening old.lines l same))
+              (omega arith)
+              (rw count (opened_classes J laws old.component old.count l m h.component_length
+              h.classes at.within at.free o))
+        ]
 
 -- ---- by tight pairs
 
-within_numbers : (q : ℕ) (T : ℕ → ℕ → Type 0) (old new : Progress) (l : CoverLine) (m : ℕ) →
-    IsProgress q T old → IsNextLine q T old.lines.items l →
-    HasLineMore (tight_linking q T) (progress_data old) (progress_data new) l m →
-    l.interval < length old.component.items
-within_numbers q T old new l m h next more =
-    let to' = next_to q T old.lines.items old.component.items old.count l m h.kept.numbers
-    more.number next in
-    omega (arith, to'.within, h.kept.component_length)
+module _ (q : ℕ) (T : ℕ → ℕ → Type 0) (old new : Progress) (l : CoverLine) (m : ℕ) (o : Option ℕ)
+    (joined : IndexSet) (h : IsProgress q T old) (next : IsNextLine q T old.lines.items l)
+    (more : HasLineMore (tight_linking q T) (progress_data old) (progress_data new) l m o joined)
+  where
+    at_next : IsNextTo (tight_linking q T) old.component.items old.count l m
+    at_next = next_at (tight_linking q T) (tight_linked q T) (IsNextLine q T) (next_to q T)
+        (progress_data old) (progress_data new) l m o joined h.kept next more
 
-pub joined_line : (q : ℕ) (T : ℕ → ℕ → Type 0) (old new : Progress) (l : CoverLine) (m : ℕ) →
-    IsProgress q T old → IsNextLine q T old.lines.items l →
-    HasLineMore (tight_linking q T) (progress_data old) (progress_data new) l m →
-    l.from ≢ l.interval → new.count ≡ old.count → new.searched ≡ old.searched → IsProgress q T new
-joined_line q T old new l m h next more other count searched =
-    let is : new.component.items ≡ set old.component.items l.interval (Some m) =
-    more.component in
-    record {
-      kept = joined_on (tight_linking q T) (tight_linked q T) (IsNextLine q T) (next_to q T)
-          (progress_data old) (progress_data new) l m h.kept next more other count;
-      searched = rw (is, searched) (searched_on q T old.component.items l.interval m old.searched
-          (within_numbers q T old new l m h next more) h.searched);
-    }
+    within_numbers : l.interval < length old.component.items
+    within_numbers = next_within (tight_linking q T) (tight_linked q T) (IsNextLine q T)
+        (next_to q T) (progress_data old) (progress_data new) l m o joined h.kept next more
 
-pub opened_line : (q : ℕ) (T : ℕ → ℕ → Type 0) (old new : Progress) (l : CoverLine) (m : ℕ) →
-    IsProgress q T old → IsNextLine q T old.lines.items l →
-    HasLineMore (tight_linking q T) (progress_data old) (progress_data new) l m →
-    l.from ≡ l.interval → new.count ≡ old.count + 1 → new.searched ≡ l.interval → IsProgress q T new
-opened_line q T old new l m h next more same count searched =
-    let is : new.component.items ≡ set old.component.items l.interval (Some m) =
-    more.component in
-    let to' = next_to q T old.lines.items old.component.items old.count l m h.kept.numbers
-    more.number next in
-    let opens : IsOpeningOf (tight_linking q T) old.component.items old.count l m =
-    elim to'.kind [ inl j ↦ absurd (j.other same) | inr o ↦ o ] in
-    record {
-      kept = opened_on (tight_linking q T) (tight_linked q T) (IsNextLine q T) (next_to q T)
-          (progress_data old) (progress_data new) l m h.kept next more same count;
-      searched = rw (is, searched) (searched_to q T old.component.items old.count l m
-          (within_numbers q T old new l m h next more) opens);
-    }
+    pub joined_line : l.from ≢ l.interval → new.count ≡ old.count → new.searched ≡ old.searched →
+        IsProgress q T new
+    joined_line other count searched =
+        let is : new.component.items ≡ set old.component.items l.interval (Some m) =
+        more.component in
+        record {
+          kept = joined_on (tight_linking q T) (tight_linked q T) (IsNextLine q T) (next_to q T)
+              (progress_data old) (progress_data new) l m o joined h.kept next more other count;
+          searched = rw (is, searched) (searched_on q T old.component.items l.interval m old.searched
+              within_numbers h.searched);
+        }
+
+    pub opened_line : l.from ≡ l.interval → new.count ≡ old.count + 1 →
+        new.searched ≡ l.interval → IsProgress q T new
+    opened_line same count searched =
+        let is : new.component.items ≡ set old.component.items l.interval (Some m) =
+        more.component in
+        let opens : IsOpeningOf (tight_linking q T) old.component.items old.count l m =
+        elim at_next.kind [ inl j ↦ absurd (j.other same) | inr o ↦ o ] in
+        record {
+          kept = opened_on (tight_linking q T) (tight_linked q T) (IsNextLine q T) (next_to q T)
+              (progress_data old) (progress_data new) l m o joined h.kept next more same count;
+          searched = rw (is, searched) (searched_to q T old.component.items old.count l m
+              within_numbers opens);
+        }

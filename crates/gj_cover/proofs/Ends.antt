@@ -10,7 +10,7 @@ use Rattle.gj_cover.specs.Reached.{AreUncovered}
 use Rattle.gj_cover.specs.declared.progress.Progress.{Progress}
 use Rattle.gj_cover.proofs.Linked.{AreLinked, tight_linked, joined_rests}
 use Rattle.gj_cover.proofs.LineLists.{number_cases, no_line, component_number}
-use Rattle.gj_cover.proofs.NextLines.{joins_lines}
+use Rattle.gj_cover.proofs.NextLines.{joins_same}
 
 -- no interval without a number is joined to one with a number, or directly covered
 pub record HasEnded (J : Linking) (c : List (Option ℕ)) : Type 0 where
@@ -105,7 +105,7 @@ pub ended : (q : ℕ) (T : ℕ → ℕ → Type 0) (p : Progress) → IsProgress
     IsComplete q T p.lines.items → HasEnded (tight_linking q T) p.component.items
 ended q T p h end = record {
   none_joins = λ i j at. end.none_joins i j
-      (joins_lines q T p.lines.items p.component.items i j h.kept.numbers at);
+      ((joins_same q T p.lines.items p.component.items h.kept.numbers i j).1 at);
   none_direct = λ i below none direct. end.none_open i (record {
     within = below;
     no_line = no_line p.lines.items p.component.items i h.kept.numbers none;

@@ -1,8 +1,8 @@
 -- Joined intervals, and the lists of joined ones that lead from one to another.
-use Rattle.std.proofs.Common.{◌≡◌, ℕ, ◌%◌, refl, sym, ◌∙◌}
-use Rattle.gj_shape.specs.Cover.{Joins, AreJoined, Covers, IsDirectlyCovered, LeadsTo, here, onward, IsCovered}
+use Rattle.std.proofs.Common.{◌≡◌, ℕ, ◌%◌, refl}
+use Rattle.gj_shape.specs.Cover.{Joins, AreJoined, Covers, IsDirectlyCovered, here, IsCovered}
 use Rattle.gj_shape.specs.declared.faces.FaceKind.{FaceKind}
-use Rattle.gj_theory.proofs.CoverPaths.{joined_turned}
+use Rattle.gj_theory.proofs.CoverPaths.{joined_turned, covered_onward}
 use Rattle.gj_cover.proofs.Parts.{corners, additive, corners_same, intervals, one_of, intervals_same, interval_same, covered_one, one_covered, HasPeriod}
 
 -- a face of the square (a, b) that joins stands for one with a and b below q
@@ -58,21 +58,11 @@ directly_same q T i k e (kind, a, b, h) =
 
 -- ---- lists that lead from one to another
 
-pub leads_same : (q : ℕ) (T : ℕ → ℕ → Type 0) (j i k : ℕ) → i % q ≡ k % q → LeadsTo q T j i →
-    LeadsTo q T j k
-leads_same q T j i k e (here _ g) = here k (sym e ∙ g)
-leads_same q T j i k e (onward _ next h rest) = onward k next (joined_same q T i next k e h) rest
-
-pub leads_on : (q : ℕ) (T : ℕ → ℕ → Type 0) (k j i : ℕ) → LeadsTo q T j i → LeadsTo q T k j →
-    LeadsTo q T k i
-leads_on q T k j i (here _ g) last = leads_same q T k j i (sym g) last
-leads_on q T k j i (onward _ next h rest) last = onward i next h (leads_on q T k j next rest last)
-
 -- an interval that is joined to a covered one is covered
 pub covered_on : (q : ℕ) (T : ℕ → ℕ → Type 0) (i j : ℕ) → AreJoined q T i j → IsCovered q T j →
     IsCovered q T i
-covered_on q T i j h (k, direct, list) =
-    (k, direct, leads_on q T i j k list (onward j i (joined_turned q T i j h) (here i refl)))
+covered_on q T i j h =
+    covered_onward q T j i (joined_turned q T i j h)
 
 pub covered_directly : (q : ℕ) (T : ℕ → ℕ → Type 0) (i : ℕ) → IsDirectlyCovered q T i →
     IsCovered q T i

@@ -3,8 +3,8 @@ use Rattle.std.proofs.Common.{◌≡◌, ℕ, ◌%◌, refl, sym}
 use Rattle.std.proofs.Math.Nat.{mod-mod}
 use Rattle.gj_shape.specs.Cover.{AreJoined, LeadsTo, here, onward}
 use Rattle.gj_cover.specs.Linking.{Linking, Covered, tight_linking}
-use Rattle.gj_cover.proofs.Joining.{joined_same, directly_same, leads_on}
-use Rattle.gj_theory.proofs.CoverPaths.{joined_turned, leads_turned}
+use Rattle.gj_cover.proofs.Joining.{joined_same, directly_same}
+use Rattle.gj_theory.proofs.CoverPaths.{joined_turned, leads_turned, leads_through}
 
 pub record AreLinked (l : Linking) : Type 1 where
   pub turned : (i j : ℕ) → l.Joined i j → l.Joined j i
@@ -52,6 +52,6 @@ tight_linked q T = record {
   first = λ i j e. here i e;
   next = λ i next j a rest. onward i next a rest;
   back = λ i j list. leads_turned q T j i list;
-  through = leads_on q T;
+  through = λ k j i list last. leads_through q T k j i last list;
   along = steps q T;
 }

@@ -10,7 +10,7 @@ use Rattle.gj_limit_cover.specs.Linking.{limit_linking}
 use Rattle.gj_limit_cover.specs.Progress.{IsProgress, IsComplete, progress_data}
 use Rattle.gj_limit_cover.specs.declared.progress.Progress.{Progress}
 use Rattle.gj_limit_cover.proofs.Linked.{limit_linked}
-use Rattle.gj_limit_cover.proofs.NextLines.{joins_lines}
+use Rattle.gj_limit_cover.proofs.NextLines.{joins_same}
 
 -- both intervals as indices below q
 pub joined_rests : (q : ℕ) (T : FaceKind → ℕ → ℕ → ℕ → Type 0) (i j : ℕ) → AreJoined q T i j →
@@ -21,7 +21,7 @@ pub ended : (q : ℕ) (T : FaceKind → ℕ → ℕ → ℕ → Type 0) (p : Pro
     IsComplete q T p.lines.items → HasEnded (limit_linking q T) p.component.items
 ended q T p h end = record {
   none_joins = λ i j at. end.none_joins i j
-      (joins_lines q T p.lines.items p.component.items i j h.numbers at);
+      ((joins_same q T p.lines.items p.component.items h.numbers i j).1 at);
   none_direct = λ i below none direct. end.none_open i (record {
     within = below;
     no_line = no_line p.lines.items p.component.items i h.numbers none;

@@ -10,39 +10,33 @@ use Rattle.gj_cover.proofs.NextLines.{IsNextTo}
 use Rattle.gj_limit_cover.specs.LimitCover.{JoinsLines, IsNextLine}
 use Rattle.gj_limit_cover.specs.Linking.{limit_linking}
 
-pub joins_numbers : (q : ℕ) (T : FaceKind → ℕ → ℕ → ℕ →
-    Type 0) (lines : List CoverLine) (c : List (Option ℕ)) (i j : ℕ) →
-    AreNumbered lines c → JoinsLines q T lines i j → JoinsNumbers (limit_linking q T) c i j
-joins_numbers q T lines c i j h k = record {
-  first_within = k.first_within;
-  second_within = k.second_within;
-  free = no_number lines c i h k.no_line;
-  number = line_number lines c j h k.line;
-  joined = k.joined;
-}
-
-pub joins_lines : (q : ℕ) (T : FaceKind → ℕ → ℕ → ℕ →
-    Type 0) (lines : List CoverLine) (c : List (Option ℕ)) (i j : ℕ) →
-    AreNumbered lines c → JoinsNumbers (limit_linking q T) c i j → JoinsLines q T lines i j
-joins_lines q T lines c i j h k = record {
-  first_within = k.first_within;
-  second_within = k.second_within;
-  no_line = no_line lines c i h k.free;
-  line = number_line lines c j k.number.0 h k.number.1;
-  joined = k.joined;
-}
-
+-- what joins by lines does so by numbers
 pub joins_same : (q : ℕ) (T : FaceKind → ℕ → ℕ → ℕ → Type 0) (lines : List CoverLine)
     (c : List (Option ℕ)) → AreNumbered lines c → (i j : ℕ) →
     JoinsLines q T lines i j ↔ JoinsNumbers (limit_linking q T) c i j
-joins_same q T lines c h i j = (joins_numbers q T lines c i j h, joins_lines q T lines c i j h)
+joins_same q T lines c h i j = (
+  λ k. record {
+    first_within = k.first_within;
+    second_within = k.second_within;
+    free = no_number lines c i h k.no_line;
+    number = line_number lines c j h k.line;
+    joined = k.joined;
+  },
+  λ k. record {
+    first_within = k.first_within;
+    second_within = k.second_within;
+    no_line = no_line lines c i h k.free;
+    line = number_line lines c j k.number.0 h k.number.1;
+    joined = k.joined;
+  },
+)
 
 pub next_to : (q : ℕ) (T : FaceKind → ℕ → ℕ → ℕ →
     Type 0) (lines : List CoverLine) (c : List (Option ℕ)) (count : ℕ) (l : CoverLine) (m : ℕ) →
     AreNumbered lines c → m ≡ unwrap_or (number_at c l.from) count → IsNextLine q T lines l →
     IsNextTo (limit_linking q T) c count l m
 next_to q T lines c count l m h e (inl k) =
-    let at = joins_numbers q T lines c l.interval l.from h k.from.holds in
+    let at = (joins_same q T lines c h l.interval l.from).0 k.from.holds in
     let number = at.number.1 in
     let is : m ≡ at.number.0 = e ∙ ap (λ o. unwrap_or o count) number in
     let other : l.from ≢ l.interval = λ same.
@@ -63,7 +57,7 @@ next_to q T lines c count l m h e (inr k) =
       kind = inr (record {
         same = k.from;
         number = e ∙ ap (λ o. unwrap_or o count) (ap (number_at c) k.from ∙ free);
-        none = λ i j at. k.none_joins i j (joins_lines q T lines c i j h at);
+        none = λ i j at. k.none_joins i j ((joins_same q T lines c h i j).1 at);
         direct = k.interval.holds.covered;
         least = λ i below none direct. k.interval.least i (omega arith) below (record {
           within = let in' : i < q = omega (arith, k.interval.holds.within) in in';
