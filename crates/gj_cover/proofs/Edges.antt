@@ -17,7 +17,7 @@ use Rattle.gj_cover.proofs.Parts.{Corners, corners, additive, corners_same, Inte
 below_same : (q x i : ℕ) → i < q → x % q ≡ i % q → x % q ≡ i
 below_same q x i i_below e = e ∙ mod-eq_of_lt i_below
 
-is_it : (q a i : ℕ) → a < q → i < q → a % q ≡ i % q → a ≡ i
+pub is_it : (q a i : ℕ) → a < q → i < q → a % q ≡ i % q → a ≡ i
 is_it q a i a_below i_below e = sym (mod-eq_of_lt a_below) ∙ e ∙ mod-eq_of_lt i_below
 
 clash : {A : Type 0} (q x i j : ℕ) → i < q → j < q → i ≢ j → x % q ≡ i % q → x % q ≡ j % q → A

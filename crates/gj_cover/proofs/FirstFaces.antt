@@ -54,17 +54,17 @@ next_leads q i step short j s =
     ∙ s.step_leads
 
 -- the sums in another order
-turned : (q a b j : ℕ) → (a + b) % q ≡ j → (b + a) % q ≡ j
+pub turned : (q a b j : ℕ) → (a + b) % q ≡ j → (b + a) % q ≡ j
 turned q a b j e = let order : b + a ≡ a + b = omega arith in ap (λ n. n % q) order ∙ e
 
-turned_next : (q a b j : ℕ) → (a + b + 1) % q ≡ j → (b + a + 1) % q ≡ j
+pub turned_next : (q a b j : ℕ) → (a + b + 1) % q ≡ j → (b + a + 1) % q ≡ j
 turned_next q a b j e = let order : b + a + 1 ≡ a + b + 1 = omega arith in ap (λ n. n % q) order ∙ e
 
 -- a number below q by which j is reached is the step, or the short one
-is_step : (q i step short j b : ℕ) → AreSteps q i step short j → b < q → (i + b) % q ≡ j → b ≡ step
+pub is_step : (q i step short j b : ℕ) → AreSteps q i step short j → b < q → (i + b) % q ≡ j → b ≡ step
 is_step q i step short j b s b_below e = one_step q i b step j b_below s.step_below e s.step_leads
 
-is_short : (q i step short j b : ℕ) → AreSteps q i step short j → b < q → (i + b + 1) % q ≡ j →
+pub is_short : (q i step short j b : ℕ) → AreSteps q i step short j → b < q → (i + b + 1) % q ≡ j →
     b ≡ short
 is_short q i step short j b s b_below e =
     let first : i + 1 + b ≡ i + b + 1 = omega arith in

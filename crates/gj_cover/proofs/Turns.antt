@@ -14,9 +14,9 @@ once_more q j below =
     let less : j + q - q ≡ j = omega arith in
     mod-eq-sub-mod {n = j + q} {m = q} (omega arith) ∙ ap (λ n. n % q) less ∙ mod-eq_of_lt below
 
-pub turned_place : (q s j : ℕ) → s < q → j < q →
+pub place_turned : (q s j : ℕ) → s ≤ q → j < q →
     (place_of q s j < q) × ((s + place_of q s j) % q ≡ j)
-turned_place q s j s_below j_below =
+place_turned q s j s_most j_below =
     cond_both (leb s j) (j - s) (j + (q - s)) (λ k. (k < q) × ((s + k) % q ≡ j))
     (λ e.
     let le = leb-true s j e in
@@ -26,6 +26,10 @@ turned_place q s j s_below j_below =
     let lt = leb-false s j e in
     let sum : s + (j + (q - s)) ≡ j + q = omega arith in
     (omega arith, ap (λ n. n % q) sum ∙ once_more q j j_below))
+
+pub turned_place : (q s j : ℕ) → s < q → j < q →
+    (place_of q s j < q) × ((s + place_of q s j) % q ≡ j)
+turned_place q s j s_below j_below = place_turned q s j (omega arith) j_below
 
 doubled : (b : Bool) → (b || b) ≡ b
 doubled true = refl

@@ -1,9 +1,10 @@
 -- The first of the faces that join two intervals.
 use Rattle.std.proofs.Common.{◌≡◌, ℕ, ◌+◌, ◌%◌, ◌<◌, ◌⊎◌, Bool, Option, Some, None, IfSome, IfNone, inl, inr, refl, sym, ap, subst, ◌∙◌, arith}
-use Rattle.std.proofs.Math.Nat.{mod-lt, mod-mod, mod-eq_of_lt}
-use Rattle.gj_faces.proofs.Periods.{same_sum}
+use Rattle.std.proofs.Math.Nat.{mod-lt, mod-eq_of_lt}
 use Rattle.gj_cover.specs.FirstFound.{AddsFirst, IsFaceReached}
 use Rattle.gj_cover.proofs.Adding.{EitherOf}
+use Rattle.gj_cover.proofs.Edges.{is_it}
+use Rattle.gj_cover.proofs.FirstFaces.{AreSteps, is_step, is_short, turned, turned_next}
 use Rattle.gj_cover.proofs.WalkPlaces.{first_face}
 use Rattle.gj_shape.specs.Cover.{IsFirstFace}
 use Rattle.gj_shape.specs.declared.faces.Face.{Face}
@@ -12,7 +13,6 @@ use Rattle.gj_shape.specs.declared.faces.FaceKind.TheVariants.{Vertex, Horizonta
 use Rattle.gj_limit_cover.specs.FirstFaces.{LinksAs, IsOneOfThree, IsSquareBelow}
 use Rattle.gj_limit_cover.specs.LimitCover.{LinksBy, JoinsAs}
 use Rattle.gj_limit_cover.proofs.Complexes.{IsComplex}
-use Rattle.gj_limit_cover.proofs.LinkRows.{one_place}
 use Rattle.gj_limit_cover.proofs.Reductions.{joins_reduced}
 
 abbrev IsFrom : (FaceKind → ℕ → ℕ → Type 0) → (FaceKind → ℕ → ℕ → Type 0) → Option Face →
@@ -39,16 +39,6 @@ squares_added S P q x y on back h = record {
 
 -- ---- the nine faces that may link i to j
 
--- how far it is from i to j, and one less
-pub record AreSteps (q i j step short : ℕ) : Type 0 where
-  pub start : i < q
-  pub end : j < q
-  pub more : 1 < q
-  pub step_below : step < q
-  pub short_below : short < q
-  pub step_is : (i + step) % q ≡ j
-  pub short_is : (1 + short) % q ≡ step
-
 abbrev pub IsOneOfNine : ℕ → ℕ → ℕ → ℕ → FaceKind → ℕ → ℕ → Type 0
 IsOneOfNine i j step short =
     EitherOf (EitherOf (IsOneOfThree Horizontal i step i short) (IsOneOfThree Vertical step i short
@@ -61,7 +51,7 @@ three_below q a b c d e f kind other h k l m (inl (inl (_, x, y))) = (omega arit
 three_below q a b c d e f kind other h k l m (inl (inr (_, x, y))) = (omega arith, omega arith)
 three_below q a b c d e f kind other h k l m (inr (_, x, y)) = (omega arith, omega arith)
 
-pub nine_below : (q i j step short : ℕ) → AreSteps q i j step short → (kind : FaceKind) (a b : ℕ) →
+pub nine_below : (q i j step short : ℕ) → AreSteps q i step short j → (kind : FaceKind) (a b : ℕ) →
     IsOneOfNine i j step short kind a b → IsSquareBelow q kind a b
 nine_below q i j step short s kind a b (inl (inl h)) =
     three_below q i step i short a b Horizontal kind s.start s.step_below s.start s.short_below h
@@ -70,79 +60,61 @@ nine_below q i j step short s kind a b (inl (inr h)) =
 nine_below q i j step short s kind a b (inr h) =
     three_below q i j i j a b Diagonal kind s.start s.end s.start s.end h
 
-index_is : (q a i : ℕ) → a < q → i < q → a % q ≡ i % q → a ≡ i
-index_is q a i a_low i_low e = sym (mod-eq_of_lt a_low) ∙ e ∙ mod-eq_of_lt i_low
-
-step_is : (q i j step short a b : ℕ) → AreSteps q i j step short → a < q → b < q → a ≡ i →
+step_is : (q i j step short a b : ℕ) → AreSteps q i step short j → b < q → a ≡ i →
     (a + b) % q ≡ j % q → b ≡ step
-step_is q i j step short a b s a_low b_low e g =
-    let first : (i + b) % q ≡ j = ap (λ n. (n + b) % q) (sym e) ∙ g ∙ mod-eq_of_lt s.end in
-    one_place q i b step j (omega (arith, s.start)) b_low s.step_below first s.step_is
+step_is q i j step short a b s b_low e g =
+    is_step q i step short j b s b_low (ap (λ n. (n + b) % q) (sym e) ∙ g ∙ mod-eq_of_lt s.end)
 
-short_is : (q i j step short a b : ℕ) → AreSteps q i j step short → a < q → b < q → a ≡ i →
+short_is : (q i j step short a b : ℕ) → AreSteps q i step short j → b < q → a ≡ i →
     (a + b + 1) % q ≡ j % q → b ≡ short
-short_is q i j step short a b s a_low b_low e g =
-    let some : 0 < q = omega arith in
-    let order : a + (b + 1) ≡ a + b + 1 = omega arith in
-    let first : (i + (b + 1) % q) % q ≡ j =
-    same_sum q i ((b + 1) % q) a (b + 1) (ap (λ n. n % q) (sym e)) (mod-mod (b + 1) q)
-    ∙ ap (λ n. n % q) order ∙ g ∙ mod-eq_of_lt s.end in
-    let next = one_place q i ((b + 1) % q) step j (omega (arith, s.start)) (mod-lt (b + 1) some)
-    s.step_below first s.step_is in
-    let turned : 1 + b ≡ b + 1 = omega arith in
-    one_place q 1 b short step (omega (arith, s.more)) b_low s.short_below
-    (ap (λ n. n % q) turned ∙ next) s.short_is
-
-turned_sum : (q a b j : ℕ) → (a + b) % q ≡ j → (b + a) % q ≡ j
-turned_sum q a b j e = let order : b + a ≡ a + b = omega arith in ap (λ n. n % q) order ∙ e
-
-turned_next : (q a b j : ℕ) → (a + b + 1) % q ≡ j → (b + a + 1) % q ≡ j
-turned_next q a b j e = let order : b + a + 1 ≡ a + b + 1 = omega arith in ap (λ n. n % q) order ∙ e
+short_is q i j step short a b s b_low e g =
+    is_short q i step short j b s b_low
+    (ap (λ n. (n + b + 1) % q) (sym e) ∙ g ∙ mod-eq_of_lt s.end)
 
 pub nine_back : (q i j step short : ℕ) (T : FaceKind → ℕ → ℕ → ℕ → Type 0) →
-    AreSteps q i j step short →
+    AreSteps q i step short j →
     (kind : FaceKind) (a b : ℕ) → a < q → b < q → LinksBy q T kind a b i j →
     IsOneOfNine i j step short kind a b
 nine_back q i j step short T s Vertex a b a_low b_low h = absurd h
 nine_back q i j step short T s Horizontal a b a_low b_low (x, y, e, g) =
-    let at = index_is q a i a_low s.start e in
-    inl (inl (inl (inl (refl, at, step_is q i j step short a b s a_low b_low at g))))
+    let at = is_it q a i a_low s.start e in
+    inl (inl (inl (inl (refl, at, step_is q i j step short a b s b_low at g))))
 nine_back q i j step short T s Vertical a b a_low b_low (x, y, e, g) =
-    let at = index_is q b i b_low s.start e in
+    let at = is_it q b i b_low s.start e in
     inl (inr (inl (inl (
       refl,
-      step_is q i j step short b a s b_low a_low at
-          (turned_sum q a b (j % q) g),
+      step_is q i j step short b a s a_low at
+          (turned q a b (j % q) g),
       at,
     ))))
 nine_back q i j step short T s Diagonal a b a_low b_low (x, y, e, g) =
-    inr (inl (inl (refl, index_is q a i a_low s.start e, index_is q b j b_low s.end g)))
+    inr (inl (inl (refl, is_it q a i a_low s.start e, is_it q b j b_low s.end g)))
 nine_back q i j step short T s Lower a b a_low b_low (inl (x, y, e, g)) =
-    let at = index_is q a i a_low s.start e in
-    inl (inl (inl (inr (refl, at, step_is q i j step short a b s a_low b_low at g))))
+    let at = is_it q a i a_low s.start e in
+    inl (inl (inl (inr (refl, at, step_is q i j step short a b s b_low at g))))
 nine_back q i j step short T s Lower a b a_low b_low (inr (inl (x, y, e, g))) =
-    let at = index_is q b i b_low s.start e in
+    let at = is_it q b i b_low s.start e in
     inl (inr (inl (inr (
       refl,
-      step_is q i j step short b a s b_low a_low at
-          (turned_sum q a b (j % q) g),
+      step_is q i j step short b a s a_low at
+          (turned q a b (j % q) g),
       at,
     ))))
 nine_back q i j step short T s Lower a b a_low b_low (inr (inr (x, y, e, g))) =
-    inr (inl (inr (refl, index_is q a i a_low s.start e, index_is q b j b_low s.end g)))
+    inr (inl (inr (refl, is_it q a i a_low s.start e, is_it q b j b_low s.end g)))
 nine_back q i j step short T s Upper a b a_low b_low (inl (x, y, e, g)) =
-    let at = index_is q a i a_low s.start e in
-    inl (inl (inr (refl, at, short_is q i j step short a b s a_low b_low at g)))
+    let at = is_it q a i a_low s.start e in
+    inl (inl (inr (refl, at, short_is q i j step short a b s b_low at g)))
 nine_back q i j step short T s Upper a b a_low b_low (inr (inl (x, y, e, g))) =
-    let at = index_is q b i b_low s.start e in
+    let at = is_it q b i b_low s.start e in
     inl (inr (inr (
       refl,
-      short_is q i j step short b a s b_low a_low at (turned_next q a b (j % q)
+      short_is q i j step short b a s a_low at (turned_next q a b (j % q)
           g),
       at,
     )))
 nine_back q i j step short T s Upper a b a_low b_low (inr (inr (x, y, e, g))) =
-    inr (inr (refl, index_is q a i a_low s.start e, index_is q b j b_low s.end g))
+    inr (inr (refl, is_it q a i a_low s.start e, is_it q b j b_low s.end g))
 
 -- ---- both ways
 

@@ -1,9 +1,10 @@
 -- The joins of one row of squares, and the intervals to which edges link the row's interval.
-use Rattle.std.proofs.Common.{◌≡◌, ◌↔◌, ◌⊎◌, ℕ, ◌+◌, ◌-◌, ◌%◌, ◌<◌, ◌≤◌, ◌&&◌, ◌||◌, ltb, leb, Bool, true, inl, inr, refl, sym, ap, subst, ◌∙◌, arith}
-use Rattle.std.proofs.Math.Nat.{mod-lt, mod-mod, mod-eq_of_lt, mod-eq-sub-mod}
-use Rattle.std.proofs.lemmas.Bool.{and_parts, and_from, or_cases, or_left, or_right, lt-ltb, ltb-true, leb-true, leb-false, cases_lt, cond_both}
+use Rattle.std.proofs.Common.{◌≡◌, ◌↔◌, ◌⊎◌, ℕ, ◌+◌, ◌%◌, ◌<◌, ◌≤◌, ◌&&◌, ◌||◌, ltb, Bool, true, inl, inr, refl, sym, ap, subst, ◌∙◌, arith}
+use Rattle.std.proofs.Math.Nat.{mod-lt, mod-mod, mod-eq_of_lt}
+use Rattle.std.proofs.lemmas.Bool.{and_parts, and_from, or_cases, or_left, or_right, lt-ltb, ltb-true}
 use Rattle.gj_faces.proofs.Periods.{same_sum}
-use Rattle.gj_cover.proofs.Turns.{place_of}
+use Rattle.gj_cover.proofs.Edges.{one_step}
+use Rattle.gj_cover.proofs.Turns.{place_of, place_turned}
 use Rattle.gj_shape.specs.declared.faces.FaceKind.{FaceKind}
 use Rattle.gj_shape.specs.declared.faces.FaceKind.TheVariants.{Vertex, Horizontal, Vertical, Diagonal, Lower, Upper}
 use Rattle.gj_limit_faces.specs.RowJoins.{IsHorizontalJoin, IsDiagonalJoin}
@@ -13,50 +14,6 @@ use Rattle.gj_limit_cover.proofs.Complexes.{IsComplex}
 
 -- ---- places
 
-once_more : (q j : ℕ) → j < q → (j + q) % q ≡ j
-once_more q j below =
-    let less : j + q - q ≡ j = omega arith in
-    mod-eq-sub-mod {n = j + q} {m = q} (omega arith) ∙ ap (λ n. n % q) less ∙ mod-eq_of_lt below
-
--- where an index is that was turned to j by s
-pub turned_place : (q s j : ℕ) → s ≤ q → j < q →
-    (place_of q s j < q) × ((s + place_of q s j) % q ≡ j)
-turned_place q s j s_most j_below =
-    cond_both (leb s j) (j - s) (j + (q - s)) (λ k. (k < q) × ((s + k) % q ≡ j))
-    (λ e.
-    let le = leb-true s j e in
-    let sum : s + (j - s) ≡ j = omega arith in
-    (omega arith, ap (λ n. n % q) sum ∙ mod-eq_of_lt j_below))
-    (λ e.
-    let lt = leb-false s j e in
-    let sum : s + (j + (q - s)) ≡ j + q = omega arith in
-    (omega arith, ap (λ n. n % q) sum ∙ once_more q j j_below))
-
--- a sum of two indices that are below the order, or the first of which is the order
-sum_cases : (q s k : ℕ) → s ≤ q → k < q →
-    (((s + k) % q ≡ s + k) × (s + k < q)) ⊎ ((s + k) % q + q ≡ s + k)
-sum_cases q s k s_most k_below = elim (cases_lt (s + k) q) [
-  | inl low ↦ inl (mod-eq_of_lt low, low)
-  | inr high ↦
-      let less : s + k - q < q = omega arith in
-      let e = mod-eq-sub-mod {n = s + k} {m = q} (omega arith) ∙ mod-eq_of_lt less in
-      inr (omega arith)
-]
-
--- the index with such a sum is one alone
-pub one_place : (q s k l j : ℕ) → s ≤ q → k < q → l < q → (s + k) % q ≡ j → (s + l) % q ≡ j → k ≡ l
-one_place q s k l j s_most k_below l_below e g = elim (sum_cases q s k s_most k_below) [
-  | inl (x, low) ↦ elim (sum_cases q s l s_most l_below) [
-    | inl (y, low') ↦ omega arith
-    | inr y ↦
-        omega arith
-  ]
-  | inr x ↦ elim (sum_cases q s l s_most l_below) [
-    | inl (y, low) ↦ omega arith
-    | inr y ↦ omega arith
-  ]
-]
-
 -- a set that is turned by s has j if the set had an index whose sum with s is j
 pub turned_has : (q s j : ℕ) (set : ℕ → Bool) (t : Bool) → s ≤ q →
     t ≡ (ltb j q && set (place_of q s j)) →
@@ -64,12 +21,12 @@ pub turned_has : (q s j : ℕ) (set : ℕ → Bool) (t : Bool) → s ≤ q →
 turned_has q s j set t s_most is = (
   λ yes'.
       let both = and_parts (ltb j q) (set (place_of q s j)) (sym is ∙ yes') in
-      let at = turned_place q s j s_most (ltb-true j q both.0) in
+      let at = place_turned q s j s_most (ltb-true j q both.0) in
       (place_of q s j, at.0, at.1, both.1),
   λ (k, low, sum, yes').
       let below : j < q = subst (λ n. n < q) sum (mod-lt (s + k) (omega arith)) in
-      let at = turned_place q s j s_most below in
-      let same = one_place q s (place_of q s j) k j s_most at.0 low at.1 sum in
+      let at = place_turned q s j s_most below in
+      let same = one_step q s (place_of q s j) k j at.0 low at.1 sum in
       is ∙ and_from (ltb j q) (set (place_of q s j)) (lt-ltb j q below) (ap set same ∙ yes'),
 )
 

@@ -1,11 +1,12 @@
 -- The triangles of one row of squares, and the intervals that they cover.
 use Rattle.std.proofs.Common.{◌≡◌, ◌≢◌, ◌↔◌, ◌⊎◌, ℕ, ◌+◌, ◌%◌, ◌<◌, ◌≤◌, ◌&&◌, ◌||◌, ltb, eqb, Bool, true, false, Some, None, inl, inr, refl, sym, ap, subst, ◌∙◌, arith}
-use Rattle.std.proofs.Math.Nat.{mod-lt, mod-mod, mod-eq_of_lt}
+use Rattle.std.proofs.Math.Nat.{mod-lt, mod-eq_of_lt}
 use Rattle.std.proofs.lemmas.Bool.{and_parts, and_from, or_cases, or_left, or_right, eq-eqb, eqb-true, cases_lt, cases_order}
 use Rattle.gj_faces.proofs.Periods.{same_sum}
 use Rattle.gj_loops.specs.IndexSets.{has, IsFirst}
 use Rattle.gj_loops.specs.declared.index_set.IndexSet.{IndexSet}
 use Rattle.gj_cover.specs.FirstFound.{FindsFirst}
+use Rattle.gj_cover.proofs.FirstFaces.{AreSteps, is_step, is_short}
 use Rattle.gj_cover.proofs.Turns.{place_of}
 use Rattle.gj_cover.proofs.WalkPlaces.{first_face}
 use Rattle.gj_shape.specs.Cover.{IsFirstFace}
@@ -16,7 +17,7 @@ use Rattle.gj_limit_faces.specs.RowJoins.{IsTightTriangle}
 use Rattle.gj_limit_cover.specs.LimitCover.{Covers, ProjectsOn, IsDirectlyCovered}
 use Rattle.gj_limit_cover.specs.Links.{IsDirectInRow}
 use Rattle.gj_limit_cover.proofs.Complexes.{IsComplex}
-use Rattle.gj_limit_cover.proofs.LinkRows.{one_place, turned_has}
+use Rattle.gj_limit_cover.proofs.LinkRows.{turned_has}
 use Rattle.gj_limit_cover.proofs.Reductions.{covers_reduced}
 
 -- ---- the squares of a row with a triangle that projects on an interval
@@ -34,21 +35,23 @@ onto_three q a i step short b x a_low i_low step_low short_low more b_low other 
     let at_i = mod-eq_of_lt i_low in
     let some : 0 < q = omega arith in
     let two = (false || eqb b i) || eqb b step in
+    let steps : AreSteps q a step short i = record {
+      start = a_low;
+      end = i_low;
+      step_below = step_low;
+      short_below = short_low;
+      step_leads = step_is;
+      short_leads = short_is;
+    } in
     let by_step : (a + b) % q ≡ i % q → x ≡ true = λ e.
-    let same = one_place q a b step i (omega arith) b_low step_low (e ∙ at_i) step_is in
+    let same = is_step q a step short i b steps b_low (e ∙ at_i) in
     is ∙ or_left two (eqb b short) (or_right (false || eqb b i) (eqb b step) (eq-eqb b step same))
     in
     let by_first : b % q ≡ i % q → x ≡ true = λ e.
     is ∙ or_left two (eqb b short) (or_left (false || eqb b i) (eqb b step)
     (or_right false (eqb b i) (eq-eqb b i (sym at_b ∙ e ∙ at_i)))) in
     let by_short : (a + b + 1) % q ≡ i % q → x ≡ true = λ e.
-    let order : a + (b + 1) ≡ a + b + 1 = omega arith in
-    let turned : 1 + b ≡ b + 1 = omega arith in
-    let next = one_place q a ((b + 1) % q) step i (omega arith) (mod-lt (b + 1) some) step_low
-    (same_sum q a ((b + 1) % q) a (b + 1) refl (mod-mod (b + 1) q) ∙ ap (λ n. n % q) order ∙ e
-    ∙ at_i) step_is in
-    let same = one_place q 1 b short step (omega arith) b_low short_low (ap (λ n. n % q) turned
-    ∙ next) short_is in
+    let same = is_short q a step short i b steps b_low (e ∙ at_i) in
     is ∙ or_right two (eqb b short) (eq-eqb b short same) in (
       λ yes'. elim (or_cases two (eqb b short) (sym is ∙ yes')) [
         | inl e ↦ elim (or_cases (false || eqb b i) (eqb b step) e) [

@@ -1,9 +1,10 @@
 use Rattle.std.proofs.Common.{arith}
 use Rattle.gj_jumps.specs.LimitCover.{IsTightAt}
 use Rattle.gj_shape.specs.declared.faces.FaceKind.TheVariants.{Horizontal, Vertical, Diagonal}
+use Rattle.gj_cover.proofs.FirstFaces.{AreSteps}
 use Rattle.gj_cover.proofs.Adding.{EitherOf, both_added}
 use Rattle.gj_limit_cover.specs.FirstFaces.{LinksAs, IsOneOfThree}
-use Rattle.gj_limit_cover.proofs.FaceSearch.{AreSteps, IsOneOfNine, squares_added, nine_below, nine_back}
+use Rattle.gj_limit_cover.proofs.FaceSearch.{IsOneOfNine, squares_added, nine_below, nine_back}
 use Rattle.gj_limit_cover.proofs.faces.add_links.Goals as goal
 
 pub returns : goal.returns
@@ -16,14 +17,13 @@ returns c =
     let short = c.difference-short.result in
     let is = c.order.ensures.value in
     let low = c.order.ensures.limits.order_low in
-    let steps : AreSteps q i j step short = record {
+    let steps : AreSteps q i step short j = record {
       start = c.requires.start;
       end = c.requires.end;
-      more = omega arith;
       step_below = c.requires.below;
       short_below = omega (arith, c.difference-short.ensures.below);
-      step_is = c.requires.step;
-      short_is = rw is at c.difference-short.ensures.value;
+      step_leads = c.requires.step;
+      short_leads = rw is at c.difference-short.ensures.value;
     } in
     let P = LinksAs q (IsTightAt f) c.args.is_asked i j in
     let one = IsOneOfThree Horizontal i step i short in
