@@ -31,8 +31,8 @@ pub(crate) fn least_class(
     Ok(places)
 }
 
-/// The indices in the set, in ascending order.
-fn listed(alloc: Global, set: &IndexSet, order: u32) -> Result<Vec<u32>, AllocError>
+/// The indices in the set, in ascending order, if all are below this order.
+pub fn listed(alloc: Global, set: &IndexSet, order: u32) -> Result<Vec<u32>, AllocError>
     requires few { order ≤ greatest_order }
     requires within { (i : ℕ) → IsTrue (has set.now i) → i < order }
     ensures ascending { IfOk result (λ v. IsStrictlyIncreasing v.items) }

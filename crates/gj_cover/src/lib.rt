@@ -21,5 +21,6 @@ mod table;
 mod transposed;
 mod triangles;
 
+pub use class::listed;
 pub use covered::Cover;
 pub use covering::{cover, cover_of_pairs, cover_of_runs};

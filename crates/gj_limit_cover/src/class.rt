@@ -1,8 +1,5 @@
 //! The class of the least uncovered interval.
-ghost use Rattle.std.specs.Prelude.{ℕ, ◌↔◌, ◌<◌, ◌≤◌, Contains, IfOk, IsTrue};
-ghost use Rattle.std.specs.List.Sorted.{IsStrictlyIncreasing};
-ghost use Rattle.gj_loops.specs.IndexSets.{has};
-ghost use Rattle.gj_shape.specs.Limits.{greatest_order};
+ghost use Rattle.std.specs.Prelude.{IfOk};
 ghost use Rattle.gj_cover.specs.Reached.{AreUncovered};
 ghost use Rattle.gj_jumps.specs.LimitCover.{IsTightAt};
 ghost use Rattle.gj_limit_cover.specs.CoverOf.{IsLeastClass};
@@ -11,6 +8,7 @@ ghost use Rattle.gj_limit_cover.specs.Table.{IsTableOf};
 
 use crate::reached::Reached;
 use crate::table::Table;
+use gj_cover::listed;
 use gj_loops::IndexSet;
 use gj_shape::Shape;
 use std::alloc::{AllocError, Global};
@@ -33,21 +31,4 @@ pub(crate) fn least_class(
     let reached = Reached::from(shape, table, free, least as u32);
     let places = listed(alloc, &reached, shape.order())?;
     Ok(places)
-}
-
-/// The indices in the set, in ascending order.
-fn listed(alloc: Global, set: &IndexSet, order: u32) -> Result<Vec<u32>, AllocError>
-    requires few { order ≤ greatest_order }
-    requires within { (i : ℕ) → IsTrue (has set.now i) → i < order }
-    ensures ascending { IfOk result (λ v. IsStrictlyIncreasing v.items) }
-    ensures members { IfOk result (λ v. (i : ℕ) → Contains v.items i ↔ IsTrue (has set.now i)) }
-{
-    let mut indices = Vec::new(alloc);
-    for index in 0..order {
-        if !set.contains(index as usize) {
-            continue;
-        }
-        indices.push(index)?;
-    }
-    Ok(indices)
 }
