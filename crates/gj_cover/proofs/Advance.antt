@@ -18,7 +18,7 @@ use Rattle.gj_cover.proofs.NextLines.{IsNextTo, IsOpeningOf, next_to, searched_o
 use Rattle.gj_cover.proofs.Pending.{read}
 
 -- the state is the old one with one more line, but for the count: m is the number of its interval,
--- by what is read at the interval from which it joins, and the set is of intervals joined to its own
+-- by what is read at the one from which it joins, and the set is of intervals joined to its own
 pub record HasLineMore (J : Linking) (old new : ProgressData) (l : CoverLine) (m : ℕ)
     (read : Option ℕ) (joined : IndexSet) : Type 0 where
   pub was : read ≡ get_or old.component l.from read
@@ -155,7 +155,8 @@ module _ (q : ℕ) (T : ℕ → ℕ → Type 0) (old new : Progress) (l : CoverL
         record {
           kept = joined_on (tight_linking q T) (tight_linked q T) (IsNextLine q T) (next_to q T)
               (progress_data old) (progress_data new) l m o joined h.kept next more other count;
-          searched = rw (is, searched) (searched_on q T old.component.items l.interval m old.searched
+          searched = rw (is, searched) (searched_on q T old.component.items l.interval m
+              old.searched
               within_numbers h.searched);
         }
 

@@ -74,7 +74,8 @@ module _ (l : Linking) (laws : AreLinked l) where
             (λ at. (class i).0 ((members i).0 at), λ at. (members i).1 ((class i).1 at));
         none = (
           λ empty.
-              let at = (members least).1 ((class least).1 (first.holds.0, laws.first least least refl)) in
+              let at = (members least).1
+              ((class least).1 (first.holds.0, laws.first least least refl)) in
               let nothing : Contains {X = ℕ} [] least = subst (λ l. Contains l least) empty at in
               absurd (let below = nothing.1 in omega arith),
           λ all. absurd (first.holds.1 (all least first.holds.0)),
@@ -178,8 +179,8 @@ module _ (l : Linking) (laws : AreLinked l) where
     h.led i,
     λ (i_below, list).
         let some : 0 < l.order = omega arith in
-        let begun : IsTrue (has r.reached (start % l.order)) = ap (has r.reached) (mod-eq_of_lt below)
-        ∙ h.begun in
+        let begun : IsTrue (has r.reached (start % l.order)) =
+        ap (has r.reached) (mod-eq_of_lt below) ∙ h.begun in
         sym (ap (has r.reached) (mod-eq_of_lt i_below))
         ∙ along r.reached i start some (shut start r h empty) list begun,
   )

@@ -61,7 +61,8 @@ pub turned_next : (q a b j : ℕ) → (a + b + 1) % q ≡ j → (b + a + 1) % q 
 turned_next q a b j e = let order : b + a + 1 ≡ a + b + 1 = omega arith in ap (λ n. n % q) order ∙ e
 
 -- a number below q by which j is reached is the step, or the short one
-pub is_step : (q i step short j b : ℕ) → AreSteps q i step short j → b < q → (i + b) % q ≡ j → b ≡ step
+pub is_step : (q i step short j b : ℕ) → AreSteps q i step short j → b < q → (i + b) % q ≡ j →
+    b ≡ step
 is_step q i step short j b s b_below e = one_step q i b step j b_below s.step_below e s.step_leads
 
 pub is_short : (q i step short j b : ℕ) → AreSteps q i step short j → b < q → (i + b + 1) % q ≡ j →

@@ -40,7 +40,8 @@ pub record IsNextTo (J : Linking) (c : List (Option ℕ)) (count : ℕ) (l : Cov
   pub free : number_at c l.interval ≡ None
   pub kind : IsJoiningTo J c l m ⊎ IsOpeningOf J c count l m
 
-pub in_turn : (Next : List CoverLine → CoverLine → Type 0) (lines : List CoverLine) (l : CoverLine) →
+pub in_turn : (Next : List CoverLine → CoverLine → Type 0) (lines : List CoverLine)
+    (l : CoverLine) →
     AreInTurn Next lines → Next lines l → AreInTurn Next (lines ++ l ∷ [])
 in_turn Next lines l h next = record {
   each = λ before m after e. elim (split_end lines l before m after e) [
@@ -54,7 +55,8 @@ module _ (J : Linking) (laws : AreLinked J) where
 
   pub numbers : (lines : List CoverLine) (c : List (Option ℕ))
       (count : ℕ) (l : CoverLine) (m : ℕ) →
-      length c ≡ J.order → AreNumbered lines c → count ≡ components_in lines → IsNextTo J c count l m →
+      length c ≡ J.order → AreNumbered lines c → count ≡ components_in lines →
+      IsNextTo J c count l m →
       AreNumbered (lines ++ l ∷ []) (set c l.interval (Some m))
   numbers lines c count l m len h is next =
       let within : l.interval < length c = omega (arith, next.within) in
@@ -111,7 +113,8 @@ module _ (J : Linking) (laws : AreLinked J) where
 
   pub joined_classes : (c : List (Option ℕ)) (count : ℕ) (l : CoverLine)
       (m : ℕ) →
-      length c ≡ J.order → AreClasses J c count → l.interval < J.order → number_at c l.interval ≡ None →
+      length c ≡ J.order → AreClasses J c count → l.interval < J.order →
+      number_at c l.interval ≡ None →
       IsJoiningTo J c l m →
       AreClasses J (set c l.interval (Some m)) count
   joined_classes c count l m len h in' free j =
@@ -166,13 +169,15 @@ module _ (J : Linking) (laws : AreLinked J) where
 
   pub opened_classes : (c : List (Option ℕ)) (count : ℕ) (l : CoverLine)
       (m : ℕ) →
-      length c ≡ J.order → AreClasses J c count → l.interval < J.order → number_at c l.interval ≡ None →
+      length c ≡ J.order → AreClasses J c count → l.interval < J.order →
+      number_at c l.interval ≡ None →
       IsOpeningOf J c count l m → AreClasses J (set c l.interval (Some m)) (count + 1)
   opened_classes c count l m len h in' free o =
       let x = l.interval in
       let within : l.interval < length c = omega (arith, in') in
       let top = o.number in
-      let size : (i n : ℕ) → number_at c i ≡ Some n → i < J.order = λ i n e. number_within J.order c i n len e in
+      let size : (i n : ℕ) → number_at c i ≡ Some n → i < J.order =
+      λ i n e. number_within J.order c i n len e in
       let alone : (k n : ℕ) → number_at c k ≡ Some n → J.Joined x k → ⊥ = λ k n e a.
       o.none x k (record {
         first_within = in';

@@ -22,7 +22,8 @@ impl Reached {
 
     /// The class of an interval that is not covered, if the free intervals are the uncovered ones.
     pub(crate) fn from(table: &Table, free: &IndexSet, start: u32) -> IndexSet
-        requires uncovered { AreUncovered (tight_linking table.now.order (IsTightInTable table.now)) free.now }
+        requires uncovered { AreUncovered
+            (tight_linking table.now.order (IsTightInTable table.now)) free.now }
         requires start { IsTrue (has free.now start) }
         ensures { (i : ℕ) →
             IsTrue (has result i) ↔ ((i < table.now.order) × IsInClassOf table.now.order

@@ -119,7 +119,8 @@ module _ (f : FunctionData) where
         let at = line_number p.lines.items p.component.items i h.numbers line in
         by_limits i (h.classes.covered i at.0 at.1),
     λ covered.
-        let at = covered_number (limit_linking q T) (limit_linked q T) (IsNextLine q T) (progress_data p) h
+        let at = covered_number (limit_linking q T) (limit_linked q T) (IsNextLine q T)
+        (progress_data p) h
         (ended q T p h end) i below (from_limits i covered) in
         number_line p.lines.items p.component.items i at.0 h.numbers at.1,
   )

@@ -22,7 +22,8 @@ pub(crate) fn least_class(
     free: &IndexSet,
 ) -> Result<Vec<u32>, AllocError>
     requires table { IsTableOf shape.now table.now }
-    requires uncovered { AreUncovered (limit_linking shape.now.order (IsTightAt shape.now)) free.now }
+    requires uncovered { AreUncovered
+        (limit_linking shape.now.order (IsTightAt shape.now)) free.now }
     ensures { IfOk result (λ v. IsLeastClass shape.now.order (IsTightAt shape.now) v.items) }
 {
     let Some(least) = free.first() else {

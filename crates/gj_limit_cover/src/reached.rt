@@ -25,7 +25,8 @@ impl Reached {
     /// The class of an interval that is not covered, if the free intervals are the uncovered ones.
     pub(crate) fn from(shape: &Shape, table: &Table, free: &IndexSet, start: u32) -> IndexSet
         requires table { IsTableOf shape.now table.now }
-        requires uncovered { AreUncovered (limit_linking shape.now.order (IsTightAt shape.now)) free.now }
+        requires uncovered { AreUncovered
+            (limit_linking shape.now.order (IsTightAt shape.now)) free.now }
         requires start { IsTrue (has free.now start) }
         ensures { (i : ℕ) →
             IsTrue (has result i) ↔ ((i < shape.now.order) × IsInClassOf shape.now.order

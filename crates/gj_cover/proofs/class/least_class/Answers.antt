@@ -8,7 +8,8 @@ pub returns-in_default : goal.returns-in_default
 returns-in_default c =
     let t = c.args.table.now in
     tight_class t.order (IsTightInTable t) c.new.result.items
-    (none_uncovered (tight_linking t.order (IsTightInTable t)) (tight_linked t.order (IsTightInTable t))
+    (none_uncovered (tight_linking t.order (IsTightInTable t))
+    (tight_linked t.order (IsTightInTable t))
     c.args.free.now c.new.result.items
     c.requires c.in_default.ensures c.new.ensures.items)
 
@@ -16,7 +17,8 @@ pub returns : goal.returns
 returns c =
     let t = c.args.table.now in
     tight_class t.order (IsTightInTable t) c.in_ok-places.places.items
-    (some_uncovered (tight_linking t.order (IsTightInTable t)) (tight_linked t.order (IsTightInTable t))
+    (some_uncovered (tight_linking t.order (IsTightInTable t))
+    (tight_linked t.order (IsTightInTable t))
     c.args.free.now c.in-Some.least c.from-reached.result
     c.in_ok-places.places.items
     c.requires c.in-Some.ensures c.from-reached.ensures c.in_ok-places.ensures.ascending

@@ -20,7 +20,8 @@ returns c =
     } in
     let t = c.args.table.now in
     record {
-      kept = begun (tight_linking t.order (IsTightInTable t)) (IsNextLine t.order (IsTightInTable t))
+      kept = begun (tight_linking t.order (IsTightInTable t))
+          (IsNextLine t.order (IsTightInTable t))
           c.order-order.result (progress_data p) c.order-order.ensures.value
           none c.below.ensures c.empty.ensures c.new.ensures.items refl;
       searched = searched_none t.order (IsTightInTable t) p.component.items;

@@ -10,7 +10,8 @@ pub returns : goal.returns
 returns c =
     let t = c.args.table.now in
     let r : ReachedData = record { reached = c.insert.new.self; waiting = c.insert.new.self } in
-    reached_start (tight_linking t.order (IsTightInTable t)) (tight_linked t.order (IsTightInTable t))
+    reached_start (tight_linking t.order (IsTightInTable t))
+    (tight_linked t.order (IsTightInTable t))
     c.args.start r c.requires
     (λ i. c.insert.ensures i ∙ ap (λ x. x || eqb i c.args.start) (c.empty-reached.ensures i))
     (λ i. refl)
