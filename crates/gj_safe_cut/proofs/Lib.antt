@@ -6,3 +6,4 @@ pub mod OneTerms
 pub mod NarrowTerms
 pub mod CutRows
 pub mod OneCut
+pub mod FunctionCuts

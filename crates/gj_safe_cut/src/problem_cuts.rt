@@ -15,8 +15,8 @@ use std::alloc::{AllocError, Global};
 /// There is a multiplier for each constraint, and nothing is asked of it. `at_upper` says of each
 /// column whether its upper bound is preferred. It is `Wide` exactly where a number of the row, a
 /// coefficient, or a number of the cut does not fit. Else it is `Integral` exactly if the right
-/// side of the row is whole, `Free` exactly at the first column that has no bound and cannot be left
-/// out, and never `OtherFraction`. The only error is want of memory.
+/// side of the row is whole, `Free` exactly at the first column that has no bound and cannot be
+/// left out, and never `OtherFraction`. The only error is want of memory.
 pub fn gmic_safe_cut(
     alloc: Global,
     problem: &Problem,
