@@ -120,7 +120,7 @@ fn relaxed_cut<C: RowCutter>(
     }
 }
 
-/// The cut that this makes of the problem on the grid.
+/// The cut by this cutter of the problem on the grid.
 fn cut_on_grid<C: RowCutter>(
     alloc: Global,
     by: &C,

@@ -57,7 +57,7 @@ pub(crate) fn safe_cut<C: RowCutter>(
     }
 }
 
-/// The cut that this makes of the row that the multipliers make of the problem, in its columns.
+/// The cut by this cutter of the row that the multipliers make of the problem, in its columns.
 ///
 /// It is `Free` at the first column that has no bound and cannot be left out of the row. `Memory`
 /// is for want of memory, and `Wide` comes exactly where a number of the row, or of its cut, does
