@@ -1,5 +1,5 @@
 -- The least positive limits of one face, from the lanes that stand for its limits.
-use Rattle.std.proofs.Common.{◌≡◌, ◌≢◌, ℕ, zero, suc, ◌⊎◌, inl, inr, ◌+◌, ◌<◌, ◌≤◌, ◌^◌, min, max, ℤ, pos, ◌<ℤ◌, ◌≤ℤ◌, List, [], ◌∷◌, All, length, refl, sym, subst, ◌∙◌, arith}
+use Rattle.std.proofs.Common.{◌≡◌, ◌≢◌, ℕ, zero, suc, ◌⊎◌, inl, inr, ◌+◌, ◌≤◌, min, max, ℤ, pos, ◌<ℤ◌, ◌≤ℤ◌, List, [], ◌∷◌, All, refl, sym, subst, ◌∙◌, arith}
 use Rattle.std.specs.List.{Contains}
 use Rattle.std.proofs.lemmas.Bool.{cases_lt}
 use Rattle.std.proofs.lemmas.Int.{ints}

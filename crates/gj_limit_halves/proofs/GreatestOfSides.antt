@@ -1,5 +1,5 @@
 -- The greatest absolute value of the numbers of three sides.
-use Rattle.std.proofs.Common.{◌≡◌, ℕ, ◌⊎◌, inl, inr, ◌≤◌, max, unsigned_abs, ◌∙◌, arith}
+use Rattle.std.proofs.Common.{ℕ, inl, inr, max, ◌∙◌, arith}
 use Rattle.std.proofs.lemmas.Bool.{cases_lt}
 use Rattle.gj_shape.specs.FunctionData.{at}
 use Rattle.gj_shape.specs.Perturbation.{IsGreatestSize}

@@ -1,6 +1,6 @@
 -- From the parts of a split to the halves.
-use Rattle.std.proofs.Common.{◌≡◌, ◌≢◌, ℕ, ◌⊎◌, inl, inr, ◌+◌, ◌*◌, ◌<◌, ◌≤◌, ◌^◌, ℤ, pos, neg_ℤ, ◌+ℤ◌, ◌*ℤ◌, ◌≤ℤ◌, List, length, get_or, map, All, unsigned_abs, refl, sym, ap, ap₂, subst, ◌∙◌, mul-pos, mul-le-mul_right, arith}
-use Rattle.std.specs.List.{range_with_len, Contains}
+use Rattle.std.proofs.Common.{◌≡◌, ◌≢◌, ℕ, inl, inr, ◌*◌, ◌<◌, ◌≤◌, ◌^◌, ℤ, pos, neg_ℤ, ◌+ℤ◌, ◌*ℤ◌, ◌≤ℤ◌, List, length, get_or, map, All, unsigned_abs, refl, sym, ap, subst, ◌∙◌, mul-pos, arith}
+use Rattle.std.specs.List.{range_with_len}
 use Rattle.std.proofs.Math.Nat.{mul-le-mul_left}
 use Rattle.std.proofs.lemmas.Int.{ints}
 use Rattle.std.proofs.lemmas.List.Elements.{All-contains}
@@ -22,9 +22,9 @@ use Rattle.gj_limit_grids.specs.Grids.{IsLimitPerturbation, IsBelowLimits}
 use Rattle.gj_limit_averages.specs.Averages.{AreDifferentParts}
 use Rattle.gj_limit_averages.specs.Moved.{IsBoundOf, HasSome, IsMovedBy}
 use Rattle.gj_perturb.proofs.SplitParts.{product_at_most}
-use Rattle.gj_limit_halves.specs.LeastLimit.{IsFromCorners, IsLeastLimit}
+use Rattle.gj_limit_halves.specs.LeastLimit.{IsLeastLimit}
 use Rattle.gj_limit_halves.specs.LimitHalves.{moved_list, moved_sides, AreLimitHalvesOf, half_as_function, AreShownHalves, AreWithinLimits, CanSplitLimits, IsWideSplit}
-use Rattle.gj_limit_halves.specs.Moves.{moved_at, IsSmallMove, AreSmallMoves, AreSmallSides, moved_by}
+use Rattle.gj_limit_halves.specs.Moves.{moved_at, AreSmallMoves, AreSmallSides, moved_by}
 use Rattle.gj_limit_halves.specs.Sides.{limits_on_sides, AreSidesWithin, IsGreatestOf}
 use Rattle.gj_limit_halves.proofs.LeastLimits.{limits_small}
 use Rattle.gj_limit_halves.proofs.SideBounds.{IsUpTo, refined_small, left_up_to, value_up_to, right_up_to}

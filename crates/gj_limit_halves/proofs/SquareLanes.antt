@@ -1,5 +1,5 @@
 -- The least positive limits of squares, from those of their faces.
-use Rattle.std.proofs.Common.{◌≡◌, ℕ, ◌⊎◌, inl, inr, ◌+◌, ◌*◌, ◌<◌, ◌≤◌, ◌^◌, min, ℤ, pos, ◌+ℤ◌, ◌-ℤ◌, ◌<ℤ◌, ◌≤ℤ◌, List, [], ◌∷◌, All, get_or, refl, sym, ap, subst, ◌∙◌, arith}
+use Rattle.std.proofs.Common.{◌≡◌, ℕ, ◌⊎◌, inl, inr, ◌+◌, ◌*◌, ◌<◌, ◌≤◌, ◌^◌, min, ℤ, pos, ◌<ℤ◌, ◌≤ℤ◌, List, All, get_or, sym, subst, arith}
 use Rattle.std.specs.List.{Contains}
 use Rattle.std.proofs.lemmas.Bool.{cases_lt}
 use Rattle.std.proofs.lemmas.Int.{ints}
@@ -7,7 +7,7 @@ use Rattle.gj_shape.specs.Faces.{limits_of, slack_from}
 use Rattle.gj_shape.specs.FunctionData.{FunctionData, at}
 use Rattle.gj_shape.specs.declared.faces.FaceKind.{FaceKind}
 use Rattle.gj_shape.specs.declared.faces.FaceKind.TheVariants.{Vertex, Horizontal, Vertical, Diagonal, Lower, Upper}
-use Rattle.gj_limit_halves.specs.LimitLanes.{ArePeriodsOf, AreSideLanes, StandsFor, AreLeastIn, IsMet, AreLeastOf, IsInRow, IsInRows, IsSquare, no_lane}
+use Rattle.gj_limit_halves.specs.LimitLanes.{ArePeriodsOf, StandsFor, AreLeastIn, IsMet, AreLeastOf, IsInRow, IsInRows, IsSquare, no_lane}
 
 -- ---- lanes of limits
 
@@ -199,16 +199,6 @@ together f Q R S x y x' y' split g h = record {
 
     second_low : (x y : ℕ) (z : ℤ) → pos y <ℤ z → pos (min x y) <ℤ z
     second_low x y z h = omega (arith, ints, h)
-
--- no square
-pub no_square : (f : FunctionData) (Q : ℕ → ℕ → Type 0) → ((a b : ℕ) → Q a b → ⊥) →
-    AreLeastOf f Q no_lane no_lane
-no_square f Q none = record {
-  any_met = inl refl;
-  beside_met = inl refl;
-  any_low = λ kind a b q. absurd (none a b q);
-  beside_low = λ kind a b q. absurd (none a b q);
-}
 
 -- the last square of a row, and the last row
 pub in_row : (i j a b : ℕ) → IsInRow i (j + 1) a b → IsInRow i j a b ⊎ IsSquare i j a b

@@ -1,9 +1,6 @@
 //! The two functions that a perturbation gives.
-ghost use Rattle.std.specs.Prelude.{ℤ, pos, ◌≡◌, ◌*◌, ◌<◌, ◌≤◌, IfOk, OnOk, IsErrOf, MatchOption};
-ghost use Rattle.std.specs.Prelude.{All, length, unsigned_abs};
-ghost use Rattle.gj_shape.specs.FunctionData.{at};
-ghost use Rattle.gj_shape.specs.Limits.{greatest_halves_scale};
-ghost use Rattle.gj_shape.specs.Perturbation.{IsGreatestSize};
+ghost use Rattle.std.specs.Prelude.{◌*◌, ◌<◌, IfOk, OnOk, IsErrOf};
+ghost use Rattle.std.specs.Prelude.{length};
 ghost use Rattle.gj_shape.specs.Table.{IsMinimal};
 ghost use Rattle.gj_limit_halves.specs.LimitHalves.{AreLimitHalvesOf, AreShownHalves};
 ghost use Rattle.gj_limit_halves.specs.LimitHalves.{AreWithinLimits, CanSplitLimits, IsWideSplit};
@@ -13,8 +10,8 @@ use crate::least::least_limit;
 use crate::moved::moved_sides;
 use gj_limit_averages::halves::perturbations_give_parts;
 use gj_limit_grids::slacks::corners_bound_limits;
-use gj_perturb::SplitFault;
-use gj_shape::{GREATEST_HALVES_SCALE, LimitHalves, Shape, SideNumbers};
+use gj_perturb::{SplitFault, greatest_size, scale_of_halves};
+use gj_shape::{LimitHalves, Shape, SideNumbers};
 use std::alloc::Global;
 
 /// The halves of a perturbation of a minimal function, which may jump, on the grid of order `times`
@@ -72,30 +69,4 @@ fn greatest_of(sides: &SideNumbers) -> u128
     let value = greatest_size(sides.value.as_slice());
     let right = greatest_size(sides.right.as_slice());
     left.max(value).max(right)
-}
-
-/// The greatest absolute value of the entries.
-fn greatest_size(values: &[i128]) -> u128
-    requires { 0 < length values.now }
-    ensures { IsGreatestSize (at values.now) result }
-{
-    let mut size = 0u128;
-    for value in values {
-        size = size.max(value.unsigned_abs());
-    }
-    size
-}
-
-/// The scale of halves, if it does not pass 2^124.
-fn scale_of_halves(shape: &Shape, times: u32, size: u128) -> Option<i128>
-    requires { times ≤ 4 }
-    ensures { MatchOption result (greatest_halves_scale < 3 * size * (shape.now.scale * times))
-        (λ s. (s ≡ pos (3 * size * (shape.now.scale * times))) ×
-        (3 * size * (shape.now.scale * times) ≤ greatest_halves_scale)) }
-{
-    let unit = 3 * (shape.common_denominator() as u128 * u128::from(times));
-    match size.checked_mul(unit) {
-        Some(scale) if scale <= GREATEST_HALVES_SCALE as u128 => Some(scale as i128),
-        _ => None,
-    }
 }

@@ -1,12 +1,12 @@
 //! The least positive limit of the slack on a finer grid.
-ghost use Rattle.std.specs.Prelude.{pos, ◌≡◌, ◌≤◌, ◌<◌, ◌*◌, ◌⊎◌, ◌+◌, ◌^◌, length, IfOk};
+ghost use Rattle.std.specs.Prelude.{pos, ◌≤◌, ◌<◌, ◌*◌, ◌+◌, ◌^◌, length, IfOk};
 ghost use Rattle.gj_loops.specs.Lanes.{AreInRange, ArePeriods};
 ghost use Rattle.gj_shape.specs.Table.{IsMinimal};
 ghost use Rattle.gj_limit_halves.specs.LeastLimit.{IsLeastLimit};
-ghost use Rattle.gj_limit_halves.specs.LimitLanes.{no_lane};
 
-use crate::lanes::{LeastLimits, least_of_all};
+use crate::lanes::least_of_all;
 use gj_loops::write_periods;
+use gj_perturb::least_on_grid;
 use gj_shape::Shape;
 use std::alloc::{AllocError, Global};
 
@@ -28,7 +28,7 @@ pub fn least_limit(alloc: Global, shape: &Shape, times: u32) -> Result<u64, Allo
         values.as_slice(),
         rights.as_slice(),
     );
-    Ok(least_on_grid(least, times))
+    Ok(least_on_grid(least.any, least.beside_zero, times))
 }
 
 /// The numbers two times over in lanes, and the first once more.
@@ -41,19 +41,4 @@ fn periods(alloc: Global, numbers: &[i64]) -> Result<Vec<u32>, AllocError>
     let mut lanes = vec![in alloc; 0u32; 2 * numbers.len() + 1]?;
     write_periods(lanes.as_mut_slice(), numbers);
     Ok(lanes)
-}
-
-/// The least positive limit on the grid that is so many times finer, from those at the corners.
-fn least_on_grid(least: LeastLimits, times: u32) -> u64
-    requires { times ≤ 4 }
-    ensures corners { result ≤ times * (least.any + 1) }
-    ensures beside { least.beside_zero < no_lane → result ≤ least.beside_zero + 1 }
-    ensures met { (result ≡ times * (least.any + 1)) ⊎ ((least.beside_zero < no_lane) ×
-        (result ≡ least.beside_zero + 1)) }
-{
-    let at_corners = u64::from(times) * (u64::from(least.any) + 1);
-    if least.beside_zero == u32::MAX {
-        return at_corners;
-    }
-    at_corners.min(u64::from(least.beside_zero) + 1)
 }

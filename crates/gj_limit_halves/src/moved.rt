@@ -1,11 +1,12 @@
 //! A function moved along a perturbation, on the perturbation's grid.
-ghost use Rattle.std.specs.Prelude.{ℕ, ℤ, pos, ◌≡◌, ◌+◌, ◌*◌, ◌<◌, ◌≤◌, ◌^◌, ◌+ℤ◌, ◌*ℤ◌, length};
-ghost use Rattle.std.specs.Prelude.{map, All, IfOk, unsigned_abs};
+ghost use Rattle.std.specs.Prelude.{ℕ, pos, ◌≡◌, ◌+◌, ◌*◌, ◌<◌, ◌≤◌, length};
+ghost use Rattle.std.specs.Prelude.{map, All, IfOk};
 ghost use Rattle.std.specs.List.{range_with_len};
 ghost use Rattle.gj_shape.specs.Limits.{IsNumerator};
 ghost use Rattle.gj_shape.specs.Refinement.{refined};
 ghost use Rattle.gj_limit_halves.specs.Moves.{moved_at, AreSmallMoves, AreSmallSides, moved_by};
 
+use gj_perturb::moved_entry;
 use gj_shape::{List, Shape, SideNumbers};
 use std::alloc::{AllocError, Global};
 
@@ -103,15 +104,4 @@ fn refined_entry(shape: &Shape, entries: &[i64], times: u32, i: u32) -> i64
     }
     i64::from(times - rest) * shape.right_numerator(start)
         + i64::from(rest) * shape.left_numerator(start + 1)
-}
-
-/// An entry times the factor, moved by so many times the number of the perturbation.
-fn moved_entry(entry: i128, factor: i128, number: i128, step: i128) -> i128
-    requires entry { unsigned_abs (factor *ℤ entry) < 2 ^ 126 }
-    requires moves { unsigned_abs (step *ℤ number) < 2 ^ 126 }
-    ensures { result ≡ factor *ℤ entry +ℤ step *ℤ number }
-{
-    let scaled = factor * entry;
-    let offset = step * number;
-    scaled + offset
 }

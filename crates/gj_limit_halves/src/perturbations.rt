@@ -1,8 +1,7 @@
 //! Perturbations as lists of limits and values.
-ghost use Rattle.std.specs.Prelude.{ℤ, ◌≡◌, ◌*◌, ◌<◌, ◌≤◌, ◌==◌, ◌%◌, ◌+ℤ◌, length, All, IfOk, IsErrOf};
+ghost use Rattle.std.specs.Prelude.{◌≡◌, ◌*◌, ◌<◌, ◌≤◌, ◌==◌, ◌%◌, length, All, IfOk, IsErrOf};
 ghost use Rattle.std.specs.Prelude.{map};
 ghost use Rattle.std.specs.List.{list_any, range_with_len};
-ghost use Rattle.std.specs.Result.{OkIff};
 ghost use Rattle.gj_frac.specs.Fraction.{Fits};
 ghost use Rattle.gj_shape.specs.Elimination.{at_column};
 ghost use Rattle.gj_shape.specs.Given.{IsOrder};
@@ -12,7 +11,7 @@ ghost use Rattle.gj_limit_grids.specs.Grids.{zigzag_limits};
 ghost use Rattle.gj_limit_system.specs.Unknowns.{limits_from, right_column, slope_column, value_from};
 ghost use Rattle.gj_limit_halves.specs.Sides.{listed, AreSidesWithin, HasWide};
 
-use gj_perturb::{SplitFault, zigzag};
+use gj_perturb::{SplitFault, sum, zigzag};
 use gj_shape::{List, SideNumbers, wrapped};
 use std::alloc::{AllocError, Global};
 
@@ -114,14 +113,4 @@ fn right_limits(alloc: Global, order: usize, numbers: &[i128]) -> Result<List<i1
         limits.push(numbers[2 * (order - 1 - i)])?;
     }
     Ok(List::of(limits))
-}
-
-/// The sum of two numbers; `Wide` if it passes 2^127 - 1 in absolute value.
-fn sum(n: i128, m: i128) -> Result<i128, SplitFault>
-    ensures { OkIff result (Fits (n +ℤ m)) (n +ℤ m) }
-{
-    match n.checked_add(m) {
-        Some(total) if total != i128::MIN => Ok(total),
-        _ => Err(SplitFault::Wide),
-    }
 }

@@ -59,7 +59,8 @@ pub fn split(alloc: Global, shape: &Shape, p: &Perturbation) -> Result<Halves, S
 }
 
 /// The greatest absolute value of the entries.
-fn greatest_size(values: &[i128]) -> u128
+#[inline]
+pub fn greatest_size(values: &[i128]) -> u128
     requires { 0 < length values.now }
     ensures { IsGreatestSize (at values.now) result }
 {
@@ -70,8 +71,10 @@ fn greatest_size(values: &[i128]) -> u128
     size
 }
 
-/// The scale of halves, if it does not pass 2^124.
-fn scale_of_halves(shape: &Shape, times: u32, size: u128) -> Option<i128>
+/// The scale 3 P D `times` of halves, P being the greatest absolute value of a perturbation and D
+/// the common denominator of the function; `None` exactly if it passes 2^124.
+#[inline]
+pub fn scale_of_halves(shape: &Shape, times: u32, size: u128) -> Option<i128>
     requires { times ≤ 4 }
     ensures { MatchOption result (greatest_halves_scale < 3 * size * (shape.now.scale * times))
         (λ s. (s ≡ pos (3 * size * (shape.now.scale * times))) ×
@@ -107,7 +110,8 @@ fn moved(
 }
 
 /// An entry times the factor, moved by so many times the entry of the perturbation.
-fn moved_entry(entry: i128, factor: i128, value: i128, step: i128) -> i128
+#[inline]
+pub fn moved_entry(entry: i128, factor: i128, value: i128, step: i128) -> i128
     requires entry { unsigned_abs (factor *ℤ entry) < 2 ^ 126 }
     requires moves { unsigned_abs (step *ℤ value) < 2 ^ 126 }
     ensures { result ≡ factor *ℤ entry +ℤ step *ℤ value }

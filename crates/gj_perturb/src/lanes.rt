@@ -99,17 +99,20 @@ fn where_greatest_is_none(least: u32, greatest: u32) -> u32
     }
 }
 
-/// The least positive slack on the grid that is so many times finer, from those at the corners.
-pub(crate) fn least_on_grid(least: LeastSlacks, times: u32) -> u64
+/// The least positive slack on the grid that is so many times finer, from the least positive one at
+/// any corner and the one at the corners of faces that have a corner with the slack 0, each less 1;
+/// `u32::MAX` if none is positive.
+#[inline]
+pub fn least_on_grid(any: u32, beside_zero: u32, times: u32) -> u64
     requires { times ≤ 4 }
-    ensures corners { result ≤ times * (least.any + 1) }
-    ensures beside { least.beside_zero < no_slack → result ≤ least.beside_zero + 1 }
-    ensures met { (result ≡ times * (least.any + 1)) ⊎ ((least.beside_zero < no_slack) ×
-        (result ≡ least.beside_zero + 1)) }
+    ensures corners { result ≤ times * (any + 1) }
+    ensures beside { beside_zero < no_slack → result ≤ beside_zero + 1 }
+    ensures met { (result ≡ times * (any + 1)) ⊎ ((beside_zero < no_slack) ×
+        (result ≡ beside_zero + 1)) }
 {
-    let at_corners = u64::from(times) * (u64::from(least.any) + 1);
-    if least.beside_zero == u32::MAX {
+    let at_corners = u64::from(times) * (u64::from(any) + 1);
+    if beside_zero == u32::MAX {
         return at_corners;
     }
-    at_corners.min(u64::from(least.beside_zero) + 1)
+    at_corners.min(u64::from(beside_zero) + 1)
 }

@@ -28,7 +28,7 @@ pub(crate) fn least_slack(alloc: Global, shape: &Shape, times: u32) -> Result<u6
         return Ok(u64::from(least) + 1);
     }
     let least = least_slacks(lanes, order);
-    Ok(least_on_grid(least, times))
+    Ok(least_on_grid(least.any, least.beside_zero, times))
 }
 
 /// The values at 0, 1/q, .., 2 as lanes, so that no sum of two indices is reduced.

@@ -119,8 +119,9 @@ pub fn from_slopes(
     })
 }
 
-/// The sum of two numbers; `Wide` if it passes 2^127 - 1 in absolute value.
-fn sum(n: i128, m: i128) -> Result<i128, SplitFault>
+/// The sum of two numbers; `Wide` exactly if it passes 2^127 - 1 in absolute value.
+#[inline]
+pub fn sum(n: i128, m: i128) -> Result<i128, SplitFault>
     ensures { OkIff result (Fits (n +ℤ m)) (n +ℤ m) }
 {
     match n.checked_add(m) {

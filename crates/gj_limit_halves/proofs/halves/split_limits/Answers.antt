@@ -1,5 +1,5 @@
-use Rattle.std.proofs.Common.{◌≡◌, ◌*◌, ◌≤◌, ◌<◌, ◌^◌, ℕ, ℤ, pos, neg_ℤ, length, refl, sym, ap, ap₂, subst, subst₂, ◌∙◌, mul-pos, arith, rules}
-use Rattle.std.proofs.lemmas.Int.{to_z-of_z, to_z_pos, fits_signed_from_abs}
+use Rattle.std.proofs.Common.{◌≡◌, ◌*◌, pos, neg_ℤ, refl, sym, ap, ap₂, subst₂, ◌∙◌, rules}
+use Rattle.std.proofs.lemmas.Int.{to_z-of_z}
 use Rattle.gj_lemmas.proofs.Integers.{abs_neg_z}
 use Rattle.gj_shape.specs.declared.extremality.LimitHalves.{LimitHalves}
 use Rattle.gj_perturb.proofs.MovedEntries.{wide}

@@ -1,4 +1,4 @@
-use Rattle.std.proofs.Common.{◌≡◌, ◌-◌, ◌*◌, ◌/◌, ◌%◌, ◌<◌, ◌≤◌, length, pos, get_or, ◌+ℤ◌, ◌*ℤ◌, sym, ap₂, ◌∙◌, arith}
+use Rattle.std.proofs.Common.{◌-◌, ◌/◌, ◌%◌, ◌<◌, pos, get_or, ◌+ℤ◌, ◌*ℤ◌, sym, ap₂, ◌∙◌, arith}
 use Rattle.gj_perturb.proofs.ContinuousEntries.{product_read, sum_fits, sum_read}
 use Rattle.gj_limit_halves.proofs.RefinedEntries.{start_below, refined_at_multiple, refined_inside}
 use Rattle.gj_limit_halves.proofs.moved.refined_entry.Goals as goal

@@ -1,5 +1,4 @@
-use Rattle.std.proofs.Common.{◌≡◌, ◌-◌, ◌*◌, ◌%◌, ◌<◌, pos, get_or, ap, sym, ◌∙◌, arith, rules}
-use Rattle.std.proofs.Math.Nat.{mod-eq_of_lt}
+use Rattle.std.proofs.Common.{◌-◌, ◌*◌, ◌%◌, pos, get_or, ◌∙◌, arith, rules}
 use Rattle.std.proofs.lemmas.Int.{to_z-of_z}
 use Rattle.gj_shape.specs.Elimination.{at_column}
 use Rattle.gj_limit_system.specs.Unknowns.{value_from}
