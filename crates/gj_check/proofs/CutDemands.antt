@@ -25,6 +25,10 @@ use Rattle.gj_proof.proofs.AtPlaces.{at_index, split_there}
 use Rattle.gj_check.proofs.FirstDemand.{FirstFails, fails_here, fails_behind, fails_next, fails_in_front, failure_of}
 use Rattle.gj_check.proofs.CutLines.{first_of, count_of, number_of_row, number_of_term}
 
+-- a demand on cuts holds
+abbrev cut_holds : CutRule → List CutLine → Demand → Type 0
+cut_holds rule rows = DemandHolds (claims.Cut rule rows)
+
 -- ---- the demands of a row
 
 -- the i-th row of a claim, behind others
@@ -94,26 +98,26 @@ term_fails : (rule : CutRule) (rows : List CutLine) (i : ℕ) (basic : List ℕ)
     (j : ℕ) (front : List CutTerm) (t : CutTerm) (back : List CutTerm) →
     terms ≡ front ++ t ∷ back → length front ≡ j → (r : CheckRule) (more : List Demand) →
     FailsTerm rule basic right r front t →
-    FirstFails (claims.Cut rule rows) (term_limit i j ∷ term_name i j ∷ term_value i j ∷ more)
+    FirstFails (cut_holds rule rows) (term_limit i j ∷ term_name i j ∷ term_value i j ∷ more)
     (term i j) r
 term_fails rule rows i basic right terms at j front t back place index Limit more h =
-    fails_here (claims.Cut rule rows) (term_limit i j) (term_name i j ∷ term_value i j ∷ more)
+    fails_here (cut_holds rule rows) (term_limit i j) (term_name i j ∷ term_value i j ∷ more)
     (λ holds. h (to_term rule rows i basic right terms at j front t back place index limit_rule
     holds))
 term_fails rule rows i basic right terms at j front t back place index Name more h =
-    fails_next (claims.Cut rule rows) (term_limit i j) (term_name i j ∷ term_value i j ∷ more)
+    fails_next (cut_holds rule rows) (term_limit i j) (term_name i j ∷ term_value i j ∷ more)
     (term i j) Name
     (of_term rule rows i basic right terms at j front t back place index limit_rule h.0)
-    (fails_here (claims.Cut rule rows) (term_name i j) (term_value i j ∷ more)
+    (fails_here (cut_holds rule rows) (term_name i j) (term_value i j ∷ more)
     (λ holds. h.1 (to_term rule rows i basic right terms at j front t back place index name_rule
     holds)))
 term_fails rule rows i basic right terms at j front t back place index Value more h =
-    fails_next (claims.Cut rule rows) (term_limit i j) (term_name i j ∷ term_value i j ∷ more)
+    fails_next (cut_holds rule rows) (term_limit i j) (term_name i j ∷ term_value i j ∷ more)
     (term i j) Value
     (of_term rule rows i basic right terms at j front t back place index limit_rule h.0)
-    (fails_next (claims.Cut rule rows) (term_name i j) (term_value i j ∷ more) (term i j) Value
+    (fails_next (cut_holds rule rows) (term_name i j) (term_value i j ∷ more) (term i j) Value
     (of_term rule rows i basic right terms at j front t back place index name_rule h.1)
-    (fails_here (claims.Cut rule rows) (term_value i j) more
+    (fails_here (cut_holds rule rows) (term_value i j) more
     (λ holds. h.2 (to_term rule rows i basic right terms at j front t back place index value_rule
     holds))))
 term_fails rule rows i basic right terms at j front t back place index _ more h = absurd h
@@ -124,9 +128,9 @@ term_holds : (rule : CutRule) (rows : List CutLine) (i : ℕ) (basic : List ℕ)
     IsRow rule rows i (cuts.Cut basic right terms) →
     (j : ℕ) (front : List CutTerm) (t : CutTerm) (back : List CutTerm) →
     terms ≡ front ++ t ∷ back → length front ≡ j → MeetsTerm rule basic right front t →
-    All (DemandHolds (claims.Cut rule rows)) (term_limit i j ∷ term_name i j ∷ term_value i j ∷ [])
+    All (cut_holds rule rows) (term_limit i j ∷ term_name i j ∷ term_value i j ∷ [])
 term_holds rule rows i basic right terms at j front t back place index h =
-    let P : Demand → Type 0 = DemandHolds (claims.Cut rule rows) in
+    let P : Demand → Type 0 = cut_holds rule rows in
     All-cons P (term_limit i j) (term_name i j ∷ term_value i j ∷ [])
     (of_term rule rows i basic right terms at j front t back place index limit_rule h.limit)
     (All-cons P (term_name i j) (term_value i j ∷ [])
@@ -146,11 +150,11 @@ terms_hold : (rule : CutRule) (rows : List CutLine) (i : ℕ) (basic : List ℕ)
     (terms : List CutTerm) →
     IsRow rule rows i (cuts.Cut basic right terms) → (j : ℕ) (front rest : List CutTerm) →
     terms ≡ front ++ rest → length front ≡ j → MeetTerms rule basic right terms →
-    All (DemandHolds (claims.Cut rule rows)) (term_demands i j rest)
+    All (cut_holds rule rows) (term_demands i j rest)
 terms_hold rule rows i basic right terms at j front [] place index h =
-    All-nil (DemandHolds (claims.Cut rule rows))
+    All-nil (cut_holds rule rows)
 terms_hold rule rows i basic right terms at j front (t ∷ rest) place index h =
-    All-append (DemandHolds (claims.Cut rule rows))
+    All-append (cut_holds rule rows)
     (term_limit i j ∷ term_name i j ∷ term_value i j ∷ []) (term_demands i (j + 1) rest)
     (term_holds rule rows i basic right terms at j front t rest place index
     (h j front t rest place index))
@@ -164,17 +168,17 @@ terms_fail : (rule : CutRule) (rows : List CutLine) (i : ℕ) (basic : List ℕ)
     terms ≡ front ++ (passed ++ t ∷ back) → length front ≡ j → k ≡ j + length passed →
     ((m : ℕ) → m < k → AtIndex terms m (MeetsTerm rule basic right)) → (r : CheckRule) →
     FailsTerm rule basic right r (front ++ passed) t →
-    FirstFails (claims.Cut rule rows) (term_demands i j (passed ++ t ∷ back)) (term i k) r
+    FirstFails (cut_holds rule rows) (term_demands i j (passed ++ t ∷ back)) (term i k) r
 terms_fail rule rows i basic right terms at j k front [] t back place index count h r fails =
     let same : j ≡ k = omega arith in
-    subst (λ (n : ℕ). FirstFails (claims.Cut rule rows) (term_demands i j (t ∷ back)) (term i n) r)
+    subst (λ (n : ℕ). FirstFails (cut_holds rule rows) (term_demands i j (t ∷ back)) (term i n) r)
     same
     (term_fails rule rows i basic right terms at j front t back place index r
     (term_demands i (j + 1) back)
     (subst (λ xs. FailsTerm rule basic right r xs t) (append-nil front) fails))
 terms_fail rule rows i basic right terms at j k front (u ∷ passed) t back place index count h r
     fails =
-    fails_behind (claims.Cut rule rows) (term_limit i j ∷ term_name i j ∷ term_value i j ∷ [])
+    fails_behind (cut_holds rule rows) (term_limit i j ∷ term_name i j ∷ term_value i j ∷ [])
     (term_demands i (j + 1) (passed ++ t ∷ back))
     (term i k) r
     (term_holds rule rows i basic right terms at j front u (passed ++ t ∷ back) place index
@@ -189,9 +193,9 @@ terms_fail rule rows i basic right terms at j k front (u ∷ passed) t back plac
 
 row_holds : (rule : CutRule) (rows : List CutLine) (i : ℕ) (l : CutLine) → IsRow rule rows i l →
     MeetsCutRow rule l →
-    All (DemandHolds (claims.Cut rule rows)) (row_demands i l)
+    All (cut_holds rule rows) (row_demands i l)
 row_holds rule rows i (cuts.Cut basic right terms) at h =
-    let P : Demand → Type 0 = DemandHolds (claims.Cut rule rows) in
+    let P : Demand → Type 0 = cut_holds rule rows in
     let l = cuts.Cut basic right terms in
     All-cons P (fraction i) (limit i ∷ term_demands i 0 terms)
     (of_row rule rows i l at MeetsFraction h.fraction)
@@ -199,30 +203,30 @@ row_holds rule rows i (cuts.Cut basic right terms) at h =
     (of_row rule rows i l at (λ r m. IfCut m (λ name value items. MeetsLimit [] value)) h.cut.0)
     (terms_hold rule rows i basic right terms at 0 [] terms refl refl h.cut.1))
 row_holds rule rows i (cuts.Skip name right reason) at h =
-    let P : Demand → Type 0 = DemandHolds (claims.Cut rule rows) in
+    let P : Demand → Type 0 = cut_holds rule rows in
     All-cons P (fraction i) []
     (of_row rule rows i (cuts.Skip name right reason) at MeetsFraction h.fraction) (All-nil P)
 
 fraction_fails : (rule : CutRule) (rows : List CutLine) (i : ℕ) (l : CutLine) →
     IsRow rule rows i l → (MeetsFraction rule l → ⊥) →
-    FirstFails (claims.Cut rule rows) (row_demands i l) (cut i) Fraction
+    FirstFails (cut_holds rule rows) (row_demands i l) (cut i) Fraction
 fraction_fails rule rows i (cuts.Cut basic right terms) at h =
-    fails_here (claims.Cut rule rows) (fraction i) (limit i ∷ term_demands i 0 terms)
+    fails_here (cut_holds rule rows) (fraction i) (limit i ∷ term_demands i 0 terms)
     (λ holds. h (to_row rule rows i (cuts.Cut basic right terms) at MeetsFraction holds))
 fraction_fails rule rows i (cuts.Skip name right reason) at h =
-    fails_here (claims.Cut rule rows) (fraction i) []
+    fails_here (cut_holds rule rows) (fraction i) []
     (λ holds. h (to_row rule rows i (cuts.Skip name right reason) at MeetsFraction holds))
 
 limit_fails : (rule : CutRule) (rows : List CutLine) (i : ℕ) (basic : List ℕ) (right : Frac)
     (terms : List CutTerm) →
     IsRow rule rows i (cuts.Cut basic right terms) →
     MeetsFraction rule (cuts.Cut basic right terms) → (MeetsLimit [] right → ⊥) →
-    FirstFails (claims.Cut rule rows) (row_demands i (cuts.Cut basic right terms)) (cut i) Limit
+    FirstFails (cut_holds rule rows) (row_demands i (cuts.Cut basic right terms)) (cut i) Limit
 limit_fails rule rows i basic right terms at meets h =
     let l = cuts.Cut basic right terms in
-    fails_next (claims.Cut rule rows) (fraction i) (limit i ∷ term_demands i 0 terms) (cut i) Limit
+    fails_next (cut_holds rule rows) (fraction i) (limit i ∷ term_demands i 0 terms) (cut i) Limit
     (of_row rule rows i l at MeetsFraction meets)
-    (fails_here (claims.Cut rule rows) (limit i) (term_demands i 0 terms)
+    (fails_here (cut_holds rule rows) (limit i) (term_demands i 0 terms)
     (λ holds. h (to_row rule rows i l at (λ r m. IfCut m (λ name value items. MeetsLimit [] value))
     holds)))
 
@@ -231,20 +235,20 @@ behind_fraction : (rule : CutRule) (rows : List CutLine) (i : ℕ) (basic : List
     IsRow rule rows i (cuts.Cut basic right terms) →
     MeetsFraction rule (cuts.Cut basic right terms) → MeetsLimit [] right →
     (k : ProofLine) (r : CheckRule) →
-    FirstFails (claims.Cut rule rows) (term_demands i 0 terms) k r →
-    FirstFails (claims.Cut rule rows) (row_demands i (cuts.Cut basic right terms)) k r
+    FirstFails (cut_holds rule rows) (term_demands i 0 terms) k r →
+    FirstFails (cut_holds rule rows) (row_demands i (cuts.Cut basic right terms)) k r
 behind_fraction rule rows i basic right terms at meets within k r h =
     let l = cuts.Cut basic right terms in
-    fails_next (claims.Cut rule rows) (fraction i) (limit i ∷ term_demands i 0 terms) k r
+    fails_next (cut_holds rule rows) (fraction i) (limit i ∷ term_demands i 0 terms) k r
     (of_row rule rows i l at MeetsFraction meets)
-    (fails_next (claims.Cut rule rows) (limit i) (term_demands i 0 terms) k r
+    (fails_next (cut_holds rule rows) (limit i) (term_demands i 0 terms) k r
     (of_row rule rows i l at (λ r m. IfCut m (λ name value items. MeetsLimit [] value)) within) h)
 
 -- the line and the rule of the first failure, and the line's number
 record RowFails (rule : CutRule) (rows front : List CutLine) (l : CutLine) (f : RowFailure) :
     Type 0 where
   line : ProofLine
-  fails : FirstFails (claims.Cut rule rows) (row_demands (length front) l) line f.rule
+  fails : FirstFails (cut_holds rule rows) (row_demands (length front) l) line f.rule
   number : HasNumber (claims.Cut rule rows) line (first_of rule + count_of front + f.below)
 
 row_fails : (rule : CutRule) (rows front back : List CutLine) (l : CutLine) (f : RowFailure) →
@@ -256,7 +260,7 @@ row_fails rule rows front back l f place (at_fraction below is fails) =
     record { front = front; back = back; place = place; index = refl } in
     record {
       line = cut i;
-      fails = subst (FirstFails (claims.Cut rule rows) (row_demands i l) (cut i)) (sym is)
+      fails = subst (FirstFails (cut_holds rule rows) (row_demands i l) (cut i)) (sym is)
           (fraction_fails rule rows i l at fails);
       number = subst (HasNumber (claims.Cut rule rows) (cut i)) (omega arith)
           (number_of_row rule rows front back l place);
@@ -267,8 +271,8 @@ row_fails rule rows front back l f place (at_limit basic right terms is below ru
     record { front = front; back = back; place = place; index = refl } in
     record {
       line = cut i;
-      fails = subst (FirstFails (claims.Cut rule rows) (row_demands i l) (cut i)) (sym rule_is)
-          (subst (λ (m : CutLine). FirstFails (claims.Cut rule rows) (row_demands i m)
+      fails = subst (FirstFails (cut_holds rule rows) (row_demands i l) (cut i)) (sym rule_is)
+          (subst (λ (m : CutLine). FirstFails (cut_holds rule rows) (row_demands i m)
           (cut i) Limit) (sym is)
           (limit_fails rule rows i basic right terms (subst (IsRow rule rows i) is at)
           (subst (MeetsFraction rule) is meets) fails));
@@ -286,11 +290,11 @@ row_fails rule rows front back l f place (at_term basic right terms is meets wit
     let long : n ≡ length split.before = sym split.index in
     record {
       line = term i n;
-      fails = subst (λ (m : CutLine). FirstFails (claims.Cut rule rows) (row_demands i m)
+      fails = subst (λ (m : CutLine). FirstFails (cut_holds rule rows) (row_demands i m)
           (term i n) f.rule) (sym is)
           (behind_fraction rule rows i basic right terms with_cut
           (subst (MeetsFraction rule) is meets) within (term i n) f.rule
-          (subst (λ xs. FirstFails (claims.Cut rule rows) (term_demands i 0 xs) (term i n) f.rule)
+          (subst (λ xs. FirstFails (cut_holds rule rows) (term_demands i 0 xs) (term i n) f.rule)
           (sym split.place)
           (terms_fail rule rows i basic right terms with_cut 0 n
           [] split.before split.item split.after split.place refl (omega arith)
@@ -311,10 +315,10 @@ next_row front l i index = let long = length-append front (l ∷ []) in omega ar
 
 rows_hold : (rule : CutRule) (rows : List CutLine) (i : ℕ) (front rest : List CutLine) →
     rows ≡ front ++ rest → length front ≡ i →
-    All (MeetsCutRow rule) rest → All (DemandHolds (claims.Cut rule rows)) (cut_demands i rest)
-rows_hold rule rows i front [] place index h = All-nil (DemandHolds (claims.Cut rule rows))
+    All (MeetsCutRow rule) rest → All (cut_holds rule rows) (cut_demands i rest)
+rows_hold rule rows i front [] place index h = All-nil (cut_holds rule rows)
 rows_hold rule rows i front (l ∷ rest) place index h =
-    All-append (DemandHolds (claims.Cut rule rows)) (row_demands i l) (cut_demands (i + 1) rest)
+    All-append (cut_holds rule rows) (row_demands i l) (cut_demands (i + 1) rest)
     (row_holds rule rows i l (record { front = front; back = rest; place = place; index = index })
     (All-head (MeetsCutRow rule) l rest h))
     (rows_hold rule rows (i + 1) (front ++ l ∷ []) rest
@@ -325,14 +329,14 @@ rows_fail : (rule : CutRule) (rows : List CutLine) (i n : ℕ) (front passed : L
     (l : CutLine) (back : List CutLine) →
     rows ≡ front ++ (passed ++ l ∷ back) → length front ≡ i → n ≡ i + length passed →
     All (MeetsCutRow rule) passed →
-    (k : ProofLine) (r : CheckRule) → FirstFails (claims.Cut rule rows) (row_demands n l) k r →
-    FirstFails (claims.Cut rule rows) (cut_demands i (passed ++ l ∷ back)) k r
+    (k : ProofLine) (r : CheckRule) → FirstFails (cut_holds rule rows) (row_demands n l) k r →
+    FirstFails (cut_holds rule rows) (cut_demands i (passed ++ l ∷ back)) k r
 rows_fail rule rows i n front [] l back place index count h k r fails =
     let same : n ≡ i = omega arith in
-    fails_in_front (claims.Cut rule rows) (row_demands i l) (cut_demands (i + 1) back) k r
-    (subst (λ (m : ℕ). FirstFails (claims.Cut rule rows) (row_demands m l) k r) same fails)
+    fails_in_front (cut_holds rule rows) (row_demands i l) (cut_demands (i + 1) back) k r
+    (subst (λ (m : ℕ). FirstFails (cut_holds rule rows) (row_demands m l) k r) same fails)
 rows_fail rule rows i n front (m ∷ passed) l back place index count h k r fails =
-    fails_behind (claims.Cut rule rows) (row_demands i m) (cut_demands (i + 1) (passed ++ l ∷ back))
+    fails_behind (cut_holds rule rows) (row_demands i m) (cut_demands (i + 1) (passed ++ l ∷ back))
     k r
     (row_holds rule rows i m
     (record { front = front; back = passed ++ l ∷ back; place = place; index = index })
@@ -344,17 +348,17 @@ rows_fail rule rows i n front (m ∷ passed) l back place index count h k r fail
 -- ---- the claim
 
 rule_holds : (rule : CutRule) (rows : List CutLine) → IfFunction (subject_of_rule rule) PassesAll →
-    All (DemandHolds (claims.Cut rule rows)) (rule_demands rule)
+    All (cut_holds rule rows) (rule_demands rule)
 rule_holds (Table f) rows h =
     let P : Demand → Type 0 = DemandHolds (claims.Cut (Table f) rows) in
     All-cons P minimal [] h (All-nil P)
-rule_holds Gmic rows h = All-nil (DemandHolds (claims.Cut Gmic rows))
+rule_holds Gmic rows h = All-nil (cut_holds Gmic rows)
 
 pub cuts_meet : (rule : CutRule) (rows : List CutLine) →
     IfFunction (subject_of_rule rule) PassesAll → All (MeetsCutRow rule) rows →
     MeetsRules (claims.Cut rule rows)
 cuts_meet rule rows h all =
-    All-append (DemandHolds (claims.Cut rule rows)) (rule_demands rule) (cut_demands 0 rows)
+    All-append (cut_holds rule rows) (rule_demands rule) (cut_demands 0 rows)
     (rule_holds rule rows h)
     (rows_hold rule rows 0 [] rows refl refl all)
 
@@ -363,7 +367,7 @@ pub rule_fails : (rule : CutRule) (rows : List CutLine) →
     IsFirstFailure (claims.Cut rule rows) 2 Minimal
 rule_fails (Table f) rows h =
     failure_of (claims.Cut (Table f) rows) claim Minimal 2
-    (fails_here (claims.Cut (Table f) rows) minimal (cut_demands 0 rows) h)
+    (fails_here (cut_holds (Table f) rows) minimal (cut_demands 0 rows) h)
     (number_of_claim (claims.Cut (Table f) rows))
 rule_fails Gmic rows h = absurd (h tt)
 
@@ -376,9 +380,9 @@ cut_fails rule rows front back l f n h place all fails is =
     let row = row_fails rule rows front back l f place fails in
     subst (λ (m : ℕ). IsFirstFailure (claims.Cut rule rows) m f.rule) (sym is)
     (failure_of (claims.Cut rule rows) row.line f.rule (first_of rule + count_of front + f.below)
-    (fails_behind (claims.Cut rule rows) (rule_demands rule) (cut_demands 0 rows) row.line f.rule
+    (fails_behind (cut_holds rule rows) (rule_demands rule) (cut_demands 0 rows) row.line f.rule
     (rule_holds rule rows h)
-    (subst (λ xs. FirstFails (claims.Cut rule rows) (cut_demands 0 xs) row.line f.rule) (sym place)
+    (subst (λ xs. FirstFails (cut_holds rule rows) (cut_demands 0 xs) row.line f.rule) (sym place)
     (rows_fail rule rows 0 (length front) [] front l back place refl
     (omega arith) all row.line f.rule row.fails)))
     row.number)

@@ -34,6 +34,10 @@ use Rattle.gj_check.proofs.FirstDemand.{FirstFails, fails_here, fails_behind, fa
 use Rattle.gj_proof.proofs.AtPlaces.{split_there}
 use Rattle.gj_check.proofs.OwnLineNumbers.{number_of_cover, number_behind_groups}
 
+-- a demand on what shows that a function is extreme holds
+abbrev holds : Numbers → FunctionData → List CoverLine → List PivotRow → Demand → Type 0
+holds n f lines rows = DemandHolds (extreme_claim n f lines rows)
+
 -- ---- cover lines
 
 abbrev cover_demands : List CoverLine → List Demand
@@ -74,26 +78,26 @@ says Residues f lines rows = record {
 -- the first of the demands that fails
 fails_first : (n : Numbers) (f : FunctionData) (lines : List CoverLine) (rows : List PivotRow)
     (l : ProofLine) (r : CheckRule) (k : ℕ) →
-    FirstFails (extreme_claim n f lines rows) (minimal ∷ continuous ∷ extreme_rest n lines rows) l
+    FirstFails (holds n f lines rows) (minimal ∷ continuous ∷ extreme_rest n lines rows) l
     r →
     HasNumber (extreme_claim n f lines rows) l k → IsFirstFailure (extreme_claim n f lines rows) k r
 fails_first n f lines rows l r k h number =
     failure_of (extreme_claim n f lines rows) l r k
-    (subst (λ ds. FirstFails (extreme_claim n f lines rows) ds l r)
+    (subst (λ ds. FirstFails (holds n f lines rows) ds l r)
     (sym (says n f lines rows).demands) h) number
 
 covers_hold : (n : Numbers) (f : FunctionData) (lines : List CoverLine) (rows : List PivotRow) →
     ((i : ℕ) → MeetsCover f lines i) →
-    All (DemandHolds (extreme_claim n f lines rows)) (cover_demands lines)
-covers_hold n f lines rows h = All-made (DemandHolds (extreme_claim n f lines rows)) cover 0
+    All (holds n f lines rows) (cover_demands lines)
+covers_hold n f lines rows h = All-made (holds n f lines rows) cover 0
     (length lines) (λ i below. ((says n f lines rows).meets_cover i).0 (h i))
 
 cover_breaks : (n : Numbers) (f : FunctionData) (lines : List CoverLine) (rows : List PivotRow)
     (i : ℕ) → IsFirstBroken f lines i →
-    FirstFails (extreme_claim n f lines rows) (cover_demands lines)
+    FirstFails (holds n f lines rows) (cover_demands lines)
     (ProofLine.covered i) rules.Cover
 cover_breaks n f lines rows i h =
-    let P = DemandHolds (extreme_claim n f lines rows) in
+    let P = holds n f lines rows in
     let split = split_there lines i h.within in
     let all = says n f lines rows in
     record {
@@ -128,19 +132,20 @@ numbering f lines c meet h =
 
 -- behind the two first demands
 pub behind_two : (c : Claim) (more : List Demand) (l : ProofLine) (r : CheckRule) →
-    DemandHolds c minimal → DemandHolds c continuous → FirstFails c more l r →
-    FirstFails c (minimal ∷ continuous ∷ more) l r
+    DemandHolds c minimal → DemandHolds c continuous → FirstFails (DemandHolds c) more l r →
+    FirstFails (DemandHolds c) (minimal ∷ continuous ∷ more) l r
 behind_two c more l r is_minimal is_continuous h =
-    fails_next c minimal (continuous ∷ more) l r is_minimal
-    (fails_next c continuous more l r is_continuous h)
+    fails_next (DemandHolds c) minimal (continuous ∷ more) l r is_minimal
+    (fails_next (DemandHolds c) continuous more l r is_continuous h)
 
 pub extreme_not_minimal : (n : Numbers) (f : FunctionData) (lines : List CoverLine)
     (rows : List PivotRow) → (PassesAll f → ⊥) →
     IsFirstFailure (extreme_claim n f lines rows) 2 rules.Minimal
 extreme_not_minimal n f lines rows fails =
     let c = extreme_claim n f lines rows in
+    let P = holds n f lines rows in
     fails_first n f lines rows ProofLine.claim rules.Minimal 2
-    (fails_here c minimal (continuous ∷ extreme_rest n lines rows)
+    (fails_here P minimal (continuous ∷ extreme_rest n lines rows)
     (λ h. fails ((says n f lines rows).is_minimal.1 h))) (number_of_claim c)
 
 pub extreme_not_continuous : (n : Numbers) (f : FunctionData) (lines : List CoverLine)
@@ -148,10 +153,11 @@ pub extreme_not_continuous : (n : Numbers) (f : FunctionData) (lines : List Cove
     IsFirstFailure (extreme_claim n f lines rows) 2 rules.Continuous
 extreme_not_continuous n f lines rows passes fails =
     let c = extreme_claim n f lines rows in
+    let P = holds n f lines rows in
     fails_first n f lines rows ProofLine.claim rules.Continuous 2
-    (fails_next c minimal (continuous ∷ extreme_rest n lines rows) ProofLine.claim rules.Continuous
+    (fails_next P minimal (continuous ∷ extreme_rest n lines rows) ProofLine.claim rules.Continuous
     ((says n f lines rows).is_minimal.0 passes)
-    (fails_here c continuous (extreme_rest n lines rows)
+    (fails_here P continuous (extreme_rest n lines rows)
     (λ h. fails ((says n f lines rows).continuity.1 h))))
     (number_of_claim c)
 
@@ -161,18 +167,19 @@ pub extreme_cover_broken : (n : Numbers) (f : FunctionData) (lines : List CoverL
     IsFirstFailure (extreme_claim n f lines rows) (f.order + 5 + i) rules.Cover
 extreme_cover_broken n f lines rows i passes is_continuous h =
     let c = extreme_claim n f lines rows in
+    let P = holds n f lines rows in
     let l = ProofLine.covered i in
     fails_first n f lines rows l rules.Cover (f.order + 5 + i)
     (behind_two c (extreme_rest n lines rows) l rules.Cover
     ((says n f lines rows).is_minimal.0 passes)
     ((says n f lines rows).continuity.0 is_continuous)
-    (fails_in_front c (cover_demands lines ++ group_demands_by n 0 rows) (rank ∷ []) l rules.Cover
-    (fails_in_front c (cover_demands lines) (group_demands_by n 0 rows) l rules.Cover
+    (fails_in_front P (cover_demands lines ++ group_demands_by n 0 rows) (rank ∷ []) l rules.Cover
+    (fails_in_front P (cover_demands lines) (group_demands_by n 0 rows) l rules.Cover
     (cover_breaks n f lines rows i h))))
     (number_of_cover n f lines rows i h.within)
 
 -- the rule of a demand on groups
-rule_named : (rule : GroupRule) (d : Demand) → IsRuleOf rule d → rule_on_groups rule ≡ rule_of d
+pub rule_named : (rule : GroupRule) (d : Demand) → IsRuleOf rule d → rule_on_groups rule ≡ rule_of d
 rule_named rule (row g) e = ap rule_on_groups e
 rule_named rule (reduce g r) e = ap rule_on_groups e
 rule_named rule (size g r) e = ap rule_on_groups e
@@ -191,12 +198,12 @@ pub extreme_group_fails : (n : Numbers) (f : FunctionData) (lines : List CoverLi
     (rule_on_groups failure.rule)
 extreme_group_fails n f lines rows components failure l passes is_continuous below meet are h =
     let c = extreme_claim n f lines rows in
-    let P = DemandHolds c in
+    let P = holds n f lines rows in
     let r = rule_on_groups failure.rule in
     let group = groups_fail n f lines (λ i. get_or components.number.items i 0) components.count
     rows failure
     (numbering f lines components meet are) l below h in
-    let here : FirstFails c (group_demands_by n 0 rows) (line_of_demand group.demand) r = record {
+    let here : FirstFails P (group_demands_by n 0 rows) (line_of_demand group.demand) r = record {
       before = group.before;
       demand = group.demand;
       first = group.first;
@@ -208,9 +215,9 @@ extreme_group_fails n f lines rows components failure l passes is_continuous bel
     (behind_two c (extreme_rest n lines rows) (line_of_demand group.demand) r
     ((says n f lines rows).is_minimal.0 passes)
     ((says n f lines rows).continuity.0 is_continuous)
-    (fails_in_front c (cover_demands lines ++ group_demands_by n 0 rows) (rank ∷ [])
+    (fails_in_front P (cover_demands lines ++ group_demands_by n 0 rows) (rank ∷ [])
     (line_of_demand group.demand) r
-    (fails_behind c (cover_demands lines) (group_demands_by n 0 rows)
+    (fails_behind P (cover_demands lines) (group_demands_by n 0 rows)
     (line_of_demand group.demand) r (covers_hold n f lines rows meet) here)))
     group.number
 
@@ -221,10 +228,10 @@ groups_met : (n : Numbers) (f : FunctionData) (lines : List CoverLine) (rows : L
     AreComponentsOf f lines components →
     All (GroupHolds n f (λ i. get_or components.number.items i 0) components.count rows)
     (group_demands_by n 0 rows) →
-    All (DemandHolds (extreme_claim n f lines rows))
+    All (holds n f lines rows)
     (cover_demands lines ++ group_demands_by n 0 rows)
 groups_met n f lines rows components l below meet are h =
-    All-append (DemandHolds (extreme_claim n f lines rows)) (cover_demands lines)
+    All-append (holds n f lines rows) (cover_demands lines)
     (group_demands_by n 0 rows) (covers_hold n f lines rows meet)
     (groups_hold n f lines (λ i. get_or components.number.items i 0) components.count rows
     (numbering f lines components meet are) l below h)
@@ -242,15 +249,16 @@ pub extreme_rank_fails : (n : Numbers) (f : FunctionData) (lines : List CoverLin
     rules.Rank
 extreme_rank_fails n f lines rows components l passes is_continuous below meet are h other =
     let c = extreme_claim n f lines rows in
+    let P = holds n f lines rows in
     fails_first n f lines rows ProofLine.last rules.Rank
     (f.order + 5 + length lines + length (modulus_lines n) + length (group_lines 0 rows))
     (behind_two c (extreme_rest n lines rows) ProofLine.last rules.Rank
     ((says n f lines rows).is_minimal.0 passes)
     ((says n f lines rows).continuity.0 is_continuous)
-    (fails_behind c (cover_demands lines ++ group_demands_by n 0 rows)
+    (fails_behind P (cover_demands lines ++ group_demands_by n 0 rows)
     (rank ∷ []) ProofLine.last rules.Rank
     (groups_met n f lines rows components l below meet are h)
-    (fails_here c rank [] (λ full. other ((says n f lines rows).has_rank.1 full ∙ sym are.count)))))
+    (fails_here P rank [] (λ full. other ((says n f lines rows).has_rank.1 full ∙ sym are.count)))))
     (number_behind_groups n f lines rows)
 
 pub extreme_meets : (n : Numbers) (f : FunctionData) (lines : List CoverLine) (rows : List PivotRow)
@@ -262,7 +270,7 @@ pub extreme_meets : (n : Numbers) (f : FunctionData) (lines : List CoverLine) (r
     (group_demands_by n 0 rows) →
     length rows ≡ components.count → MeetsRules (extreme_claim n f lines rows)
 extreme_meets n f lines rows components l passes is_continuous below meet are h full =
-    let P = DemandHolds (extreme_claim n f lines rows) in
+    let P = holds n f lines rows in
     let all = says n f lines rows in
     subst (All P) (sym all.demands)
     (All-cons P minimal (continuous ∷ extreme_rest n lines rows) (all.is_minimal.0 passes)

@@ -62,12 +62,12 @@ number_is lines q has i (inr high) low = absurd (omega arith)
 -- ---- present rows
 
 -- a row that is not 0 somewhere has entries
-some_columns : (n : ℕ) (row : List ℤ) (c : ℕ) → HasColumns n row → at_column row c ≢ pos 0 →
+pub some_columns : (n : ℕ) (row : List ℤ) (c : ℕ) → HasColumns n row → at_column row c ≢ pos 0 →
     length row ≡ n
 some_columns n row c (inl is) some = absurd (some (ap (λ r. at_column r c) is))
 some_columns n row c (inr len) some = len
 
-pivot_free : (kept : List KeptRow) (c : ℕ) → All (λ k. k.pivot ≢ c) kept →
+pub pivot_free : (kept : List KeptRow) (c : ℕ) → All (λ k. k.pivot ≢ c) kept →
     row_with_pivot kept c ≡ None
 pivot_free [] c h = refl
 pivot_free (k ∷ kept) c h =

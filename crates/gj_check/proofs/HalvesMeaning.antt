@@ -18,7 +18,7 @@ use Rattle.gj_proof.specs.Rules.{Demand, MeetsAverage, MeetsSame, IsMinimalHalf,
 use Rattle.gj_proof.specs.Meaning.{ShowHalves, ClaimHolds}
 
 -- the demand on the average of each pair
-average_of_pairs : (P : Demand → Type 0) (a n i : ℕ) → a ≤ i → i < a + n →
+pub average_of_pairs : (P : Demand → Type 0) (a n i : ℕ) → a ≤ i → i < a + n →
     All P (pair_demands (range_with_len a n)) →
     P (Demand.average i)
 average_of_pairs P a zero i from below h = absurd (omega arith)

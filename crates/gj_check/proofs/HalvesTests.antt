@@ -1,5 +1,5 @@
 -- The tests of halves, as the code makes them.
-use Rattle.std.proofs.Common.{◌≡◌, ◌↔◌, ℕ, zero, suc, ◌+◌, ◌-◌, ◌*◌, ◌/◌, ◌%◌, ◌<◌, ◌≤◌, ◌^◌, ℤ, pos, ◌+ℤ◌, ◌*ℤ◌, List, [], ◌∷◌, All, length, get_or, unsigned_abs, to_z, of_z, refl, sym, ap, ap₂, subst, ◌∙◌, arith}
+use Rattle.std.proofs.Common.{◌≡◌, ◌↔◌, ℕ, zero, suc, ◌+◌, ◌-◌, ◌*◌, ◌/◌, ◌%◌, ◌<◌, ◌≤◌, ◌^◌, ℤ, pos, ◌≤ℤ◌, ◌+ℤ◌, ◌*ℤ◌, List, [], ◌∷◌, All, length, get_or, unsigned_abs, to_z, of_z, refl, sym, ap, ap₂, subst, ◌∙◌, arith}
 use mir.Syntax.{w128}
 use Rattle.std.proofs.Math.Nat.{mul_comm, mul-mod_left, mul-div_left, mod-lt, mod-mod, mul-pos, mul-lt-mul_of_pos_right, eq_of_mul-eq-mul_right}
 use Rattle.std.proofs.lemmas.Int.{ints, to_z-of_z}
@@ -7,7 +7,7 @@ use Rattle.gj_frac.specs.Fraction.{Fits}
 use Rattle.gj_shape.specs.Perturbation.{AreHalvesInBounds}
 use Rattle.gj_lemmas.proofs.Ring.{by_ring, ring}
 use Rattle.gj_shape.specs.FunctionData.{FunctionData, IsWithinBounds, IsContinuous, at}
-use Rattle.gj_shape.specs.Limits.{IsNumerator}
+use Rattle.gj_shape.specs.Limits.{IsNumerator, greatest_halves_scale}
 use Rattle.gj_shape.specs.Table.{table, entry, IsMinimalTable}
 use Rattle.gj_shape.specs.declared.extremality.Halves.{Halves}
 use Rattle.gj_shape.proofs.AtLemmas.{at_below}
@@ -15,7 +15,7 @@ use Rattle.gj_shape.proofs.TableLemmas.{left_is_value, right_is_value}
 use Rattle.gj_theory.proofs.Everywhere.{everywhere, at_same}
 use Rattle.gj_proof.specs.Rules.{MeetsScale, MeetsRange, MeetsAverage, IsMinimalHalf}
 use Rattle.gj_check_minimal.specs.Tables.{IsTableInRange}
-use Rattle.gj_check.specs.HalvesRules.{IsHalvesRefinement, IsBetween}
+use Rattle.gj_check.specs.HalvesRules.{IsRefinement, IsHalvesRefinement, IsBetween}
 use Rattle.gj_check.specs.declared.halves.Refinement.{Refinement}
 
 -- ---- multiples
@@ -35,31 +35,36 @@ no_rest_by x u t n s m e f g = ap₂ (λ a b. a % b) e (ap₂ (λ a b. a * b) f 
 same_factor : (a b n : ℕ) → 0 < n → n * a ≡ n * b → a ≡ b
 same_factor a b n some e = eq_of_mul-eq-mul_right n some a b (mul_comm a n ∙ e ∙ mul_comm n b)
 
-pub same_times : (f : FunctionData) (h : Halves) (r : Refinement) (m : ℕ) → IsWithinBounds f →
-    IsHalvesRefinement f h r →
-    h.order ≡ f.order * m → r.times ≡ m
-same_times f h r m l is e =
+pub same_times : (f : FunctionData) (n : ℕ) (s : ℤ) (r : Refinement) (m : ℕ) → IsWithinBounds f →
+    IsRefinement f n s r → n ≡ f.order * m → r.times ≡ m
+same_times f n s r m l is e =
     let low = l.order_low in
     same_factor r.times m f.order (omega arith) (sym is.order ∙ e)
 
-pub some_times : (f : FunctionData) (h : Halves) (r : Refinement) → AreHalvesInBounds h →
-    IsHalvesRefinement f h r → 0 < r.times
-some_times f h r b is = some r.times is.order
+pub some_times : (f : FunctionData) (n : ℕ) (s : ℤ) (r : Refinement) → 0 < n →
+    IsRefinement f n s r → 0 < r.times
+some_times f n s r some is = by_order r.times is.order
   where
-    some : (t : ℕ) → h.order ≡ f.order * t → 0 < t
-    some zero e = absurd (let low = b.order_low in omega arith)
-    some (suc t) e = omega arith
+    by_order : (t : ℕ) → n ≡ f.order * t → 0 < t
+    by_order zero e = absurd (omega (arith, some, e))
+    by_order (suc t) e = omega arith
+
+-- the number of times and the factor are one
+pub same_refinement : (f : FunctionData) (n : ℕ) (s : ℤ) (r : Refinement) (m c : ℕ) →
+    IsWithinBounds f → 0 < n → IsRefinement f n s r →
+    n ≡ f.order * m → s ≡ pos (c * (f.scale * m)) → (r.times ≡ m) × (r.factor ≡ c)
+same_refinement f n s r m c l some is order scale =
+    let times = same_times f n s r m l is order in
+    let own = is.scale in
+    let other : s ≡ pos (c * (f.scale * r.times)) =
+    scale ∙ ap (λ t. pos (c * (f.scale * t))) (sym times) in
+    let both : r.factor * (f.scale * r.times) ≡ c * (f.scale * r.times) = omega (arith, ints) in (
+      times,
+      eq_of_mul-eq-mul_right (f.scale * r.times)
+          (mul-pos l.scale_low (some_times f n s r some is)) r.factor c both,
+    )
 
 -- ---- averages
-
-same_scale : (f : FunctionData) (h : Halves) (r : Refinement) (c : ℕ) → IsWithinBounds f →
-    AreHalvesInBounds h → IsHalvesRefinement f h r →
-    h.scale ≡ pos (c * (f.scale * r.times)) → r.factor ≡ c
-same_scale f h r c l b is e =
-    let scale = is.scale in
-    let both : r.factor * (f.scale * r.times) ≡ c * (f.scale * r.times) = omega (arith, ints) in
-    eq_of_mul-eq-mul_right (f.scale * r.times) (mul-pos l.scale_low (some_times f h r b is))
-    r.factor c both
 
 -- the rule `average` by the refinement
 pub average_by : (f : FunctionData) (h : Halves) (r : Refinement) (i : ℕ) → IsWithinBounds f →
@@ -67,10 +72,9 @@ pub average_by : (f : FunctionData) (h : Halves) (r : Refinement) (i : ℕ) → 
     (at h.first i +ℤ at h.second i ≡ pos (2 * r.factor) *ℤ table f r.times i) ↔ MeetsAverage f h i
 average_by f h r i l b is = (
   λ e m c order scale.
-      let times = same_times f h r m l is order in
-      let factor = same_scale f h r c l b is
-      (scale ∙ ap (λ t. pos (c * (f.scale * t))) (sym times)) in
-      e ∙ ap₂ (λ k t. pos (2 * k) *ℤ table f t i) factor times,
+      let low = b.order_low in
+      let same = same_refinement f h.order h.scale r m c l (omega arith) is order scale in
+      e ∙ ap₂ (λ k t. pos (2 * k) *ℤ table f t i) same.1 same.0,
   λ h. h r.times r.factor is.order is.scale,
 )
 
@@ -110,7 +114,8 @@ half_in_range f h r values l b is len range =
     let low = b.order_low in
     let high = b.order_high in
     let order = is.order in
-    let within = mul-lt-mul_of_pos_right l.place_high (some_times f h r b is) in
+    let within = mul-lt-mul_of_pos_right l.place_high
+    (some_times f h.order h.scale r (omega arith) is) in
     let all = everywhere (λ x. IsBetween x h.scale) values h.order len (omega arith) range in
     record {
       place_below = omega arith;
@@ -130,7 +135,7 @@ half_by f h r values l is len = (
   λ t m order.
       subst (λ (n : ℕ). IsMinimalTable (at values) n (f.place * m) (unsigned_abs h.scale)) len
       (subst (λ (k : ℕ). IsMinimalTable (at values) (length values) (f.place * k)
-      (unsigned_abs h.scale)) (same_times f h r m l is order) t),
+      (unsigned_abs h.scale)) (same_times f h.order h.scale r m l is order) t),
   λ half. subst (λ (n : ℕ). IsMinimalTable (at values) n (f.place * r.times) (unsigned_abs h.scale))
       (sym len) (half r.times is.order),
 )
@@ -174,11 +179,9 @@ half_read h values slice i same len fit below =
     ∙ to_z-of_z w128 (get_or values i (pos 0)) (omega (arith, ints)) ∙ sym (at_below values i low)
 
 -- the scale of halves
-pub halves_scale_read : (h : Halves) → AreHalvesInBounds h → to_z w128 (of_z w128 h.scale) ≡ h.scale
-halves_scale_read h b =
-    let low = b.scale_low in
-    let high = b.scale_high in
-    omega (arith, ints)
+pub halves_scale_read : (s : ℤ) → pos 1 ≤ℤ s → s ≤ℤ pos greatest_halves_scale →
+    to_z w128 (of_z w128 s) ≡ s
+halves_scale_read s low high = omega (arith, ints)
 
 -- the sum of both values of a pair
 pub sum_of_halves : (h : Halves) (i : ℕ) (x y : ℤ) → AreHalvesInBounds h → MeetsRange h i →

@@ -10,11 +10,19 @@ use Rattle.gj_check.specs.declared.rules.CheckRule.TheVariants.{Range, Average}
 use Rattle.gj_check.specs.declared.halves.Refinement.{Refinement}
 use Rattle.gj_check.specs.declared.halves.PairFailure.{PairFailure}
 
--- the order of the halves is so many times the function's, and the scale so many times that
--- multiple of the function's
-pub record IsHalvesRefinement (f : FunctionData) (h : Halves) (r : Refinement) : Type 0 where
-  pub order : h.order ≡ f.order * r.times
-  pub scale : h.scale ≡ pos (r.factor * (f.scale * r.times))
+-- the order is so many times the function's, and the scale so many times that multiple of the
+-- function's
+pub record IsRefinement (f : FunctionData) (n : ℕ) (s : ℤ) (r : Refinement) : Type 0 where
+  pub order : n ≡ f.order * r.times
+  pub scale : s ≡ pos (r.factor * (f.scale * r.times))
+
+-- some number of times
+abbrev pub HasRefinement : FunctionData → ℕ → ℤ → Type 0
+HasRefinement f n s = (m : ℕ) × (c : ℕ) × (n ≡ f.order * m) × (s ≡ pos (c * (f.scale * m)))
+
+-- those of halves
+abbrev pub IsHalvesRefinement : FunctionData → Halves → Refinement → Type 0
+IsHalvesRefinement f h = IsRefinement f h.order h.scale
 
 -- the number lies from 0 to the scale
 abbrev pub IsBetween : ℤ → ℤ → Type 0

@@ -10,7 +10,7 @@ ghost use Rattle.gj_proof.specs.Rules.{IsMinimalHalf};
 ghost use Rattle.gj_proof.specs.declared.claim.Claim.TheVariants as claim;
 ghost use Rattle.gj_check.specs.FirstFailure.{IsCheckFaultOf};
 ghost use Rattle.gj_check.specs.HalvesRules.{IsHalvesRefinement, IsPairsOutcome, AreDifferent};
-ghost use Rattle.gj_check.specs.HalvesRules.{IsBetween};
+ghost use Rattle.gj_check.specs.HalvesRules.{IsRefinement, HasRefinement, IsBetween};
 
 use crate::faults::CheckFault;
 use crate::points::times;
@@ -22,11 +22,11 @@ use std::alloc::{AllocError, Global};
 
 /// How much finer the grid and the scale of halves are than those of the function.
 #[derive(Clone, Copy)]
-pub(crate) struct Refinement {
+pub struct Refinement {
     /// The order of the grid over that of the function.
-    pub(crate) times: u32,
+    pub times: u32,
     /// The scale over `times` times that of the function.
-    pub(crate) factor: u128,
+    pub factor: u128,
 }
 
 /// The first pair of values that breaks a rule, and the rule.
@@ -49,7 +49,7 @@ pub(crate) fn check_halves(alloc: Global, shape: &Shape, halves: &Halves) -> Res
         return Err(CheckFault::Rejected(CLAIM_LINE, CheckRule::Continuous));
     }
     let line = line_behind_function(shape);
-    let Some(refinement) = refinement_of(shape, halves) else {
+    let Some(refinement) = refinement_of_halves(shape, halves) else {
         return Err(CheckFault::Rejected(line, CheckRule::Scale));
     };
     if let Some(failure) = failure_in_pairs(shape, halves, refinement) {
@@ -71,24 +71,35 @@ pub(crate) fn check_halves(alloc: Global, shape: &Shape, halves: &Halves) -> Res
 }
 
 /// How much finer the halves are; none if their order or their scale is no multiple.
-fn refinement_of(shape: &Shape, halves: &Halves) -> Option<Refinement>
+fn refinement_of_halves(shape: &Shape, halves: &Halves) -> Option<Refinement>
     requires { AreHalvesInBounds halves.now }
     ensures some { IfSome result (IsHalvesRefinement shape.now halves.now) }
     ensures none { IfNone result (MeetsScale shape.now halves.now → ⊥) }
 {
-    let order = shape.order();
-    if halves.order % order != 0 {
+    refinement_of(shape, halves.order, halves.scale)
+}
+
+/// How much finer halves of this order and this scale are; none if the order or the scale is no
+/// multiple.
+pub fn refinement_of(shape: &Shape, order: u32, scale: i128) -> Option<Refinement>
+    requires order { 0 < order }
+    requires scale { pos 0 ≤ℤ scale }
+    ensures some { IfSome result (IsRefinement shape.now order scale) }
+    ensures none { IfNone result (HasRefinement shape.now order scale → ⊥) }
+{
+    let own_order = shape.order();
+    if order % own_order != 0 {
         return None;
     }
-    let times = halves.order / order;
+    let times = order / own_order;
     let unit = shape.common_denominator() as u128 * u128::from(times);
-    let scale = halves.scale as u128;
-    if scale % unit != 0 {
+    let whole = scale as u128;
+    if whole % unit != 0 {
         return None;
     }
     Some(Refinement {
         times,
-        factor: scale / unit,
+        factor: whole / unit,
     })
 }
 

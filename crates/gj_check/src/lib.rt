@@ -25,5 +25,6 @@ mod rules;
 
 pub use checker::check;
 pub use faults::CheckFault;
+pub use halves::{Refinement, refinement_of};
 pub use laws::{one_first_failure, rules_give_meaning};
 pub use rules::CheckRule;

@@ -1,6 +1,6 @@
 -- The demands on the groups of a claim that a function that may jump is extreme, by those on the
 -- groups alone.
-use Rattle.std.proofs.Common.{◌≡◌, ◌↔◌, ℕ, ◌+◌, ◌-◌, ◌%◌, ◌<◌, ℤ, ◌+ℤ◌, List, [], ◌∷◌, ◌++◌, All, length, map, get_or, refl, sym, ap, subst, subst₂, ◌∙◌, append_assoc, arith}
+use Rattle.std.proofs.Common.{◌≡◌, ◌↔◌, ℕ, ◌+◌, ◌-◌, ◌%◌, ◌<◌, ℤ, ◌+ℤ◌, List, [], ◌∷◌, ◌++◌, All, length, map, get_or, refl, sym, ap, subst, subst₂, ◌∙◌, append_assoc}
 use Rattle.std.specs.List.{range_with_len}
 use Rattle.std.proofs.Math.Nat.{mod-lt}
 use Rattle.std.proofs.lemmas.List.Elements.{All-nil, All-cons, All-append}
@@ -10,7 +10,6 @@ use Rattle.gj_shape.specs.Cover.{components_in}
 use Rattle.gj_shape.specs.Elimination.{KeptRow}
 use Rattle.gj_shape.specs.FunctionData.{FunctionData}
 use Rattle.gj_shape.specs.declared.extremality.CoverLine.{CoverLine}
-use Rattle.gj_jumps.specs.LimitSystem.{Limits}
 use Rattle.gj_limit_system.specs.LimitRows.{row_value}
 use Rattle.gj_limit_system.specs.Unknowns.{right_column, slope_column, columns_for, value_from, interval_before, limits_from}
 use Rattle.gj_limit_system.specs.declared.limit_row.LimitRow.{LimitRow}
@@ -26,7 +25,7 @@ use Rattle.gj_check_groups.specs.declared.failure.GroupFailure.{GroupFailure}
 use Rattle.gj_check_groups.proofs.ClaimGroups.{Agree, IsNumbering, IsOnGroups}
 use Rattle.gj_limit_proof.specs.declared.claim.LimitClaim.TheVariants.{Extreme}
 use Rattle.gj_limit_proof.specs.declared.claim.LimitPivotRow.{LimitPivotRow}
-use Rattle.gj_limit_proof.specs.LimitRowsKept.{unit_at, named_row, begun_row, row_kept_by, rows_behind_by, rows_before_by}
+use Rattle.gj_limit_proof.specs.LimitRowsKept.{unit_at, begun_row, row_kept_by, rows_behind_by, rows_before_by}
 use Rattle.gj_limit_proof.specs.LimitRules.{IfGroupOf, group_demands_by, DemandHolds}
 use Rattle.gj_limit_proof.specs.LimitText.{HasNumber}
 use Rattle.gj_limit_check_groups.specs.LimitGroups.{LimitGroupHolds, IsFirstLimitGroupFailure}

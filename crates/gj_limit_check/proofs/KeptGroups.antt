@@ -1,18 +1,17 @@
 -- The rows that groups keep: triangular, and solved by what solves the rows with which the groups
 -- begin; as many as columns leave only 0.
-use Rattle.std.proofs.Common.{◌≡◌, ◌≢◌, ℕ, ◌⊎◌, inl, inr, ◌+◌, ◌<◌, Bool, true, false, cond, Option, None, Some, ℤ, pos, List, [], ◌∷◌, ◌++◌, length, map, eqb, refl, sym, ap, subst, ◌∙◌, arith, lit<}
+use Rattle.std.proofs.Common.{◌≡◌, ℕ, inr, ◌+◌, Option, None, Some, ℤ, pos, List, [], ◌∷◌, ◌++◌, length, map, refl, ◌∙◌, arith, lit<}
 use Rattle.std.specs.Prelude.{All}
-use Rattle.std.proofs.lemmas.Bool.Decides.{Decides-eqb}
 use Rattle.std.proofs.lemmas.List.{length_push, length-map}
 use Rattle.std.proofs.lemmas.List.FromFn.{length-map-range_with_len}
-use Rattle.std.proofs.lemmas.List.Elements.{All-nil, All-cons, All-head, All-tail}
-use Rattle.gj_shape.specs.Elimination.{KeptRow, at_column, scaled, row_with_pivot, kept_entries, kept_behind}
+use Rattle.std.proofs.lemmas.List.Elements.{All-nil, All-head, All-tail}
+use Rattle.gj_shape.specs.Elimination.{KeptRow, at_column, scaled, kept_entries, kept_behind}
 use Rattle.gj_shape.specs.FunctionData.{FunctionData}
 use Rattle.gj_shape.specs.Residues.{residue, residues, inverse, times_inverse, modulo, SolvesModulo}
 use Rattle.gj_theory.specs.Modulus.{modulus}
 use Rattle.gj_theory.specs.TriangularResidues.{SolvesKeptModulo, AreTriangularResidues}
 use Rattle.gj_theory.specs.TriangularRows.{Solves, SolvesKept, AreTriangular, present_row_by, present_row}
-use Rattle.gj_theory.proofs.Eliminations.{HasColumns, columns_after_steps, present_row_solved}
+use Rattle.gj_theory.proofs.Eliminations.{columns_after_steps, present_row_solved}
 use Rattle.gj_theory.proofs.Insertions.{leaves_kept}
 use Rattle.gj_theory.proofs.Inverses.{inverse_none}
 use Rattle.gj_theory.proofs.ResidueElimination.{to_modulo, kept_residues_leave_zero}
@@ -23,28 +22,11 @@ use Rattle.gj_proof.specs.declared.numbers.Numbers.{Numbers}
 use Rattle.gj_proof.specs.declared.numbers.Numbers.TheVariants.{Whole, Residues}
 use Rattle.gj_proof.specs.PresentRows.{arithmetic_of, entries_or_none}
 use Rattle.gj_proof.specs.Rules.{MeetsPivotBy}
+use Rattle.gj_check.proofs.ExtremeMeaning.{some_columns, pivot_free}
 use Rattle.gj_limit_proof.specs.declared.claim.LimitPivotRow.{LimitPivotRow}
 use Rattle.gj_limit_proof.specs.LimitRowsKept.{named_row, begun_row, row_kept_by, rows_behind_by}
 
 -- ---- present rows
-
--- a row that is not 0 somewhere has entries
-some_columns : (n : ℕ) (row : List ℤ) (c : ℕ) → HasColumns n row → at_column row c ≢ pos 0 →
-    length row ≡ n
-some_columns n row c (inl is) some = absurd (some (ap (λ r. at_column r c) is))
-some_columns n row c (inr len) some = len
-
-pivot_free : (kept : List KeptRow) (c : ℕ) → All (λ k. k.pivot ≢ c) kept →
-    row_with_pivot kept c ≡ None
-pivot_free [] c h = refl
-pivot_free (k ∷ kept) c h =
-    by_test (eqb k.pivot c) refl (pivot_free kept c (All-tail (λ r. r.pivot ≢ c) k kept h))
-  where
-    by_test : (b : Bool) → eqb k.pivot c ≡ b → row_with_pivot kept c ≡ None →
-        cond b (Some k) (row_with_pivot kept c) ≡ None
-    by_test true t later =
-        absurd (All-head (λ r. r.pivot ≢ c) k kept h ((Decides-eqb k.pivot c).0 t))
-    by_test false t later = later
 
 module _ (f : FunctionData) (component : ℕ → ℕ) (n : ℕ) where
   -- the row with which a group begins

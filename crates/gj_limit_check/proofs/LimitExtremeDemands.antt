@@ -2,7 +2,6 @@
 -- first that fails.
 use Rattle.std.proofs.Common.{◌≡◌, ◌≢◌, ℕ, ◌+◌, ◌<◌, List, [], ◌∷◌, ◌++◌, All, length, map, refl, sym, ap, ◌∙◌, arith}
 use Rattle.std.specs.List.{range_with_len}
-use Rattle.std.proofs.lemmas.List.{length-append}
 use Rattle.std.proofs.lemmas.List.Elements.{All-nil, All-cons, All-append}
 use Rattle.gj_lemmas.proofs.FirstThatFails.{first_failing_in_map, first_failing_in_range}
 use Rattle.gj_lemmas.proofs.Lists.{All-made}
@@ -16,37 +15,27 @@ use Rattle.gj_limit_system.specs.Unknowns.{columns_for}
 use Rattle.gj_proof.specs.declared.numbers.Numbers.{Numbers}
 use Rattle.gj_proof.specs.ProofText.{ProofLine, modulus_lines}
 use Rattle.gj_proof.specs.Rules.{Demand, line_of_demand}
-use Rattle.gj_proof.specs.Rules.Demand.{minimal, cover, row, reduce, size, pivot, rank}
+use Rattle.gj_proof.specs.Rules.Demand.{minimal, cover, rank}
 use Rattle.gj_proof.proofs.AtPlaces.{split_there}
-use Rattle.gj_check_groups.specs.Groups.{IsRuleOf}
-use Rattle.gj_check_groups.specs.declared.failure.GroupRule.{GroupRule}
 use Rattle.gj_check_groups.specs.declared.failure.GroupFailure.{GroupFailure}
 use Rattle.gj_check_groups.proofs.ClaimGroups.{IsNumbering}
-use Rattle.gj_check.specs.declared.rules.CheckRule.{CheckRule}
 use Rattle.gj_check.specs.declared.rules.CheckRule.TheVariants as rules
-use Rattle.gj_check.specs.FirstFailure.{rule_of}
 use Rattle.gj_check.specs.GroupRules.{rule_on_groups}
+use Rattle.gj_check.proofs.ExtremeDemands.{rule_named}
 use Rattle.gj_limit_proof.specs.declared.claim.LimitClaim.{LimitClaim}
 use Rattle.gj_limit_proof.specs.declared.claim.LimitClaim.TheVariants.{Extreme}
 use Rattle.gj_limit_proof.specs.declared.claim.LimitPivotRow.{LimitPivotRow}
 use Rattle.gj_limit_proof.specs.LimitRules.{group_demands_by, DemandHolds, MeetsLimitRules}
-use Rattle.gj_limit_proof.specs.LimitText.{group_lines, HasNumber}
+use Rattle.gj_limit_proof.specs.LimitText.{group_lines}
 use Rattle.gj_limit_check_groups.specs.LimitGroups.{LimitGroupHolds, IsFirstLimitGroupFailure}
 use Rattle.gj_limit_check.specs.declared.cover_lines.Components.{Components}
 use Rattle.gj_limit_check.specs.FirstFailure.{IsFirstLimitFailure}
 use Rattle.gj_limit_check.specs.LimitCoverLines.{MeetsCover, AreComponentsOf, IsFirstBroken}
 use Rattle.gj_limit_check.proofs.ClaimLimitGroups.{groups_hold, groups_fail}
-use Rattle.gj_limit_check.proofs.FirstLimitDemand.{FirstFails, fails_here, fails_behind, fails_next, fails_in_front, failure_of}
+use Rattle.gj_check.proofs.FirstDemand.{FirstFails, fails_here, fails_behind, fails_next, fails_in_front}
+use Rattle.gj_limit_check.proofs.FirstLimitDemand.{failure_of}
 use Rattle.gj_limit_check.proofs.PlainClaims.{number_of_claim, number_of_cover_line, number_of_end}
 use Rattle.gj_limit_check.proofs.PlainRules.{zero_function, MeetLimitCovers, plain_rules}
-
--- the rule of a demand on groups
-rule_named : (rule : GroupRule) (d : Demand) → IsRuleOf rule d → rule_on_groups rule ≡ rule_of d
-rule_named rule (row g) e = ap rule_on_groups e
-rule_named rule (reduce g r) e = ap rule_on_groups e
-rule_named rule (size g r) e = ap rule_on_groups e
-rule_named rule (pivot g) e = ap rule_on_groups e
-rule_named rule _ e = absurd e
 
 module _ (numbers : Numbers) (f : FunctionData) (lines : List CoverLine)
     (rows : List LimitPivotRow) where
@@ -67,10 +56,10 @@ module _ (numbers : Numbers) (f : FunctionData) (lines : List CoverLine)
   pub extreme_not_minimal : (PassesAll f → ⊥) → IsFirstLimitFailure claim 2 rules.Minimal
   extreme_not_minimal fails =
       failure_of claim ProofLine.claim rules.Minimal 2
-      (fails_here claim minimal (covers ++ groups ++ rank ∷ []) fails) (number_of_claim claim)
+      (fails_here P minimal (covers ++ groups ++ rank ∷ []) fails) (number_of_claim claim)
 
   cover_breaks : (i : ℕ) → IsFirstBroken f lines i →
-      FirstFails claim covers (ProofLine.covered i) rules.Cover
+      FirstFails P covers (ProofLine.covered i) rules.Cover
   cover_breaks i h =
       let split = split_there lines i h.within in
       record {
@@ -90,9 +79,9 @@ module _ (numbers : Numbers) (f : FunctionData) (lines : List CoverLine)
   extreme_cover_broken i passes h =
       let l = ProofLine.covered i in
       failure_of claim l rules.Cover (f.order + 5 + i)
-      (fails_next claim minimal (covers ++ groups ++ rank ∷ []) l rules.Cover passes
-      (fails_in_front claim (covers ++ groups) (rank ∷ []) l rules.Cover
-      (fails_in_front claim covers groups l rules.Cover (cover_breaks i h))))
+      (fails_next P minimal (covers ++ groups ++ rank ∷ []) l rules.Cover passes
+      (fails_in_front P (covers ++ groups) (rank ∷ []) l rules.Cover
+      (fails_in_front P covers groups l rules.Cover (cover_breaks i h))))
       (number_of_cover_line numbers f lines rows i h.within)
 
   -- ---- groups, with the numbers of components
@@ -134,7 +123,7 @@ module _ (numbers : Numbers) (f : FunctionData) (lines : List CoverLine)
         let r = rule_on_groups failure.rule in
         let group = groups_fail numbers f lines component c.count rows numbering some failure h in
         let l = line_of_demand group.demand in
-        let here : FirstFails claim groups l r = record {
+        let here : FirstFails P groups l r = record {
           before = group.before;
           demand = group.demand;
           first = group.first;
@@ -143,9 +132,9 @@ module _ (numbers : Numbers) (f : FunctionData) (lines : List CoverLine)
         } in
         failure_of claim l r
         (f.order + length lines + 5 + length (modulus_lines numbers) + failure.below)
-        (fails_next claim minimal (covers ++ groups ++ rank ∷ []) l r passes
-        (fails_in_front claim (covers ++ groups) (rank ∷ []) l r
-        (fails_behind claim covers groups l r covers_hold here)))
+        (fails_next P minimal (covers ++ groups ++ rank ∷ []) l r passes
+        (fails_in_front P (covers ++ groups) (rank ∷ []) l r
+        (fails_behind P covers groups l r covers_hold here)))
         group.number
 
     -- all demands before the last
@@ -161,9 +150,9 @@ module _ (numbers : Numbers) (f : FunctionData) (lines : List CoverLine)
     extreme_rank_fails h other =
         failure_of claim ProofLine.last rules.Rank
         (f.order + 5 + length lines + length (modulus_lines numbers) + length (group_lines 0 rows))
-        (fails_next claim minimal (covers ++ groups ++ rank ∷ []) ProofLine.last rules.Rank passes
-        (fails_behind claim (covers ++ groups) (rank ∷ []) ProofLine.last rules.Rank (groups_met h)
-        (fails_here claim rank []
+        (fails_next P minimal (covers ++ groups ++ rank ∷ []) ProofLine.last rules.Rank passes
+        (fails_behind P (covers ++ groups) (rank ∷ []) ProofLine.last rules.Rank (groups_met h)
+        (fails_here P rank []
         (λ full. other (full ∙ ap (columns_for f.order) (sym are.count))))))
         (number_of_end numbers f lines rows)
 

@@ -19,7 +19,6 @@ use Rattle.gj_theory.proofs.CoverSteps.{number_below}
 use Rattle.gj_theory.proofs.LineComponents.{component_of_line}
 use Rattle.gj_theory.proofs.LineIntervals.{line_for_each}
 use Rattle.gj_theory.proofs.MinimalFromTests.{minimal_by_tests}
-use Rattle.gj_jumps.specs.ExtremeWithJumps.{IsExtremeWithJumps}
 use Rattle.gj_jumps.specs.LimitSystem.{Limits}
 use Rattle.gj_jumps.specs.WholeLimits.{SolvesWholeLimits}
 use Rattle.gj_limit_averages.specs.Averages.{IsExtremeFunction}

@@ -1,9 +1,7 @@
 -- Where the rules of a claim that a function is not extreme hold, its halves show it.
-use Rattle.std.proofs.Common.{◌≡◌, ℕ, zero, suc, inl, inr, ◌+◌, ◌*◌, ◌%◌, ◌<◌, ◌≤◌, ℤ, pos, ◌+ℤ◌, ◌*ℤ◌, ◌≤ℤ◌, List, [], ◌∷◌, length, unsigned_abs, refl, sym, ap, ap₂, subst, ◌∙◌, arith}
-use Rattle.std.specs.Prelude.{All}
+use Rattle.std.proofs.Common.{◌≡◌, ℕ, zero, suc, ◌+◌, ◌*◌, ◌%◌, ◌<◌, ℤ, pos, ◌+ℤ◌, ◌*ℤ◌, ◌≤ℤ◌, List, [], ◌∷◌, length, unsigned_abs, refl, sym, ap, ap₂, subst, ◌∙◌, arith}
 use Rattle.std.specs.List.{range_with_len}
 use Rattle.std.proofs.Math.Nat.{mod-lt, mod-mod, mul-pos, mul-lt-mul_of_pos_right}
-use Rattle.std.proofs.lemmas.Bool.{cases_eq}
 use Rattle.std.proofs.lemmas.Int.{ints}
 use Rattle.std.proofs.lemmas.List.Elements.{All-head, All-tail}
 use Rattle.gj_lemmas.proofs.Lists.{All-front, All-back}
@@ -16,27 +14,13 @@ use Rattle.gj_shape.specs.declared.extremality.SideNumbers.{SideNumbers}
 use Rattle.gj_shape.proofs.AtLemmas.{at_wrapped}
 use Rattle.gj_shape.proofs.TableLemmas.{at_plus_order, entry_period, period_of_parts, pieces_of}
 use Rattle.gj_theory.proofs.MinimalFromTests.{minimal_by_tests}
-use Rattle.gj_limit_averages.specs.Averages.{IsMinimalOver, AverageToFunction, AreDifferentParts}
+use Rattle.gj_limit_averages.specs.Averages.{IsMinimalOver}
 use Rattle.gj_proof.specs.Rules.{Demand, pair_demands}
+use Rattle.gj_check.proofs.HalvesMeaning.{average_of_pairs}
 use Rattle.gj_limit_proof.specs.declared.claim.LimitClaim.TheVariants.{NotExtreme}
 use Rattle.gj_limit_proof.specs.LimitMeaning.{half_of, ShowLimitHalves, LimitClaimHolds}
 use Rattle.gj_limit_proof.specs.LimitRules.{MeetsLimitAverage, PassesAsHalf, MeetsLimitSame, DemandHolds, MeetsLimitRules}
 use Rattle.gj_limit_proof.specs.LimitText.{AreLimitHalvesInBounds, AreSideNumbersWithin}
-
--- the demand on the averages at each point
-average_of_pairs : (P : Demand → Type 0) (a n i : ℕ) → a ≤ i → i < a + n →
-    All P (pair_demands (range_with_len a n)) →
-    P (Demand.average i)
-average_of_pairs P a zero i from below h = absurd (omega arith)
-average_of_pairs P a (suc n) i from below h =
-    let later = pair_demands (range_with_len (a + 1) n) in
-    let behind = All-tail P (Demand.range a) (Demand.average a ∷ later) h in
-    elim (cases_eq i a) [
-      | inl e ↦ subst (λ (k : ℕ). P (Demand.average k)) (sym e)
-          (All-head P (Demand.average a) later behind)
-      | inr other ↦ average_of_pairs P (a + 1) n i (omega arith) (omega arith)
-          (All-tail P (Demand.average a) later behind)
-    ]
 
 -- what the rules on halves say, if the order is m times the function's and the scale c m times its
 record MeetHalves (f : FunctionData) (h : LimitHalves) (m c : ℕ) : Type 0 where

@@ -1,5 +1,5 @@
 -- Cover lines in turn: which intervals have a line so far, and the numbers of their components.
-use Rattle.std.proofs.Common.{◌≡◌, ◌≢◌, ℕ, ◌+◌, ◌<◌, Bool, true, List, All, length, take, get_or, set, sym, ap, ◌∙◌, below_more, arith}
+use Rattle.std.proofs.Common.{◌≡◌, ◌≢◌, ℕ, ◌+◌, ◌<◌, Bool, true, List, All, length, take, get_or, set, sym, below_more, arith}
 use Rattle.std.proofs.lemmas.List.{get_or_default}
 use Rattle.gj_shape.specs.FunctionData.{FunctionData}
 use Rattle.gj_shape.specs.declared.extremality.CoverLine.{CoverLine}
@@ -7,7 +7,7 @@ use Rattle.gj_proof.specs.ProofText.{IsCoverLineBelow}
 use Rattle.gj_proof.proofs.AtPlaces.{at_place, each_item}
 use Rattle.gj_check.proofs.NumberedLines.{AreNumbered, zero_line, numbered_opening, numbered_joining, all_numbered}
 use Rattle.gj_limit_proof.specs.LimitRules.{MeetsLimitCover}
-use Rattle.gj_limit_check.specs.LimitCoverLines.{MeetsCover, AreComponentsOf, IsFirstBroken, IsCoverOutcome}
+use Rattle.gj_limit_check.specs.LimitCoverLines.{MeetsCover, IsFirstBroken, IsCoverOutcome}
 use Rattle.gj_limit_check.specs.declared.cover_lines.Components.{Components}
 use Rattle.gj_limit_check.specs.declared.cover_lines.Covered.TheVariants.{Whole}
 use Rattle.gj_limit_check.proofs.PlainRules.{zero_function, plain_rule}

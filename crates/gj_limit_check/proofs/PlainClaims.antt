@@ -1,6 +1,6 @@
 -- The lines of a claim about a function that may jump have the numbers of those of a claim about a
 -- continuous one that has as many of each kind.
-use Rattle.std.proofs.Common.{◌≡◌, ◌≢◌, ℕ, ◌+◌, ◌<◌, ℤ, List, [], ◌∷◌, ◌++◌, All, length, map, zip, refl, sym, ap, ap₂, subst, ◌∙◌, arith}
+use Rattle.std.proofs.Common.{◌≡◌, ◌≢◌, ℕ, ◌+◌, ◌<◌, ℤ, List, [], ◌∷◌, ◌++◌, All, length, map, zip, refl, sym, ap, subst, ◌∙◌, arith}
 use Rattle.std.specs.List.{range_with_len}
 use Rattle.std.proofs.lemmas.List.{append_assoc, map-append, length-map, length-append}
 use Rattle.std.proofs.lemmas.List.Elements.{All-nil, All-cons}
@@ -31,7 +31,7 @@ use Rattle.gj_limit_proof.specs.declared.claim.LimitClaim.{LimitClaim}
 use Rattle.gj_limit_proof.specs.declared.claim.LimitClaim.TheVariants.{Extreme, NotExtreme}
 use Rattle.gj_limit_proof.specs.declared.claim.LimitPivotRow.{LimitPivotRow}
 use Rattle.gj_limit_proof.specs.declared.triple.Triple.{Triple}
-use Rattle.gj_limit_proof.specs.LimitText.{AreLimitHalvesInBounds, function_of, group_line, group_lines, extreme_lines, halves_line, pair_lines, pairs_of, own_lines, proof_lines_of, HasNumber}
+use Rattle.gj_limit_proof.specs.LimitText.{AreLimitHalvesInBounds, function_of, group_lines, extreme_lines, pair_lines, pairs_of, own_lines, proof_lines_of, HasNumber}
 
 -- ---- one number
 

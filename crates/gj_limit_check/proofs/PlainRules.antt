@@ -1,6 +1,6 @@
 -- Cover lines by their intervals alone: the rule of limits gives the rule of pairs for a function of
 -- which all pairs are tight.
-use Rattle.std.proofs.Common.{◌≡◌, ℕ, ◌+◌, ◌%◌, inl, inr, pos, List, [], ◌∷◌, ◌++◌, refl, arith}
+use Rattle.std.proofs.Common.{◌≡◌, ℕ, ◌+◌, inl, inr, List, [], ◌∷◌, ◌++◌, refl, arith}
 use Rattle.gj_shape.specs.Additive.{IsTight, IsAdditive}
 use Rattle.gj_shape.specs.Cover.{IsOneOf, links_of, triangle_projections}
 use Rattle.gj_shape.specs.FunctionData.{FunctionData, function_over, at}

@@ -1,5 +1,5 @@
 -- A solution of the system of limits as numbers for the columns, by the components of cover lines.
-use Rattle.std.proofs.Common.{◌≡◌, ℕ, zero, suc, ◌+◌, ◌-◌, ◌*◌, ◌/◌, ◌%◌, ◌<◌, ◌==◌, ℤ, pos, ◌+ℤ◌, List, length, refl, sym, ap, ◌∙◌, ltb, lt-ltb, le-ltb, arith}
+use Rattle.std.proofs.Common.{◌≡◌, ℕ, zero, suc, ◌+◌, ◌-◌, ◌*◌, ◌/◌, ◌%◌, ◌<◌, ℤ, pos, ◌+ℤ◌, List, length, refl, sym, ap, ◌∙◌, ltb, lt-ltb, le-ltb, arith}
 use Rattle.std.specs.Prelude.{cond}
 use Rattle.std.proofs.Math.Nat.{mod-lt, mod-mod, add-mod_right, mod-add-mod}
 use Rattle.std.proofs.lemmas.Int.{ints}
@@ -23,7 +23,6 @@ use Rattle.gj_limit_system.specs.declared.limit_row.LimitRow.TheVariants.{F, Tig
 use Rattle.gj_limit_system.proofs.Slopes.{slope}
 use Rattle.gj_limit_system.proofs.VertexSlacks.{at_vertex, right_low, above_low, IsPeriodic, slack_same, data_periodic, limit_at_vertex}
 use Rattle.gj_proof.specs.PresentRows.{AreNumbersOf}
-use Rattle.gj_theory.proofs.CoverSteps.{number_below}
 use Rattle.gj_limit_proof.specs.LimitRules.{MeetsLimitRow}
 use Rattle.gj_limit_proof.specs.LimitText.{IsRowWithin}
 use Rattle.gj_limit_check.proofs.LineCovers.{opened_by, slope_of_component}

@@ -1,5 +1,5 @@
 -- The tests of minimality of a half.
-use Rattle.std.proofs.Common.{◌≡◌, ◌↔◌, ℕ, ◌+◌, ◌-◌, ◌%◌, ◌≤◌, ◌<◌, ℤ, pos, ◌+ℤ◌, ◌≤ℤ◌, List, length, get_or, refl, sym, ap, subst, ◌∙◌, arith}
+use Rattle.std.proofs.Common.{◌≡◌, ◌↔◌, ℕ, ◌+◌, ◌-◌, ◌%◌, ◌<◌, ℤ, pos, ◌+ℤ◌, ◌≤ℤ◌, List, length, refl, sym, ap, subst, ◌∙◌, arith}
 use Rattle.std.proofs.Math.Nat.{add-mod_right, mod-lt}
 use Rattle.std.proofs.lemmas.Int.{ints}
 use Rattle.std.proofs.lemmas.List.{get_or_default}
@@ -11,7 +11,7 @@ use Rattle.gj_shape.proofs.AtLemmas.{at_wrapped}
 use Rattle.gj_theory.proofs.Everywhere.{at_same, opposite_index}
 use Rattle.gj_check_minimal.specs.Numerators.{AreOpposite}
 use Rattle.gj_check_minimal.specs.Tests.{HasNonnegativeValues, IsSymmetric, IsSubadditiveRow}
-use Rattle.gj_limit_faces.specs.Terms.{AreTermsOf, limit_by}
+use Rattle.gj_limit_faces.specs.Terms.{AreTermsOf}
 use Rattle.gj_limit_faces.specs.declared.terms.Terms.{Terms}
 use Rattle.gj_limit_check_halves.specs.declared.half.Half.{Half}
 use Rattle.gj_limit_check_halves.specs.Half.{IsHalf, data_of}

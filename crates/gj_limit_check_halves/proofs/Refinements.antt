@@ -1,7 +1,7 @@
 -- Halves on a finer grid: their order and scale, and the function's numbers there.
 use Rattle.std.proofs.Common.{◌≡◌, ◌≢◌, ◌↔◌, ℕ, zero, suc, ◌+◌, ◌-◌, ◌*◌, ◌/◌, ◌%◌, ◌^◌, ◌≤◌, ◌<◌, ℤ, pos, ◌+ℤ◌, ◌*ℤ◌, Bool, IsTrue, List, All, length, get_or, unsigned_abs, FitsSigned, to_z, of_z, w64, refl, sym, ap, ap₂, subst, subst₂, ◌∙◌, arith}
 use mir.Syntax.{w128}
-use Rattle.std.proofs.Math.Nat.{mul_comm, mul-pos, mul-le-mul_left, mul-lt-mul_of_pos_right, eq_of_mul-eq-mul_right}
+use Rattle.std.proofs.Math.Nat.{mul-pos, mul-le-mul_left, mul-lt-mul_of_pos_right}
 use Rattle.std.proofs.lemmas.Int.{ints, to_z-of_z}
 use Rattle.gj_shape.specs.FirstViolation.{PassesAll}
 use Rattle.gj_shape.specs.FunctionData.{FunctionData, IsWithinBounds, function_over, at}
@@ -18,37 +18,10 @@ use Rattle.gj_limit_proof.specs.LimitText.{AreLimitHalvesInBounds}
 use Rattle.gj_limit_check_halves.specs.declared.half.Half.{Half}
 use Rattle.gj_limit_check_halves.specs.Half.{IsBetween, AreNumbersOf, IsHalf, data_of}
 use Rattle.gj_limit_check_halves.specs.HalvesOutcome.{IsHalvesRefinement, IsPointOf, HasNumberAt, AreSideNumbersInRange}
-use Rattle.gj_limit_check_halves.specs.declared.halves.Refinement.{Refinement}
+use Rattle.gj_check.specs.declared.halves.Refinement.{Refinement}
+use Rattle.gj_check.proofs.HalvesTests.{same_times, some_times, same_refinement}
 
--- ---- factors
-
--- the order has one factor over the function's
-pub same_times : (f : FunctionData) (h : LimitHalves) (r : Refinement) (m : ℕ) → IsWithinBounds f →
-    IsHalvesRefinement f h r →
-    h.order ≡ f.order * m → r.times ≡ m
-same_times f h r m l is e =
-    let low = l.order_low in
-    eq_of_mul-eq-mul_right f.order (omega arith) r.times m
-    (mul_comm r.times f.order ∙ sym is.order ∙ e ∙ mul_comm f.order m)
-
-pub some_times : (f : FunctionData) (h : LimitHalves) (r : Refinement) → AreLimitHalvesInBounds h →
-    IsHalvesRefinement f h r →
-    0 < r.times
-some_times f h r b is = some r.times is.order
-  where
-    some : (t : ℕ) → h.order ≡ f.order * t → 0 < t
-    some zero e = absurd (let low = b.order_low in omega arith)
-    some (suc t) e = omega arith
-
--- the scale has one factor over that multiple of the function's
-pub same_factor : (f : FunctionData) (h : LimitHalves) (r : Refinement) (c : ℕ) → IsWithinBounds f →
-    AreLimitHalvesInBounds h →
-    IsHalvesRefinement f h r → h.scale ≡ pos (c * (f.scale * r.times)) → r.factor ≡ c
-same_factor f h r c l b is e =
-    let scale = is.scale in
-    let both : r.factor * (f.scale * r.times) ≡ c * (f.scale * r.times) = omega (arith, ints) in
-    eq_of_mul-eq-mul_right (f.scale * r.times) (mul-pos l.scale_low (some_times f h r b is))
-    r.factor c both
+-- ---- order and scale
 
 -- the rule `scale`
 pub scale_met : (f : FunctionData) (h : LimitHalves) (r : Refinement) → IsHalvesRefinement f h r →
@@ -66,7 +39,8 @@ pub point_of : (f : FunctionData) (h : LimitHalves) (r : Refinement) (i : ℕ) �
     AreLimitHalvesInBounds h →
     IsHalvesRefinement f h r → i < h.order → IsPointOf f r i
 point_of f h r i l b is below =
-    let some = some_times f h r b is in
+    let few = b.order_low in
+    let some = some_times f h.order h.scale r (omega arith) is in
     let order = is.order in
     let high = b.order_high in
     let scale = is.scale in
@@ -94,10 +68,9 @@ average_by : (f : FunctionData) (h : LimitHalves) (r : Refinement) (xs first sec
     (m c : ℕ) → h.order ≡ f.order * m → h.scale ≡ pos (c * (f.scale * m)) →
     at first i +ℤ at second i ≡ pos (2 * c) *ℤ refined f xs m i
 average_by f h r xs first second i l b is e m c order scale =
-    let times = same_times f h r m l is order in
-    let factor = same_factor f h r c l b is
-    (scale ∙ ap (λ t. pos (c * (f.scale * t))) (sym times)) in
-    e ∙ ap₂ (λ k t. pos (2 * k) *ℤ refined f xs t i) factor times
+    let low = b.order_low in
+    let same = same_refinement f h.order h.scale r m c l (omega arith) is order scale in
+    e ∙ ap₂ (λ k t. pos (2 * k) *ℤ refined f xs t i) same.1 same.0
 
 -- on all sides
 pub averages : (f : FunctionData) (h : LimitHalves) (r : Refinement) (i : ℕ) → IsWithinBounds f →
@@ -146,14 +119,6 @@ pub points_read : (xs ys : List ℤ) (i : ℕ) (x y : ℤ) → HasNumberAt xs i 
 points_read xs ys i x y h k x_is y_is =
     to_z-of_z w128 (x +ℤ y) (points_fit xs ys i x y h k x_is y_is) ∙ ap₂ (λ a b. a +ℤ b) x_is y_is
 
--- the scale of the halves
-pub halves_scale_read : (h : LimitHalves) → AreLimitHalvesInBounds h →
-    to_z w128 (of_z w128 h.scale) ≡ h.scale
-halves_scale_read h b =
-    let low = b.scale_low in
-    let high = b.scale_high in
-    omega (arith, ints)
-
 -- ---- a half
 
 -- its numbers lie from 0 to the scale at every index
@@ -188,7 +153,8 @@ half_made f h r s half l b is within made =
     let order = made.order in
     let place = made.place in
     let grid = is.order in
-    let below = mul-lt-mul_of_pos_right l.place_high (some_times f h r b is) in
+    let below = mul-lt-mul_of_pos_right l.place_high
+    (some_times f h.order h.scale r (omega arith) is) in
     let n = h.order in
     record {
       order_low = omega arith;
@@ -215,7 +181,7 @@ half_by f h r s half l is made =
     λ k. function_over (made.order k) (made.place k) (unsigned_abs (made.scale k)) (made.left k)
     (made.value k) (made.right k) in (
       λ passes m order. subst (λ (n : ℕ). PassesAll (half_of f n h s))
-          (same_times f h r m l is order) (subst PassesAll same passes),
+          (same_times f h.order h.scale r m l is order) (subst PassesAll same passes),
       λ all. subst PassesAll (sym same) (all r.times is.order),
     )
 

@@ -10,13 +10,12 @@ use Rattle.gj_limit_proof.specs.LimitRules.{AreWithinScale, MeetsLimitScale, Mee
 use Rattle.gj_limit_proof.specs.LimitText.{triple_at}
 use Rattle.gj_limit_check_halves.specs.declared.failure.HalvesFailure.{HalvesFailure}
 use Rattle.gj_limit_check_halves.specs.declared.failure.HalvesFailure.TheVariants.{Scale, Range, Average, First, Second, Same}
-use Rattle.gj_limit_check_halves.specs.declared.halves.Refinement.{Refinement}
+use Rattle.gj_check.specs.declared.halves.Refinement.{Refinement}
+use Rattle.gj_check.specs.HalvesRules.{IsRefinement}
 
--- the order of the halves is so many times the function's, and the scale so many times that
--- multiple of the function's
-pub record IsHalvesRefinement (f : FunctionData) (h : LimitHalves) (r : Refinement) : Type 0 where
-  pub order : h.order ≡ f.order * r.times
-  pub scale : h.scale ≡ pos (r.factor * (f.scale * r.times))
+-- the order and the scale of the halves are so many times those of the function
+abbrev pub IsHalvesRefinement : FunctionData → LimitHalves → Refinement → Type 0
+IsHalvesRefinement f h = IsRefinement f h.order h.scale
 
 -- the index is one of a point of the grid of the halves, and the refinement is within the limits
 pub record IsPointOf (f : FunctionData) (r : Refinement) (i : ℕ) : Type 0 where

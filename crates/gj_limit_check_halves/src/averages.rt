@@ -6,7 +6,7 @@ ghost use Rattle.gj_shape.specs.Limits.{greatest_halves_order, greatest_halves_s
 ghost use Rattle.gj_shape.specs.Refinement.{refined};
 ghost use Rattle.gj_limit_check_halves.specs.HalvesOutcome.{IsPointOf, HasNumberAt};
 
-use crate::halves::Refinement;
+use gj_check::Refinement;
 use gj_shape::Shape;
 
 /// Whether half the sum of two numbers of halves at a point is what these numbers of the function

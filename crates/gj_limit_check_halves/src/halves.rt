@@ -9,23 +9,15 @@ ghost use Rattle.gj_limit_check_halves.specs.HalvesOutcome.{IsLastOutcome};
 use crate::failure::HalvesFailure;
 use crate::half::{Half, is_minimal};
 use crate::pairs::failure_in_pairs;
+use gj_check::{Refinement, refinement_of};
 use gj_shape::{LimitHalves, Shape, SideNumbers};
-
-/// How much finer the grid and the scale of halves are than those of the function.
-#[derive(Clone, Copy)]
-pub(crate) struct Refinement {
-    /// The order of the grid over that of the function.
-    pub(crate) times: u32,
-    /// The scale over `times` times that of the function.
-    pub(crate) factor: u128,
-}
 
 /// The first of the rules on halves of a function that fails; none if all hold. It takes no memory.
 pub fn failure_in_halves(shape: &Shape, halves: &LimitHalves) -> Option<HalvesFailure>
     requires { AreLimitHalvesInBounds halves.now }
     ensures { IsHalvesOutcome shape.now halves.now result }
 {
-    let Some(refinement) = refinement_of(shape, halves) else {
+    let Some(refinement) = refinement_of_halves(shape, halves) else {
         return Some(HalvesFailure::Scale);
     };
     if let Some(failure) = failure_in_pairs(shape, halves, refinement) {
@@ -35,25 +27,12 @@ pub fn failure_in_halves(shape: &Shape, halves: &LimitHalves) -> Option<HalvesFa
 }
 
 /// How much finer the halves are; none if their order or their scale is no multiple.
-fn refinement_of(shape: &Shape, halves: &LimitHalves) -> Option<Refinement>
+fn refinement_of_halves(shape: &Shape, halves: &LimitHalves) -> Option<Refinement>
     requires { AreLimitHalvesInBounds halves.now }
     ensures some { IfSome result (IsHalvesRefinement shape.now halves.now) }
     ensures none { IfNone result (MeetsLimitScale shape.now halves.now → ⊥) }
 {
-    let order = shape.order();
-    if halves.order % order != 0 {
-        return None;
-    }
-    let times = halves.order / order;
-    let unit = shape.common_denominator() as u128 * u128::from(times);
-    let scale = halves.scale as u128;
-    if scale % unit != 0 {
-        return None;
-    }
-    Some(Refinement {
-        times,
-        factor: scale / unit,
-    })
+    refinement_of(shape, halves.order, halves.scale)
 }
 
 /// The first of the rules `first`, `second` and `same` that fails, if all numbers are in range.

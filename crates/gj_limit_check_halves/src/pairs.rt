@@ -9,7 +9,7 @@ ghost use Rattle.gj_limit_check_halves.specs.HalvesOutcome.{IsHalvesRefinement, 
 
 use crate::averages::is_average;
 use crate::failure::HalvesFailure;
-use crate::halves::Refinement;
+use gj_check::Refinement;
 use gj_shape::{LimitHalves, Shape, SideNumbers};
 
 /// The first point at which `range` or `average` fails, and which of the two.

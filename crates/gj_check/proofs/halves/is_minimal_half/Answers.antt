@@ -12,7 +12,7 @@ is_minimal_table-requires c =
     let l = c.place.ensures.limits in
     let b = c.requires.halves in
     subst₂ (λ p s. IsTableInRange c.args.values.now (p * r.times) s) (sym c.place.ensures.value)
-    (sym (halves_scale_read c.args.halves.now b))
+    (sym (halves_scale_read c.args.halves.now.scale b.scale_low b.scale_high))
     (half_in_range c.args.shape.now c.args.halves.now r c.args.values.now l b c.requires.refinement
     c.requires.length c.requires.range)
 
@@ -25,5 +25,6 @@ returns c =
     in_other_words_ok c.is_minimal_table.result _ _
     (subst₂ (λ p s. IfOk c.is_minimal_table.result
     (λ t. IsTrue t ↔ IsMinimalTable (at values) (length values) (p * r.times) (unsigned_abs s)))
-    c.place.ensures.value (halves_scale_read c.args.halves.now b) c.is_minimal_table.ensures)
+    c.place.ensures.value (halves_scale_read c.args.halves.now.scale b.scale_low b.scale_high)
+    c.is_minimal_table.ensures)
     (half_by c.args.shape.now c.args.halves.now r values l c.requires.refinement c.requires.length)

@@ -9,7 +9,7 @@ returns-then-not-is_between c =
     let b = c.requires.halves in
     let first = half_read h h.first _ c.args.index c.as_slice.ensures b.first_length b.first_fit
     c.requires.within in
-    let scale = halves_scale_read h b in (
+    let scale = halves_scale_read h.scale b.scale_low b.scale_high in (
       λ none. absurd cc,
       λ m. absurd (
           let yes = c.is_between.ensures.1
@@ -27,7 +27,7 @@ returns c =
     c.requires.within in
     let second = half_read h h.second _ c.args.index c.as_slice-2.ensures b.second_length
     b.second_fit c.requires.within in
-    let scale = halves_scale_read h b in
+    let scale = halves_scale_read h.scale b.scale_low b.scale_high in
     let one = subst₂ IsBetween first scale (c.is_between.ensures.0 c.if-not-is_between.false) in (
       λ t.
           let two = subst₂ IsBetween second scale (c.is_between-2.ensures.0 t) in

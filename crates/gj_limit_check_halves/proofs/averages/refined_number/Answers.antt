@@ -1,4 +1,4 @@
-use Rattle.std.proofs.Common.{◌/◌, ◌%◌, ◌-◌, ◌+◌, ◌<◌, arith}
+use Rattle.std.proofs.Common.{◌/◌, ◌<◌, arith}
 use Rattle.std.proofs.Math.Nat.{div-lt_iff_lt-mul}
 use Rattle.gj_limit_check_halves.proofs.Refinements.{refined_read, between_read}
 use Rattle.gj_limit_check_halves.proofs.averages.refined_number.Goals as goal

@@ -1,6 +1,5 @@
-use Rattle.std.proofs.Common.{◌≡◌, ◌+◌, ◌-◌, ◌+ℤ◌, to_z, of_z, ap, sym, ◌∙◌, below_more, arith}
+use Rattle.std.proofs.Common.{◌+◌, ◌-◌, ◌+ℤ◌, to_z, of_z, ap, sym, ◌∙◌, below_more, arith}
 use mir.Syntax.{w128}
-use Rattle.std.proofs.lemmas.Int.{to_z-of_z}
 use Rattle.gj_shape.specs.FunctionData.{at}
 use Rattle.gj_limit_check_halves.proofs.HalfNumbers.{number_read, number_below, sum_fits, sum_read, scale_read}
 use Rattle.gj_limit_check_halves.proofs.half.are_opposite.Goals as goal

@@ -2,7 +2,8 @@ use Rattle.std.proofs.Common.{◌*◌, to_z, of_z, refl, ap}
 use mir.Syntax.{w128}
 use Rattle.gj_check_minimal.proofs.TestsInTurn.{in_other_words}
 use Rattle.gj_limit_check_halves.specs.declared.half.Half.{Half}
-use Rattle.gj_limit_check_halves.proofs.Refinements.{halves_scale_read, IsMadeOf, half_made, half_by}
+use Rattle.gj_check.proofs.HalvesTests.{halves_scale_read}
+use Rattle.gj_limit_check_halves.proofs.Refinements.{IsMadeOf, half_made, half_by}
 use Rattle.gj_limit_check_halves.proofs.halves.is_minimal_half.Goals as goal
 use Rattle.gj_limit_check_halves.proofs.halves.is_minimal_half.Goals.{After-as_slice-3}
 
@@ -22,7 +23,8 @@ made : (c : After-as_slice-3) →
 made c = record {
   order = refl;
   place = ap (λ p. p * c.args.refinement.times) c.place.ensures.value;
-  scale = halves_scale_read c.args.halves.now c.requires.halves;
+  scale = halves_scale_read c.args.halves.now.scale c.requires.halves.scale_low
+      c.requires.halves.scale_high;
   left = c.as_slice.ensures;
   value = c.as_slice-2.ensures;
   right = c.as_slice-3.ensures;

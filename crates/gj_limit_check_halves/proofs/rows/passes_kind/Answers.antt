@@ -1,4 +1,4 @@
-use Rattle.std.proofs.Common.{below_more, refl, arith}
+use Rattle.std.proofs.Common.{below_more, arith}
 use Rattle.gj_check_minimal.proofs.TestsInTurn.{one_fails}
 use Rattle.gj_limit_check_halves.specs.Half.{data_of}
 use Rattle.gj_limit_check_halves.specs.RowTests.{PassesCorner}

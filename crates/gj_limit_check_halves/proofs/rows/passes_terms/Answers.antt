@@ -1,7 +1,5 @@
-use Rattle.std.proofs.Common.{◌+◌, ◌≤ℤ◌, pos, below_more, arith}
+use Rattle.std.proofs.Common.{◌+◌, below_more, arith}
 use Rattle.std.proofs.lemmas.Int.{ints}
-use Rattle.gj_limit_faces.specs.Terms.{limit_by}
-use Rattle.gj_limit_check_halves.specs.Half.{data_of}
 use Rattle.gj_limit_check_halves.proofs.HalfNumbers.{on_side, side_read, rest_of_sum, sum_fits, sum_read}
 use Rattle.gj_limit_check_halves.proofs.rows.passes_terms.Goals as goal
 
