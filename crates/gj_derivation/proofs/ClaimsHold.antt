@@ -18,7 +18,7 @@ use Rattle.gj_problem.specs.declared.problem.Sense.{Sense}
 use Rattle.gj_problem.specs.declared.problem.Sense.TheVariants.{AtMost, AtLeast, Equal}
 use Rattle.gj_problem.specs.Problems.{sum_at, Meets, MeetsColumn, MeetsConstraint, IsFeasible, Holds, IsConstraint}
 use Rattle.gj_problem.specs.Rows.{IsSignFor}
-use Rattle.gj_problem.specs.Moves.{IsBelowOnGrid, IsUnmoved, IsMovedUp, IsMovedDown, IsMovedBy, HasLower, HasUpper, AreMovedBy}
+use Rattle.gj_problem.specs.Moves.{IsBelowOnGrid, IsMovedBy, HasLower, HasUpper, AreMovedBy}
 use Rattle.gj_problem.proofs.TurnedColumns.{lower_rounded, upper_rounded}
 use Rattle.gj_problem.proofs.HeldInequalities.{constraint_at, whole_sum, whole_product, if_some, move_low, no_change, change_step}
 use Rattle.gj_rule.specs.declared.kind.RuleKind.TheVariants.{Table}

@@ -1,5 +1,5 @@
 -- The terms that are found for a claim.
-use Rattle.std.proofs.Common.{◌≡◌, ◌⊎◌, ⊎_elim, inl, inr, ℕ, zero, suc, ◌+◌, ◌<◌, ◌≤◌, Option, Some, None, List, [], ◌∷◌, ◌++◌, length, get_or, take, pos, refl, sym, ap, subst, subst₂, ◌∙◌, arith}
+use Rattle.std.proofs.Common.{◌≡◌, ◌⊎◌, ⊎_elim, inl, inr, ℕ, zero, suc, ◌+◌, ◌<◌, Option, Some, None, List, [], ◌∷◌, ◌++◌, length, get_or, take, pos, refl, sym, ap, subst, subst₂, ◌∙◌, arith}
 use Rattle.std.proofs.lemmas.List.{get_or-take, length-take-le, length_push}
 use Rattle.gj_frac.specs.declared.Frac.{Frac}
 use Rattle.gj_fields.specs.Rational.{Rational, whole, rational, neg_ℚ, ◌≤ℚ◌}
@@ -139,14 +139,6 @@ one_found grid columns xs i ys new c y below here new_is is h =
           is))
           (last_or_before i j j_below);
     })
-
-pub all_found : (grid : Option ℕ) (columns : List Column) (xs : ℕ → Rational) (i : ℕ)
-    (ys : List Frac) → length columns ≤ i → i ≤ length columns →
-    AreFoundUpTo grid columns xs i ys → (length ys ≡ length columns)
-    × AreFoundFor grid columns xs (claimed_at ys)
-all_found grid columns xs i ys end within h =
-    let count = h.count in
-    (omega arith, λ j c below here. h.found j c (omega arith) here)
 
 pub found_in_front : (grid : Option ℕ) (columns : List Column) (xs : ℕ → Rational) (i : ℕ)
     (ys : List Frac) → i < length columns → AreFoundUpTo grid columns xs i ys →

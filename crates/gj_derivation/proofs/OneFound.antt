@@ -3,18 +3,15 @@ use Rattle.std.proofs.Common.{◌≡◌, ⊎_elim, ℕ, ◌+◌, ◌<◌, ◌≤
 use Rattle.std.proofs.lemmas.Bool.{cases_lt, cases_order}
 use Rattle.std.proofs.lemmas.List.{get_or-take, length-take-le}
 use Rattle.gj_frac.specs.declared.Frac.{Frac}
-use Rattle.gj_fields.specs.Rational.{Rational, whole, rational, neg_ℚ, ◌+ℚ◌, ◌*ℚ◌}
+use Rattle.gj_fields.specs.Rational.{Rational, whole, rational, ◌+ℚ◌, ◌*ℚ◌}
 use Rattle.gj_problem.proofs.OneMove.{one_on_grid}
 use Rattle.gj_problem.proofs.OneRow.{no_time, rational_injective}
 use Rattle.gj_problem.proofs.OneTerms.{one_terms}
 use Rattle.gj_problem.proofs.Prefixes.{default_unused}
-use Rattle.gj_fields.proofs.RationalOrder.{at_most_both}
-use Rattle.gj_fields.proofs.RationalRing.{by_ring_q, ring_q}
 use Rattle.gj_problem.specs.declared.problem.Column.{Column}
 use Rattle.gj_problem.specs.declared.problem.Entry.{Entry}
 use Rattle.gj_problem.specs.declared.problem.Inequality.{Inequality}
 use Rattle.gj_problem.specs.Problems.{AreTermsWithin}
-use Rattle.gj_problem.specs.Moves.{IsBelowOnGrid, IsGridCoefficient}
 use Rattle.gj_derivation.specs.Derivations.{Line, coefficient_in, times, IsRightOf}
 use Rattle.gj_derivation.specs.Drafts.{IsFoundFor, AreFoundFor, IsFirstNotFound, IsFoundClaim}
 use Rattle.gj_derivation.proofs.AgreeingTerms.{AgreeIn}

@@ -1,18 +1,15 @@
 -- A step shows one right side.
-use Rattle.std.proofs.Common.{◌≡◌, ⊎_elim, inl, inr, ◌↔◌, ℕ, zero, suc, Option, Some, None, List, [], ◌∷◌, pos, refl, sym, ap, ap₂, subst, ◌∙◌}
+use Rattle.std.proofs.Common.{◌≡◌, ⊎_elim, ◌↔◌, ℕ, zero, suc, Option, Some, List, [], ◌∷◌, sym, ap₂, subst, ◌∙◌}
 use Rattle.gj_frac.specs.declared.Frac.{Frac}
 use Rattle.gj_shape.specs.FunctionData.{FunctionData}
-use Rattle.gj_fields.specs.Rational.{Rational, whole, rational, ◌+ℚ◌, ◌*ℚ◌, neg_ℚ, ◌-ℚ◌, ◌≤ℚ◌}
-use Rattle.gj_fields.proofs.RationalOrder.{at_most_both, at_most_turned}
-use Rattle.gj_fields.proofs.RationalRing.{by_ring_q, ring_q}
+use Rattle.gj_fields.specs.Rational.{Rational, rational, ◌+ℚ◌, ◌*ℚ◌, ◌≤ℚ◌}
 use Rattle.gj_problem.proofs.OneMove.{one_shift, one_above}
 use Rattle.gj_problem.proofs.OneRow.{one_lower, one_upper}
 use Rattle.gj_problem.specs.declared.problem.Column.{Column}
 use Rattle.gj_problem.specs.declared.problem.Problem.{Problem}
 use Rattle.gj_problem.specs.Aggregates.{IsLowerBound, IsUpperBound}
-use Rattle.gj_problem.specs.RoundedCuts.{IsMoved}
 use Rattle.gj_derivation.specs.declared.step.Step.{Step}
-use Rattle.gj_problem.specs.Moves.{IsUnmoved, IsMovedUp, IsMovedDown, IsMovedBy, HasLower, HasUpper, AreMovedBy, IsGridCoefficient, IsGiven}
+use Rattle.gj_problem.specs.Moves.{HasLower, HasUpper, AreMovedBy}
 use Rattle.gj_derivation.specs.Derivations.{Line, coefficient_in, times, IsUsableFor, AreWholeTerms, IsRoundedUp, IsRightFor, IsRightOf, IsShown, Follows}
 use Rattle.gj_derivation.proofs.OneBase.{one_base}
 

@@ -1,5 +1,5 @@
 -- The lines of the problem of a derivation, one after another.
-use Rattle.std.proofs.Common.{◌≡◌, ◌⊎◌, inl, inr, ℕ, ◌<◌, List, [], ◌∷◌, length, Bool, refl, sym, ap, subst, ◌∙◌}
+use Rattle.std.proofs.Common.{◌≡◌, ◌⊎◌, inl, inr, ℕ, ◌<◌, List, [], ◌∷◌, length, Bool, refl, subst}
 use Rattle.gj_lex.specs.declared.reason.Reason.{Reason}
 use Rattle.gj_lex.specs.declared.spelling.Spelling.TheVariants.{Lenient}
 use Rattle.gj_forms.specs.TextLines.{HasLine}
@@ -10,17 +10,10 @@ use Rattle.gj_forms.proofs.LoopRead.{LeadsOn, leads_on, leads_to_end, leads_to_f
 use Rattle.gj_forms.proofs.PartLaws.{line_refused, no_line_refused, fault_in_made}
 use Rattle.gj_forms.proofs.WhereLaws.{fault_else}
 use Rattle.gj_derivation_text.specs.OpenSteps.{StepsGoOn}
-use Rattle.gj_derivation_text.specs.DerivationText.{no_drafts, problem_rule, next_of_problem, problem_part, names_of}
+use Rattle.gj_derivation_text.specs.DerivationText.{no_drafts, problem_rule, next_of_problem, problem_part}
 use Rattle.gj_derivation_text.specs.declared.drafts.Drafts.{Drafts}
-use Rattle.gj_derivation_text.specs.declared.names.Names.{Names}
 use Rattle.gj_derivation_text.proofs.ExactText.{More, one_more}
 use Rattle.gj_derivation_text.proofs.WordLines.{nothing_goes_on}
-
--- names of drafts are so by their own flag
-pub by_own_flag : (n : Names) (drafts : Bool) (s : Drafts) → n ≡ names_of drafts s →
-    n ≡ names_of n.drafts s
-by_own_flag n drafts s is = is
-    ∙ ap (λ (b : Bool). names_of b s) (sym (ap (λ (m : Names). m.drafts) is))
 
 module _ (drafts : Bool) (s : Drafts) (text : List ℕ) where
   in_line : (e : PartFault) → (StepsGoOn text → ⊥) →

@@ -4,7 +4,7 @@ use Rattle.gj_lex.specs.declared.reason.Reason.{Reason}
 use Rattle.gj_lex.specs.declared.spelling.Spelling.{Spelling}
 use Rattle.gj_lex.specs.declared.spelling.Spelling.TheVariants.{Lenient}
 use Rattle.gj_forms.specs.TextLines.{HasLine}
-use Rattle.gj_forms.specs.Parts.{LineRule, line_part, made_part, loop_part, BeginsWithWord, IsFaultOf, IsNoLine, IsRefusal}
+use Rattle.gj_forms.specs.Parts.{LineRule, line_part, made_part, loop_part, BeginsWithWord, IsFaultOf, IsNoLine}
 use Rattle.gj_forms.specs.declared.fault.PartFault.{PartFault}
 use Rattle.gj_forms.specs.declared.fault.PartFault.TheVariants.{Refused, Memory}
 use Rattle.gj_forms.proofs.LoopRead.{LeadsOn, leads_on, leads_to_end, leads_to_fault}
@@ -17,7 +17,7 @@ use Rattle.gj_line.proofs.NamedLines.{line_spells}
 use Rattle.gj_derivation.specs.declared.draft.Draft.{Draft}
 use Rattle.gj_derivation_text.specs.StepLines.{rule_kind}
 use Rattle.gj_derivation_text.specs.OpenSteps.{begun, StepsGoOn, EndsHere, IsDraftOf, step_line_rule, next_of_step, lines_of_step}
-use Rattle.gj_derivation_text.specs.DerivationText.{Head, Begins, RefusesHead, head_rule, placed_line, names_of, with_step, step_part, next_step}
+use Rattle.gj_derivation_text.specs.DerivationText.{Head, RefusesHead, head_rule, placed_line, names_of, with_step, step_part, next_step}
 use Rattle.gj_derivation_text.specs.declared.drafts.Drafts.{Drafts}
 use Rattle.gj_derivation_text.specs.declared.names.Names.{Names}
 use Rattle.gj_derivation_text.specs.declared.open.OpenStep.{OpenStep}
@@ -84,14 +84,7 @@ module _ (c : Names) (first : OpenStep) (text : List ℕ) (s : OpenStep) (rest :
 abbrev head_fields : LineForm Head
 head_fields = then_form name_word (then_form rule_kind no_form)
 
--- the words behind `step` spell a name and a rule
-pub head_spells : (has_function : Bool) (s : Drafts) (w : List ℕ) (ws : List (List ℕ)) (h : Head) →
-    w ≡ codes "step" →
-    Spell Lenient head_fields ws h → Begins has_function s h h →
-    (head_rule has_function s).Spells (w ∷ ws) h
-head_spells has_function s w ws h is spelled begins =
-    (h, line_spells Lenient (codes "step") head_fields (w ∷ ws) w ws h is refl spelled, begins)
-
+-- the words behind `step` spell a name and a rule that are refused
 pub head_breaks : (has_function : Bool) (s : Drafts) (w : List ℕ) (ws : List (List ℕ)) (h : Head)
     (e : Reason) → w ≡ codes "step" →
     Spell Lenient head_fields ws h → RefusesHead has_function s h e →
@@ -144,13 +137,6 @@ module _ (drafts has_function : Bool) (s : Drafts) (text : List ℕ) where
         is,
       ),
     )
-
--- want of memory is a fault of any part
-pub for_memory : (drafts has_function : Bool) (s : Drafts) (text : List ℕ) (e : PartFault) →
-    (IsRefusal e → ⊥) →
-    IsFaultOf (step_part drafts has_function s) text e
-for_memory drafts has_function s text (Refused left e) not = absurd (not tt)
-for_memory drafts has_function s text (Memory a) not = tt
 
 -- ---- all steps
 

@@ -72,18 +72,12 @@ jumping json f end.Done text h = decided_jumping json f text h
 jumping json f end.Wide text h = (h.minimal, h.jumps)
 jumping json f e text h = absurd h
 
--- a reply as without the flag, or by limits, is a reply
+-- a reply as without the flag is a reply
 pub told_without : (json : Bool) (f : FunctionData) (e : End) (text : List ℕ) →
     IsToldReply json IsExtremality f e text → e ≢ end.NotContinuous →
     IsJumpsExtremality json f e text
 told_without json f end.NotContinuous text h other = absurd (other refl)
 told_without json f e text h other = inl h
-
-pub told_by_limits : (json : Bool) (f : FunctionData) (e : End) (text : List ℕ) →
-    IsToldBy limit_claims json IsLimitExtremality f e text →
-    IsJumpsExtremality json f e text
-told_by_limits json f end.NotContinuous text h = absurd h
-told_by_limits json f e text h = inr h
 
 -- a function that is not minimal, or continuous, is answered as without the flag
 no_jump_told : (json : Bool) (f : FunctionData) (e : End) (text : List ℕ) →
