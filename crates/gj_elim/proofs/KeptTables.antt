@@ -4,7 +4,7 @@ use Rattle.std.specs.Prelude.{nat_lt, All, Vec}
 use Rattle.std.specs.Vec.{with_items}
 use Rattle.std.proofs.Common.{Global}
 use Rattle.std.proofs.lemmas.List.Elements.{All-get_or}
-use Rattle.gj_shape.specs.Elimination.{row_with_pivot}
+use Rattle.gj_shape.specs.Elimination.{row_with_pivot, free_column}
 use Rattle.gj_theory.specs.TriangularRows.{AreTriangular}
 use Rattle.gj_frac.specs.Fraction.{Fits}
 use Rattle.std.specs.List.{position, position_or_len}
@@ -120,18 +120,6 @@ places_more n log log' places l p h free p_is log_is =
         ∙ get_or-set_same places l.pivot (Some p) None inside
         ∙ ap Some p_is ∙ push_here (has l.pivot) log l (eq-eqb l.pivot l.pivot refl) free.free
         ∙ ap (λ k. position (has k) (log ++ l ∷ [])) same
-
-pub place_at : (n : ℕ) (log : List LogRow) (places : List (Option ℕ)) (c : ℕ) (o : Option ℕ) →
-    ArePlaces n log places → c < n →
-    get_or places c None ≡ o → o ≡ position (has c) log
-place_at n log places c o h below is = sym is ∙ h.place c below
-
--- a column without a place is free
-pub free_at : (n : ℕ) (log : List LogRow) (places : List (Option ℕ)) (c : ℕ) →
-    ArePlaces n log places → c < n →
-    get_or places c None ≡ None → IsFreeColumn n log c
-free_at n log places c h below is =
-    record { below = below; free = place_at n log places c None h below is }
 
 pub pushed : {X : Type 0} (old old' new : List X) (x : X) → new ≡ old' ++ x ∷ [] → old' ≡ old →
     new ≡ old ++ x ∷ []
@@ -263,6 +251,19 @@ free_there n k c x h below x_is is = record {
   below = below;
   free = place_read n k.log.items k.places.items c x None h.places below x_is is;
 }
+
+-- the free column, if there is one, by the places as the code reads them
+pub free_read : (n : ℕ) (log : List LogRow) (rows : List (List ℤ)) (read places : List (Option ℕ))
+    (o : Option ℕ) →
+    ((ls : List LogRow) (rs : List (List ℤ)) → length ls ≡ length rs →
+    ArePlaces (length read) ls read → o ≡ free_column (length read) (kept_rows ls rs)) →
+    read ≡ places → ArePlaces n log places → length log ≡ length rows →
+    o ≡ free_column n (kept_rows log rows)
+free_read n log rows read places o is same are lines =
+    let n_is : length read ≡ n = ap length same ∙ are.columns_are in
+    is log rows lines (subst (λ (ps : List (Option ℕ)). ArePlaces (length read) log ps) (sym same)
+    (subst (λ (m : ℕ). ArePlaces m log places) (sym n_is) are))
+    ∙ ap (λ m. free_column m (kept_rows log rows)) n_is
 
 -- ---- the kept rows as they were
 

@@ -183,7 +183,3 @@ free_none log n c past before rows len =
 pub none_from_test : {X : Type 0} (o p : Option X) → is_some o ≡ false → o ≡ p → None ≡ p
 none_from_test None p t e = e
 none_from_test (Some x) p t e = absurd cc
-
-pub some_from_test : {X : Type 0} (o p : Option X) → is_some o ≡ true → o ≡ p → None ≡ p → ⊥
-some_from_test None p t e none = cc
-some_from_test (Some x) p t e none = let same : None ≡ Some x = none ∙ sym e in cc

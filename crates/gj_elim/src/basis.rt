@@ -170,7 +170,7 @@ impl Basis {
         ensures solves { IfOk result (λ o. IfSome o (λ v. SolvesKept v.items self.now.kept)) }
         ensures some { IfOk result (λ o. IfSome o (λ v. Any (λ x. pos 0 <ℤ x) v.items)) }
     {
-        let Some(free) = free_column(self.kept.log.as_slice(), self.columns) else {
+        let Some(free) = free_column(self.kept.places.as_slice()) else {
             return Ok(None);
         };
         let mut numbers = unit_row(self.alloc, self.columns as usize, free as usize)?;

@@ -27,5 +27,5 @@ pub use faults::ElimFault;
 pub use keep::{Origin, no_places};
 pub use lazy::{Factors, GREATEST_BOUND, ROOM, Reached, divisor_with, factors_of, store};
 pub use log::{Inserted, LogRow};
-pub use reduce::place_of;
+pub use reduce::{free_column, place_of};
 pub use solve::{multiply, unit_row};

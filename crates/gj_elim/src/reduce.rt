@@ -1,5 +1,5 @@
 //! A row goes through all columns, and is reduced by the kept rows.
-ghost use Rattle.std.specs.Prelude.{ℤ, ◌≡◌, ◌<◌, ◌==◌, List, [], length, All, IfOk, IfSome};
+ghost use Rattle.std.specs.Prelude.{ℤ, ◌≡◌, ◌<◌, ◌^◌, ◌==◌, List, [], length, All, IfOk, IfSome};
 ghost use Rattle.std.specs.Prelude.{OnOk, IsErrOf};
 ghost use Rattle.std.specs.List.{position};
 ghost use Rattle.gj_shape.specs.Elimination.{Insertion, free_column, whole_numbers, inserted};
@@ -7,7 +7,8 @@ ghost use Rattle.gj_shape.specs.Elimination.{Passes};
 ghost use Rattle.gj_frac.specs.Fraction.{Fits};
 ghost use Rattle.gj_elim.specs.KeptRows.{kept_rows};
 ghost use Rattle.gj_elim.specs.Progress.{IsLeft, IsBehind, IsDone, IsFreeColumn, rest};
-ghost use Rattle.gj_elim.specs.Tables.{rows_of, AreKept};
+ghost use Rattle.gj_elim.specs.declared.log.LogRow.{LogRow};
+ghost use Rattle.gj_elim.specs.Tables.{rows_of, AreKept, ArePlaces};
 
 use crate::extent::extent_of;
 use crate::faults::ElimFault;
@@ -23,14 +24,16 @@ pub fn place_of(log: &[LogRow], column: u32) -> Option<usize>
     log.iter().position(|line| line.pivot == column)
 }
 
-/// The least column without a pivot.
-pub(crate) fn free_column(log: &[LogRow], columns: u32) -> Option<u32>
-    ensures { (rows : List (List ℤ)) → length log.now ≡ length rows →
-        result ≡ free_column columns (kept_rows log.now rows) }
+/// The least column without a pivot, by the places of the kept rows.
+pub fn free_column(places: &[Option<u32>]) -> Option<u32>
+    requires { length places.now < 2 ^ 32 }
+    ensures { (log : List LogRow) (rows : List (List ℤ)) → length log ≡ length rows →
+        ArePlaces (length places.now) log places.now →
+        result ≡ free_column (length places.now) (kept_rows log rows) }
 {
-    for column in 0..columns {
-        if place_of(log, column).is_none() {
-            return Some(column);
+    for column in 0..places.len() {
+        if places[column].is_none() {
+            return Some(column as u32);
         }
     }
     None

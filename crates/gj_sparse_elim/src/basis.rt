@@ -4,8 +4,7 @@ ghost use Rattle.std.specs.Prelude.{map, All, Any, IfOk, IfSome, IsNone, OnOk, O
 ghost use Rattle.gj_shape.specs.Elimination.{inserted, kernel, free_column, Passes};
 ghost use Rattle.gj_theory.specs.TriangularRows.{Solves, SolvesKept, AreTriangular};
 ghost use Rattle.gj_elim.specs.Data.{behind};
-ghost use Rattle.gj_elim.specs.KeptRows.{kept_rows, log_row, answer_of, marked_in};
-ghost use Rattle.gj_elim.specs.Tables.{ArePlaces};
+ghost use Rattle.gj_elim.specs.KeptRows.{log_row, answer_of, marked_in};
 ghost use Rattle.gj_elim.specs.declared.log.LogRow.{LogRow};
 ghost use Rattle.gj_sparse_elim.specs.Sparse.{AreSparse, dense};
 
@@ -17,7 +16,7 @@ use crate::lazy::zeros;
 use crate::reduce::reduce_row;
 use crate::seen::{empty_rows, is_at, place_of};
 use crate::solve::solve_at;
-use gj_elim::{ElimFault, Inserted, LogRow, Origin, no_places, unit_row};
+use gj_elim::{ElimFault, Inserted, LogRow, Origin, free_column, no_places, unit_row};
 use gj_loops::IndexSet;
 use gj_shape::List;
 use std::alloc::{AllocError, Global};
@@ -25,21 +24,6 @@ use std::marker::Model;
 
 /// How many places for rows there are for each column.
 const PLACES_OF_COLUMN: usize = 4;
-
-/// The least column without a pivot.
-fn free_column(places: &[Option<u32>]) -> Option<u32>
-    requires { length places.now < 2 ^ 32 }
-    ensures { (log : List LogRow) (rows : List (List ℤ)) → length log ≡ length rows →
-        ArePlaces (length places.now) log places.now →
-        result ≡ free_column (length places.now) (kept_rows log rows) }
-{
-    for column in 0..places.len() {
-        if places[column].is_none() {
-            return Some(column as u32);
-        }
-    }
-    None
-}
 
 /// Rows of whole numbers, given and kept by their entries that are not 0, of which plain
 /// elimination keeps those that are needed. Contracts see how many columns they have, how many rows

@@ -1,20 +1,16 @@
-use Rattle.std.proofs.Common.{◌≡◌, None, below_more, arith}
-use Rattle.std.specs.List.{position}
-use Rattle.gj_elim.proofs.Places.{has, free_found, free_none, none_from_test, some_from_test}
+use Rattle.std.proofs.Common.{None, get_or, length, sym, ◌∙◌, arith}
+use Rattle.gj_elim.proofs.Places.{free_found, free_none, none_from_test}
 use Rattle.gj_elim.proofs.reduce.free_column.Goals as goal
 
 pub returns-then-is_none : goal.returns-then-is_none
-returns-then-is_none c =
-    free_found c.args.log.now c.args.columns c.loop-column.column
-    (omega arith) c.loop-column.invariant
-    (none_from_test c.place_of.result _ c.if-is_none.ensures c.place_of.ensures)
-
-pub loop-column-preserved : goal.loop-column-preserved
-loop-column-preserved c =
-    below_more (λ k. None ≡ position (has k) c.args.log.now →
-    ⊥) c.loop-column.column c.loop-column.invariant
-    (some_from_test c.place_of.result _ c.if-is_none.ensures c.place_of.ensures)
+returns-then-is_none c log rows lines are =
+    free_found log (length c.args.places.now) c.loop-column.column (omega arith)
+    (λ k low none. c.loop-column.invariant k low (are.place k (omega arith) ∙ sym none))
+    (none_from_test (get_or c.args.places.now c.loop-column.column None) _ c.if-is_none.ensures
+    (are.place c.loop-column.column (omega arith)))
+    rows lines
 
 pub returns : goal.returns
-returns c = free_none c.args.log.now c.args.columns c.loop-column.column
-    (omega arith) c.loop-column.invariant
+returns c log rows lines are =
+    free_none log (length c.args.places.now) c.loop-column.column (omega arith)
+    (λ k low none. c.loop-column.invariant k low (are.place k (omega arith) ∙ sym none)) rows lines

@@ -1,21 +1,11 @@
 use Rattle.std.proofs.Common.{None, Some, Option, ◌≡◌, ℕ, ◌+◌, ◌-◌, ◌<◌, List, ℤ, length, get_or, refl, ap, sym, subst, ◌∙◌, arith}
 use Rattle.std.proofs.lemmas.List.{with_items_is}
 use Rattle.gj_shape.specs.Elimination.{free_column, solved_at, marked_in_solving, Passes}
-use Rattle.gj_elim.specs.declared.log.LogRow.{LogRow}
-use Rattle.gj_elim.specs.KeptRows.{kept_rows}
 use Rattle.gj_elim.specs.Tables.{AreKept, rows_of}
 use Rattle.gj_elim.specs.declared.kept.KeptRows.{KeptRows}
-use Rattle.gj_elim.proofs.KeptTables.{IsRowRead, kept_there, kept_row_read, none_there}
+use Rattle.gj_elim.proofs.KeptTables.{free_read, IsRowRead, kept_there, kept_row_read, none_there}
 use Rattle.gj_elim.proofs.KernelSteps.{IsSolvedTo, solved_start, solved_more, solved_wide, solved_end, no_kernel, row_there, free_below}
 use Rattle.gj_elim.proofs.basis.Basis.kernel.Goals as goal
-
--- the free column, if there is one, by the log as the code reads it
-free_read : (n : ℕ) (log read : List LogRow) (rows : List (List ℤ)) (o : Option ℕ) →
-    ((rs : List (List ℤ)) → length read ≡ length rs → o ≡ free_column n (kept_rows read rs)) →
-    read ≡ log → length log ≡ length rows →
-    o ≡ free_column n (kept_rows log rows)
-free_read n log read rows o is same lines = is rows (ap length same ∙ lines)
-    ∙ ap (λ ls. free_column n (kept_rows ls rows)) same
 
 -- the kept row with its pivot at a column before the free one
 row_before : (n : ℕ) (k : KeptRows) (free c i : ℕ) (x : Option ℕ) (y e : List ℤ) → AreKept n k →
@@ -28,8 +18,8 @@ row_before n k free c i x y e h free_is before x_is is y_is e_is =
 pub returns-in_default : goal.returns-in_default
 returns-in_default c =
     let s = c.self.inside in
-    let free_is = free_read s.columns s.kept.log.items _ s.kept.rows.items None c.in_default.ensures
-    c.as_slice.ensures.value c.self.invariant.kept.lines in
+    let free_is = free_read s.columns s.kept.log.items s.kept.rows.items c.as_slice.result.now _ None
+    c.in_default.ensures c.as_slice.ensures.value c.self.invariant.kept.places c.self.invariant.kept.lines in
     let no = no_kernel c.args.self.now (rows_of s.kept) s.columns
     (ap (λ d. d.kept) c.self.view_is)
     (ap (λ d. d.columns) c.self.view_is) c.self.invariant.kept.triangular free_is in
@@ -53,18 +43,16 @@ index-requires c =
     let columns = c.self.invariant.kept.places.columns_are in
     let len = s.kept.places.ok.0 in
     let below = free_below (rows_of s.kept) s.columns c.in-Some.free
-    (free_read s.columns s.kept.log.items _ s.kept.rows.items _ c.in-Some.ensures
-    c.as_slice.ensures.value
-    c.self.invariant.kept.lines) in
+    (free_read s.columns s.kept.log.items s.kept.rows.items c.as_slice.result.now _ _
+    c.in-Some.ensures c.as_slice.ensures.value c.self.invariant.kept.places c.self.invariant.kept.lines) in
     omega arith
 
 pub index-requires-in-Some-index : goal.index-requires-in-Some-index
 index-requires-in-Some-index c =
     let s = c.self.inside in
     let below = free_below (rows_of s.kept) s.columns c.in-Some.free
-    (free_read s.columns s.kept.log.items _ s.kept.rows.items _ c.in-Some.ensures
-    c.as_slice.ensures.value
-    c.self.invariant.kept.lines) in
+    (free_read s.columns s.kept.log.items s.kept.rows.items c.as_slice.result.now _ _
+    c.in-Some.ensures c.as_slice.ensures.value c.self.invariant.kept.places c.self.invariant.kept.lines) in
     let (inside, at) = kept_there s.columns s.kept (c.loop-column.column - 1) c.in-Some-index.place
     c.index.result.now c.self.invariant.kept (omega arith) c.index.ensures c.in-Some-index.is in
     let lines = c.self.invariant.kept.lines in
@@ -74,8 +62,8 @@ index-requires-in-Some-index c =
 pub solve_at-requires : goal.solve_at-requires
 solve_at-requires c =
     let s = c.self.inside in
-    let free_is = free_read s.columns s.kept.log.items _ s.kept.rows.items _ c.in-Some.ensures
-    c.as_slice.ensures.value c.self.invariant.kept.lines in
+    let free_is = free_read s.columns s.kept.log.items s.kept.rows.items c.as_slice.result.now _ _
+    c.in-Some.ensures c.as_slice.ensures.value c.self.invariant.kept.places c.self.invariant.kept.lines in
     let row = row_before s.columns s.kept c.in-Some.free (c.loop-column.column - 1)
     c.in-Some-index.place _ _ c.as_slice-in-Some-index.result.now c.self.invariant.kept free_is
     (omega arith) c.index.ensures
@@ -93,8 +81,8 @@ pub loop-column-preserved-in-Continue-branch-2 : goal.loop-column-preserved-in-C
 loop-column-preserved-in-Continue-branch-2 c =
     let s = c.self.inside in
     let row_now = c.as_slice-in-Some-index.result.now in
-    let free_is = free_read s.columns s.kept.log.items _ s.kept.rows.items _ c.in-Some.ensures
-    c.as_slice.ensures.value c.self.invariant.kept.lines in
+    let free_is = free_read s.columns s.kept.log.items s.kept.rows.items c.as_slice.result.now _ _
+    c.in-Some.ensures c.as_slice.ensures.value c.self.invariant.kept.places c.self.invariant.kept.lines in
     let row = row_before s.columns s.kept c.in-Some.free (c.loop-column.column - 1)
     c.in-Some-index.place _ _ row_now c.self.invariant.kept free_is (omega arith) c.index.ensures
     c.in-Some-index.is c.index-in-Some-index.ensures
@@ -119,8 +107,8 @@ pub returns-in_err-solve_at-clause-wide : goal.returns-in_err-solve_at-clause-wi
 returns-in_err-solve_at-clause-wide c =
     let s = c.self.inside in
     let row_now = c.as_slice-in-Some-index.result.now in
-    let free_is = free_read s.columns s.kept.log.items _ s.kept.rows.items _ c.in-Some.ensures
-    c.as_slice.ensures.value c.self.invariant.kept.lines in
+    let free_is = free_read s.columns s.kept.log.items s.kept.rows.items c.as_slice.result.now _ _
+    c.in-Some.ensures c.as_slice.ensures.value c.self.invariant.kept.places c.self.invariant.kept.lines in
     let row = row_before s.columns s.kept c.in-Some.free (c.loop-column.column - 1)
     c.in-Some-index.place _ _ row_now c.self.invariant.kept free_is (omega arith) c.index.ensures
     c.in-Some-index.is c.index-in-Some-index.ensures
@@ -141,8 +129,8 @@ returns-in_err-solve_at-clause-wide c =
 pub loop-column-preserved : goal.loop-column-preserved
 loop-column-preserved c =
     let s = c.self.inside in
-    let free_is = free_read s.columns s.kept.log.items _ s.kept.rows.items _ c.in-Some.ensures
-    c.as_slice.ensures.value c.self.invariant.kept.lines in
+    let free_is = free_read s.columns s.kept.log.items s.kept.rows.items c.as_slice.result.now _ _
+    c.in-Some.ensures c.as_slice.ensures.value c.self.invariant.kept.places c.self.invariant.kept.lines in
     let below = free_below (rows_of s.kept) s.columns c.in-Some.free free_is in
     let none = none_there s.columns s.kept (c.loop-column.column - 1) c.index.result.now
     c.self.invariant.kept (omega arith) c.index.ensures c.in_default-index.is in
@@ -152,8 +140,8 @@ loop-column-preserved c =
 pub returns : goal.returns
 returns c =
     let s = c.self.inside in
-    let free_is = free_read s.columns s.kept.log.items _ s.kept.rows.items _ c.in-Some.ensures
-    c.as_slice.ensures.value c.self.invariant.kept.lines in
+    let free_is = free_read s.columns s.kept.log.items s.kept.rows.items c.as_slice.result.now _ _
+    c.in-Some.ensures c.as_slice.ensures.value c.self.invariant.kept.places c.self.invariant.kept.lines in
     let end = solved_end c.args.self.now (rows_of s.kept) s.columns
     c.in-Some.free c.loop-column.column
     c.loop-column.numbers.items (ap (λ d. d.kept) c.self.view_is)

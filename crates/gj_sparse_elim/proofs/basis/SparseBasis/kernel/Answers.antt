@@ -4,6 +4,7 @@ use Rattle.gj_shape.specs.Elimination.{at_column, free_column, solved_at, marked
 use Rattle.gj_elim.specs.declared.log.LogRow.{LogRow}
 use Rattle.gj_elim.specs.KeptRows.{kept_rows}
 use Rattle.gj_elim.specs.Tables.{ArePlaces}
+use Rattle.gj_elim.proofs.KeptTables.{free_read}
 use Rattle.gj_elim.proofs.KernelSteps.{IsSolvedTo, solved_start, solved_more, solved_wide, solved_end, no_kernel, row_there, free_below}
 use Rattle.gj_sparse_elim.specs.Rows.{sparse_rows, AreKeptSparse}
 use Rattle.gj_sparse_elim.specs.Sparse.{dense, AreSparse}
@@ -13,24 +14,21 @@ use Rattle.gj_sparse_elim.proofs.KeptEntries.{IsSparsePivot, lines_too, sparse_p
 use Rattle.gj_sparse_elim.proofs.basis.SparseBasis.kernel.Goals as goal
 
 -- the free column, if there is one, by the places as the code reads them
-free_read : (n : ℕ) (k : KeptSparse) (read : List (Option ℕ)) (o : Option ℕ) →
+free_is : (n : ℕ) (k : KeptSparse) (read : List (Option ℕ)) (o : Option ℕ) →
     ((ls : List LogRow) (rs : List (List ℤ)) → length ls ≡ length rs →
     ArePlaces (length read) ls read → o ≡ free_column (length read) (kept_rows ls rs)) →
     read ≡ k.places.items → AreKeptSparse n k → o ≡ free_column n (sparse_rows n k)
-free_read n k read o is same h =
-    let n_is : length read ≡ n = ap length same ∙ h.places.columns_are in
-    is k.log.items (map (dense n) k.rows.items) (lines_too n k.log.items k.rows.items h.lines)
-    (subst (λ (ps : List (Option ℕ)). ArePlaces (length read) k.log.items ps) (sym same)
-    (subst (λ (m : ℕ). ArePlaces m k.log.items k.places.items) (sym n_is) h.places))
-    ∙ ap (λ m. free_column m (sparse_rows n k)) n_is
+free_is n k read o is same h =
+    free_read n k.log.items (map (dense n) k.rows.items) read k.places.items o is same h.places
+    (lines_too n k.log.items k.rows.items h.lines)
 
 -- the kept row with its pivot at a column before the free one
 row_before : (n : ℕ) (k : KeptSparse) (free c i : ℕ) (x : Option ℕ) (y e : List Entry) →
     AreKeptSparse n k → Some free ≡ free_column n (sparse_rows n k) → c < free →
     x ≡ get_or k.places.items c x → x ≡ Some i → y ≡ get_or k.rows.items i y → e ≡ y →
     IsSparsePivot n c i k e
-row_before n k free c i x y e h free_is before x_is is y_is e_is =
-    let below = free_below (sparse_rows n k) n free free_is in
+row_before n k free c i x y e h is_free before x_is is y_is e_is =
+    let below = free_below (sparse_rows n k) n free is_free in
     sparse_pivot n k c i x y e h (omega arith) x_is is y_is e_is
 
 pub returns-in_default : goal.returns-in_default
@@ -39,7 +37,7 @@ returns-in_default c =
     let no = no_kernel c.args.self.now (sparse_rows s.columns s.kept) s.columns
     (ap (λ d. d.kept) c.self.view_is)
     (ap (λ d. d.columns) c.self.view_is) c.self.invariant.kept.triangular
-    (free_read s.columns s.kept c.as_slice.result.now None c.in_default.ensures
+    (free_is s.columns s.kept c.as_slice.result.now None c.in_default.ensures
     c.as_slice.ensures.value c.self.invariant.kept) in
     record {
       none = (λ e. no.full, λ full. refl);
@@ -61,7 +59,7 @@ index-requires c =
     let columns = c.self.invariant.kept.places.columns_are in
     let len = s.kept.places.ok.0 in
     let below = free_below (sparse_rows s.columns s.kept) s.columns c.in-Some.free
-    (free_read s.columns s.kept c.as_slice.result.now _ c.in-Some.ensures c.as_slice.ensures.value
+    (free_is s.columns s.kept c.as_slice.result.now _ c.in-Some.ensures c.as_slice.ensures.value
     c.self.invariant.kept) in
     omega arith
 
@@ -69,7 +67,7 @@ pub index-requires-in-Some-index : goal.index-requires-in-Some-index
 index-requires-in-Some-index c =
     let s = c.self.inside in
     let below = free_below (sparse_rows s.columns s.kept) s.columns c.in-Some.free
-    (free_read s.columns s.kept c.as_slice.result.now _ c.in-Some.ensures c.as_slice.ensures.value
+    (free_is s.columns s.kept c.as_slice.result.now _ c.in-Some.ensures c.as_slice.ensures.value
     c.self.invariant.kept) in
     let (inside, at) = place_there s.columns s.kept (c.loop-column.column - 1) c.in-Some-index.place
     c.index.result.now c.self.invariant.kept (omega arith) c.index.ensures c.in-Some-index.is in
@@ -80,11 +78,11 @@ pub solve_at-requires : goal.solve_at-requires
 solve_at-requires c =
     let s = c.self.inside in
     let e = c.as_slice-in-Some-index.result.now in
-    let free_is = free_read s.columns s.kept c.as_slice.result.now _ c.in-Some.ensures
+    let free = free_is s.columns s.kept c.as_slice.result.now _ c.in-Some.ensures
     c.as_slice.ensures.value c.self.invariant.kept in
-    let below = free_below (sparse_rows s.columns s.kept) s.columns c.in-Some.free free_is in
+    let below = free_below (sparse_rows s.columns s.kept) s.columns c.in-Some.free free in
     let row = row_before s.columns s.kept c.in-Some.free (c.loop-column.column - 1)
-    c.in-Some-index.place c.index.result.now _ e c.self.invariant.kept free_is (omega arith)
+    c.in-Some-index.place c.index.result.now _ e c.self.invariant.kept free (omega arith)
     c.index.ensures c.in-Some-index.is c.index-in-Some-index.ensures
     c.as_slice-in-Some-index.ensures in
     let w_is : length c.as_mut_slice.result.now ≡ s.columns = ap length c.as_mut_slice.ensures.value
@@ -103,10 +101,10 @@ loop-column-preserved-in-Continue-branch-2 c =
     let s = c.self.inside in
     let kept = sparse_rows s.columns s.kept in
     let e = c.as_slice-in-Some-index.result.now in
-    let free_is = free_read s.columns s.kept c.as_slice.result.now _ c.in-Some.ensures
+    let free = free_is s.columns s.kept c.as_slice.result.now _ c.in-Some.ensures
     c.as_slice.ensures.value c.self.invariant.kept in
     let row = row_before s.columns s.kept c.in-Some.free (c.loop-column.column - 1)
-    c.in-Some-index.place c.index.result.now _ e c.self.invariant.kept free_is (omega arith)
+    c.in-Some-index.place c.index.result.now _ e c.self.invariant.kept free (omega arith)
     c.index.ensures c.in-Some-index.is c.index-in-Some-index.ensures
     c.as_slice-in-Some-index.ensures in
     let w_is : length c.as_mut_slice.result.now ≡ s.columns = ap length c.as_mut_slice.ensures.value
@@ -136,10 +134,10 @@ returns-in_err-solve_at-clause-wide c =
     let s = c.self.inside in
     let kept = sparse_rows s.columns s.kept in
     let e = c.as_slice-in-Some-index.result.now in
-    let free_is = free_read s.columns s.kept c.as_slice.result.now _ c.in-Some.ensures
+    let free = free_is s.columns s.kept c.as_slice.result.now _ c.in-Some.ensures
     c.as_slice.ensures.value c.self.invariant.kept in
     let row = row_before s.columns s.kept c.in-Some.free (c.loop-column.column - 1)
-    c.in-Some-index.place c.index.result.now _ e c.self.invariant.kept free_is (omega arith)
+    c.in-Some-index.place c.index.result.now _ e c.self.invariant.kept free (omega arith)
     c.index.ensures c.in-Some-index.is c.index-in-Some-index.ensures
     c.as_slice-in-Some-index.ensures in
     let w_is : length c.as_mut_slice.result.now ≡ s.columns = ap length c.as_mut_slice.ensures.value
@@ -151,7 +149,7 @@ returns-in_err-solve_at-clause-wide c =
     λ error. solved_wide c.args.self.now kept s.columns c.in-Some.free (c.loop-column.column - 1)
     c.loop-column.numbers.items (dense s.columns e) (ap (λ d. d.kept) c.self.view_is)
     (ap (λ d. d.columns) c.self.view_is)
-    free_is before row.here
+    free before row.here
     (subst (λ (w : List ℤ). Passes
     (marked_in_solving (dense s.columns e) (c.loop-column.column - 1) w))
     c.as_mut_slice.ensures.value
@@ -163,23 +161,23 @@ pub loop-column-preserved : goal.loop-column-preserved
 loop-column-preserved c =
     let s = c.self.inside in
     let kept = sparse_rows s.columns s.kept in
-    let free_is = free_read s.columns s.kept c.as_slice.result.now _ c.in-Some.ensures
+    let free = free_is s.columns s.kept c.as_slice.result.now _ c.in-Some.ensures
     c.as_slice.ensures.value c.self.invariant.kept in
-    let below = free_below kept s.columns c.in-Some.free free_is in
+    let below = free_below kept s.columns c.in-Some.free free in
     let none = none_there s.columns s.kept (c.loop-column.column - 1) c.index.result.now
     c.self.invariant.kept (omega arith) c.index.ensures c.in_default-index.is in
-    absurd (row_there kept s.columns c.in-Some.free (c.loop-column.column - 1) free_is (omega arith)
+    absurd (row_there kept s.columns c.in-Some.free (c.loop-column.column - 1) free (omega arith)
     none)
 
 pub returns : goal.returns
 returns c =
     let s = c.self.inside in
-    let free_is = free_read s.columns s.kept c.as_slice.result.now _ c.in-Some.ensures
+    let free = free_is s.columns s.kept c.as_slice.result.now _ c.in-Some.ensures
     c.as_slice.ensures.value c.self.invariant.kept in
     let end = solved_end c.args.self.now (sparse_rows s.columns s.kept) s.columns c.in-Some.free
     c.loop-column.column
     c.loop-column.numbers.items (ap (λ d. d.kept) c.self.view_is)
-    (ap (λ d. d.columns) c.self.view_is) c.self.invariant.kept.triangular free_is
+    (ap (λ d. d.columns) c.self.view_is) c.self.invariant.kept.triangular free
     c.loop-column.invariant (omega arith) in
     record {
       none = (λ e. absurd cc, λ full. absurd (end.some full));
