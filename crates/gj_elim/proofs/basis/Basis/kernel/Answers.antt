@@ -18,8 +18,10 @@ row_before n k free c i x y e h free_is before x_is is y_is e_is =
 pub returns-in_default : goal.returns-in_default
 returns-in_default c =
     let s = c.self.inside in
-    let free_is = free_read s.columns s.kept.log.items s.kept.rows.items c.as_slice.result.now _ None
-    c.in_default.ensures c.as_slice.ensures.value c.self.invariant.kept.places c.self.invariant.kept.lines in
+    let free_is = free_read s.columns s.kept.log.items s.kept.rows.items c.as_slice.result.now _
+    None
+    c.in_default.ensures c.as_slice.ensures.value c.self.invariant.kept.places
+    c.self.invariant.kept.lines in
     let no = no_kernel c.args.self.now (rows_of s.kept) s.columns
     (ap (λ d. d.kept) c.self.view_is)
     (ap (λ d. d.columns) c.self.view_is) c.self.invariant.kept.triangular free_is in
@@ -44,7 +46,8 @@ index-requires c =
     let len = s.kept.places.ok.0 in
     let below = free_below (rows_of s.kept) s.columns c.in-Some.free
     (free_read s.columns s.kept.log.items s.kept.rows.items c.as_slice.result.now _ _
-    c.in-Some.ensures c.as_slice.ensures.value c.self.invariant.kept.places c.self.invariant.kept.lines) in
+    c.in-Some.ensures c.as_slice.ensures.value c.self.invariant.kept.places
+    c.self.invariant.kept.lines) in
     omega arith
 
 pub index-requires-in-Some-index : goal.index-requires-in-Some-index
@@ -52,7 +55,8 @@ index-requires-in-Some-index c =
     let s = c.self.inside in
     let below = free_below (rows_of s.kept) s.columns c.in-Some.free
     (free_read s.columns s.kept.log.items s.kept.rows.items c.as_slice.result.now _ _
-    c.in-Some.ensures c.as_slice.ensures.value c.self.invariant.kept.places c.self.invariant.kept.lines) in
+    c.in-Some.ensures c.as_slice.ensures.value c.self.invariant.kept.places
+    c.self.invariant.kept.lines) in
     let (inside, at) = kept_there s.columns s.kept (c.loop-column.column - 1) c.in-Some-index.place
     c.index.result.now c.self.invariant.kept (omega arith) c.index.ensures c.in-Some-index.is in
     let lines = c.self.invariant.kept.lines in
@@ -63,7 +67,8 @@ pub solve_at-requires : goal.solve_at-requires
 solve_at-requires c =
     let s = c.self.inside in
     let free_is = free_read s.columns s.kept.log.items s.kept.rows.items c.as_slice.result.now _ _
-    c.in-Some.ensures c.as_slice.ensures.value c.self.invariant.kept.places c.self.invariant.kept.lines in
+    c.in-Some.ensures c.as_slice.ensures.value c.self.invariant.kept.places
+    c.self.invariant.kept.lines in
     let row = row_before s.columns s.kept c.in-Some.free (c.loop-column.column - 1)
     c.in-Some-index.place _ _ c.as_slice-in-Some-index.result.now c.self.invariant.kept free_is
     (omega arith) c.index.ensures
@@ -82,7 +87,8 @@ loop-column-preserved-in-Continue-branch-2 c =
     let s = c.self.inside in
     let row_now = c.as_slice-in-Some-index.result.now in
     let free_is = free_read s.columns s.kept.log.items s.kept.rows.items c.as_slice.result.now _ _
-    c.in-Some.ensures c.as_slice.ensures.value c.self.invariant.kept.places c.self.invariant.kept.lines in
+    c.in-Some.ensures c.as_slice.ensures.value c.self.invariant.kept.places
+    c.self.invariant.kept.lines in
     let row = row_before s.columns s.kept c.in-Some.free (c.loop-column.column - 1)
     c.in-Some-index.place _ _ row_now c.self.invariant.kept free_is (omega arith) c.index.ensures
     c.in-Some-index.is c.index-in-Some-index.ensures
@@ -108,7 +114,8 @@ returns-in_err-solve_at-clause-wide c =
     let s = c.self.inside in
     let row_now = c.as_slice-in-Some-index.result.now in
     let free_is = free_read s.columns s.kept.log.items s.kept.rows.items c.as_slice.result.now _ _
-    c.in-Some.ensures c.as_slice.ensures.value c.self.invariant.kept.places c.self.invariant.kept.lines in
+    c.in-Some.ensures c.as_slice.ensures.value c.self.invariant.kept.places
+    c.self.invariant.kept.lines in
     let row = row_before s.columns s.kept c.in-Some.free (c.loop-column.column - 1)
     c.in-Some-index.place _ _ row_now c.self.invariant.kept free_is (omega arith) c.index.ensures
     c.in-Some-index.is c.index-in-Some-index.ensures
@@ -130,7 +137,8 @@ pub loop-column-preserved : goal.loop-column-preserved
 loop-column-preserved c =
     let s = c.self.inside in
     let free_is = free_read s.columns s.kept.log.items s.kept.rows.items c.as_slice.result.now _ _
-    c.in-Some.ensures c.as_slice.ensures.value c.self.invariant.kept.places c.self.invariant.kept.lines in
+    c.in-Some.ensures c.as_slice.ensures.value c.self.invariant.kept.places
+    c.self.invariant.kept.lines in
     let below = free_below (rows_of s.kept) s.columns c.in-Some.free free_is in
     let none = none_there s.columns s.kept (c.loop-column.column - 1) c.index.result.now
     c.self.invariant.kept (omega arith) c.index.ensures c.in_default-index.is in
@@ -141,7 +149,8 @@ pub returns : goal.returns
 returns c =
     let s = c.self.inside in
     let free_is = free_read s.columns s.kept.log.items s.kept.rows.items c.as_slice.result.now _ _
-    c.in-Some.ensures c.as_slice.ensures.value c.self.invariant.kept.places c.self.invariant.kept.lines in
+    c.in-Some.ensures c.as_slice.ensures.value c.self.invariant.kept.places
+    c.self.invariant.kept.lines in
     let end = solved_end c.args.self.now (rows_of s.kept) s.columns
     c.in-Some.free c.loop-column.column
     c.loop-column.numbers.items (ap (λ d. d.kept) c.self.view_is)
