@@ -7,42 +7,34 @@ use Rattle.gj_forms.specs.LineForms.{LineForm, rule_of}
 use Rattle.gj_forms.specs.ListParts.{IsPrinted}
 use Rattle.gj_forms.specs.Parts.{Part, BeginsWithWord, empty_part, then_part, made_part, IsExactPart}
 use Rattle.gj_forms.proofs.LineLaws.{IsClear, part_is_exact, line_is_read, line_is_printed, begins_so, begins_not}
-use Rattle.gj_forms.proofs.ListLaws.{while_part_is_exact, until_part_is_exact, while_is_printed, until_is_printed, then_is_printed}
+use Rattle.gj_forms.proofs.ListLaws.{until_part_is_exact, until_is_printed, then_is_printed}
 use Rattle.gj_forms.proofs.ListRead.{printed_as}
 use Rattle.gj_forms.proofs.PartLaws.{empty_part_is_exact, then_part_is_exact, made_part_is_exact}
 use Rattle.gj_forms.proofs.PlainWords.{known, apart}
 use Rattle.gj_forms.proofs.WhereLaws.{where_part_is_exact, shorter_behind_line}
 use Rattle.gj_limit_system.specs.declared.limit_row.LimitRow.{LimitRow}
 use Rattle.gj_limit_system.specs.declared.limit_row.LimitRow.TheVariants.{F, Tight}
-use Rattle.gj_proof.specs.ProofGrammar.{form_part, modulus_form}
+use Rattle.gj_proof.specs.ProofGrammar.{column_form, form_part, modulus_form, steps_part}
 use Rattle.gj_proof.specs.ProofText.{reduction_line, pivot_line, modulus_text}
 use Rattle.gj_proof.specs.declared.numbers.Numbers.{Numbers}
 use Rattle.gj_proof.specs.declared.numbers.Numbers.TheVariants.{Whole, Residues}
-use Rattle.gj_proof.proofs.ClearLines.{modulus_is_clear}
+use Rattle.gj_proof.proofs.ClearLines.{column_is_clear, modulus_is_clear}
 use Rattle.gj_proof.proofs.CutTexts.{BeginsEnd}
-use Rattle.gj_proof.proofs.ExtremeTexts.{BeginsStep}
-use Rattle.gj_limit_proof.specs.LimitGrammar.{row_form, column_form, numbers_part, steps_part, group_part, groups_part}
+use Rattle.gj_proof.proofs.ExtremeTexts.{EndsSteps, steps_are_exact, steps_are_printed}
+use Rattle.gj_limit_proof.specs.LimitGrammar.{row_form, numbers_part, group_part, groups_part}
 use Rattle.gj_limit_proof.specs.LimitText.{group_line, group_text, greatest_columns, IsRowWithin, IsLimitPivotRowBelow}
 use Rattle.gj_limit_proof.specs.declared.claim.LimitPivotRow.{LimitPivotRow}
-use Rattle.gj_limit_proof.proofs.LimitForms.{row_is_clear, column_is_clear}
+use Rattle.gj_limit_proof.proofs.LimitForms.{row_is_clear}
 
 abbrev pub BeginsModulus : List ℕ → Type 0
 BeginsModulus = BeginsWithWord Strict (codes "modulus")
 
-abbrev EndsSteps : List ℕ → Type 0
-EndsSteps rest = BeginsStep rest → ⊥
-
-abbrev pub reduce_form : LineForm ℕ
-reduce_form = column_form (codes "reduce")
-
 abbrev pub pivot_form : LineForm ℕ
-pivot_form = column_form (codes "pivot")
-
-pub reduce_is_clear : IsClear reduce_form
-reduce_is_clear = column_is_clear (codes "reduce") (known (codes "reduce") refl)
+pivot_form = column_form (codes "pivot") greatest_columns
 
 pub pivot_is_clear : IsClear pivot_form
-pivot_is_clear = column_is_clear (codes "pivot") (known (codes "pivot") refl)
+pivot_is_clear =
+    column_is_clear (codes "pivot") greatest_columns (known (codes "pivot") refl) (omega arith)
 
 -- what follows the steps of a group, and what follows its first line
 abbrev pub makes_row : LimitRow → List ℕ → ℕ → LimitPivotRow → Type 0
@@ -52,7 +44,7 @@ abbrev pub behind_steps : LimitRow → List ℕ → Part LimitPivotRow
 behind_steps name columns = made_part (makes_row name columns) (form_part pivot_form)
 
 abbrev pub behind_name : LimitRow → Part LimitPivotRow
-behind_name name = then_part steps_part (behind_steps name)
+behind_name name = then_part (steps_part greatest_columns) (behind_steps name)
 
 -- ---- the line of the modulus
 
@@ -95,9 +87,8 @@ numbers_are_printed = record { reads = reads; found = found }
 behind_name_is_exact : (name : LimitRow) →
     IsExactPart (behind_name name).Reads (behind_name name).Faults
 behind_name_is_exact name =
-    then_part_is_exact steps_part (behind_steps name)
-    (while_part_is_exact BeginsStep (form_part reduce_form)
-    (part_is_exact reduce_form reduce_is_clear) [])
+    then_part_is_exact (steps_part greatest_columns) (behind_steps name)
+    (steps_are_exact greatest_columns (omega arith))
     (λ columns. made_part_is_exact (makes_row name columns) (λ c r s h k. h ∙ sym k)
     (form_part pivot_form)
     (part_is_exact pivot_form pivot_is_clear))
@@ -120,15 +111,6 @@ shorter_behind_group q text rest row (name, middle, first, more) =
 
 -- ---- groups are read as they are printed
 
-steps_are_printed : IsPrinted steps_part EndsSteps (flat_map reduction_line)
-    (All (λ c. c < greatest_columns))
-steps_are_printed =
-    while_is_printed BeginsStep (form_part reduce_form) (λ rest. Unit {0}) reduction_line
-    (λ c. c < greatest_columns)
-    (line_is_printed reduce_form reduce_is_clear) (λ c rest h. tt)
-    (λ c rest h. begins_so reduce_form reduce_is_clear c (codes "reduce") _ rest h refl)
-    (λ rest h. tt)
-
 -- what follows the first line of a group of this name
 abbrev HasSteps : LimitRow → LimitPivotRow → Type 0
 HasSteps name row = (name ≡ row.name) × All (λ c. c < greatest_columns) row.reduce
@@ -140,9 +122,10 @@ steps_text row = flat_map reduction_line row.reduce ++ pivot_line row.pivot
 behind_is_printed : (name : LimitRow) →
     IsPrinted (behind_name name) (λ rest. Unit {0}) steps_text (HasSteps name)
 behind_is_printed name =
-    then_is_printed steps_part (behind_steps name) EndsSteps (λ rest. Unit {0})
+    then_is_printed (steps_part greatest_columns) (behind_steps name) EndsSteps (λ rest. Unit {0})
     (flat_map reduction_line) (All (λ c. c < greatest_columns))
-    (HasSteps name) (λ row. row.reduce) (λ row. pivot_line row.pivot) steps_are_printed
+    (HasSteps name) (λ row. row.reduce) (λ row. pivot_line row.pivot)
+    (steps_are_printed greatest_columns (omega arith))
     (λ row h. h.1)
     (λ row rest h t. begins_not pivot_form pivot_is_clear row.pivot (codes "pivot")
     (codes "reduce") _ rest h.2 refl

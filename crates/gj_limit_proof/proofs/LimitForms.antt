@@ -3,7 +3,7 @@ use Rattle.std.proofs.Common.{◌≡◌, ℕ, zero, suc, ◌<◌, ◌≤◌, ◌
 use Rattle.gj_lex.proofs.Decimals.{same_from_decimal}
 use Rattle.gj_lex.proofs.WordBytes.{IsPlain}
 use Rattle.gj_forms.specs.LineForms.{words_of}
-use Rattle.gj_forms.proofs.FieldWords.{AreGood, same_fields}
+use Rattle.gj_forms.proofs.FieldWords.{AreGood}
 use Rattle.gj_forms.proofs.LineLaws.{IsClear}
 use Rattle.gj_forms.proofs.PlainWords.{known, are_same}
 use Rattle.gj_shape.specs.Faces.{corners_of}
@@ -11,7 +11,7 @@ use Rattle.gj_shape.specs.declared.faces.FaceKind.{FaceKind}
 use Rattle.gj_shape.specs.declared.faces.FaceKind.TheVariants.{Vertex, Horizontal, Vertical, Diagonal, Lower, Upper}
 use Rattle.gj_limit_system.specs.declared.limit_row.LimitRow.{LimitRow}
 use Rattle.gj_limit_system.specs.declared.limit_row.LimitRow.TheVariants.{F, Tight}
-use Rattle.gj_limit_proof.specs.LimitGrammar.{title_form, row_form, column_form}
+use Rattle.gj_limit_proof.specs.LimitGrammar.{title_form, row_form}
 use Rattle.gj_limit_proof.specs.LimitText.{sides_fields, row_fields, IsRowWithin, IsLimitRowWithin}
 use Rattle.gj_limit_proof.specs.Sides.{sides_word}
 
@@ -127,13 +127,3 @@ module _ (q : ℕ) (small : q ≤ 1000) where
 
   pub row_is_clear : IsClear (row_form q)
   row_is_clear = record { of_form = λ a h. tt; good = good_row; one = one_row }
-
-pub column_is_clear : (w : List ℕ) → IsPlain w → IsClear (column_form w)
-column_is_clear w plain = record {
-  of_form = λ a h. tt;
-  good = λ c h. (plain, omega arith);
-  one = λ c d h k e.
-      let same = same_fields ((column_form w).fields c) ((column_form w).fields d) tt
-      (plain, omega arith) (plain, omega arith) e in
-      cc;
-}

@@ -1,6 +1,6 @@
 -- The lines of a claim's own: their names are those of the lines of a claim of texts 1 and 2, so
 -- that they differ; and each has one line feed, at its end.
-use Rattle.std.proofs.Common.{◌≡◌, ℕ, ℤ, pos, ◌+◌, ◌<◌, ◌≤◌, List, [], ◌∷◌, ◌++◌, All, map, flat_map, zip, refl, sym, ap, ◌∙◌}
+use Rattle.std.proofs.Common.{◌≡◌, ℕ, ℤ, pos, ◌+◌, ◌<◌, ◌≤◌, List, [], ◌∷◌, ◌++◌, All, map, flat_map, zip, refl, sym, ap, ◌∙◌, arith}
 use Rattle.std.proofs.lemmas.List.{append_assoc, append-nil, map-append}
 use Rattle.std.proofs.lemmas.List.Elements.{All-nil, All-cons, All-head, All-tail, All-append}
 use Rattle.gj_lemmas.proofs.Lists.{All-front, All-back}
@@ -26,7 +26,8 @@ use Rattle.gj_limit_proof.specs.LimitText.{function_of, IsBounded, HasText, grou
 use Rattle.gj_limit_proof.specs.declared.claim.LimitClaim.{LimitClaim}
 use Rattle.gj_limit_proof.specs.declared.claim.LimitClaim.TheVariants.{Extreme, NotExtreme}
 use Rattle.gj_limit_proof.specs.declared.claim.LimitPivotRow.{LimitPivotRow}
-use Rattle.gj_limit_proof.proofs.GroupTexts.{reduce_form, reduce_is_clear, pivot_form, pivot_is_clear}
+use Rattle.gj_proof.proofs.ExtremeTexts.{reduce_form, reduce_is_clear}
+use Rattle.gj_limit_proof.proofs.GroupTexts.{pivot_form, pivot_is_clear}
 use Rattle.gj_limit_proof.proofs.HalvesTexts.{head_of, head_in_bounds, pairs_fit}
 use Rattle.gj_limit_proof.proofs.LimitForms.{row_is_clear}
 use Rattle.gj_limit_proof.proofs.PairForms.{Pair, HavePairFit, pair_is_clear}
@@ -159,7 +160,8 @@ reductions_have_one_feed g r (c ∷ columns) h =
     let P : ℕ → Type 0 = λ c. c < greatest_columns in
     All-cons HasOneFeed (own_line (ProofLine.reduction g r) (reduction_line c))
     (reduction_lines g (r + 1) columns)
-    (one_feed reduce_form reduce_is_clear c (All-head P c columns h))
+    (one_feed (reduce_form greatest_columns) (reduce_is_clear greatest_columns (omega arith)) c
+    (All-head P c columns h))
     (reductions_have_one_feed g (r + 1) columns (All-tail P c columns h))
 
 groups_have_one_feed : (g q : ℕ) (rows : List LimitPivotRow) → q ≤ 1000 →

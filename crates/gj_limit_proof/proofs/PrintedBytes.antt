@@ -34,13 +34,14 @@ use Rattle.gj_proof.specs.declared.numbers.Numbers.{Numbers}
 use Rattle.gj_proof.specs.declared.numbers.Numbers.TheVariants.{Whole, Residues}
 use Rattle.gj_proof.proofs.ClearLines.{cover_is_clear, modulus_is_clear, halves_is_clear}
 use Rattle.gj_limit_proof.specs.LimitGrammar.{row_form, pair_form}
-use Rattle.gj_limit_proof.specs.LimitText.{function_of, IsBounded, row_fields, group_line, group_text, pair_fields, pair_line, pairs_of, halves_line, own_text, HasText, IsLimitPivotRowBelow, IsLimitProofText}
+use Rattle.gj_limit_proof.specs.LimitText.{greatest_columns, function_of, IsBounded, row_fields, group_line, group_text, pair_fields, pair_line, pairs_of, halves_line, own_text, HasText, IsLimitPivotRowBelow, IsLimitProofText}
 use Rattle.gj_limit_proof.specs.PrintedBytes.{IsPrintable, IsTextByte, IsEnded}
 use Rattle.gj_limit_proof.specs.Sides.{sides_word}
 use Rattle.gj_limit_proof.specs.declared.claim.LimitClaim.{LimitClaim}
 use Rattle.gj_limit_proof.specs.declared.claim.LimitClaim.TheVariants.{Extreme, NotExtreme}
 use Rattle.gj_limit_proof.specs.declared.claim.LimitPivotRow.{LimitPivotRow}
-use Rattle.gj_limit_proof.proofs.GroupTexts.{reduce_form, reduce_is_clear, pivot_form, pivot_is_clear}
+use Rattle.gj_proof.proofs.ExtremeTexts.{reduce_form, reduce_is_clear}
+use Rattle.gj_limit_proof.proofs.GroupTexts.{pivot_form, pivot_is_clear}
 use Rattle.gj_limit_proof.proofs.HalvesTexts.{head_of, head_in_bounds, pairs_fit}
 use Rattle.gj_limit_proof.proofs.LimitForms.{row_is_clear}
 use Rattle.gj_limit_proof.proofs.LimitReadTexts.{title_line, claim_line}
@@ -194,7 +195,8 @@ module _ (q : ℕ) (small : q ≤ 1000) where
       both (group_line row.name ++ flat_map reduction_line row.reduce) (pivot_line row.pivot)
       (both (group_line row.name) (flat_map reduction_line row.reduce)
       (form_bytes (row_form q) (row_is_clear q small) row.name h.name (row_words row.name))
-      (forms_bytes reduce_form reduce_is_clear row.reduce h.reduce
+      (forms_bytes (reduce_form greatest_columns) (reduce_is_clear greatest_columns (omega arith))
+      row.reduce h.reduce
       (λ c. (known (codes "reduce") refl, (tt, tt)))))
       (form_bytes pivot_form pivot_is_clear row.pivot h.pivot
       (known (codes "pivot") refl, (tt, tt)))

@@ -1,18 +1,17 @@
 -- Proof texts about functions that jump as a part of a text: what each line says, and which rule it
 -- breaks first (own).
-use Rattle.std.specs.Prelude.{ℕ, ◌≡◌, ◌<◌, List, [], ◌∷◌, map, codes}
+use Rattle.std.specs.Prelude.{ℕ, ◌≡◌, List, [], ◌∷◌, map, codes}
 use Rattle.gj_frac.specs.Fraction.{Fits}
 use Rattle.gj_lex.specs.declared.spelling.Spelling.TheVariants.{Strict}
 use Rattle.gj_forms.specs.Parts.{LineRule, Part, words_rule, line_part, empty_part, then_part, made_part, end_part, BeginsWithLine, BeginsWithWord, where_part}
 use Rattle.gj_forms.specs.LineForms.{LineForm, form_of, rule_of}
 use Rattle.gj_forms.specs.SpelledForms.{barred_rule}
-use Rattle.gj_forms.specs.ListParts.{while_part, until_part, times_part}
+use Rattle.gj_forms.specs.ListParts.{until_part, times_part}
 use Rattle.gj_shape.specs.declared.extremality.LimitHalves.{LimitHalves}
 use Rattle.gj_shape.specs.declared.extremality.SideNumbers.{SideNumbers}
 use Rattle.gj_function_lines.specs.FunctionGrammar.{function_part}
 use Rattle.gj_limit_system.specs.declared.limit_row.LimitRow.{LimitRow}
-use Rattle.gj_proof.specs.ProofText.{column_fields}
-use Rattle.gj_proof.specs.ProofGrammar.{form_part, covered_part, modulus_form, halves_form}
+use Rattle.gj_proof.specs.ProofGrammar.{column_form, form_part, covered_part, modulus_form, steps_part, halves_form}
 use Rattle.gj_proof.specs.declared.numbers.Numbers.{Numbers}
 use Rattle.gj_proof.specs.declared.numbers.Numbers.TheVariants.{Whole, Residues}
 use Rattle.gj_limit_proof.specs.declared.claim.LimitClaim.{LimitClaim}
@@ -26,17 +25,9 @@ use Rattle.gj_limit_proof.specs.LimitText.{title_fields, row_fields, pair_fields
 abbrev pub title_form : LineForm (Unit {0})
 title_form = form_of (λ t. title_fields)
 
--- a row, a word and a column below 3,000
+-- a row
 abbrev pub row_form : ℕ → LineForm LimitRow
 row_form q = record { fields = row_fields; HasForm = λ n. Unit {0}; HasLine = IsRowWithin q }
-
-abbrev pub column_form : List ℕ → LineForm ℕ
-column_form w = record {
-  fields = column_fields w;
-  HasForm = λ c. Unit {0};
-  HasLine =
-      λ c. c < greatest_columns;
-}
 
 abbrev pub AllFit : Triple → Type 0
 AllFit t = Fits t.left × Fits t.value × Fits t.right
@@ -66,17 +57,12 @@ numbers_part =
     (made_part (λ t n. n ≡ Residues) (form_part modulus_form))
     (empty_part Whole)
 
--- steps, as long as lines begin with `reduce`
-abbrev pub steps_part : Part (List ℕ)
-steps_part = while_part (BeginsWithWord Strict (codes "reduce"))
-    (form_part (column_form (codes "reduce"))) []
-
 abbrev pub group_part : ℕ → Part LimitPivotRow
 group_part q =
     then_part (form_part (row_form q)) (λ name.
-    then_part steps_part (λ columns.
+    then_part (steps_part greatest_columns) (λ columns.
     made_part (λ c row. row ≡ record { name = name; reduce = columns; pivot = c })
-    (form_part (column_form (codes "pivot")))))
+    (form_part (column_form (codes "pivot") greatest_columns))))
 
 -- groups, up to a line `end`
 abbrev pub groups_part : ℕ → Part (List LimitPivotRow)

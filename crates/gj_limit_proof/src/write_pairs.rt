@@ -2,14 +2,12 @@
 ghost use Rattle.std.specs.Prelude.{◌≡◌, ◌++◌, ◌∷◌, ◌&&◌, OnOk};
 ghost use Rattle.std.specs.Fmt.{signed_decimal};
 ghost use Rattle.gj_forms.specs.LineForms.{bytes_of};
-ghost use Rattle.gj_proof.specs.ProofText.{halves_fields};
 ghost use Rattle.gj_limit_proof.specs.LimitText.{is_one, values_fields, triples_fields};
 ghost use Rattle.gj_limit_proof.specs.LimitText.{pair_line, halves_text};
 ghost use Rattle.gj_limit_proof.specs.LimitText.{AreLimitHalvesInBounds};
 
 use crate::triple::{Triple, triple_at};
-use gj_lex::print_count;
-use gj_proof::push_whole;
+use gj_proof::{push_halves_head, push_whole};
 use gj_shape::LimitHalves;
 use std::alloc::AllocError;
 
@@ -19,23 +17,12 @@ pub(crate) fn push_limit_halves(out: &mut Vec<u8>, halves: &LimitHalves) -> Resu
     requires { AreLimitHalvesInBounds halves.now }
     ensures { OnOk result (out.new.items ≡ out.old.items ++ halves_text halves.now) }
 {
-    push_head(out, halves.order, halves.scale)?;
+    push_halves_head(out, halves.order, halves.scale)?;
     for index in 0..halves.order {
         let first = triple_at(halves.order, &halves.first, index);
         let second = triple_at(halves.order, &halves.second, index);
         push_pair(out, first, second)?;
     }
-    Ok(())
-}
-
-/// Appends the line `halves N S`, with the order and the scale of halves.
-fn push_head(out: &mut Vec<u8>, order: u32, scale: i128) -> Result<(), AllocError>
-    ensures { OnOk result (out.new.items ≡ out.old.items ++ bytes_of (halves_fields order scale)) }
-{
-    out.extend_from_slice(b"halves ")?;
-    print_count(out, order)?;
-    push_number(out, scale)?;
-    out.push(b'\n')?;
     Ok(())
 }
 

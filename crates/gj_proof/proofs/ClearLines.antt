@@ -1,5 +1,5 @@
 -- The forms of the lines of a proof text are clear.
-use Rattle.std.proofs.Common.{◌≡◌, ℕ, ◌≤◌, ℤ, List, codes, refl, sym, ap, ◌∙◌, arith, lit<}
+use Rattle.std.proofs.Common.{◌^◌, ◌≡◌, ℕ, ◌≤◌, ℤ, List, codes, refl, sym, ap, ◌∙◌, arith, lit<}
 use Rattle.std.proofs.lemmas.Int.{ints}
 use Rattle.gj_frac.specs.Fraction.{Fits}
 use Rattle.gj_frac.specs.declared.Frac.{Frac}
@@ -254,12 +254,13 @@ row_name_is_clear q small = record { of_form = λ a h. tt; good = good; one = on
         λ i. Pair (first i) (second i)
     one m n h k e = absurd cc
 
-pub column_is_clear : (w : List ℕ) → IsPlain w → IsClear (column_form w)
-column_is_clear w plain = record {
+pub column_is_clear : (w : List ℕ) (limit : ℕ) → IsPlain w → limit ≤ 2 ^ 127 →
+    IsClear (column_form w limit)
+column_is_clear w limit plain small = record {
   of_form = λ a h. tt;
   good = λ c h. (plain, omega arith);
   one = λ c d h k e.
-      let same = same_fields ((column_form w).fields c) ((column_form w).fields d) tt
+      let same = same_fields ((column_form w limit).fields c) ((column_form w limit).fields d) tt
       (plain, omega arith) (plain, omega arith) e in
       cc;
 }

@@ -345,7 +345,7 @@ reductions_have_one_feed g r (c ∷ columns) h =
     let P : ℕ → Type 0 = λ c. c < 1000 in
     All-cons HasOneFeed (record { name = ProofLine.reduction g r; bytes = reduction_line c })
     (reduction_lines g (r + 1) columns)
-    (one_feed reduce_form reduce_is_clear c (All-head P c columns h))
+    (one_feed (reduce_form 1000) (reduce_is_clear 1000 (omega arith)) c (All-head P c columns h))
     (reductions_have_one_feed g (r + 1) columns (All-tail P c columns h))
 
 groups_have_one_feed : (g q : ℕ) (rows : List PivotRow) → q ≤ 1000 → All (IsPivotRowBelow q) rows →

@@ -9,6 +9,7 @@ use Rattle.gj_shape.specs.FunctionData.{FunctionData}
 use Rattle.gj_shape.specs.declared.extremality.CoverLine.{CoverLine}
 use Rattle.gj_shape.specs.declared.extremality.RowName.{RowName}
 use Rattle.gj_function_lines.specs.FunctionGrammar.{function_part}
+use Rattle.gj_shape.specs.Limits.{greatest_order}
 use Rattle.gj_proof.specs.ProofText.{extreme_claim}
 use Rattle.gj_proof.specs.ProofGrammar.{row_name_form, pair_form, form_part, covered_part, modulus_part, steps_part, group_part, groups_part, pairs_part, halves_part, extreme_part, claim_part}
 use Rattle.gj_proof.specs.declared.claim.Claim.{Claim}
@@ -23,19 +24,20 @@ use Rattle.gj_proof.proofs.ReadTexts.{makes_extreme, behind_modulus, behind_cove
 
 pub fault_in_steps : (q : ℕ) (text middle : List ℕ) (name : RowName) (e : PartFault) →
     (form_part (row_name_form q)).Reads text name middle →
-    IsFaultOf steps_part middle e → IsFaultOf (group_part q) text e
+    IsFaultOf (steps_part greatest_order) middle e → IsFaultOf (group_part q) text e
 fault_in_steps q text middle name e first h =
     fault_in_next (form_part (row_name_form q)) behind_name text name middle e first
-    (fault_in_first steps_part (behind_steps name) middle e h)
+    (fault_in_first (steps_part greatest_order) (behind_steps name) middle e h)
 
 pub fault_in_pivot : (q : ℕ) (text middle behind : List ℕ) (name : RowName) (columns : List ℕ)
     (e : PartFault) →
-    (form_part (row_name_form q)).Reads text name middle → steps_part.Reads middle columns behind →
+    (form_part (row_name_form q)).Reads text name middle →
+    (steps_part greatest_order).Reads middle columns behind →
     IsFaultOf (form_part pivot_form) behind e →
     IsFaultOf (group_part q) text e
 fault_in_pivot q text middle behind name columns e first steps h =
     fault_in_next (form_part (row_name_form q)) behind_name text name middle e first
-    (fault_in_next steps_part (behind_steps name) middle columns behind e steps
+    (fault_in_next (steps_part greatest_order) (behind_steps name) middle columns behind e steps
     (fault_in_made (makes_row name columns) (form_part pivot_form) behind e h))
 
 -- ---- pairs of values

@@ -1,5 +1,5 @@
 -- The lines of extremality are read as what they spell.
-use Rattle.std.proofs.Common.{◌≡◌, ◌≢◌, ℕ, ◌<◌, ◌≤◌, ℤ, List, [], ◌∷◌, ◌++◌, All, length, flat_map, map, zip, codes, refl, sym, ap, subst, ◌∙◌, arith, length-append}
+use Rattle.std.proofs.Common.{◌≡◌, ◌≢◌, ℕ, ◌<◌, ◌≤◌, ◌^◌, ℤ, List, [], ◌∷◌, ◌++◌, All, length, flat_map, map, zip, codes, refl, sym, ap, subst, ◌∙◌, arith, length-append}
 use Rattle.std.proofs.lemmas.List.{append_assoc, length-map}
 use Rattle.std.proofs.lemmas.List.Elements.{All-nil, All-cons, All-head, All-tail}
 use Rattle.gj_frac.specs.Fraction.{Fits}
@@ -31,20 +31,22 @@ use Rattle.gj_forms.proofs.ListRead.{printed_as}
 abbrev pub BeginsStep : List ℕ → Type 0
 BeginsStep = BeginsWithWord Strict (codes "reduce")
 
-abbrev EndsSteps : List ℕ → Type 0
+abbrev pub EndsSteps : List ℕ → Type 0
 EndsSteps rest = BeginsStep rest → ⊥
 
-abbrev pub reduce_form : LineForm ℕ
-reduce_form = column_form (codes "reduce")
+abbrev pub reduce_form : ℕ → LineForm ℕ
+reduce_form limit = column_form (codes "reduce") limit
 
 abbrev pub pivot_form : LineForm ℕ
-pivot_form = column_form (codes "pivot")
+pivot_form = column_form (codes "pivot") greatest_order
 
-pub reduce_is_clear : IsClear reduce_form
-reduce_is_clear = column_is_clear (codes "reduce") (known (codes "reduce") refl)
+pub reduce_is_clear : (limit : ℕ) → limit ≤ 2 ^ 127 → IsClear (reduce_form limit)
+reduce_is_clear limit small =
+    column_is_clear (codes "reduce") limit (known (codes "reduce") refl) small
 
 pub pivot_is_clear : IsClear pivot_form
-pivot_is_clear = column_is_clear (codes "pivot") (known (codes "pivot") refl)
+pivot_is_clear =
+    column_is_clear (codes "pivot") greatest_order (known (codes "pivot") refl) (omega arith)
 
 -- what follows the steps of a group, and what follows its first line
 abbrev pub makes_row : RowName → List ℕ → ℕ → PivotRow → Type 0
@@ -54,7 +56,7 @@ abbrev pub behind_steps : RowName → List ℕ → Part PivotRow
 behind_steps name columns = made_part (makes_row name columns) (form_part pivot_form)
 
 abbrev pub behind_name : RowName → Part PivotRow
-behind_name name = then_part steps_part (behind_steps name)
+behind_name name = then_part (steps_part greatest_order) (behind_steps name)
 
 -- what follows the first line of halves
 abbrev pub makes_halves : HalvesHead → List (ℤ × ℤ) → Halves → Type 0
@@ -82,12 +84,17 @@ pub modulus_is_exact : (n : Numbers) → IsExactPart (modulus_part n).Reads (mod
 modulus_is_exact Whole = empty_part_is_exact tt
 modulus_is_exact Residues = part_is_exact modulus_form modulus_is_clear
 
+pub steps_are_exact : (limit : ℕ) → limit ≤ 2 ^ 127 →
+    IsExactPart (steps_part limit).Reads (steps_part limit).Faults
+steps_are_exact limit small =
+    while_part_is_exact BeginsStep (form_part (reduce_form limit))
+    (part_is_exact (reduce_form limit) (reduce_is_clear limit small)) []
+
 behind_name_is_exact : (name : RowName) →
     IsExactPart (behind_name name).Reads (behind_name name).Faults
 behind_name_is_exact name =
-    then_part_is_exact steps_part (behind_steps name)
-    (while_part_is_exact BeginsStep (form_part reduce_form)
-    (part_is_exact reduce_form reduce_is_clear) [])
+    then_part_is_exact (steps_part greatest_order) (behind_steps name)
+    (steps_are_exact greatest_order (omega arith))
     (λ columns. made_part_is_exact (makes_row name columns) (λ c r s h k. h ∙ sym k)
     (form_part pivot_form)
     (part_is_exact pivot_form pivot_is_clear))
@@ -135,13 +142,15 @@ modulus_is_printed Residues = line_is_printed modulus_form modulus_is_clear
 
 -- ---- groups
 
-steps_are_printed : IsPrinted steps_part EndsSteps (flat_map reduction_line)
-    (All (λ c. c < greatest_order))
-steps_are_printed =
-    while_is_printed BeginsStep (form_part reduce_form) (λ rest. Unit {0}) reduction_line
-    (λ c. c < greatest_order)
-    (line_is_printed reduce_form reduce_is_clear) (λ c rest h. tt)
-    (λ c rest h. begins_so reduce_form reduce_is_clear c (codes "reduce") _ rest h refl)
+pub steps_are_printed : (limit : ℕ) → limit ≤ 2 ^ 127 →
+    IsPrinted (steps_part limit) EndsSteps (flat_map reduction_line) (All (λ c. c < limit))
+steps_are_printed limit small =
+    let form = reduce_form limit in
+    let clear = reduce_is_clear limit small in
+    while_is_printed BeginsStep (form_part form) (λ rest. Unit {0}) reduction_line
+    (λ c. c < limit)
+    (line_is_printed form clear) (λ c rest h. tt)
+    (λ c rest h. begins_so form clear c (codes "reduce") _ rest h refl)
     (λ rest h. tt)
 
 -- what follows the first line of a group of this name
@@ -155,9 +164,10 @@ steps_text row = flat_map reduction_line row.reduce ++ pivot_line row.pivot
 behind_is_printed : (name : RowName) →
     IsPrinted (behind_name name) (λ rest. Unit {0}) steps_text (HasSteps name)
 behind_is_printed name =
-    then_is_printed steps_part (behind_steps name) EndsSteps (λ rest. Unit {0})
+    then_is_printed (steps_part greatest_order) (behind_steps name) EndsSteps (λ rest. Unit {0})
     (flat_map reduction_line) (All (λ c. c < greatest_order))
-    (HasSteps name) (λ row. row.reduce) (λ row. pivot_line row.pivot) steps_are_printed
+    (HasSteps name) (λ row. row.reduce) (λ row. pivot_line row.pivot)
+    (steps_are_printed greatest_order (omega arith))
     (λ row h. h.1)
     (λ row rest h t. begins_not pivot_form pivot_is_clear row.pivot (codes "pivot")
     (codes "reduce") _ rest h.2 refl

@@ -108,13 +108,13 @@ row_name_form q = record {
       IsRowNameBelow q;
 }
 
--- a word and a column below 1,000
-abbrev pub column_form : List ℕ → LineForm ℕ
-column_form w = record {
+-- a word and a column below the limit
+abbrev pub column_form : List ℕ → ℕ → LineForm ℕ
+column_form w limit = record {
   fields = column_fields w;
   HasForm = λ c. Unit {0};
   HasLine =
-      λ c. c < greatest_order;
+      λ c. c < limit;
 }
 
 -- the order and the scale are within the limits
@@ -182,17 +182,17 @@ abbrev pub modulus_part : Numbers → Part (Unit {0})
 modulus_part Whole = empty_part tt
 modulus_part Residues = form_part modulus_form
 
--- steps, as long as lines begin with `reduce`
-abbrev pub steps_part : Part (List ℕ)
-steps_part = while_part (BeginsWithWord Strict (codes "reduce"))
-    (form_part (column_form (codes "reduce"))) []
+-- steps with columns below the limit, as long as lines begin with `reduce`
+abbrev pub steps_part : ℕ → Part (List ℕ)
+steps_part limit = while_part (BeginsWithWord Strict (codes "reduce"))
+    (form_part (column_form (codes "reduce") limit)) []
 
 abbrev pub group_part : ℕ → Part PivotRow
 group_part q =
     then_part (form_part (row_name_form q)) (λ name.
-    then_part steps_part (λ columns.
+    then_part (steps_part greatest_order) (λ columns.
     made_part (λ c row. row ≡ record { name = name; reduce = columns; pivot = c })
-    (form_part (column_form (codes "pivot")))))
+    (form_part (column_form (codes "pivot") greatest_order))))
 
 -- groups, up to a line `end`
 abbrev pub groups_part : ℕ → Part (List PivotRow)

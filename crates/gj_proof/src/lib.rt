@@ -45,9 +45,11 @@ pub use layout::{
 pub use modulus::behind_modulus;
 pub use numbers::{MODULUS, Numbers};
 pub use pivot::PivotRow;
+pub use pivot_rows::{column_at, steps_at};
 pub use read::read_proof;
 pub use write::{push_violation_line, write_proof};
 pub use write_cuts::{NAMED_SPACE, push_cut_head, push_rule_lines, push_skip_line, write_named};
 pub use write_extreme::{
-    push_column, push_halves, push_halves_line, push_modulus, push_reductions, push_whole,
+    push_column, push_halves, push_halves_head, push_halves_line, push_modulus, push_reductions,
+    push_whole,
 };

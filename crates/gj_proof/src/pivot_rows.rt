@@ -42,8 +42,8 @@ fn group_at(alloc: Global, text: &[u8], order: u32) -> Result<(PivotRow, &[u8]),
     ensures fault { IfErr result (IsFaultOf (group_part order) text.now) }
 {
     let (name, rest) = row_name_at(text, order)?;
-    let (columns, rest) = steps_at(alloc, rest)?;
-    let (pivot, rest) = column_at(rest, b"pivot")?;
+    let (columns, rest) = steps_at(alloc, rest, GREATEST_ORDER)?;
+    let (pivot, rest) = column_at(rest, b"pivot", GREATEST_ORDER)?;
     let reduce = List::of(columns);
     Ok((
         PivotRow {
@@ -55,43 +55,45 @@ fn group_at(alloc: Global, text: &[u8], order: u32) -> Result<(PivotRow, &[u8]),
     ))
 }
 
-/// The steps in the next lines, as long as these begin with `reduce`, and what follows them.
-fn steps_at(alloc: Global, text: &[u8]) -> Result<(Vec<u32>, &[u8]), PartFault>
-    ensures found { IfOk result (λ r. steps_part.Reads text.now r.0.items r.1.now) }
-    ensures fault { IfErr result (IsFaultOf steps_part text.now) }
+/// The steps in the next lines, as long as these begin with `reduce`, each of them a column below
+/// the limit, and what follows them.
+pub fn steps_at(alloc: Global, text: &[u8], limit: u32) -> Result<(Vec<u32>, &[u8]), PartFault>
+    ensures found { IfOk result (λ r. (steps_part limit).Reads text.now r.0.items r.1.now) }
+    ensures fault { IfErr result (IsFaultOf (steps_part limit) text.now) }
 {
     let mut columns = Vec::new(alloc);
     let mut rest = text;
     while begins_with_word(Spelling::Strict, rest, b"reduce") {
-        let (column, behind) = column_at(rest, b"reduce")?;
+        let (column, behind) = column_at(rest, b"reduce", limit)?;
         columns.push(column)?;
         rest = behind;
     }
     Ok((columns, rest))
 }
 
-/// The column in the next line, behind the word, and what follows the line. It takes no memory.
-fn column_at<'a>(text: &'a [u8], word: &[u8]) -> Result<(u32, &'a [u8]), PartFault>
+/// The column below the limit in the next line, behind the word, and what follows the line. It
+/// takes no memory.
+pub fn column_at<'a>(text: &'a [u8], word: &[u8], limit: u32) -> Result<(u32, &'a [u8]), PartFault>
     ensures found { IfOk result
-        (λ r. (form_part (column_form word.now)).Reads text.now r.0 r.1.now) }
-    ensures fault { IfErr result (IsFaultOf (form_part (column_form word.now)) text.now) }
+        (λ r. (form_part (column_form word.now limit)).Reads text.now r.0 r.1.now) }
+    ensures fault { IfErr result (IsFaultOf (form_part (column_form word.now limit)) text.now) }
 {
     let line = line_at(Spelling::Strict, text)?;
-    match column_in(line.bytes, word) {
+    match column_in(line.bytes, word, limit) {
         Ok(column) => Ok((column, line.rest)),
         Err(reason) => Err(PartFault::at(line.start, reason)),
     }
 }
 
-/// The column of the line, behind the word.
-fn column_in(line: &[u8], word: &[u8]) -> Result<u32, Reason>
-    ensures found { IfOk result (AreLine (column_form word.now) (word_texts line.now)) }
-    ensures fault { IfErr result (BreaksForm (column_form word.now) (word_texts line.now)) }
+/// The column below the limit of the line, behind the word.
+fn column_in(line: &[u8], word: &[u8], limit: u32) -> Result<u32, Reason>
+    ensures found { IfOk result (AreLine (column_form word.now limit) (word_texts line.now)) }
+    ensures fault { IfErr result (BreaksForm (column_form word.now limit) (word_texts line.now)) }
 {
     let Some(column) = field_of(line, word) else {
         return Err(Reason::Form);
     };
-    count_below(column, GREATEST_ORDER)
+    count_below(column, limit)
 }
 
 /// The name of the row in the next line, and what follows the line. It takes no memory.

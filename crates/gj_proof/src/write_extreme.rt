@@ -5,7 +5,9 @@ ghost use Rattle.gj_frac.specs.Fraction.{Fits};
 ghost use Rattle.gj_shape.specs.Perturbation.{AreHalvesInBounds};
 ghost use Rattle.gj_function_lines.specs.FunctionLines.{line};
 ghost use Rattle.gj_proof.specs.ProofText.{group_line, reduction_line, modulus_text, extreme_text};
-ghost use Rattle.gj_proof.specs.ProofText.{halves_line, pair_line, group_text, halves_text};
+ghost use Rattle.gj_forms.specs.LineForms.{bytes_of};
+ghost use Rattle.gj_proof.specs.ProofText.{halves_fields, halves_line, pair_line, group_text};
+ghost use Rattle.gj_proof.specs.ProofText.{halves_text};
 
 use crate::numbers::{MODULUS, Numbers};
 use crate::pivot::PivotRow;
@@ -114,9 +116,17 @@ pub fn push_halves_line(out: &mut Vec<u8>, halves: &Halves) -> Result<(), AllocE
     requires { AreHalvesInBounds halves.now }
     ensures { OnOk result (out.new.items ≡ out.old.items ++ halves_line halves.now) }
 {
+    push_halves_head(out, halves.order, halves.scale)
+}
+
+/// Appends the line `halves N S` of this order and this scale. An error says that memory ran out;
+/// `out` may then have a part of it.
+pub fn push_halves_head(out: &mut Vec<u8>, order: u32, scale: i128) -> Result<(), AllocError>
+    ensures { OnOk result (out.new.items ≡ out.old.items ++ bytes_of (halves_fields order scale)) }
+{
     out.extend_from_slice(b"halves ")?;
-    print_count(out, halves.order)?;
-    push_whole_line(out, halves.scale)
+    print_count(out, order)?;
+    push_whole_line(out, scale)
 }
 
 /// Appends the lines of the halves' values.

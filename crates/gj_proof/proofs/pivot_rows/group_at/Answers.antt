@@ -19,3 +19,24 @@ returns-in_err-pivot-clause-fault c =
     passed_on (IsFaultOf (group_part c.args.order) c.args.text.now) _ _ _ p.1 p.2
     (fault_in_pivot _ _ _ _ _ _ _ c.in_ok-name.ensures.found c.in_ok-columns.ensures.found
     c.in_err-pivot.ensures.fault)
+
+pub returns-clause-found : goal.returns-clause-found
+returns-clause-found c = (
+  c.in_ok-name.name,
+  c.in_ok-name.rest.now,
+  c.in_ok-name.ensures.found,
+  (
+    c.in_ok-columns.columns.items,
+    c.in_ok-columns.rest.now,
+    c.in_ok-columns.ensures.found,
+    (
+      c.in_ok-pivot.pivot,
+      c.in_ok-pivot.ensures.found,
+      λ i. record {
+        name = c.in_ok-name.name;
+        reduce = c.of-reduce.ensures i;
+        pivot = c.in_ok-pivot.pivot;
+      },
+    ),
+  ),
+)

@@ -12,24 +12,24 @@ use Rattle.gj_proof.proofs.pivot_rows.steps_at.Goals as goal
 
 pub loop-rest-preserved : goal.loop-rest-preserved
 loop-rest-preserved c =
-    while_on (form_part reduce_form) BeginsStep _ _ _ _ _ _ c.loop-rest.invariant
+    while_on (form_part (reduce_form c.args.limit)) BeginsStep _ _ _ _ _ _ c.loop-rest.invariant
     (c.begins_with_word.ensures.0 c.loop-rest-test.true)
     c.in_ok-column.ensures.found c.in_ok-push.ensures.items
 
 pub loop-rest-smaller : goal.loop-rest-smaller
 loop-rest-smaller c =
-    shorter_behind_line Strict (rule_of reduce_form) _ _ c.in_ok-column.column
+    shorter_behind_line Strict (rule_of (reduce_form c.args.limit)) _ _ c.in_ok-column.column
     c.in_ok-column.ensures.found
 
 pub returns-clause-found : goal.returns-clause-found
 returns-clause-found c =
-    while_end (form_part reduce_form) BeginsStep _ _ _ c.loop-rest.invariant
+    while_end (form_part (reduce_form c.args.limit)) BeginsStep _ _ _ c.loop-rest.invariant
     (λ is. false≢true (c.loop-rest-test.ensures.1 is))
 
 pub returns-in_err-column-clause-fault : goal.returns-in_err-column-clause-fault
 returns-in_err-column-clause-fault c =
     let p = err_from_is_err_and c.from_residual.result c.from_residual.ensures.1 in
-    passed_on (IsFaultOf steps_part c.args.text.now) _ _ _ p.1 p.2
-    (while_at_fault (form_part reduce_form) BeginsStep _ _ _ _ c.loop-rest.invariant
+    passed_on (IsFaultOf (steps_part c.args.limit) c.args.text.now) _ _ _ p.1 p.2
+    (while_at_fault (form_part (reduce_form c.args.limit)) BeginsStep _ _ _ _ c.loop-rest.invariant
     (c.begins_with_word.ensures.0 c.loop-rest-test.true)
     c.in_err-column.ensures.fault)

@@ -6,7 +6,7 @@ use Rattle.gj_proof.proofs.ExtremeTexts.{BeginsStep, reduce_form}
 use Rattle.gj_proof.proofs.pivot_rows.steps_at.Given as goal
 
 abbrev pub invariant-loop-rest : goal.invariant-loop-rest
-invariant-loop-rest l = LeadsOn (next_while BeginsStep (form_part reduce_form))
+invariant-loop-rest l = LeadsOn (next_while BeginsStep (form_part (reduce_form l.limit)))
     [] l.text l.columns.items l.rest
 
 abbrev pub decreases-loop-rest : goal.decreases-loop-rest
