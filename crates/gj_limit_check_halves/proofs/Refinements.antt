@@ -1,7 +1,7 @@
 -- Halves on a finer grid: their order and scale, and the function's numbers there.
 use Rattle.std.proofs.Common.{◌≡◌, ◌≢◌, ◌↔◌, ℕ, zero, suc, ◌+◌, ◌-◌, ◌*◌, ◌/◌, ◌%◌, ◌^◌, ◌≤◌, ◌<◌, ℤ, pos, ◌+ℤ◌, ◌*ℤ◌, Bool, IsTrue, List, All, length, get_or, unsigned_abs, FitsSigned, to_z, of_z, w64, refl, sym, ap, ap₂, subst, subst₂, ◌∙◌, arith}
 use mir.Syntax.{w128}
-use Rattle.std.proofs.Math.Nat.{mul-pos, mul-le-mul_left, mul-lt-mul_of_pos_right}
+use Rattle.std.proofs.Math.Nat.{mul-lt-mul_of_pos_right}
 use Rattle.std.proofs.lemmas.Int.{ints, to_z-of_z}
 use Rattle.gj_shape.specs.FirstViolation.{PassesAll}
 use Rattle.gj_shape.specs.FunctionData.{FunctionData, IsWithinBounds, function_over, at}
@@ -13,47 +13,13 @@ use Rattle.gj_shape.proofs.AtLemmas.{at_below}
 use Rattle.gj_shape.proofs.NumeratorReadings.{small_read}
 use Rattle.gj_theory.proofs.Everywhere.{everywhere}
 use Rattle.gj_limit_proof.specs.LimitMeaning.{half_of}
-use Rattle.gj_limit_proof.specs.LimitRules.{MeetsLimitScale, MeetsLimitAverage, PassesAsHalf}
+use Rattle.gj_limit_proof.specs.LimitRules.{MeetsLimitAverage, PassesAsHalf}
 use Rattle.gj_limit_proof.specs.LimitText.{AreLimitHalvesInBounds}
 use Rattle.gj_limit_check_halves.specs.declared.half.Half.{Half}
 use Rattle.gj_limit_check_halves.specs.Half.{IsBetween, AreNumbersOf, IsHalf, data_of}
-use Rattle.gj_limit_check_halves.specs.HalvesOutcome.{IsHalvesRefinement, IsPointOf, HasNumberAt, AreSideNumbersInRange}
+use Rattle.gj_limit_check_halves.specs.HalvesOutcome.{IsHalvesRefinement, HasNumberAt, AreSideNumbersInRange}
 use Rattle.gj_check.specs.declared.halves.Refinement.{Refinement}
 use Rattle.gj_check.proofs.HalvesTests.{same_times, some_times, same_refinement}
-
--- ---- order and scale
-
--- the rule `scale`
-pub scale_met : (f : FunctionData) (h : LimitHalves) (r : Refinement) → IsHalvesRefinement f h r →
-    MeetsLimitScale f h
-scale_met f h r is = (r.times, r.factor, is.order, is.scale)
-
--- ---- points of the finer grid
-
--- a factor of a product that is at most n, if the other is not 0
-at_most_product : (x y : ℕ) {n : ℕ} → 0 < y → x * y ≤ n → x ≤ n
-at_most_product x y some high = let more =
-    mul-le-mul_left x (let one : 1 ≤ y = omega arith in one) in omega (arith, more)
-
-pub point_of : (f : FunctionData) (h : LimitHalves) (r : Refinement) (i : ℕ) → IsWithinBounds f →
-    AreLimitHalvesInBounds h →
-    IsHalvesRefinement f h r → i < h.order → IsPointOf f r i
-point_of f h r i l b is below =
-    let few = b.order_low in
-    let some = some_times f h.order h.scale r (omega arith) is in
-    let order = is.order in
-    let high = b.order_high in
-    let scale = is.scale in
-    let most = b.scale_high in
-    let low = l.order_low in
-    let unit = l.scale_low in
-    record {
-      some = some;
-      few = at_most_product r.times f.order (omega arith) (omega arith);
-      factor = at_most_product r.factor (f.scale * r.times) (mul-pos unit some)
-          (omega (arith, ints));
-      within = omega arith;
-    }
 
 -- ---- the rule `average`
 
