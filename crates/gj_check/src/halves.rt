@@ -81,6 +81,7 @@ fn refinement_of_halves(shape: &Shape, halves: &Halves) -> Option<Refinement>
 
 /// How much finer halves of this order and this scale are; none if the order or the scale is no
 /// multiple.
+#[inline(always)]
 pub fn refinement_of(shape: &Shape, order: u32, scale: i128) -> Option<Refinement>
     requires order { 0 < order }
     requires scale { pos 0 ≤ℤ scale }

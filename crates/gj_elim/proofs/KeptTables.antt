@@ -229,14 +229,22 @@ kept_row_read n k c i x y e h below x_is is y_is e_is =
       fits = subst (All Fits) (sym read) (All-get_or (All Fits) k.rows.items i [] inside h.fits);
     }
 
-pub extent_read : (n : ℕ) (k : KeptRows) (c i : ℕ) (x : Option ℕ) (y e : List ℤ) (b : Extent) →
-    AreKept n k → c < n → x ≡ get_or k.places.items c x → x ≡ Some i →
-    y ≡ get_or k.rows.items i y → e ≡ y → b ≡ get_or k.extents.items i b → IsExtent b.bound b.end e
-extent_read n k c i x y e b h below x_is is y_is e_is b_is =
+-- the same of slices
+pub place_in : (n : ℕ) (k : KeptRows) (c : ℕ) (places : List (Option ℕ)) → AreKept n k → c < n →
+    places ≡ k.places.items → get_or places c None ≡ get_or k.places.items c (get_or places c None)
+place_in n k c places h below same =
+    let inside : c < length k.places.items = omega (arith, h.places.columns_are) in
+    ap (λ (ps : List (Option ℕ)). get_or ps c None) same
+    ∙ get_or_default k.places.items c None (get_or places c None) inside
+
+pub extent_in : (n : ℕ) (k : KeptRows) (c i : ℕ) (x : Option ℕ) (y e : List ℤ)
+    (extents : List Extent) → AreKept n k → c < n → x ≡ get_or k.places.items c x → x ≡ Some i →
+    y ≡ get_or k.rows.items i y → e ≡ y → extents ≡ k.extents.items →
+    IsExtent (get_or extents i no_extent).bound (get_or extents i no_extent).end e
+extent_in n k c i x y e extents h below x_is is y_is e_is same =
     let (inside, at) = kept_there n k c i x h below x_is is in
-    let known : i < length k.extents.items = omega (arith, inside, h.extents.rows_are) in
-    subst₂ (λ (z : Extent) (zs : List ℤ). IsExtent z.bound z.end zs)
-    (sym (b_is ∙ get_or_default k.extents.items i b no_extent known))
+    subst₂ (λ (zs : List Extent) (xs : List ℤ).
+    IsExtent (get_or zs i no_extent).bound (get_or zs i no_extent).end xs) (sym same)
     (sym (row_read k.rows.items i y e inside y_is e_is)) (h.extents.extent i inside)
 
 pub none_there : (n : ℕ) (k : KeptRows) (c : ℕ) (x : Option ℕ) → AreKept n k → c < n →

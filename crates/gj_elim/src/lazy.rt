@@ -347,16 +347,19 @@ pub(crate) fn reduce_lazily(
     ensures within { IfOk result (λ r. IsReachedWithin
         (length row.old) kept.now.log.items r row.new exact.new) }
 {
+    let rows = kept.rows.as_slice();
+    let extents = kept.extents.as_slice();
+    let places = kept.places.as_slice();
     let mut extent = first_extent;
     let mut is_stepped = false;
     for column in 0..row.len() {
         if row[column] != 0 {
-            let Some(place) = kept.places[column] else {
+            let Some(place) = places[column] else {
                 return Ok(Reached::End(Some(column as u32)));
             };
             let next = step(
-                kept.rows[place as usize].as_slice(),
-                kept.extents[place as usize],
+                rows[place as usize].as_slice(),
+                extents[place as usize],
                 row,
                 extent,
                 column,

@@ -1,7 +1,7 @@
-use Rattle.std.proofs.Common.{rules, length, pos, get_or, [], ◌∷◌, ◌++◌, refl, sym, ap, ◌∙◌, arith}
+use Rattle.std.proofs.Common.{rules, ℤ, List, length, pos, get_or, [], ◌∷◌, ◌++◌, refl, sym, ap, ◌∙◌, arith}
 use Rattle.gj_shape.specs.Elimination.{inserted}
 use Rattle.gj_elim.specs.Tables.{rows_of}
-use Rattle.gj_elim.proofs.KeptTables.{kept_row_read, extent_read, none_there, free_there}
+use Rattle.gj_elim.proofs.KeptTables.{kept_row_read, place_in, extent_in, none_there, free_there}
 use Rattle.gj_elim.proofs.LazyProgress.{lazy_start, lazy_zero, lazy_more, lazy_kept, lazy_end, lazy_exact, lazy_fits, zero_small, some_small}
 use Rattle.gj_elim.proofs.lazy.reduce_lazily.Goals as goal
 use Rattle.gj_elim.proofs.lazy.reduce_lazily.Goals.{then-row-column-ne0+in-Some+in-Some-next+in_ok-reserve-in-Some-next, else-row-column-ne0}
@@ -22,46 +22,57 @@ returns-in_default-clause-reached c =
     c.loop-column.extent.end c.loop-column.invariant (omega arith)
     (some_small (get_or c.loop-column.row c.loop-column.column (pos 0))
     c.if-row-column-ne0.true)
-    (none_there (length c.args.row.now) c.args.kept.now c.loop-column.column c.index.result.now
-    c.requires.kept (omega arith) c.index.ensures c.in_default.is)
+    (none_there (length c.args.row.now) c.args.kept.now c.loop-column.column _ c.requires.kept
+    (omega arith) (place_in (length c.args.row.now) c.args.kept.now c.loop-column.column _
+    c.requires.kept (omega arith) c.as_slice-places.ensures.value) c.in_default.is)
 
 pub returns-in_default-clause-within : goal.returns-in_default-clause-within
 returns-in_default-clause-within c = (
   lazy_fits c.loop-column.extent.bound c.loop-column.extent.end c.loop-column.row
       c.loop-column.invariant.extent c.loop-column.invariant.bounded,
-  free_there (length c.args.row.now) c.args.kept.now c.loop-column.column c.index.result.now
-      c.requires.kept (omega arith) c.index.ensures c.in_default.is,
+  free_there (length c.args.row.now) c.args.kept.now c.loop-column.column _ c.requires.kept
+      (omega arith) (place_in (length c.args.row.now) c.args.kept.now c.loop-column.column _
+      c.requires.kept (omega arith) c.as_slice-places.ensures.value) c.in_default.is,
 )
 
 pub step-next-requires-clause-columns : goal.step-next-requires-clause-columns
 step-next-requires-clause-columns c =
     let row = kept_row_read (length c.args.row.now) c.args.kept.now c.loop-column.column
-    c.in-Some.place
-    c.index.result.now _ c.as_slice.result.now c.requires.kept (omega arith) c.index.ensures
-    c.in-Some.is c.index-then-row-column-ne0.ensures c.as_slice.ensures in
+    c.in-Some.place _ _ c.as_slice.result.now c.requires.kept (omega arith)
+    (place_in (length c.args.row.now) c.args.kept.now c.loop-column.column _ c.requires.kept
+    (omega arith) c.as_slice-places.ensures.value)
+    c.in-Some.is (c.index-rows-place.is ∙ ap (λ (l : List (List ℤ)). get_or l c.in-Some.place
+    c.index-rows-place.result) c.as_slice-rows.ensures.value) c.as_slice.ensures in
     row.pivot.columns ∙ sym c.loop-column.auto.row
 
 pub step-next-requires-clause-kept_extent : goal.step-next-requires-clause-kept_extent
 step-next-requires-clause-kept_extent c =
-    extent_read (length c.args.row.now) c.args.kept.now c.loop-column.column c.in-Some.place
-    c.index.result.now _ c.as_slice.result.now _ c.requires.kept (omega arith) c.index.ensures
-    c.in-Some.is c.index-then-row-column-ne0.ensures c.as_slice.ensures
-    c.index-then-row-column-ne0-2.ensures
+    extent_in (length c.args.row.now) c.args.kept.now c.loop-column.column c.in-Some.place _ _
+    c.as_slice.result.now _ c.requires.kept (omega arith)
+    (place_in (length c.args.row.now) c.args.kept.now c.loop-column.column _ c.requires.kept
+    (omega arith) c.as_slice-places.ensures.value)
+    c.in-Some.is (c.index-rows-place.is ∙ ap (λ (l : List (List ℤ)). get_or l c.in-Some.place
+    c.index-rows-place.result) c.as_slice-rows.ensures.value) c.as_slice.ensures
+    c.as_slice-extents.ensures.value
 
 pub step-next-requires-clause-kept_zero : goal.step-next-requires-clause-kept_zero
 step-next-requires-clause-kept_zero c =
     let row = kept_row_read (length c.args.row.now) c.args.kept.now c.loop-column.column
-    c.in-Some.place
-    c.index.result.now _ c.as_slice.result.now c.requires.kept (omega arith) c.index.ensures
-    c.in-Some.is c.index-then-row-column-ne0.ensures c.as_slice.ensures in
+    c.in-Some.place _ _ c.as_slice.result.now c.requires.kept (omega arith)
+    (place_in (length c.args.row.now) c.args.kept.now c.loop-column.column _ c.requires.kept
+    (omega arith) c.as_slice-places.ensures.value)
+    c.in-Some.is (c.index-rows-place.is ∙ ap (λ (l : List (List ℤ)). get_or l c.in-Some.place
+    c.index-rows-place.result) c.as_slice-rows.ensures.value) c.as_slice.ensures in
     row.pivot.zero_before
 
 pub step-next-requires-clause-positive : goal.step-next-requires-clause-positive
 step-next-requires-clause-positive c =
     let row = kept_row_read (length c.args.row.now) c.args.kept.now c.loop-column.column
-    c.in-Some.place
-    c.index.result.now _ c.as_slice.result.now c.requires.kept (omega arith) c.index.ensures
-    c.in-Some.is c.index-then-row-column-ne0.ensures c.as_slice.ensures in
+    c.in-Some.place _ _ c.as_slice.result.now c.requires.kept (omega arith)
+    (place_in (length c.args.row.now) c.args.kept.now c.loop-column.column _ c.requires.kept
+    (omega arith) c.as_slice-places.ensures.value)
+    c.in-Some.is (c.index-rows-place.is ∙ ap (λ (l : List (List ℤ)). get_or l c.in-Some.place
+    c.index-rows-place.result) c.as_slice-rows.ensures.value) c.as_slice.ensures in
     row.pivot.positive
 
 pub returns-in-None-clause-reached : goal.returns-in-None-clause-reached
@@ -78,9 +89,12 @@ loop-column-preserved c =
     elim c.if-row-column-ne0.branch [
       | then-row-column-ne0+in-Some+in-Some-next+in_ok-reserve-in-Some-next w ↦
           let row = kept_row_read (length c.args.row.now) c.args.kept.now c.loop-column.column
-          w.in-Some.place
-          w.index.result.now _ w.as_slice.result.now c.requires.kept (omega arith) w.index.ensures
-          w.in-Some.is w.index-then-row-column-ne0.ensures w.as_slice.ensures in
+          w.in-Some.place _ _ w.as_slice.result.now c.requires.kept (omega arith)
+          (place_in (length c.args.row.now) c.args.kept.now c.loop-column.column _
+          c.requires.kept (omega arith) c.as_slice-places.ensures.value)
+          w.in-Some.is (w.index-rows-place.is ∙ ap (λ (l : List (List ℤ)). get_or l
+          w.in-Some.place w.index-rows-place.result) c.as_slice-rows.ensures.value)
+          w.as_slice.ensures in
           let on = lazy_more (inserted (length c.args.row.now)
           (rows_of c.args.kept.now) c.args.row.now)
           (rows_of c.args.kept.now)
