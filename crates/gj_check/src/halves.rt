@@ -105,6 +105,7 @@ pub fn refinement_of(shape: &Shape, order: u32, scale: i128) -> Option<Refinemen
 }
 
 /// The first pair that breaks `range` or `average`.
+#[inline(never)]
 fn failure_in_pairs(shape: &Shape, halves: &Halves, refinement: Refinement) -> Option<PairFailure>
     requires halves { AreHalvesInBounds halves.now }
     requires limits { IsWithinBounds shape.now }

@@ -350,6 +350,7 @@ pub(crate) fn reduce_lazily(
     let rows = kept.rows.as_slice();
     let extents = kept.extents.as_slice();
     let places = kept.places.as_slice();
+    reduce.reserve(row.len())?;
     let mut extent = first_extent;
     let mut is_stepped = false;
     for column in 0..row.len() {
@@ -369,7 +370,6 @@ pub(crate) fn reduce_lazily(
             match next {
                 None => return Ok(Reached::Column(column)),
                 Some(after) => {
-                    reduce.reserve(1)?;
                     reduce.push_reserved(column as u32);
                     extent = after;
                     is_stepped = true;

@@ -1,17 +1,19 @@
-use Rattle.std.proofs.Common.{rules, ℤ, List, length, pos, get_or, [], ◌∷◌, ◌++◌, refl, sym, ap, ◌∙◌, arith}
+use Rattle.std.proofs.Common.{rules, ℤ, List, length, pos, get_or, refl, sym, ap, ◌∙◌, arith}
 use Rattle.gj_shape.specs.Elimination.{inserted}
 use Rattle.gj_elim.specs.Tables.{rows_of}
 use Rattle.gj_elim.proofs.KeptTables.{kept_row_read, place_in, extent_in, none_there, free_there}
 use Rattle.gj_elim.proofs.LazyProgress.{lazy_start, lazy_zero, lazy_more, lazy_kept, lazy_end, lazy_exact, lazy_fits, zero_small, some_small}
 use Rattle.gj_elim.proofs.lazy.reduce_lazily.Goals as goal
-use Rattle.gj_elim.proofs.lazy.reduce_lazily.Goals.{then-row-column-ne0+in-Some+in-Some-next+in_ok-reserve-in-Some-next, else-row-column-ne0}
+use Rattle.gj_elim.proofs.lazy.reduce_lazily.Goals.{then-row-column-ne0+in-Some+in-Some-next, else-row-column-ne0}
 
 pub loop-column-init : goal.loop-column-init
-loop-column-init c =
-    lazy_start (rows_of c.args.kept.now)
-    (length c.args.row.now) c.args.row.now c.args.reduce.now.items c.args.first_extent.bound
-    c.args.first_extent.end refl c.requires.empty
-    c.requires.extent c.requires.bound
+loop-column-init c = record {
+  lazy = lazy_start (rows_of c.args.kept.now)
+      (length c.args.row.now) c.args.row.now c.reserve.new.self.items c.args.first_extent.bound
+      c.args.first_extent.end refl (c.reserve.ensures.items ∙ c.requires.empty)
+      c.requires.extent c.requires.bound;
+  room = omega (arith, c.in_ok-reserve.ensures.ok);
+}
 
 pub returns-in_default-clause-reached : goal.returns-in_default-clause-reached
 returns-in_default-clause-reached c =
@@ -19,7 +21,7 @@ returns-in_default-clause-reached c =
     c.args.row.now) (rows_of c.args.kept.now)
     (length c.args.row.now) c.loop-column.column
     c.loop-column.row c.loop-column.reduce.items c.loop-column.is_stepped c.loop-column.extent.bound
-    c.loop-column.extent.end c.loop-column.invariant (omega arith)
+    c.loop-column.extent.end c.loop-column.invariant.lazy (omega arith)
     (some_small (get_or c.loop-column.row c.loop-column.column (pos 0))
     c.if-row-column-ne0.true)
     (none_there (length c.args.row.now) c.args.kept.now c.loop-column.column _ c.requires.kept
@@ -29,7 +31,7 @@ returns-in_default-clause-reached c =
 pub returns-in_default-clause-within : goal.returns-in_default-clause-within
 returns-in_default-clause-within c = (
   lazy_fits c.loop-column.extent.bound c.loop-column.extent.end c.loop-column.row
-      c.loop-column.invariant.extent c.loop-column.invariant.bounded,
+      c.loop-column.invariant.lazy.extent c.loop-column.invariant.lazy.bounded,
   free_there (length c.args.row.now) c.args.kept.now c.loop-column.column _ c.requires.kept
       (omega arith) (place_in (length c.args.row.now) c.args.kept.now c.loop-column.column _
       c.requires.kept (omega arith) c.as_slice-places.ensures.value) c.in_default.is,
@@ -82,12 +84,12 @@ returns-in-None-clause-reached c =
     (length c.args.row.now) c.loop-column.column
     c.loop-column.row c.step-next.new.exact c.loop-column.reduce.items c.loop-column.is_stepped
     c.loop-column.extent.bound
-    c.loop-column.extent.end c.loop-column.invariant (c.in-None.ensures.exact refl)
+    c.loop-column.extent.end c.loop-column.invariant.lazy (c.in-None.ensures.exact refl)
 
 pub loop-column-preserved : goal.loop-column-preserved
 loop-column-preserved c =
     elim c.if-row-column-ne0.branch [
-      | then-row-column-ne0+in-Some+in-Some-next+in_ok-reserve-in-Some-next w ↦
+      | then-row-column-ne0+in-Some+in-Some-next w ↦
           let row = kept_row_read (length c.args.row.now) c.args.kept.now c.loop-column.column
           w.in-Some.place _ _ w.as_slice.result.now c.requires.kept (omega arith)
           (place_in (length c.args.row.now) c.args.kept.now c.loop-column.column _
@@ -102,14 +104,12 @@ loop-column-preserved c =
           c.loop-column.row w.step-next.new.row w.as_slice.result.now c.loop-column.reduce.items
           w.push_reserved.new.self.items c.loop-column.is_stepped
           c.loop-column.extent.bound c.loop-column.extent.end w.in-Some-next.after.bound
-          w.in-Some-next.after.end c.loop-column.invariant (omega arith)
+          w.in-Some-next.after.end c.loop-column.invariant.lazy (omega arith)
           (some_small (get_or c.loop-column.row c.loop-column.column (pos 0))
           w.if-row-column-ne0.true)
           row.here
           row.pivot
-          w.in-Some-next.ensures.step (w.push_reserved.ensures.items
-          ∙ ap (λ xs. xs ++ c.loop-column.column ∷ [])
-          w.in_ok-reserve-in-Some-next.ensures.items)
+          w.in-Some-next.ensures.step w.push_reserved.ensures.items
           w.in-Some-next.ensures.extent w.in-Some-next.ensures.bound in
           rw (
             w.row-is,
@@ -117,8 +117,17 @@ loop-column-preserved c =
             ap (λ e. e.bound) w.extent-is,
             ap
                 (λ e. e.end) w.extent-is,
-            ap (λ v. v.items) w.reduce-is,
-          ) on
+            w.reduce-is,
+          ) (record {
+            lazy = on;
+            room = omega (
+              arith,
+              w.push_reserved.ensures.len,
+              w.push_reserved.ensures.capacity,
+              c.loop-column.invariant.room,
+              c.loop-column-test.true,
+            );
+          })
       | else-row-column-ne0 w ↦
           let zero = zero_small (get_or c.loop-column.row c.loop-column.column (pos 0))
           (search rules) w.if-row-column-ne0.false in
@@ -127,7 +136,7 @@ loop-column-preserved c =
           (rows_of c.args.kept.now)
           (length c.args.row.now) c.loop-column.column
           c.loop-column.row c.loop-column.reduce.items c.loop-column.is_stepped
-          c.loop-column.extent.bound c.loop-column.extent.end c.loop-column.invariant
+          c.loop-column.extent.bound c.loop-column.extent.end c.loop-column.invariant.lazy
           (omega arith) zero in
           rw (
             w.row-is,
@@ -135,8 +144,8 @@ loop-column-preserved c =
             ap (λ e. e.bound) w.extent-is,
             ap
                 (λ e. e.end) w.extent-is,
-            ap (λ v. v.items) w.reduce-is,
-          ) on
+            w.reduce-is,
+          ) (record { lazy = on; room = omega (arith, c.loop-column.invariant.room) })
     ]
 
 pub returns-clause-reached : goal.returns-clause-reached
@@ -145,9 +154,9 @@ returns-clause-reached c =
     c.args.row.now) (rows_of c.args.kept.now)
     (length c.args.row.now) c.loop-column.column
     c.loop-column.row c.loop-column.reduce.items c.loop-column.is_stepped c.loop-column.extent.bound
-    c.loop-column.extent.end c.loop-column.invariant (omega arith)
+    c.loop-column.extent.end c.loop-column.invariant.lazy (omega arith)
 
 pub returns-clause-within : goal.returns-clause-within
 returns-clause-within c =
     lazy_fits c.loop-column.extent.bound c.loop-column.extent.end c.loop-column.row
-    c.loop-column.invariant.extent c.loop-column.invariant.bounded
+    c.loop-column.invariant.lazy.extent c.loop-column.invariant.lazy.bounded
