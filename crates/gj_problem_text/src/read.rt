@@ -1,8 +1,10 @@
 //! Problem texts, read.
-ghost use Rattle.std.specs.Prelude.{◌≡◌, ◌≤◌, List, ℕ, length, IfOk, IfErr, OnOk};
+ghost use Rattle.std.specs.Prelude.{◌≡◌, ◌≤◌, List, ℕ, codes, length, IfOk, IfErr, OnOk};
+ghost use Rattle.std.specs.Prelude.{IfSome, IfNone, OnSome};
 ghost use Rattle.std.specs.Prelude.{MatchResult};
 ghost use Rattle.gj_forms.specs.LineFaults.{IsRefusedFor};
-ghost use Rattle.gj_forms.specs.Parts.{line_part, IsFaultOf};
+ghost use Rattle.gj_forms.specs.Parts.{BeginsWithWord, IsFaultOf, IsNoLine};
+ghost use Rattle.gj_forms.specs.TextLines.{HasLine};
 ghost use Rattle.gj_lex.specs.Words.{word_texts};
 ghost use Rattle.gj_problem_text.specs.FirstFault.{IsMemoryFault, NamesFirstFault};
 ghost use Rattle.gj_problem_text.specs.ProblemText.{no_task, lines_part, problem_text};
@@ -16,7 +18,9 @@ use crate::lines::line_in;
 use crate::places::Places;
 use crate::steps::with_line;
 use crate::task::Task;
-use gj_forms::{LineFault, PartFault, begins_with_word, end_at, line_at, line_number, words_at};
+use gj_forms::{
+    LineFault, PartFault, TextLine, behind_name, end_at, line_at, line_number, words_at,
+};
 use gj_lex::Spelling;
 use gj_problem::Problem;
 use gj_shape::List;
@@ -78,8 +82,13 @@ fn lines_at(alloc: Global, text: &[u8]) -> Result<(Task, &[u8]), PartFault>
     let mut task = no_task(alloc);
     let mut places = Places::none(alloc);
     let mut rest = text;
-    while !begins_with_word(Spelling::Lenient, rest, b"end") {
-        rest = one_more_at(alloc, &mut task, &mut places, rest)?;
+    while let Some(line) = line_before_end(rest)? {
+        match with_line_of(alloc, &mut task, &mut places, line.bytes) {
+            Ok(()) => {}
+            Err(LineFault::Broken(reason)) => return Err(PartFault::at(line.start, reason)),
+            Err(LineFault::Memory(error)) => return Err(PartFault::Memory(error)),
+        }
+        rest = line.rest;
     }
     let rest = words_at(Spelling::Lenient, rest, b"end")?;
     Ok((task, rest))
@@ -103,28 +112,20 @@ fn no_task(alloc: Global) -> Task
     }
 }
 
-/// Adds the next line to the task, and gives what follows that line. The places are those of the
-/// task's columns.
-fn one_more_at<'a>(
-    alloc: Global,
-    task: &mut Task,
-    places: &mut Places<'a>,
-    text: &'a [u8],
-) -> Result<&'a [u8], PartFault>
-    requires few { length task.old.names ≤ most_columns }
-    requires places { places.old ≡ task.old.names }
-    ensures found { IfOk result (λ rest.
-        (line_part Spelling.Lenient (task_rule task.old)).Reads text.now task.new rest.now) }
-    ensures few { OnOk result (length task.new.names ≤ most_columns) }
-    ensures places { OnOk result (places.new ≡ task.new.names) }
-    ensures fault { IfErr result
-        (IsFaultOf (line_part Spelling.Lenient (task_rule task.old)) text.now) }
+/// The next line of the text, or none if its first word is `end`.
+fn line_before_end(text: &[u8]) -> Result<Option<TextLine<'_>>, PartFault>
+    ensures line { IfOk result (λ found. IfSome found (λ l. HasLine Spelling.Lenient text.now
+        l.start.now (word_texts l.bytes.now) l.rest.now)) }
+    ensures other { IfOk result (λ found. OnSome found
+        (BeginsWithWord Spelling.Lenient (codes "end") text.now → ⊥)) }
+    ensures end { IfOk result (λ found. IfNone found
+        (BeginsWithWord Spelling.Lenient (codes "end") text.now)) }
+    ensures fault { IfErr result (IsNoLine Spelling.Lenient text.now) }
 {
     let line = line_at(Spelling::Lenient, text)?;
-    match with_line_of(alloc, task, places, line.bytes) {
-        Ok(()) => Ok(line.rest),
-        Err(LineFault::Broken(reason)) => Err(PartFault::at(line.start, reason)),
-        Err(LineFault::Memory(error)) => Err(PartFault::Memory(error)),
+    match behind_name(line.bytes, b"end") {
+        Some(_) => Ok(None),
+        None => Ok(Some(line)),
     }
 }
 

@@ -1,43 +1,83 @@
-use Rattle.std.proofs.Common.{refl}
-use Rattle.std.proofs.lemmas.Bool.{false≢true}
+use Rattle.std.proofs.Common.{ap, ◌∙◌, subst, codes, IfSome, IfNone, OnSome, length}
 use Rattle.std.proofs.lemmas.Result.{err_from_is_err_and}
+use Rattle.gj_lex.specs.Words.{word_texts}
+use Rattle.gj_lex.specs.declared.reason.Reason.{Reason}
 use Rattle.gj_lex.specs.declared.spelling.Spelling.TheVariants.{Lenient}
-use Rattle.gj_forms.specs.Parts.{IsFaultOf}
-use Rattle.gj_forms.proofs.PartLaws.{passed_on}
-use Rattle.gj_forms.proofs.WhereLaws.{shorter_behind_line}
+use Rattle.gj_forms.specs.LineFaults.{IsRefusedFor}
+use Rattle.gj_forms.specs.Parts.{BeginsWithWord, IsFaultOf}
+use Rattle.gj_forms.specs.TextLines.{HasLine}
+use Rattle.gj_forms.specs.declared.fault.PartFault.TheVariants.{Refused}
+use Rattle.gj_forms.proofs.PartLaws.{passed_on, line_refused, no_line_refused}
+use Rattle.gj_forms.proofs.WhereLaws.{begins_nothing, shorter_behind_line}
 use Rattle.gj_problem_text.specs.ProblemText.{lines_part}
 use Rattle.gj_problem_text.specs.Tasks.{task_rule}
 use Rattle.gj_problem_text.proofs.LinesOfProblem.{line_on, fault_in_line, lines_end, fault_at_end}
 use Rattle.gj_problem_text.proofs.read.lines_at.Goals as goal
 
-pub returns-in_err-rest-clause-fault : goal.returns-in_err-rest-clause-fault
-returns-in_err-rest-clause-fault c =
+pub returns-in_err-line-clause-fault : goal.returns-in_err-line-clause-fault
+returns-in_err-line-clause-fault c =
+    let rest = c.loop-places.rest.now in
+    let none = c.in_err-line.ensures.fault in
     let p = err_from_is_err_and c.from_residual.result c.from_residual.ensures.1 in
     passed_on (IsFaultOf lines_part c.args.text.now) _ _ _ p.1 p.2
-    (fault_in_line c.args.text.now _ _ c.loop-alloc.invariant.leads _
-    (λ is. false≢true (c.loop-alloc-test.ensures.1 is)) c.in_err-rest.ensures.fault)
+    (fault_in_line c.args.text.now _ _ c.loop-places.invariant.leads _
+    (begins_nothing Lenient rest (codes "end") _ none)
+    (no_line_refused Lenient (task_rule c.loop-places.task) rest _ none))
 
-pub loop-alloc-smaller : goal.loop-alloc-smaller
-loop-alloc-smaller c =
-    shorter_behind_line Lenient (task_rule c.loop-alloc.task) _ _ _ c.in_ok-rest.ensures.found
+pub returns-in-Err-Broken-clause-fault : goal.returns-in-Err-Broken-clause-fault
+returns-in-Err-Broken-clause-fault c =
+    let rest = c.loop-places.rest.now in
+    let line = subst (λ o. IfSome o (λ l. HasLine Lenient rest l.start.now
+    (word_texts l.bytes.now) l.rest.now)) c.in-Some.is c.in_ok-line.ensures.line in
+    let other = subst (λ o. OnSome o (BeginsWithWord Lenient (codes "end") rest → ⊥)) c.in-Some.is
+    c.in_ok-line.ensures.other in
+    fault_in_line c.args.text.now _ _ c.loop-places.invariant.leads _ other
+    (line_refused Lenient (task_rule c.loop-places.task) rest c.in-Some.line.start.now
+    (word_texts c.in-Some.line.bytes.now) c.in-Some.line.rest.now c.in-Err-Broken.reason _ line
+    (subst (IsRefusedFor ((task_rule c.loop-places.task).Breaks
+    (word_texts c.in-Some.line.bytes.now))) c.in-Err-Broken.field-0-is
+    c.in-Err-Broken.ensures.broken) (c.at.ensures
+    ∙ ap (λ (e : Reason). Refused (length c.in-Some.line.start.now) e) c.in-Err-Broken.reason-is))
 
-pub loop-alloc-preserved : goal.loop-alloc-preserved
-loop-alloc-preserved c = record {
-  few = c.in_ok-rest.ensures.few;
-  places = c.in_ok-rest.ensures.places;
-  leads = line_on c.args.text.now _ _ c.loop-alloc.invariant.leads _ _
-      (λ is. false≢true (c.loop-alloc-test.ensures.1 is)) c.in_ok-rest.ensures.found;
-}
+pub loop-places-smaller : goal.loop-places-smaller
+loop-places-smaller c =
+    let rest = c.loop-places.rest.now in
+    let line = subst (λ o. IfSome o (λ l. HasLine Lenient rest l.start.now
+    (word_texts l.bytes.now) l.rest.now)) c.in-Some.is c.in_ok-line.ensures.line in
+    shorter_behind_line Lenient (task_rule c.loop-places.task) rest c.in-Some.line.rest.now
+    c.with_line_of.new.task
+    (c.in-Some.line.start.now, word_texts c.in-Some.line.bytes.now, line, c.in-Ok.ensures.found)
 
-pub returns-in_err-rest-2-clause-fault : goal.returns-in_err-rest-2-clause-fault
-returns-in_err-rest-2-clause-fault c =
-    let p = err_from_is_err_and c.from_residual-in_err-rest-2.result
-    c.from_residual-in_err-rest-2.ensures.1 in
+pub loop-places-preserved : goal.loop-places-preserved
+loop-places-preserved c =
+    let rest = c.loop-places.rest.now in
+    let line = subst (λ o. IfSome o (λ l. HasLine Lenient rest l.start.now
+    (word_texts l.bytes.now) l.rest.now)) c.in-Some.is c.in_ok-line.ensures.line in
+    let other = subst (λ o. OnSome o (BeginsWithWord Lenient (codes "end") rest → ⊥)) c.in-Some.is
+    c.in_ok-line.ensures.other in
+    record {
+      few = c.in-Ok.ensures.few;
+      places = c.in-Ok.ensures.places;
+      leads = line_on c.args.text.now _ _ c.loop-places.invariant.leads _ _ other (
+        c.in-Some.line.start.now,
+        word_texts c.in-Some.line.bytes.now,
+        line,
+        c.in-Ok.ensures.found,
+      );
+    }
+
+pub returns-in_err-rest-clause-fault : goal.returns-in_err-rest-clause-fault
+returns-in_err-rest-clause-fault c =
+    let ended = subst (λ o. IfNone o (BeginsWithWord Lenient (codes "end")
+    c.loop-places.rest.now)) c.in_default.is c.in_ok-line.ensures.end in
+    let p = err_from_is_err_and c.from_residual-in_err-rest.result
+    c.from_residual-in_err-rest.ensures.1 in
     passed_on (IsFaultOf lines_part c.args.text.now) _ _ _ p.1 p.2
-    (fault_at_end c.args.text.now _ _ c.loop-alloc.invariant.leads _
-    (c.loop-alloc-test.ensures.0 refl) c.in_err-rest-2.ensures.fault)
+    (fault_at_end c.args.text.now _ _ c.loop-places.invariant.leads _ ended
+    c.in_err-rest.ensures.fault)
 
 pub returns-clause-found : goal.returns-clause-found
 returns-clause-found c =
-    lines_end c.args.text.now _ _ c.loop-alloc.invariant.leads _ (c.loop-alloc-test.ensures.0 refl)
-    c.in_ok-rest-2.ensures.found
+    let ended = subst (λ o. IfNone o (BeginsWithWord Lenient (codes "end")
+    c.loop-places.rest.now)) c.in_default.is c.in_ok-line.ensures.end in
+    lines_end c.args.text.now _ _ c.loop-places.invariant.leads _ ended c.in_ok-rest.ensures.found

@@ -1,0 +1,12 @@
+use Rattle.std.proofs.Common.{codes}
+use Rattle.gj_lex.specs.Words.{word_texts}
+use Rattle.gj_lex.specs.declared.spelling.Spelling.TheVariants.{Lenient}
+use Rattle.gj_forms.proofs.WhereLaws.{begun}
+use Rattle.gj_problem_text.proofs.read.line_before_end.Goals as goal
+
+pub returns-in-None-clause-other : goal.returns-in-None-clause-other
+returns-in-None-clause-other c = λ is.
+    let line = c.in_ok-line.line in
+    let more = begun Lenient c.args.text.now line.start.now (word_texts line.bytes.now)
+    (codes "end") line.rest.now c.in_ok-line.ensures.found is in
+    c.in-None.ensures.none more.0 more.1
