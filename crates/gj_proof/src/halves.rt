@@ -86,6 +86,7 @@ fn head_of(first: &[u8], second: &[u8]) -> Option<HalvesHead>
 
 /// So many pairs of values in the next lines, the first ones and the second ones, and what follows
 /// the lines.
+#[inline(never)]
 fn pairs_at(
     alloc: Global,
     text: &[u8],
@@ -96,8 +97,8 @@ fn pairs_at(
         × (r.0.0.items ≡ map (λ p. p.0) pairs) × (r.0.1.items ≡ map (λ p. p.1) pairs)) }
     ensures fault { IfErr result (IsFaultOf (pairs_part count) text.now) }
 {
-    let mut first = Vec::new(alloc);
-    let mut second = Vec::new(alloc);
+    let mut first = Vec::with_capacity(alloc, count as usize)?;
+    let mut second = Vec::with_capacity(alloc, count as usize)?;
     let mut rest = text;
     for _ in 0..count {
         let ((x, y), behind) = pair_at(rest)?;

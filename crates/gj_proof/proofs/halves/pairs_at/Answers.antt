@@ -4,9 +4,14 @@ use Rattle.gj_forms.specs.Parts.{IsFaultOf}
 use Rattle.gj_lex.proofs.CanonicalTexts.{within_bits}
 use Rattle.gj_forms.proofs.PartLaws.{passed_on}
 use Rattle.gj_proof.specs.ProofGrammar.{pair_form, form_part, pairs_part}
-use Rattle.gj_proof.proofs.ExtremeRead.{pairs_on, pairs_end}
+use Rattle.gj_proof.proofs.ExtremeRead.{pairs_begin, pairs_on, pairs_end}
 use Rattle.gj_forms.proofs.ListRead.{times_at_fault}
 use Rattle.gj_proof.proofs.halves.pairs_at.Goals as goal
+
+pub loop-init : goal.loop-init
+loop-init c =
+    rw (c.in_ok-first.ensures.items, c.in_ok-second.ensures.items)
+    (pairs_begin c.args.count c.args.text.now)
 
 pub loop-preserved : goal.loop-preserved
 loop-preserved c =
@@ -20,7 +25,8 @@ loop-preserved c =
 
 pub returns-in_err-x-clause-fault : goal.returns-in_err-x-clause-fault
 returns-in_err-x-clause-fault c =
-    let p = err_from_is_err_and c.from_residual.result c.from_residual.ensures.1 in
+    let p = err_from_is_err_and c.from_residual-in_err-x.result
+    c.from_residual-in_err-x.ensures.1 in
     passed_on (IsFaultOf (pairs_part c.args.count) c.args.text.now) _ _ _ p.1 p.2
     (times_at_fault (form_part pair_form) c.args.count c.loop.counter _ _ _ c.loop.invariant.leaves
     (omega arith) _ c.in_err-x.ensures.fault)
