@@ -15,6 +15,7 @@ Functions of the package, each with an example in its help:
     cut(rule, columns, rows)        the cuts of rows of whole columns, Cuts
     mixed(rule, columns, rows)      the cuts of rows with continuous columns, Cuts
     safe_cut(columns, constraints, multipliers)   a cut of a mixed-integer program, a SafeCut
+    safe_cuts(columns, constraints, sums)         the cuts of many sums of one program
     Derivation(columns, constraints)              your own cuts, step by step, each by what shows it
     fill(function), times(function, n, j), mirror(function), restrict(function, order)
                                     functions made of functions
@@ -67,7 +68,7 @@ from ._functions import text_of_rule as _text_of_rule
 from ._library import Answer, LibraryMissing, call
 from ._optional import PackageMissing
 from ._plot import Picture, plot, plot_faces
-from ._problems import Column, Constraint, SafeCut, safe_cut
+from ._problems import Column, Constraint, SafeCut, safe_cut, safe_cuts
 from ._refusals import RIGHT, Place, Refused
 from ._refusals import Row as _Row, always as _always
 from ._refusals import places_of_breakpoints as _places_of_breakpoints
@@ -88,7 +89,7 @@ __all__ = [
     "Verdict", "Violation",
     "by_breakpoints", "by_text", "by_values", "call", "check", "covered", "cut", "extreme", "faces",
     "family", "fill", "group", "minimal", "mirror", "mixed", "plot", "plot_faces", "restrict",
-    "safe_cut", "times",
+    "safe_cut", "safe_cuts", "times",
 ]  # fmt: skip
 
 

@@ -35,6 +35,8 @@ def number(given: Number, *place) -> Fraction:
     bool, which for Python is an int."""
     if type(given) is int:
         return Fraction(given)
+    if type(given) is Fraction and type(given.numerator) is type(given.denominator) is int:
+        return given
     if isinstance(given, bool) or not isinstance(given, (str, Decimal, numbers.Rational)):
         raise wrong(given, NUMBER, *place)
     try:

@@ -13,7 +13,7 @@ from ._functions import Function, function as a_function, line, printed
 from ._library import Answer, call
 from ._problems import A_NAME, Column, Constraint, Multiplier, bits_of, column_line, column_place
 from ._problems import columns_of, constraint_lines, constraint_places, constraints_of, name_of
-from ._problems import names_of, rounded
+from ._problems import names_of, rounded, size_of
 from ._refusals import REFUSED, Place
 from ._verdicts import Judgement
 from .sentences import cause_in_words, first_word
@@ -351,8 +351,9 @@ class Derivation:
         rule, by = self._rule(draft, places), self._multipliers(draft, places, before)
         where = [places.words("by", repr(other)) for other in by]
         known = self._known
-        entries = [known[other].entries if other in known else before[other] for other in by]
-        ways = list(rounded(list(draft.by.values()), entries, where, bits))
+        entries = (known[other].entries if other in known else before[other] for other in by)
+        sizes = [size_of(each) for each in entries]
+        ways = list(rounded(list(draft.by.values()), sizes, where.__getitem__, bits))
         if not ways:
             raise ValueError(f"{places.of('by')}: a multiplier has more than 127 bits")
         at_upper = self._at_upper(draft, places)

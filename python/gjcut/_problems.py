@@ -1,11 +1,12 @@
 """Cuts of mixed-integer programs, in their own columns."""
+import functools
 import itertools
 import math
 import numbers
 from collections import abc
 from fractions import Fraction
-from typing import Container, Dict, Iterable, Iterator, List, Mapping, NamedTuple, Optional
-from typing import Sequence, Union
+from typing import Callable, Container, Dict, Iterable, Iterator, List, Mapping, NamedTuple
+from typing import Optional, Sequence, Union
 
 from ._arguments import Number, fields, items, number, text as text_of, whole, word, written, wrong
 from ._asked import refused
@@ -27,8 +28,12 @@ WHOLE, CONTINUOUS, SENSES = "whole", "continuous", ("<=", ">=", "=")
 SIDES = ("the lower bound", "the upper bound")
 # What belongs in the place of a value of another type.
 A_NAME, NAMES, NUMBERS = "a name, which is a str", "a list of names", "a list of numbers"
+SUMS = "a list of lists of numbers, one for each sum"
 A_KIND = f"True or {WHOLE!r}, or False or {CONTINUOUS!r}"
 A_SENSE, ENTRIES = "'<=', '>=' or '='", "a dict with the numbers by the names of columns"
+# A text has at most so many bytes, and all its sums take at most so many steps: one for each
+# column, constraint and entry. Sums that do not fit go into another text.
+MOST_BYTES, MOST_STEPS = 16_777_216, 10**9
 
 
 class Column(NamedTuple):
@@ -122,7 +127,56 @@ def safe_cut(
     >>> [f"{float(value):.3f} {name}" for name, value in cut.entries.items()]
     ['-1.667 x', '-1.667 y', '0.833 z']
     """
-    given = Given(
+    given, ways = _given(columns, constraints, rule, at_upper, grid, round), bits_of(bits)
+    taken = items(multipliers, NUMBERS, "multipliers")
+    return _cuts(given, [taken], lambda _, j: Place("multipliers", j), ways)[0]
+
+
+def safe_cuts(
+    columns: Iterable[Column],
+    constraints: Iterable[Constraint],
+    multipliers: Iterable[Iterable[Multiplier]],
+    rule: Rule = "gmic",
+    at_upper: Iterable[str] = (),
+    grid: Optional[int] = None,
+    round: Optional[int] = ROUND,
+    bits: Optional[int] = None,
+) -> List[SafeCut]:
+    """The cuts of many sums of one mixed-integer program, as a round of cuts needs them: of each
+    list of multipliers the cut that `safe_cut` makes, in their order.
+
+    The program is written and read once for all of them, which takes most of the time of a cut.
+
+    >>> x, y = Column("x", True, 0, None), Column("y", True, 0, None)
+    >>> z = Column("z", False, 0, None)
+    >>> first = Constraint("first", {"x": 2, "y": 1}, "<=", 7)
+    >>> second = Constraint("second", {"x": 1, "y": 3, "z": -1}, "<=", 9)
+    >>> sums = [["3/5", "-1/5"], ["-1/5", "2/5"]]
+    >>> for cut in safe_cuts([x, y, z], [first, second], sums, round=None):
+    ...     print([f"{value} {name}" for name, value in cut.entries.items()], cut.right)
+    ['-5/3 x', '-5/3 y', '5/6 z'] -20/3
+    ['-5/2 x', '-25/4 y', '5/2 z'] -75/4
+    """
+    given, ways = _given(columns, constraints, rule, at_upper, grid, round), bits_of(bits)
+    lists = enumerate(items(multipliers, SUMS, "multipliers"))
+    taken = [items(each, NUMBERS, "multipliers", i) for i, each in lists]
+    return _cuts(given, taken, lambda i, j: Place("multipliers", i, _nth(j)), ways)
+
+
+def _nth(j: Optional[int]) -> Optional[str]:
+    """A multiplier of a sum, as a refusal names it."""
+    return None if j is None else f"multiplier {j}"
+
+
+def _given(
+    columns: Iterable[Column],
+    constraints: Iterable[Constraint],
+    rule: Rule,
+    at_upper: Iterable[str],
+    grid: Optional[int],
+    round: Optional[int],
+) -> Given:
+    return Given(
         _front(rule),
         columns_of(columns),
         constraints_of(constraints),
@@ -130,15 +184,36 @@ def safe_cut(
         None if grid is None else whole(grid, "grid"),
         round_of(round),
     )
-    ways = bits_of(bits)
-    text, found = "".join(_lines(given)), SafeCut({}, None, "wide", "")
-    given_multipliers = items(multipliers, NUMBERS, "multipliers")
-    places = [("multipliers", i) for i, _ in enumerate(given_multipliers)]
-    entries = [constraint.entries for constraint in given.constraints]
-    for tried in rounded(given_multipliers, entries, places, ways):
-        found = _answer(text, given, tried)
-        if found.skipped != "wide":
-            break
+
+
+# The place of a multiplier: the number of its sum, and its own there or None.
+Where = Callable[[int, Optional[int]], Place]
+
+
+class _Sum(NamedTuple):
+    """A sum that is asked for: its number, and its multipliers as fractions."""
+
+    number: int
+    multipliers: Sequence[Fraction]
+
+
+def _cuts(
+    given: Given, sums: Sequence[Sequence[Multiplier]], where: Where, ways: Sequence[int]
+) -> List[SafeCut]:
+    """The cuts of the sums. Those with floats are asked for in each way until none is too wide."""
+    front, found = "".join(_lines(given)), [SafeCut({}, None, "wide", "")] * len(sums)
+    with_floats = any(map(_is_float, itertools.chain(*sums)))
+    sizes = [size_of(each.entries) for each in given.constraints] if with_floats else []
+    tried = [
+        rounded(each, sizes, functools.partial(where, i), ways) for i, each in enumerate(sums)
+    ]
+    left: List[int] = list(range(len(sums)))
+    while left:
+        next_ways = ((i, next(tried[i], None)) for i in left)
+        asked = [_Sum(i, values) for i, values in next_ways if values is not None]
+        for each, cut in zip(asked, _answers(front, given, asked, where)):
+            found[each.number] = cut
+        left = [each.number for each in asked if found[each.number].skipped == "wide"]
     return found
 
 
@@ -284,32 +359,39 @@ def _sense(given: str, *place) -> str:
 
 def rounded(
     multipliers: Sequence[Multiplier],
-    entries: Sequence[Mapping[str, Number]],
-    places: Sequence[Sequence],
+    sizes: Sequence[Fraction],
+    place_of: Callable[[int], Sequence],
     ways: Sequence[int] = BITS,
 ) -> Iterator[List[Fraction]]:
     """The multipliers as fractions, in each way that is tried; without a float there is one. The
-    entries are those of their constraints, the places those of the multipliers, in the words of a
-    `Place`, and the ways how many bits are kept."""
+    sizes are those of their constraints, if there is a float, the place is that of the multiplier
+    with this number, in the words of a `Place`, and the ways say how many bits are kept."""
     floats = [_is_float(given) for given in multipliers]
-    values = [_value(given, *place) for given, place in zip(multipliers, places)]
-    sizes = [Fraction(1)] * len(values)
-    if any(floats):
-        sizes[: len(entries)] = [_size(each) if x else 1 for x, each in zip(values, entries)]
-    greatest = max((abs(x) * size for x, size in zip(values, sizes)), default=0)
-    for bits in ways if any(floats) and greatest else (0,):
+    values = [_value(given, j, place_of) for j, given in enumerate(multipliers)]
+    all_sizes = [*sizes[: len(values)], *[Fraction(1)] * (len(values) - len(sizes))]
+    sized = [abs(x) * size for x, size in zip(values, all_sizes) if x] if any(floats) else []
+    greatest = max(sized, default=0)
+    for bits in ways if greatest else (0,):
         taken = [
             _nearest(x, size, greatest, bits) if is_float and x else x
-            for x, size, is_float in zip(values, sizes, floats)
+            for x, size, is_float in zip(values, all_sizes, floats)
         ]
         # What has more bits cannot be written.
         if not any(is_float and is_wide(x) for x, is_float in zip(taken, floats)):
             yield taken
 
 
-def _size(entries: Mapping[str, Number]) -> Fraction:
+def size_of(entries: Mapping[str, Number]) -> Fraction:
     """The greatest entry of a constraint in absolute value; 1 if all are 0."""
-    return max((abs(number(x)) for x in entries.values()), default=Fraction(0)) or Fraction(1)
+    values = [x if type(x) is int else number(x) for x in entries.values()]
+    try:
+        # A quotient is rounded to the nearest double, so the greatest number has the greatest.
+        doubles = [abs(x.numerator) / x.denominator for x in values]
+        most = max(doubles, default=0.0)
+        values = [x for x, double in zip(values, doubles) if double == most]
+    except OverflowError:
+        pass
+    return Fraction(max(map(abs, values), default=0) or 1)
 
 
 def _nearest(value: Fraction, size: Fraction, greatest: Fraction, bits: int) -> Fraction:
@@ -320,34 +402,73 @@ def _nearest(value: Fraction, size: Fraction, greatest: Fraction, bits: int) -> 
 
 
 def _is_float(given: Multiplier) -> bool:
+    if type(given) in (int, float, Fraction):
+        return type(given) is float
     return isinstance(given, numbers.Real) and not isinstance(given, numbers.Rational)
 
 
-def _value(given: Multiplier, *place) -> Fraction:
+def _value(given: Multiplier, j: int, place_of: Callable[[int], Sequence]) -> Fraction:
+    if type(given) is int:
+        return Fraction(given)
     if not _is_float(given):
-        return number(given, *place)
+        return number(given, *place_of(j))
     if math.isfinite(given):
         return Fraction(float(given))
-    raise ValueError(f"{Place(*place)}: {given!r} is no number: leave this sum out")
+    raise ValueError(f"{Place(*place_of(j))}: {given!r} is no number: leave this sum out")
 
 
-def _answer(front: str, given: Given, multipliers: Sequence[Fraction]) -> SafeCut:
-    words = [written(value, "multipliers", i) for i, value in enumerate(multipliers)]
-    text = front + line("sum", *words) + "end\n"
+def _answers(
+    front: str, given: Given, asked: Sequence[_Sum], where: Where
+) -> Iterator[SafeCut]:
+    """The cuts of these sums, by as few texts as they fit into."""
+    lines = [_sum_line(each, where) for each in asked]
+    steps = len(given.columns) + len(given.constraints)
+    steps += sum(len(constraint.entries) for constraint in given.constraints)
+    room = MOST_BYTES - len(front) - len("end\n")
+    start = 0
+    while start < len(asked):
+        end, used = start, 0
+        while end < len(asked) and (end == start or used + len(lines[end]) <= room):
+            if end > start and (end - start + 1) * steps > MOST_STEPS:
+                break
+            used, end = used + len(lines[end]), end + 1
+        yield from _asked(front, given, asked[start:end], "".join(lines[start:end]), where)
+        start = end
+
+
+def _sum_line(each: _Sum, where: Where) -> str:
+    try:
+        return line("sum", *each.multipliers)
+    except ValueError:
+        # Python writes no more than some thousand digits: the multiplier that has more is named.
+        for j, value in enumerate(each.multipliers):
+            written(value, *where(each.number, j))
+        raise
+
+
+def _asked(
+    front: str, given: Given, sums: Sequence[_Sum], lines: str, where: Where
+) -> Iterator[SafeCut]:
+    """The cuts of sums by one text."""
+    text = f"{front}{lines}end\n"
     status, said = call(WORDS, text)
     if status:
-        raise refused(WORDS, text, Answer(status, said), _place(given, multipliers, said))
-    return _read(said)
+        raise refused(WORDS, text, Answer(status, said), _place(given, sums, said, where))
+    yield from _read(said)
 
 
-def _place(given: Given, multipliers: Sequence[Fraction], said: str) -> Optional[Place]:
-    """The value in the line that is refused: the sum stands in the last line but one."""
+def _place(given: Given, sums: Sequence[_Sum], said: str, where: Where) -> Optional[Place]:
+    """The value in the line that is refused: the sums stand in the last lines but one."""
     found = REFUSED.fullmatch(said)
     if not found:
         return None
-    wide = (i for i, value in enumerate(multipliers) if is_wide(value))
-    places = itertools.chain(_places(given), [Place("multipliers", next(wide, None))])
+    places = itertools.chain(_places(given), (_place_of_sum(each, where) for each in sums))
     return next(itertools.islice(places, int(found[2]) - 1, None), None)
+
+
+def _place_of_sum(each: _Sum, where: Where) -> Place:
+    wide = (j for j, value in enumerate(each.multipliers) if is_wide(value))
+    return where(each.number, next(wide, None))
 
 
 def is_wide(given: Number) -> bool:
@@ -355,14 +476,18 @@ def is_wide(given: Number) -> bool:
     return max(abs(value.numerator), value.denominator) > WIDEST
 
 
-def _read(said: str) -> SafeCut:
-    entries: Dict[str, Fraction] = {}
-    right, skipped = None, None
-    for kind, *words in map(str.split, said.splitlines()):
-        if kind == "cut":
-            right = printed(words[0])
-        elif kind == "term":
-            entries[words[0]] = printed(words[1])
-        elif kind == "skip":
-            skipped = " ".join(words)
-    return SafeCut(entries, right, skipped, said)
+def _read(said: str) -> Iterator[SafeCut]:
+    """The cuts of an answer, each with the text that an answer with it alone is."""
+    lines = said.splitlines(keepends=True)
+    starts = [i for i, each in enumerate(lines) if each.startswith(("cut ", "skip "))]
+    for start, end in zip(starts, [*starts[1:], len(lines) - 1]):
+        own = lines[start:end]
+        yield _read_one(own, "".join([*lines[: starts[0]], *own, lines[-1]]))
+
+
+def _read_one(lines: Sequence[str], text: str) -> SafeCut:
+    kind, value = lines[0].rstrip("\n").split(" ", 1)
+    if kind == "skip":
+        return SafeCut({}, None, value, text)
+    terms = (each.split() for each in lines[1:])
+    return SafeCut({name: printed(x) for _, name, x in terms}, printed(value), None, text)

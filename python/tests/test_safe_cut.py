@@ -8,7 +8,8 @@ from decimal import Decimal
 from fractions import Fraction
 
 import gjcut
-from gjcut import Column, Constraint, safe_cut
+from gjcut import Column, Constraint, safe_cut, safe_cuts
+from gjcut import _problems
 from gjcut._problems import BITS, MOST_ROUND, ROUND
 
 exact_cut = functools.partial(safe_cut, round=None)
@@ -273,6 +274,64 @@ class Rounds(unittest.TestCase):
         for wrong in (0, -1, 2**31, 10**400):
             with self.assertRaisesRegex(ValueError, "^round: "):
                 safe_cut(*ONE, [1], round=wrong)
+
+
+class ManySums(unittest.TestCase):
+    """The cuts of many sums are those of each alone."""
+
+    SUMS = [["3/5", "-1/5"], [1, 0], [0.6, -0.2], ["-1/5", Decimal("0.4")], [1e300, 1], [0.6, -0.2]]
+
+    def assert_each_alone(self, problem, sums, **words):
+        alone = [safe_cut(*problem, each, **words) for each in sums]
+        self.assertEqual(safe_cuts(*problem, sums, **words), alone)
+
+    def test_by_hand(self):
+        first, second = safe_cuts(*PROGRAM, [["3/5", "-1/5"], ["-1/5", "2/5"]], round=None)
+        self.assertEqual(numbers_of(first, *"xyz"), fractions("-5/3", "-5/3", "5/6", "-20/3"))
+        self.assertEqual(numbers_of(second, *"xyz"), fractions("-5/2", "-25/4", "5/2", "-75/4"))
+
+    def test_each_alone(self):
+        self.assertEqual(safe_cuts(*PROGRAM, []), [])
+        for words in ({}, {"round": None}, {"grid": 4, "at_upper": ["x"]}, {"bits": 7}):
+            self.assert_each_alone(PROGRAM, self.SUMS, **words)
+        self.assert_each_alone(PROGRAM, self.SUMS, rule=gjcut.family("gmic", "2/5"))
+
+    def test_bits_of_each(self):
+        # With 40 bits the first is too wide, and with 30 it is not. The second is exact.
+        problem = [X], [Constraint("c", {"x": Fraction(7, 3**60)}, "<=", Fraction(7, 2))]
+        self.assertEqual(exact_cut(*problem, [0.7], bits=40).skipped, "wide")
+        self.assertIsNone(exact_cut(*problem, [0.7]).skipped)
+        self.assert_each_alone(problem, [[0.7], [1]], round=None)
+
+    def test_sums_that_do_not_fit_into_one_text(self):
+        for name, most in (("MOST_BYTES", 300), ("MOST_STEPS", 40), ("MOST_STEPS", 1)):
+            kept = getattr(_problems, name)
+            setattr(_problems, name, most)
+            try:
+                self.assert_each_alone(PROGRAM, self.SUMS)
+            finally:
+                setattr(_problems, name, kept)
+
+    def test_places(self):
+        wide = Fraction(1, 2**127)
+        for sums, place in (
+            ([[1, 1], [1]], "multipliers[1]"),
+            ([[1, 1], [1, wide]], "multipliers[1], multiplier 1"),
+        ):
+            with self.assertRaises(gjcut.Refused) as caught:
+                safe_cuts(*PROGRAM, sums)
+            self.assertEqual(str(caught.exception.place), place)
+        for sums, error, said in (
+            (7, TypeError, "^multipliers: .* write a list of lists of numbers"),
+            ([[1, 1], 7], TypeError, r"^multipliers\[1\]: .* write a list of numbers"),
+            ([[1, 1], "11"], TypeError, r"^multipliers\[1\]: .* write a list of numbers"),
+            ([[1, True]], TypeError, r"^multipliers\[0\], multiplier 1: True is a bool"),
+            ([[1, float("nan")]], ValueError, r"^multipliers\[0\], multiplier 1: nan is no number"),
+            ([["x", 1]], ValueError, r"^multipliers\[0\], multiplier 0: 'x' is no fraction"),
+            ([[1, 10**5000]], ValueError, r"^multipliers\[0\], multiplier 1: "),
+        ):
+            with self.assertRaisesRegex(error, said):
+                safe_cuts(*PROGRAM, sums)
 
 
 class Refusals(unittest.TestCase):
