@@ -8,6 +8,7 @@ use Rattle.std.proofs.lemmas.Bool.{cases_Bool}
 use Rattle.std.proofs.lemmas.Bool.Decides.{nat_tests}
 use Rattle.std.proofs.lemmas.List.{length-take-le}
 use Rattle.std.proofs.lemmas.Str.{digit_value_digit}
+use Rattle.std.proofs.lemmas.Str.Parse.{digit_from_value}
 use Rattle.std.proofs.lemmas.List.Elements.{All-append, All-cons, All-nil, All-weaker}
 use Rattle.std.proofs.Math.Seq.{drop-append_seam}
 use Rattle.gj_frac.specs.declared.Frac.{Frac}
@@ -54,10 +55,11 @@ module _ (text near far : List ℕ) (parts : text ≡ near ++ far) (k : ℕ)
   numeral : IsNumeral 10 (take k near)
   numeral = (omega (arith, length-take-le k near within), digits)
 
-  -- digits alone, at most 18 of them
-  pub whole_read : (rest : List ℕ) → rest ≡ drop k text → length near ≤ 18 →
-      (word : List ℕ) × (text ≡ word ++ rest) × IsWritten word top 1 × (top < 10 ^ 18) × (0 ≤ 18)
-  whole_read rest rest_is few =
+  -- digits, at most 18 of them
+  pub number_read : (rest : List ℕ) → rest ≡ drop k text → length near ≤ 18 →
+      (word : List ℕ) × (text ≡ word ++ rest) × IsNumeral 10 word × (top ≡ digits_value 10 word)
+      × (top < 10 ^ 18)
+  number_read rest rest_is few =
       let front = take k near in
       let near_is : text ≡ front ++ (drop k near ++ far) =
       parts ∙ ap (λ b. b ++ far) (sym (take-append-drop k near))
@@ -66,10 +68,17 @@ module _ (text near far : List ℕ) (parts : text ≡ near ++ far) (k : ℕ)
         front,
         behind_word text front (drop k near ++ far) k near_is long
             ∙ ap (λ b. front ++ b) (sym rest_is),
-        whole numeral is refl,
+        numeral,
+        is,
         omega (arith, is, few_digits_small front digits (omega (arith, long, within, few))),
-        omega arith,
       )
+
+  -- and nothing else
+  pub whole_read : (rest : List ℕ) → rest ≡ drop k text → length near ≤ 18 →
+      (word : List ℕ) × (text ≡ word ++ rest) × IsWritten word top 1 × (top < 10 ^ 18) × (0 ≤ 18)
+  whole_read rest rest_is few =
+      let (word, text_is, digits_of, value, small) = number_read rest rest_is few in
+      (word, text_is, whole digits_of value refl, small, omega arith)
 
   -- digits, a point and digits
   pub point_begins : (ds : List ℕ) → drop k near ≡ 46 ∷ ds → (j value : ℕ) →
@@ -134,6 +143,27 @@ no_digit_first (b ∷ text) (c ∷ near) far k is some none other = λ digit.
     (other (omega arith)) in
     let value = digit_value_digit b digit in
     omega (arith, digit, ap digit_value same)
+
+-- where no digit stands first, no number does
+pub no_numeral_first : (text ds rest : List ℕ) → BeginsWithNoDigit text → IsNumeral 10 ds →
+    text ≡ ds ++ rest → ⊥
+no_numeral_first text [] rest none digits is = absurd (omega (arith, digits.0))
+no_numeral_first [] (d ∷ ds) rest none digits is = cc is
+no_numeral_first (b ∷ text) (d ∷ ds) rest none digits is =
+    let same : b ≡ d = cc is in
+    none (subst IsAsciiDigit (sym same) (digit_from_value d digits.1.0))
+
+-- a number, a `/` and a number
+pub ratio_begins : (text behind after front back rest : List ℕ) (n d : ℕ) →
+    text ≡ front ++ behind → behind ≡ 47 ∷ after → after ≡ back ++ rest → IsNumeral 10 front →
+    IsNumeral 10 back → n ≡ digits_value 10 front → d ≡ digits_value 10 back →
+    BeginsWithWritten text n d rest
+ratio_begins text behind after front back rest n d text_is slash after_is first second top bottom = (
+  front ++ 47 ∷ back,
+  text_is ∙ ap (λ b. front ++ b) (slash ∙ ap (λ b. 47 ∷ b) after_is)
+      ∙ sym (append_assoc front (47 ∷ back) rest),
+  ratio front back refl first second top bottom,
+)
 
 -- ---- with a sign
 

@@ -48,40 +48,55 @@ no_digit_ahead (suc j) (b ∷ rest) none some = elim (cases_lt (digit_value b) 1
   | inr other ↦ other
 ]
 
--- the digits at the front of a text are those of the number that stands there, if no more than 18
--- are read and no digit stands behind them
+-- the digits at the front of a text are those that stand there, if no more than 18 are read and no
+-- digit stands behind them
+pub digits_stand : (text front ds rest : List ℕ) (m k : ℕ) → front ≡ take m text →
+    m ≡ min (length text) 18 → AllDigits 10 (take k front) →
+    k ≤ length front → (k < length front → 10 ≤ digit_value (get_or front k 0)) →
+    AllDigits 10 ds → length ds ≤ 18 → BeginsWithNoDigit rest → text ≡ ds ++ rest → k ≡ length ds
+digits_stand text front ds rest m k front_is m_is digits within end spelled few none text_is =
+    let all = length-append ds rest in
+    let seam : m ≡ length ds + (m - length ds) = omega (arith, m_is, few, all, ap length text_is) in
+    let ahead = take (m - length ds) rest in
+    let same : front ≡ ds ++ ahead =
+    front_is ∙ ap (take m) text_is ∙ ap (λ j. take j (ds ++ rest)) seam
+    ∙ take-append-add ds rest (m - length ds) in
+    digits_end ds ahead k (subst (λ w. AllDigits 10 (take k w)) same digits)
+    (subst (λ w. k ≤ length w) same within)
+    (subst (λ w. k < length w → 10 ≤ digit_value (get_or w k 0)) same end) spelled
+    (no_digit_ahead (m - length ds) rest none)
+
+-- as those of a printed number
 pub number_stands : (text front rest : List ℕ) (m k n : ℕ) → front ≡ take m text →
     m ≡ min (length text) 18 → AllDigits 10 (take k front) →
     k ≤ length front → (k < length front → 10 ≤ digit_value (get_or front k 0)) → n < 10 ^ 18 →
     BeginsWithNoDigit rest →
     text ≡ decimal n ++ rest → k ≡ length (decimal n)
 number_stands text front rest m k n front_is m_is digits within end small none text_is =
-    let few : length (decimal n) ≤ 18 =
-    length-decimal-le_wide 18 n (omega arith) small (omega (arith, small)) in
-    let all = length-append (decimal n) rest in
-    let seam : m ≡ length (decimal n) + (m - length (decimal n)) =
-    omega (arith, m_is, few, all, ap length text_is) in
-    let ahead = take (m - length (decimal n)) rest in
-    let same : front ≡ decimal n ++ ahead =
-    front_is ∙ ap (take m) text_is ∙ ap (λ j. take j (decimal n ++ rest)) seam
-    ∙ take-append-add (decimal n) rest (m - length (decimal n)) in
-    digits_end (decimal n) ahead k (subst (λ w. AllDigits 10 (take k w)) same digits)
-    (subst (λ w. k ≤ length w) same within)
-    (subst (λ w. k < length w → 10 ≤ digit_value (get_or w k 0)) same end)
+    digits_stand text front (decimal n) rest m k front_is m_is digits within end
     (decimal_is_IsNumeral_wide n (omega (arith, small))).0.1
-    (no_digit_ahead (m - length (decimal n)) rest none)
+    (length-decimal-le_wide 18 n (omega arith) small (omega (arith, small))) none text_is
+
+-- the digits that stand there, and what follows them
+pub front_taken : (text ds rest : List ℕ) (k : ℕ) → text ≡ ds ++ rest → k ≡ length ds →
+    take k text ≡ ds
+front_taken text ds rest k text_is k_is = ap (λ i. take i text) k_is
+    ∙ ap (take (length ds)) text_is ∙ take-append_seam ds rest
+
+pub front_dropped : (text ds rest : List ℕ) (k : ℕ) → text ≡ ds ++ rest → k ≡ length ds →
+    drop k text ≡ rest
+front_dropped text ds rest k text_is k_is = ap (λ i. drop i text) k_is
+    ∙ ap (drop (length ds)) text_is ∙ drop-append_seam ds rest
 
 module _ (text rest : List ℕ) (k n : ℕ) (small : n < 10 ^ 18) (text_is : text ≡ decimal n ++ rest)
     (k_is : k ≡ length (decimal n)) where
   -- they are its digits
   pub digits_taken : take k text ≡ decimal n
-  digits_taken = ap (λ i. take i text) k_is ∙ ap (take (length (decimal n))) text_is
-      ∙ take-append_seam (decimal n) rest
+  digits_taken = front_taken text (decimal n) rest k text_is k_is
 
   -- and the rest follows them
   pub digits_dropped : drop k text ≡ rest
-  digits_dropped = ap (λ i. drop i text) k_is ∙ ap (drop (length (decimal n))) text_is
-      ∙ drop-append_seam (decimal n) rest
+  digits_dropped = front_dropped text (decimal n) rest k text_is k_is
 
   -- there is a digit, and no zero before others
   pub digits_canonical : (front : List ℕ) → front ≡ take k text →

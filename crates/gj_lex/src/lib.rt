@@ -4,7 +4,8 @@
 //! the words of a line. `fraction_of`, `is_count` and `count_of` read numbers, `print_frac`,
 //! `print_count` and `print_counts` print them, and `push_count_line` a line of a word and a count.
 //! `write_spaced` writes a space and a fraction into a text that has room for them.
-//! No reader of numbers takes memory. `leading_decimal` reads a decimal whose end is not known yet.
+//! No reader of numbers takes memory. `leading_decimal` and `leading_ratio` read a decimal and a
+//! fraction whose end is not known yet.
 //! `printed_fraction`, `printed_whole` and `printed_number` read a number as it is printed, and
 //! `behind_byte` one byte, where the text is read from its front and not cut into words.
 //! `first_line_feed`, `first_blank` and `first_byte` say where a line, a word and blanks end.
@@ -33,7 +34,7 @@ pub use laws::{
     canonical_text_is_a_word, canonical_texts_are_short, count_is_one_word, fraction_is_one_word,
     one_fraction_for_a_text,
 };
-pub use leading::leading_decimal;
+pub use leading::{leading_decimal, leading_ratio};
 pub use lenient::read_number;
 pub use line_feeds::first_line_feed;
 pub use name::{Name, NameFault};
