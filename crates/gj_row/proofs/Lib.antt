@@ -12,4 +12,4 @@ pub mod RowWords
 pub mod HeaderWords
 pub mod Entries
 pub mod Reasons
-pub mod DecimalFields
+pub mod NumberFields

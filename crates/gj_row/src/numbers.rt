@@ -21,7 +21,7 @@ use crate::limits::within;
 use crate::tableau::Entry;
 use csv::ByteRecord;
 use gj_frac::Frac;
-use gj_lex::{Spelling, fraction_of, leading_decimal};
+use gj_lex::{Spelling, fraction_of, leading_decimal, leading_ratio};
 use std::alloc::{AllocError, Global};
 
 /// The greatest number of entries of a tableau that are not 0.
@@ -164,13 +164,56 @@ fn first_decimal(line: &[u8]) -> Option<(Frac, Option<&[u8]>)>
     }
 }
 
+/// The number that the first field of the line spells, and what follows the comma behind it, if the
+/// field is a fraction of two short numbers without a blank. It is read where it stands.
+#[inline(always)]
+fn first_ratio(line: &[u8]) -> Option<(Frac, Option<&[u8]>)>
+    ensures { IfSome result (λ r. BeginsWithEntry line.now r.0 (fields_behind r.1)) }
+{
+    let (x, rest) = leading_ratio(line)?;
+    match rest.split_first() {
+        None => Some((x, None)),
+        Some((b',', behind)) => Some((x, Some(behind))),
+        Some((_, _)) => None,
+    }
+}
+
 /// Adds the number that the first field of the line spells, in whatever form, as the entry for the
 /// column, unless it is 0, and gives the least common denominator with it, and what follows the
 /// comma behind the field. The reason is `Number` if the field spells none.
-// Fractions, fields with blanks and empty fields at the end come here. A call keeps them out of the
-// registers of the loop over decimals.
+// What is no short decimal comes here. A call keeps it out of the registers of the loop over these.
 #[inline(never)]
 fn with_first<'a>(
+    entries: &mut Vec<Entry>,
+    scale: u32,
+    used: usize,
+    column: u32,
+    line: &'a [u8],
+) -> Result<(u32, Option<&'a [u8]>), RecordFault>
+    requires low { 0 < scale }
+    requires high { scale < denominator_bound }
+    requires few { used + length entries.old.items ≤ most_entries }
+    ensures found { IfOk result (λ r. (x : Frac) ×
+        BeginsWithEntry line.now x (fields_behind r.1) ×
+        Extends greatest_number scale x r.0
+        × (entries.new.items ≡ entries.old.items ++ entry_at column x) ×
+        (used + length entries.new.items ≤ most_entries)) }
+    ensures refused { IfErr result (NamesReason (StopsAtFirst line.now scale
+        (used + length entries.old.items))) }
+{
+    match first_ratio(line) {
+        Some((x, behind)) => {
+            let multiple = with_number(entries, scale, used, column, Some(x))?;
+            Ok((multiple, behind))
+        }
+        None => with_field(entries, scale, used, column, line),
+    }
+}
+
+/// The same, for a field that is cut out first.
+// Long numbers, fields with blanks and empty fields at the end come here.
+#[inline(never)]
+fn with_field<'a>(
     entries: &mut Vec<Entry>,
     scale: u32,
     used: usize,

@@ -45,9 +45,9 @@ spells word x h =
     (lenient_bytes word x h)))) (inr h)
 
 -- a number is the whole line
-pub decimal_alone : (line rest : List ℕ) (x : Frac) → BeginsWithFraction line x rest →
+pub number_alone : (line rest : List ℕ) (x : Frac) → BeginsWithFraction line x rest →
     length rest ≡ 0 → BeginsWithEntry line x []
-decimal_alone line [] x (word, is, spelled) none =
+number_alone line [] x (word, is, spelled) none =
     let bytes = All-weaker IsLenientByte (λ b. is_comma b ≡ false) no_comma word
     (lenient_bytes word x spelled) in
     record {
@@ -55,13 +55,13 @@ decimal_alone line [] x (word, is, spelled) none =
       fields_are = ap fields_of_line (is ∙ append-nil word) ∙ slice_split_none is_comma word bytes;
       spelled = spells word x spelled;
     }
-decimal_alone line (b ∷ rest) x begins none = absurd (omega arith)
+number_alone line (b ∷ rest) x begins none = absurd (omega arith)
 
 -- a comma follows it
-pub decimal_first : (line rest behind : List ℕ) (comma : ℕ) (x : Frac) →
+pub number_first : (line rest behind : List ℕ) (comma : ℕ) (x : Frac) →
     BeginsWithFraction line x rest → rest ≡ comma ∷ behind → comma ≡ 44 →
     BeginsWithEntry line x (fields_of_line behind)
-decimal_first line rest behind comma x (word, is, spelled) next at =
+number_first line rest behind comma x (word, is, spelled) next at =
     let bytes = All-weaker IsLenientByte (λ b. is_comma b ≡ false) no_comma word
     (lenient_bytes word x spelled) in
     record {
