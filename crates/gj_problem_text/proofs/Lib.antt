@@ -21,3 +21,4 @@ pub mod TermsOfCuts
 pub mod OneTextOfCuts
 pub mod PrintedTasks
 pub mod PrintedInputs
+pub mod ShortEntries

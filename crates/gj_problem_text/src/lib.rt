@@ -5,6 +5,7 @@
 #![tactic(auto)]
 
 mod answers;
+mod entries;
 mod faults;
 mod input;
 mod laws;

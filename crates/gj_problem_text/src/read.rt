@@ -13,10 +13,11 @@ ghost use Rattle.gj_problem_text.specs.Ready.{IsReady};
 ghost use Rattle.gj_problem_text.specs.SafeInputs.{unruled_text};
 ghost use Rattle.gj_problem_text.specs.Tasks.{most_columns, task_rule};
 
+use crate::entries::{behind_entry, short_entry};
 use crate::faults::ProblemFault;
 use crate::lines::line_in;
 use crate::places::Places;
-use crate::steps::with_line;
+use crate::steps::{with_entry, with_line};
 use crate::task::Task;
 use gj_forms::{
     LineFault, PartFault, TextLine, behind_name, end_at, line_at, line_number, words_at,
@@ -123,6 +124,9 @@ fn line_before_end(text: &[u8]) -> Result<Option<TextLine<'_>>, PartFault>
     ensures fault { IfErr result (IsNoLine Spelling.Lenient text.now) }
 {
     let line = line_at(Spelling::Lenient, text)?;
+    if behind_entry(line.bytes).is_some() {
+        return Ok(Some(line));
+    }
     match behind_name(line.bytes, b"end") {
         Some(_) => Ok(None),
         None => Ok(Some(line)),
@@ -144,6 +148,9 @@ fn with_line_of<'a>(
     ensures broken { IfErr result
         (IsRefusedFor ((task_rule task.old).Breaks (word_texts line.now))) }
 {
+    if let Some((name, value)) = short_entry(line) {
+        return with_entry(alloc, task, places, name, value);
+    }
     let told = line_in(alloc, line)?;
     with_line(alloc, task, places, told)
 }

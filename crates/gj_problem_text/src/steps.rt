@@ -155,8 +155,8 @@ fn with_constraint(
     Ok(())
 }
 
-/// Adds an entry of the last constraint.
-fn with_entry(
+/// Adds an entry of the last constraint. The places are those of the task's columns.
+pub(crate) fn with_entry(
     alloc: Global,
     task: &mut Task,
     places: &Places<'_>,
@@ -205,13 +205,12 @@ fn push_entry(
     requires { constraints.old ≢ [] }
     ensures { OnOk result (AreLonger constraints.old entry constraints.new) }
 {
-    let mut others = mem::replace(constraints, List::of(Vec::new(alloc))).into_vec();
-    let Some(mut last) = others.pop() else {
+    let mut items = mem::replace(constraints, List::of(Vec::new(alloc))).into_vec();
+    let Some(last) = items.last_mut() else {
         unreachable!();
     };
     last.entries.push(entry)?;
-    others.push(last)?;
-    *constraints = List::of(others);
+    *constraints = List::of(items);
     Ok(())
 }
 
