@@ -1,13 +1,11 @@
 -- What a basis of residues keeps behind an insertion.
-use Rattle.std.proofs.Common.{◌≡◌, ◌≢◌, ℕ, ◌<◌, Bool, true, false, if◌then◌else◌, Option, None, Some, ℤ, pos, List, [], ◌∷◌, ◌++◌, Vec, Global, length, map, get_or, refl, sym, ap, ap₂, subst, ◌∙◌, arith}
-use Rattle.std.specs.Prelude.{IfSome}
+use Rattle.std.proofs.Common.{◌≡◌, ◌≢◌, ℕ, ◌<◌, Bool, true, false, if◌then◌else◌, Option, None, Some, ℤ, pos, List, [], ◌∷◌, length, map, get_or, refl, sym, ap, subst, ◌∙◌, arith}
 use Rattle.std.specs.List.{range_with_len, position}
 use Rattle.std.specs.Ordering.{int_eq}
 use Rattle.std.proofs.lemmas.Int.{ints}
-use Rattle.std.specs.Vec.{with_items}
-use Rattle.std.proofs.lemmas.List.{length-map, get_or-map, get_or_default, with_items_is}
-use Rattle.gj_shape.specs.Elimination.{KeptRow, Insertion, at_column, scaled, insertion_by, inserted_by, inserted_at_by, with_pivot, row_with_pivot, Passes}
-use Rattle.gj_shape.specs.Residues.{residues, inverse, times_inverse, modulo, SolvesModulo}
+use Rattle.std.proofs.lemmas.List.{length-map, get_or-map}
+use Rattle.gj_shape.specs.Elimination.{KeptRow, at_column, insertion_by, inserted_by, inserted_at_by, row_with_pivot, Passes}
+use Rattle.gj_shape.specs.Residues.{residues, modulo, SolvesModulo}
 use Rattle.gj_theory.specs.Modulus.{modulus}
 use Rattle.gj_theory.specs.TriangularResidues.{AreTriangularResidues, SolvesKeptModulo}
 use Rattle.gj_theory.proofs.Passing.{none_passes}
@@ -16,11 +14,11 @@ use Rattle.gj_theory.proofs.ResidueSteps.{modulo_sound}
 use Rattle.gj_theory.proofs.Triangular.{kept_row_at}
 use Rattle.gj_elim.specs.Data.{BasisData}
 use Rattle.gj_elim.specs.KeptRows.{log_row}
-use Rattle.gj_elim.specs.Progress.{IsLeft, kept_at}
 use Rattle.gj_elim.specs.declared.log.LogRow.{LogRow}
-use Rattle.gj_elim.proofs.Keeping.{AreBehind, same_length, log_of_kept, length-kept_rows}
-use Rattle.gj_elim.proofs.Places.{has, IsRowAt, place_found, place_none}
-use Rattle.gj_residue.specs.Rows.{numbers_of, kept_residues}
+use Rattle.gj_elim.proofs.Keeping.{AreBehind, log_of_kept, length-kept_rows}
+use Rattle.gj_elim.proofs.Places.{has, IsRowAt, place_found, place_none, row_read}
+use Rattle.gj_residue.specs.Rows.{numbers_of, kept_residues, AreKeptResidues}
+use Rattle.gj_residue.specs.declared.kept.KeptResidues.{KeptResidues}
 use Rattle.gj_residue.proofs.EachEntry.{at_numbers, length-numbers}
 
 -- ---- entries that are 0, and those that are not
@@ -31,94 +29,61 @@ some_number row c some e = let same = at_numbers row c in some (omega (arith, in
 pub zero_number : (row : List ℕ) (c : ℕ) → get_or row c 0 ≡ 0 → at_column (numbers_of row) c ≡ pos 0
 zero_number row c zero = at_numbers row c ∙ ap pos zero
 
--- ---- the kept row with its pivot at a column
+-- ---- the kept rows
 
 pub lines_too : (log : List LogRow) (rows : List (List ℕ)) → length log ≡ length rows →
     length log ≡ length (map numbers_of rows)
 lines_too log rows e = e ∙ sym (length-map rows numbers_of)
 
-pub log_of_residues : (log : List LogRow) (rows : List (List ℕ)) → length log ≡ length rows →
-    log ≡ map log_row (kept_residues log rows)
-log_of_residues log rows e = log_of_kept log (map numbers_of rows) (lines_too log rows e)
+pub log_of_residues : (n : ℕ) (k : KeptResidues) → AreKeptResidues n k →
+    k.log.items ≡ map log_row (kept_residues k)
+log_of_residues n k h =
+    log_of_kept k.log.items (map numbers_of k.rows.items)
+    (lines_too k.log.items k.rows.items h.lines)
 
-pub length-kept_residues : (log : List LogRow) (rows : List (List ℕ)) → length log ≡ length rows →
-    length (kept_residues log rows) ≡ length log
-length-kept_residues log rows e = length-kept_rows log (map numbers_of rows) (lines_too log rows e)
+pub length-kept_residues : (n : ℕ) (k : KeptResidues) → AreKeptResidues n k →
+    length (kept_residues k) ≡ length k.log.items
+length-kept_residues n k h =
+    length-kept_rows k.log.items (map numbers_of k.rows.items)
+    (lines_too k.log.items k.rows.items h.lines)
 
-pub residues_at : (log : List LogRow) (rows : List (List ℕ)) (c i : ℕ) (e : List ℕ) →
-    length log ≡ length rows →
-    Some i ≡ position (has c) log → e ≡ get_or rows i [] →
-    IsRowAt (kept_residues log rows) c (numbers_of e)
-residues_at log rows c i e lines place is =
-    let (inside, (k, found, entries)) =
-    place_found log (map numbers_of rows) c i (lines_too log rows lines) place in
-    (k, found, entries ∙ get_or-map numbers_of rows i [] [] (omega arith) ∙ ap numbers_of (sym is))
+-- a kept row with its pivot at the column
+pub record IsRowRead (n : ℕ) (k : KeptResidues) (c : ℕ) (e : List ℕ) : Type 0 where
+  pub here : IsRowAt (kept_residues k) c (numbers_of e)
+  pub columns : length e ≡ n
 
-pub place_inside : (log : List LogRow) (rows : List (List ℕ)) (c i : ℕ) → length log ≡ length rows →
-    Some i ≡ position (has c) log → i < length rows
-place_inside log rows c i lines place =
-    let found = place_found log (map numbers_of rows) c i (lines_too log rows lines) place in
-    let inside = found.0 in omega arith
+kept_there : (n : ℕ) (k : KeptResidues) (c i : ℕ) (log : List LogRow) → AreKeptResidues n k →
+    log ≡ k.log.items → Some i ≡ position (has c) log →
+    (i < length k.rows.items)
+    × IsRowAt (kept_residues k) c (get_or (map numbers_of k.rows.items) i [])
+kept_there n k c i log h log_is place =
+    let (inside, row) =
+    place_found k.log.items (map numbers_of k.rows.items) c i
+    (lines_too k.log.items k.rows.items h.lines)
+    (place ∙ ap (λ ls. position (has c) ls) log_is) in
+    (subst (λ m. i < m) h.lines inside, row)
 
-pub residues_free : (log : List LogRow) (rows : List (List ℕ)) (c : ℕ) → length log ≡ length rows →
-    None ≡ position (has c) log → row_with_pivot (kept_residues log rows) c ≡ None
-residues_free log rows c lines none =
-    place_none log (map numbers_of rows) c (lines_too log rows lines) none
+pub kept_row_read : (n : ℕ) (k : KeptResidues) (c i : ℕ) (log : List LogRow) (y e : List ℕ) →
+    AreKeptResidues n k → log ≡ k.log.items → Some i ≡ position (has c) log →
+    y ≡ get_or k.rows.items i y → e ≡ y → IsRowRead n k c e
+kept_row_read n k c i log y e h log_is place y_is e_is =
+    let (inside, (row, found, entries)) = kept_there n k c i log h log_is place in
+    let is : row.entries ≡ numbers_of e =
+    entries ∙ get_or-map numbers_of k.rows.items i [] [] inside
+    ∙ ap numbers_of (sym (row_read k.rows.items i y e inside y_is e_is)) in record {
+      here = (row, found, is);
+      columns = sym (length-numbers e) ∙ ap length (sym is)
+          ∙ (kept_row_at n (kept_residues k) c row h.triangular found).0.columns;
+    }
 
-pub residues_columns : (n : ℕ) (kept : List KeptRow) (c : ℕ) (e : List ℕ) →
-    AreTriangularResidues n kept →
-    IsRowAt kept c (numbers_of e) → length e ≡ n
-residues_columns n kept c e h (k, found, is) =
-    sym (length-numbers e) ∙ ap length (sym is) ∙ (kept_row_at n kept c k h found).0.columns
+pub none_there : (n : ℕ) (k : KeptResidues) (c : ℕ) (log : List LogRow) → AreKeptResidues n k →
+    log ≡ k.log.items → None ≡ position (has c) log → row_with_pivot (kept_residues k) c ≡ None
+none_there n k c log h log_is none =
+    place_none k.log.items (map numbers_of k.rows.items) c
+    (lines_too k.log.items k.rows.items h.lines)
+    (none ∙ ap (λ ls. position (has c) ls) log_is)
 
--- ---- the insertion as the code has it
-
-pub left_read : (b : BasisData) (log log' : List LogRow) (rows rows' : List (List ℕ))
-    (r out after : List ℕ) (row : List ℤ)
-    (o : Option ℕ) (reduce : List ℕ) → b.kept ≡ kept_residues log rows → log' ≡ log → rows' ≡ rows →
-    r ≡ out →
-    numbers_of out ≡ residues modulus row → length out ≡ b.columns →
-    IsLeft (modulo modulus)
-    (insertion_by (modulo modulus) (kept_residues log' rows') (range_with_len 0 (length r))
-    (numbers_of r)) o (numbers_of after) reduce →
-    IsLeft (modulo modulus) (inserted_by (modulo modulus) b.columns b.kept row) o
-    (numbers_of after) reduce
-left_read b log log' rows rows' r out after row o reduce kept_is log_is rows_is r_is out_is columns
-    h =
-    subst (λ (i : Insertion). IsLeft (modulo modulus) i o (numbers_of after) reduce)
-    (ap (λ xs. insertion_by (modulo modulus) (kept_residues log' rows')
-    (range_with_len 0 (length xs)) (numbers_of xs)) r_is
-    ∙ ap₂ (λ ks n. insertion_by (modulo modulus) ks (range_with_len 0 n) (numbers_of out))
-    (ap₂ kept_residues log_is rows_is ∙ sym kept_is) columns
-    ∙ ap (λ xs. insertion_by (modulo modulus) b.kept (range_with_len 0 b.columns) xs) out_is)
-    h
-
--- the entry as the code reads it
-pub entry_read : (row items : List ℕ) (o : Option ℕ) (c x : ℕ) → o ≡ Some c →
-    IfSome o (λ k. k < length row) → items ≡ row →
-    x ≡ get_or items c x → x ≡ get_or row c 0
-entry_read row items o c x some within same is =
-    is ∙ ap (λ xs. get_or xs c x) same
-    ∙ get_or_default row c x 0
-    (subst (λ (p : Option ℕ). IfSome p (λ k. k < length row)) some within)
-
--- what is left has no inverse
-pub no_inverse : (o : Option ℕ) (c : ℕ) (left : List ℕ) → o ≡ Some c →
-    inverse modulus (pos (get_or left c 0)) ≡ None →
-    kept_at (modulo modulus) o (numbers_of left) ≡ None
-no_inverse o c left some none =
-    ap (λ x. kept_at (modulo modulus) x (numbers_of left)) some
-    ∙ ap (λ x. with_pivot c (times_inverse modulus (numbers_of left) (inverse modulus x)))
-    (at_numbers left c)
-    ∙ ap (λ x. with_pivot c (times_inverse modulus (numbers_of left) x)) none
-
--- what is left is kept with its inverse
-pub with_inverse : (c u : ℕ) (left : List ℕ) → inverse modulus (pos (get_or left c 0)) ≡ Some u →
-    times_inverse modulus (numbers_of left) (inverse modulus (at_column (numbers_of left) c))
-    ≡ Some (residues modulus (scaled (pos u) (numbers_of left)))
-with_inverse c u left is =
-    ap (λ x. times_inverse modulus (numbers_of left) (inverse modulus x)) (at_numbers left c)
-    ∙ ap (times_inverse modulus (numbers_of left)) is
+-- ---- what follows from an insertion
 
 pub triangular_from_modulo : (b : BasisData) (row : List ℤ) (kept : List KeptRow) → 0 < modulus →
     AreTriangularResidues b.columns b.kept → length row ≡ b.columns →
@@ -145,16 +110,6 @@ solved_from_modulo b d row w kept some same h columns is all solved =
           (sym same) all,
       solved,
     ))
-
--- the log and the rows stay of one length
-pub lines_after : (log log' : List LogRow) (rows rows' : List (List ℕ)) (l : LogRow) (r : List ℤ) →
-    length log ≡ length rows →
-    log' ≡ log ++ l ∷ [] → map numbers_of rows' ≡ map numbers_of rows ++ r ∷ [] →
-    length log' ≡ length rows'
-lines_after log log' rows rows' l r e log_is rows_is =
-    same_length log log' (map numbers_of rows) (map numbers_of rows') l r
-    (lines_too log rows e) log_is rows_is
-    ∙ length-map rows' numbers_of
 
 -- ---- no number is marked
 
@@ -188,28 +143,3 @@ pub nothing_passes : (n : ℕ) (kept : List KeptRow) (row : List ℤ) →
     Passes (inserted_by (modulo modulus) n kept row).marked → ⊥
 nothing_passes n kept row p =
     none_passes (subst Passes (no_marks kept (range_with_len 0 n) (residues modulus row)) p)
-
--- ---- the row that is reduced, in its place
-
--- what was read of a row stands in its place, and then what is left of it
-pub record IsInPlace (row : Vec ℕ Global) (read left : List ℕ) (n : ℕ) : Type 0 where
-  pub read_is : (with_items row read).items ≡ read
-  pub read_columns : length read ≡ n
-  pub left_is : (with_items (with_items row read) left).items ≡ left
-  pub columns : length (with_items (with_items row read) left).items ≡ n
-
-pub in_place : (row : Vec ℕ Global) (first read second left : List ℕ) (n : ℕ) →
-    row.len ≡ length row.items → length row.items ≡ n →
-    first ≡ row.items → length read ≡ length first → second ≡ (with_items row read).items →
-    length left ≡ length second →
-    IsInPlace row read left n
-in_place row first read second left n len n_is first_is read_len second_is left_len =
-    let wide : length read ≡ length row.items = read_len ∙ ap length first_is in
-    let read_is = with_items_is row read (wide ∙ sym len) in
-    let long : length left ≡ length row.items = left_len ∙ ap length (second_is ∙ read_is) ∙ wide in
-    let left_is = with_items_is (with_items row read) left (long ∙ sym len) in record {
-      read_is = read_is;
-      read_columns = wide ∙ n_is;
-      left_is = left_is;
-      columns = ap length left_is ∙ long ∙ n_is;
-    }

@@ -1,8 +1,7 @@
 -- What always holds of the fields of a basis of residues.
-use Rattle.std.specs.Prelude.{◌≡◌, ◌<◌, ◌^◌, length}
-use Rattle.gj_theory.specs.TriangularResidues.{AreTriangularResidues}
+use Rattle.std.specs.Prelude.{◌≡◌, length}
 use Rattle.gj_elim.specs.Data.{BasisData}
-use Rattle.gj_residue.specs.Rows.{kept_residues}
+use Rattle.gj_residue.specs.Rows.{kept_residues, AreKeptResidues}
 use Rattle.gj_residue.specs.declared.basis.ResidueBasis.TheInside.{Inside}
 
 -- the basis with these fields
@@ -10,14 +9,10 @@ abbrev pub data_of : Inside → BasisData
 data_of b = record {
   columns = b.columns;
   inserted = b.inserted;
-  kept =
-      kept_residues b.log.items b.rows.items;
+  kept = kept_residues b.kept;
 }
 
--- the log has a line for each row, the rows are triangular, and the row that is reduced has its
--- length
+-- the kept rows have the columns of the basis, and so has the row that is reduced
 pub record IsResidueBasis (b : Inside) : Type 0 where
-  pub lines : length b.log.items ≡ length b.rows.items
-  pub triangular : AreTriangularResidues b.columns (kept_residues b.log.items b.rows.items)
+  pub kept : AreKeptResidues b.columns b.kept
   pub columns : length b.row.items ≡ b.columns
-  pub narrow : b.columns < 2 ^ 32

@@ -9,11 +9,9 @@ ghost use Rattle.gj_elim.specs.Data.{behind_by};
 ghost use Rattle.gj_elim.specs.KeptRows.{log_row, answer_of};
 
 use crate::keep::keep;
+use crate::kept::KeptResidues;
 use crate::reduce::reduce_row;
-use crate::residue::inverse_of;
-use crate::step::read;
 use gj_elim::{Inserted, LogRow, Origin};
-use gj_shape::List;
 use std::alloc::{AllocError, Global};
 use std::marker::Model;
 
@@ -24,9 +22,7 @@ pub struct ResidueBasis {
     alloc: Global,
     columns: u32,
     inserted: u64,
-    log: Vec<LogRow>,
-    /// The entries of the kept rows, in the order of the log.
-    rows: Vec<List<u64>>,
+    kept: KeptResidues,
     /// The row that is being reduced, and the columns of its steps.
     row: Vec<u64>,
     reduce: Vec<u32>,
@@ -55,8 +51,10 @@ impl ResidueBasis {
             alloc,
             columns,
             inserted: 0,
-            log: Vec::new(alloc),
-            rows: Vec::new(alloc),
+            kept: KeptResidues {
+                log: Vec::new(alloc),
+                rows: Vec::new(alloc),
+            },
             row: vec![in alloc; 0; columns as usize]?,
             reduce: Vec::new(alloc),
         })
@@ -80,36 +78,29 @@ impl ResidueBasis {
             SolvesKeptModulo modulus w self.new.kept) }
         ensures triangular { OnOk result (AreTriangularResidues self.new.columns self.new.kept) }
     {
-        read(row, self.row.as_mut_slice());
         self.reduce.clear();
-        let left = reduce_row(
-            self.log.as_slice(),
-            self.rows.as_slice(),
-            self.row.as_mut_slice(),
-            &mut self.reduce,
-        )?;
-        let Some(column) = left else {
-            self.inserted += 1;
-            return Ok(Inserted::Nothing);
-        };
-        let Some(factor) = inverse_of(self.row[column as usize]) else {
-            self.inserted += 1;
-            return Ok(Inserted::Nothing);
-        };
-        keep(
-            self.alloc,
-            &mut self.log,
-            &mut self.rows,
-            Origin {
-                number: self.inserted,
-                reduce: self.reduce.as_slice(),
-                pivot: column,
-            },
-            factor,
-            self.row.as_slice(),
-        )?;
-        self.inserted += 1;
-        Ok(Inserted::Pivot(column))
+        let left = reduce_row(&self.kept, row, self.row.as_mut_slice(), &mut self.reduce)?;
+        match left {
+            None => {
+                self.inserted += 1;
+                Ok(Inserted::Nothing)
+            }
+            Some(left) => {
+                keep(
+                    self.alloc,
+                    &mut self.kept,
+                    Origin {
+                        number: self.inserted,
+                        reduce: self.reduce.as_slice(),
+                        pivot: left.column,
+                    },
+                    left.factor,
+                    self.row.as_slice(),
+                )?;
+                self.inserted += 1;
+                Ok(Inserted::Pivot(left.column))
+            }
+        }
     }
 
     /// The number of rows that were inserted.
@@ -124,20 +115,20 @@ impl ResidueBasis {
         ensures count { result ≡ length self.now.kept }
         ensures triangular { AreTriangularResidues self.now.columns self.now.kept }
     {
-        self.log.len() as u32
+        self.kept.log.len() as u32
     }
 
     /// How each kept row came to be kept, in the order of insertion.
     pub fn log(&self) -> &[LogRow]
         ensures { result.now ≡ map log_row self.now.kept }
     {
-        self.log.as_slice()
+        self.kept.log.as_slice()
     }
 
     /// How each kept row came to be kept, in the order of insertion.
     pub fn into_log(self) -> Vec<LogRow>
         ensures { result.items ≡ map log_row self.kept }
     {
-        self.log
+        self.kept.log
     }
 }

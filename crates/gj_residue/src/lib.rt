@@ -8,6 +8,7 @@
 
 mod basis;
 mod keep;
+mod kept;
 mod listed;
 mod reduce;
 mod residue;

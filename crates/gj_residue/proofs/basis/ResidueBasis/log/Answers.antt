@@ -6,5 +6,5 @@ use Rattle.gj_residue.proofs.basis.ResidueBasis.log.Goals as goal
 pub returns : goal.returns
 returns c =
     c.as_slice.ensures.value
-    ∙ log_of_residues c.self.inside.log.items c.self.inside.rows.items c.self.invariant.lines
+    ∙ log_of_residues c.self.inside.columns c.self.inside.kept c.self.invariant.kept
     ∙ ap (λ b. map log_row b.kept) c.self.view_is
