@@ -42,15 +42,19 @@ MeetsBehind numbers f component n before one =
     MeetsGroup numbers f n (rows_before_by (arithmetic_of numbers) f component n before)
     (begun_row (arithmetic_of numbers) f component n one.name) one
 
--- the number of the lines of groups
-abbrev pub count_of : List PivotRow → ℕ
-count_of [] = 0
-count_of (one ∷ rows) = length one.reduce + 2 + count_of rows
+-- the number of the lines of groups with these steps
+abbrev pub count_by : {R : Type 0} → (R → List ℕ) → List R → ℕ
+count_by steps_of [] = 0
+count_by steps_of (one ∷ rows) = length (steps_of one) + 2 + count_by steps_of rows
 
-pub count_of_push : (rows : List PivotRow) (one : PivotRow) →
-    count_of (rows ++ one ∷ []) ≡ count_of rows + (length one.reduce + 2)
-count_of_push [] one = omega arith
-count_of_push (first ∷ rows) one = let rest = count_of_push rows one in omega arith
+pub count_by_push : {R : Type 0} (steps_of : R → List ℕ) (rows : List R) (one : R) →
+    count_by steps_of (rows ++ one ∷ []) ≡ count_by steps_of rows + (length (steps_of one) + 2)
+count_by_push steps_of [] one = omega arith
+count_by_push steps_of (first ∷ rows) one =
+    let rest = count_by_push steps_of rows one in omega arith
+
+abbrev pub count_of : List PivotRow → ℕ
+count_of rows = count_by (λ (one : PivotRow). one.reduce) rows
 
 -- the entries with which a row is kept
 abbrev pub kept_of : Numbers → List ℤ → ℕ → List ℤ
@@ -175,7 +179,7 @@ checked_more numbers f component n rows g table after above next one begun row h
       meet = below_more (λ i. AtIndex rows i (MeetsBehind numbers f component n)) g h.meet
           (at_place rows (MeetsBehind numbers f component n) g one below is meets);
       above_is = next_is ∙ ap (λ m. m + (length one.reduce + 2)) h.above_is
-          ∙ sym (count_of_push before one) ∙ ap count_of (sym more);
+          ∙ sym (count_by_push (λ (x : PivotRow). x.reduce) before one) ∙ ap count_of (sym more);
     }
 
 pub checked_all : (numbers : Numbers) (f : FunctionData) (component : ℕ → ℕ) (n : ℕ)

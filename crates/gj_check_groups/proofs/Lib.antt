@@ -5,5 +5,6 @@ pub mod KeptRows
 pub mod StepsInTurn
 pub mod Tables
 pub mod GroupsInTurn
+pub mod GroupKinds
 pub mod GroupDemands
 pub mod ClaimGroups

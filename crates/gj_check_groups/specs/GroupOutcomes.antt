@@ -75,30 +75,46 @@ IsStepsOutcome numbers kept begun columns after (Some failure) =
 
 -- ---- a group
 
--- its rules hold, behind kept rows of n columns, for the row with which it begins
-pub record MeetsGroup (numbers : Numbers) (f : FunctionData) (n : ℕ) (kept : List KeptRow)
-    (begun : List ℤ) (one : PivotRow) : Type 0 where
-  pub row : MeetsRow f one.name
-  pub steps : (i : ℕ) → AtIndex one.reduce i (MeetsStepBehind numbers kept begun)
-  pub pivot : MeetsPivotBy numbers n kept (stepped numbers kept begun one.reduce) one.pivot
+-- its rules hold, behind kept rows of n columns, for the row with which it begins, on which there is
+-- a rule, and for these columns of its steps and of its pivot
+pub record MeetsGroupBy (numbers : Numbers) (RowRule : Type 0) (n : ℕ) (kept : List KeptRow)
+    (begun : List ℤ) (columns : List ℕ) (last : ℕ) : Type 0 where
+  pub row : RowRule
+  pub steps : (i : ℕ) → AtIndex columns i (MeetsStepBehind numbers kept begun)
+  pub pivot : MeetsPivotBy numbers n kept (stepped numbers kept begun columns) last
 
 -- the first that fails, and how many lines below the first of the group
-pub data FailsGroup (numbers : Numbers) (f : FunctionData) (n : ℕ) (kept : List KeptRow)
-    (begun : List ℤ) (one : PivotRow)
-    (failure : GroupFailure) : Type 0 where
-  at_row : failure.below ≡ 0 → failure.rule ≡ Row → (MeetsRow f one.name → ⊥) →
-      FailsGroup numbers f n kept begun one failure
-  at_step : MeetsRow f one.name → FailSteps numbers kept begun one.reduce failure →
-      FailsGroup numbers f n kept begun one failure
-  at_pivot : failure.below ≡ length one.reduce + 1 → failure.rule ≡ Pivot → MeetsRow f one.name →
-      ((i : ℕ) → AtIndex one.reduce i (MeetsStepBehind numbers kept begun)) →
-      (MeetsPivotBy numbers n kept (stepped numbers kept begun one.reduce) one.pivot → ⊥) →
-      FailsGroup numbers f n kept begun one failure
+pub data FailsGroupBy (numbers : Numbers) (RowRule : Type 0) (n : ℕ) (kept : List KeptRow)
+    (begun : List ℤ) (columns : List ℕ) (last : ℕ) (failure : GroupFailure) : Type 0 where
+  at_row : failure.below ≡ 0 → failure.rule ≡ Row → (RowRule → ⊥) →
+      FailsGroupBy numbers RowRule n kept begun columns last failure
+  at_step : RowRule → FailSteps numbers kept begun columns failure →
+      FailsGroupBy numbers RowRule n kept begun columns last failure
+  at_pivot : failure.below ≡ length columns + 1 → failure.rule ≡ Pivot → RowRule →
+      ((i : ℕ) → AtIndex columns i (MeetsStepBehind numbers kept begun)) →
+      (MeetsPivotBy numbers n kept (stepped numbers kept begun columns) last → ⊥) →
+      FailsGroupBy numbers RowRule n kept begun columns last failure
 
 -- all hold, and the steps leave the row `after`; or this is the first failure
+abbrev pub IsOutcomeBy : Numbers → Type 0 → ℕ → List KeptRow → List ℤ → List ℕ → ℕ → List ℤ →
+    Option GroupFailure → Type 0
+IsOutcomeBy numbers RowRule n kept begun columns last after None =
+    MeetsGroupBy numbers RowRule n kept begun columns last
+    × (after ≡ stepped numbers kept begun columns)
+IsOutcomeBy numbers RowRule n kept begun columns last after (Some failure) =
+    FailsGroupBy numbers RowRule n kept begun columns last failure
+
+-- the same of a group of a proof for a function
+abbrev pub MeetsGroup : Numbers → FunctionData → ℕ → List KeptRow → List ℤ → PivotRow → Type 0
+MeetsGroup numbers f n kept begun one =
+    MeetsGroupBy numbers (MeetsRow f one.name) n kept begun one.reduce one.pivot
+
+abbrev pub FailsGroup : Numbers → FunctionData → ℕ → List KeptRow → List ℤ → PivotRow →
+    GroupFailure → Type 0
+FailsGroup numbers f n kept begun one failure =
+    FailsGroupBy numbers (MeetsRow f one.name) n kept begun one.reduce one.pivot failure
+
 abbrev pub IsGroupOutcome : Numbers → FunctionData → ℕ → List KeptRow → List ℤ → PivotRow → List ℤ →
     Option GroupFailure → Type 0
-IsGroupOutcome numbers f n kept begun one after None =
-    MeetsGroup numbers f n kept begun one × (after ≡ stepped numbers kept begun one.reduce)
-IsGroupOutcome numbers f n kept begun one after (Some failure) =
-    FailsGroup numbers f n kept begun one failure
+IsGroupOutcome numbers f n kept begun one after o =
+    IsOutcomeBy numbers (MeetsRow f one.name) n kept begun one.reduce one.pivot after o

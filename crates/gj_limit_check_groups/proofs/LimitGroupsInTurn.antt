@@ -12,7 +12,7 @@ use Rattle.gj_proof.specs.Rules.{AtIndex}
 use Rattle.gj_proof.proofs.AtPlaces.{at_place, with_place, each_item}
 use Rattle.gj_check_groups.specs.KeptTable.{AreRowsAt}
 use Rattle.gj_check_groups.specs.GroupOutcomes.{stepped}
-use Rattle.gj_check_groups.proofs.GroupsInTurn.{column_of_pivot, kept_of, checked_start, rows_with}
+use Rattle.gj_check_groups.proofs.GroupsInTurn.{column_of_pivot, count_by, count_by_push, kept_of, checked_start, rows_with}
 use Rattle.gj_limit_proof.specs.declared.claim.LimitPivotRow.{LimitPivotRow}
 use Rattle.gj_limit_proof.specs.LimitRowsKept.{begun_row, row_kept_by, rows_behind_by, rows_before_by}
 use Rattle.gj_limit_check_groups.specs.LimitGroupOutcomes.{MeetsLimitGroup, IsLimitGroupOutcome}
@@ -39,13 +39,7 @@ MeetsBehind numbers f component n before one =
 
 -- the number of the lines of groups
 abbrev pub count_of : List LimitPivotRow → ℕ
-count_of [] = 0
-count_of (one ∷ rows) = length one.reduce + 2 + count_of rows
-
-count_of_push : (rows : List LimitPivotRow) (one : LimitPivotRow) →
-    count_of (rows ++ one ∷ []) ≡ count_of rows + (length one.reduce + 2)
-count_of_push [] one = omega arith
-count_of_push (first ∷ rows) one = let rest = count_of_push rows one in omega arith
+count_of rows = count_by (λ (one : LimitPivotRow). one.reduce) rows
 
 -- ---- how far the groups are checked
 
@@ -134,7 +128,7 @@ limits_checked_more numbers f component n rows g table after above next one begu
       meet = below_more (λ i. AtIndex rows i (MeetsBehind numbers f component n)) g h.meet
           (at_place rows (MeetsBehind numbers f component n) g one below is meets);
       above_is = next_is ∙ ap (λ m. m + (length one.reduce + 2)) h.above_is
-          ∙ sym (count_of_push before one) ∙ ap count_of (sym more);
+          ∙ sym (count_by_push (λ (x : LimitPivotRow). x.reduce) before one) ∙ ap count_of (sym more);
     }
 
 pub limits_checked_all : (numbers : Numbers) (f : FunctionData) (component : ℕ → ℕ) (n : ℕ)

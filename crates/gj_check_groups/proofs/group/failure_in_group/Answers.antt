@@ -9,7 +9,7 @@ use Rattle.gj_proof.specs.Rules.{AtIndex, MeetsRow, MeetsPivotBy}
 use Rattle.gj_proof.proofs.LineCounts.{length-reductions}
 use Rattle.gj_check_groups.specs.declared.failure.GroupRule.TheVariants.{Pivot}
 use Rattle.gj_check_groups.specs.GroupOutcomes.{stepped, MeetsStepBehind, IsStepsOutcome, FailsGroup}
-use Rattle.gj_check_groups.specs.GroupOutcomes.FailsGroup.{at_pivot}
+use Rattle.gj_check_groups.specs.GroupOutcomes.FailsGroupBy.{at_pivot}
 use Rattle.gj_check_groups.proofs.group.failure_in_group.Goals as goal
 
 -- the rule on the pivot fails behind the steps

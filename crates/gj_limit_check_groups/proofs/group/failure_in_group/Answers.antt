@@ -14,7 +14,7 @@ use Rattle.gj_check_groups.specs.GroupOutcomes.{IsStepsOutcome}
 use Rattle.gj_limit_proof.specs.declared.claim.LimitPivotRow.{LimitPivotRow}
 use Rattle.gj_limit_proof.specs.LimitRules.{MeetsLimitRow}
 use Rattle.gj_limit_check_groups.specs.LimitGroupOutcomes.{FailsLimitGroup, IsLimitGroupOutcome}
-use Rattle.gj_limit_check_groups.specs.LimitGroupOutcomes.FailsLimitGroup.{at_step, at_pivot}
+use Rattle.gj_check_groups.specs.GroupOutcomes.FailsGroupBy.{at_step, at_pivot}
 use Rattle.gj_limit_check_groups.proofs.group.failure_in_group.Goals as goal
 
 -- what the steps leave, for the columns as they are read
