@@ -8,7 +8,6 @@ use Rattle.std.proofs.lemmas.List.Elements.{All-nil, All-cons, All-head, All-tai
 use Rattle.gj_frac.specs.declared.Frac.{Frac}
 use Rattle.gj_frac.specs.Fraction.{denominator}
 use Rattle.gj_shape.specs.Given.{IsCommonDenominator}
-use Rattle.gj_theory.specs.Cuts.{IsGmicValue, IsValueOf}
 use Rattle.gj_theory.proofs.RowGrids.{cut_by_function, cut_by_gmic}
 use Rattle.gj_rule.specs.Kept.{KeptRule}
 use Rattle.gj_rule.specs.Kind.{IsKindWithinBounds, IsKindValue, IsMinimalKind}
@@ -85,53 +84,51 @@ zip_next R xs i x ys zs y below here next h last =
     ∙ ap (λ z. take i xs ++ z ∷ []) (sym here) in
     subst₂ (AllZip R) (sym more) (sym next) (zip_longer R (take i xs) ys x y h last)
 
+-- what follows place by place
+pub zip_weaker : {A B : Type 0} (R S : A → B → Type 0) (xs : List A) (ys : List B) →
+    ((x : A) (y : B) → R x y → S x y) → AllZip R xs ys → AllZip S xs ys
+zip_weaker R S [] [] weaker h = tt
+zip_weaker R S [] (y ∷ ys) weaker h = absurd h
+zip_weaker R S (x ∷ xs) [] weaker h = absurd h
+zip_weaker R S (x ∷ xs) (y ∷ ys) weaker h =
+    (weaker x y h.0, zip_weaker R S xs ys weaker h.1)
+
 -- ---- the cut
 
-pub term_values : {E : Type 0} (answers : E → Frac → Frac → Type 0) (rule : KeptRule E) (V : Frac →
-    Frac → Type 0)
-    (entries : List Entry) (terms : List Term) →
-    ((x y : Frac) → IsKindValue rule.kind x y → V x y) →
-    AllZip (IsTermOf answers rule) entries terms →
-    AllZip V (map (λ t. t.entry) terms) (map (λ t. t.cut) terms)
-term_values answers rule V [] [] value h = tt
-term_values answers rule V [] (t ∷ terms) value h = absurd h
-term_values answers rule V (e ∷ entries) [] value h = absurd h
-term_values answers rule V (e ∷ entries) (t ∷ terms) value h = (
-  subst (λ (x : Frac). V x t.cut) (sym h.0.of_kind.entry_is)
-      (value e.value t.cut h.0.of_kind.value_is),
-  term_values answers rule V entries terms value h.1,
-)
+-- the coefficients are values at the entries
+pub values_of : (P : Entry → Term → Type 0) (V : Frac → Frac → Type 0) (entries : List Entry)
+    (terms : List Term) →
+    ((e : Entry) (t : Term) → P e t → (t.entry ≡ e.value) × V e.value t.cut) →
+    AllZip P entries terms → AllZip V (map (λ t. t.entry) terms) (map (λ t. t.cut) terms)
+values_of P V [] [] give h = tt
+values_of P V [] (t ∷ terms) give h = absurd h
+values_of P V (e ∷ entries) [] give h = absurd h
+values_of P V (e ∷ entries) (t ∷ terms) give h =
+    let (same, value) = give e t h.0 in
+    (subst (λ (x : Frac). V x t.cut) (sym same) value, values_of P V entries terms give h.1)
 
-pub holds_at : {E : Type 0} (answers : E → Frac → Frac → Type 0) (rule : KeptRule E)
-    (kind : RuleKind) (row : Row) (terms : List Term) →
-    rule.kind ≡ kind → IsKindWithinBounds kind → IsMinimalKind kind → HasPart kind row.rhs →
-    AllZip (IsTermOf answers rule) row.entries terms → HoldsFor row (Cut terms)
-holds_at answers rule (Gmic f) row terms e bounded minimal part h =
-    cut_by_gmic f (map (λ t. t.entry) terms) row.rhs (map (λ t. t.cut) terms) bounded.0 part
-    (term_values answers rule (IsGmicValue f) row.entries terms
-    (λ x y v. subst (λ k. IsKindValue k x y) e v) h)
-holds_at answers rule (Table shape) row terms e bounded minimal part h =
-    cut_by_function shape (map (λ t. t.entry) terms) row.rhs
-    (map (λ t. t.cut) terms) bounded minimal part
-    (term_values answers rule (IsValueOf shape) row.entries terms
-    (λ x y v. subst (λ k. IsKindValue k x y) e v) h)
+-- a cut of values of a minimal kind holds
+pub kind_holds : (kind : RuleKind) (row : Row) (terms : List Term) → IsKindWithinBounds kind →
+    IsMinimalKind kind → HasPart kind row.rhs →
+    AllZip (IsKindValue kind) (map (λ t. t.entry) terms) (map (λ t. t.cut) terms) →
+    HoldsFor row (Cut terms)
+kind_holds (Gmic f) row terms bounded minimal part values =
+    cut_by_gmic f (map (λ t. t.entry) terms) row.rhs (map (λ t. t.cut) terms) bounded.0 part values
+kind_holds (Table shape) row terms bounded minimal part values =
+    cut_by_function shape (map (λ t. t.entry) terms) row.rhs (map (λ t. t.cut) terms) bounded
+    minimal part values
 
 -- ---- cuts by any rule of a kind
-
-pub terms_of_kind : {E : Type 0} (answers : E → Frac → Frac → Type 0) (rule : KeptRule E)
-    (entries : List Entry) (terms : List Term) →
-    AllZip (IsTermOf answers rule) entries terms → AllZip (IsTermOfKind rule.kind) entries terms
-terms_of_kind answers rule [] [] h = tt
-terms_of_kind answers rule [] (t ∷ terms) h = absurd h
-terms_of_kind answers rule (e ∷ entries) [] h = absurd h
-terms_of_kind answers rule (e ∷ entries) (t ∷ terms) h =
-    (h.0.of_kind, terms_of_kind answers rule entries terms h.1)
 
 pub cut_of_kind : {E : Type 0} (answers : E → Frac → Frac → Type 0) (rule : KeptRule E) (row : Row)
     (cut : RowCut) →
     IsCutOf answers rule row cut → IsCutOfKind rule.kind row cut
-cut_of_kind answers rule row (Cut terms) h =
-    (h.0, h.1, terms_of_kind answers rule row.entries terms h.2)
+cut_of_kind answers rule row (Cut terms) h = (
+  h.0,
+  h.1,
+  zip_weaker (IsTermOf answers rule) (IsTermOfKind rule.kind) row.entries terms
+      (λ e t p. p.of_kind) h.2,
+)
 cut_of_kind answers rule row Integral h = h
 cut_of_kind answers rule row OtherFraction h = h
 

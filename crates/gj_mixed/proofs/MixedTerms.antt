@@ -1,19 +1,17 @@
 -- The terms of a row's entries in whole and in continuous columns, and the cut that they make.
-use Rattle.std.proofs.Common.{◌≡◌, ℕ, ◌+◌, ◌<◌, ◌++◌, Bool, true, false, cond, List, [], ◌∷◌, length, get_or, take, filter, map, sym, ap, subst, subst₂, ◌∙◌, append-nil}
+use Rattle.std.proofs.Common.{◌≡◌, ℕ, ◌+◌, ◌<◌, ◌++◌, Bool, true, false, cond, List, [], ◌∷◌, length, get_or, take, filter, map, sym, ap, subst₂, ◌∙◌, append-nil}
 use Rattle.std.specs.List.{AllZip}
 use Rattle.std.proofs.lemmas.List.{take_more}
 use Rattle.std.proofs.lemmas.List.Elements.{filter-append}
 use Rattle.gj_frac.specs.declared.Frac.{Frac}
-use Rattle.gj_theory.specs.Cuts.{IsGmicValue, IsValueOf}
 use Rattle.gj_rule.specs.Kept.{KeptRule}
 use Rattle.gj_rule.specs.Kind.{IsKindWithinBounds, IsKindValue, IsMinimalKind}
 use Rattle.gj_rule.specs.declared.kind.RuleKind.{RuleKind}
 use Rattle.gj_rule.specs.declared.kind.RuleKind.TheVariants.{Gmic, Table}
-use Rattle.gj_row.specs.declared.tableau.Entry.{Entry}
 use Rattle.gj_row.specs.declared.tableau.Row.{Row}
-use Rattle.gj_cut.specs.RowCuts.{HasPart, IsTermOf}
+use Rattle.gj_cut.specs.RowCuts.{HasPart, IsTermOf, IsTermOfKind}
 use Rattle.gj_cut.specs.declared.cut.Term.{Term}
-use Rattle.gj_cut.proofs.RowTerms.{zip_longer, term_values, terms_of_kind}
+use Rattle.gj_cut.proofs.RowTerms.{zip_longer, zip_weaker}
 use Rattle.gj_mixed.specs.MixedCuts.{IsWeightTerm, IsWeightTermOf, IsMixedCutOf, IsMixedCutOfKind, IsGmicMixedCutOf, MixedHoldsFor}
 use Rattle.gj_mixed.specs.MixedCuts.{whole_entries, continuous_entries}
 use Rattle.gj_mixed.specs.Slopes.{IsWeight, AreGmicSlopes, AreSlopesOfKind, KeptSlopes}
@@ -58,56 +56,23 @@ zip_dropped R p xs i x ys zs below here fails same h =
 
 -- ---- the cut
 
-weight_values : {G : Type 0} (weighs : G → Frac → Frac → Type 0) (slopes : KeptSlopes G)
-    (entries : List Entry) (terms : List Term) →
-    AllZip (IsWeightTermOf weighs slopes) entries terms →
-    AllZip (IsWeight slopes.up slopes.down) (map (λ t. t.entry) terms) (map (λ t. t.cut) terms)
-weight_values weighs slopes [] [] h = tt
-weight_values weighs slopes [] (t ∷ terms) h = absurd h
-weight_values weighs slopes (e ∷ entries) [] h = absurd h
-weight_values weighs slopes (e ∷ entries) (t ∷ terms) h = (
-  subst (λ (c : Frac). IsWeight slopes.up slopes.down c t.cut)
-      (sym h.0.of_slopes.entry_is) h.0.of_slopes.weight_is,
-  weight_values weighs slopes entries terms h.1,
-)
-
-pub mixed_holds_at : {E G : Type 0} (answers : E → Frac → Frac → Type 0) (weighs : G → Frac → Frac →
-    Type 0) (rule : KeptRule E)
-    (slopes : KeptSlopes G) (kind : RuleKind) (row : Row) (whole columns : List Entry)
-    (terms weights : List Term) →
-    rule.kind ≡ kind → IsKindWithinBounds kind → IsMinimalKind kind → HasPart kind row.rhs →
-    AreSlopesOfKind kind slopes.up slopes.down →
-    AllZip (IsTermOf answers rule) whole terms →
-    AllZip (IsWeightTermOf weighs slopes) columns weights →
+-- a cut of values of a minimal kind and weights by its slopes holds
+pub mixed_kind_holds : (kind : RuleKind) (up down : Frac) (row : Row) (terms weights : List Term) →
+    IsKindWithinBounds kind → IsMinimalKind kind → HasPart kind row.rhs →
+    AreSlopesOfKind kind up down →
+    AllZip (IsKindValue kind) (map (λ t. t.entry) terms) (map (λ t. t.cut) terms) →
+    AllZip (IsWeight up down) (map (λ t. t.entry) weights) (map (λ t. t.cut) weights) →
     MixedHoldsFor row (Cut terms weights)
-mixed_holds_at answers weighs rule slopes (Gmic f) row whole columns terms weights e bounded minimal
-    part are_slopes h k =
-    mixed_by_gmic f slopes.up slopes.down (map (λ t. t.entry) terms)
-    (map (λ t. t.entry) weights) row.rhs (map (λ t. t.cut) terms)
-    (map (λ t. t.cut) weights) bounded.0 are_slopes part
-    (term_values answers rule (IsGmicValue f) whole terms
-    (λ x y v. subst (λ k. IsKindValue k x y) e v) h)
-    (weight_values weighs slopes columns weights k)
-mixed_holds_at answers weighs rule slopes (Table shape) row whole columns terms weights e bounded
-    minimal part are_slopes h k =
-    mixed_by_function shape slopes.up slopes.down (map (λ t. t.entry) terms)
-    (map (λ t. t.entry) weights) row.rhs (map (λ t. t.cut) terms)
-    (map (λ t. t.cut) weights) bounded are_slopes.0 minimal are_slopes.1 part
-    (term_values answers rule (IsValueOf shape) whole terms
-    (λ x y v. subst (λ k. IsKindValue k x y) e v) h)
-    (weight_values weighs slopes columns weights k)
+mixed_kind_holds (Gmic f) up down row terms weights bounded minimal part slopes values weighed =
+    mixed_by_gmic f up down (map (λ t. t.entry) terms) (map (λ t. t.entry) weights) row.rhs
+    (map (λ t. t.cut) terms) (map (λ t. t.cut) weights) bounded.0 slopes part values weighed
+mixed_kind_holds (Table shape) up down row terms weights bounded minimal part slopes values
+    weighed =
+    mixed_by_function shape up down (map (λ t. t.entry) terms) (map (λ t. t.entry) weights) row.rhs
+    (map (λ t. t.cut) terms) (map (λ t. t.cut) weights) bounded slopes.0 minimal slopes.1 part
+    values weighed
 
 -- ---- cuts by any rule of a kind and any evaluator of weights
-
-weights_of_slopes : {G : Type 0} (weighs : G → Frac → Frac → Type 0) (slopes : KeptSlopes G)
-    (entries : List Entry) (terms : List Term) →
-    AllZip (IsWeightTermOf weighs slopes) entries terms →
-    AllZip (IsWeightTerm slopes.up slopes.down) entries terms
-weights_of_slopes weighs slopes [] [] h = tt
-weights_of_slopes weighs slopes [] (t ∷ terms) h = absurd h
-weights_of_slopes weighs slopes (e ∷ entries) [] h = absurd h
-weights_of_slopes weighs slopes (e ∷ entries) (t ∷ terms) h =
-    (h.0.of_slopes, weights_of_slopes weighs slopes entries terms h.1)
 
 pub mixed_cut_of_kind : {E G : Type 0} (answers : E → Frac → Frac → Type 0) (weighs : G → Frac →
     Frac → Type 0) (rule : KeptRule E)
@@ -117,8 +82,10 @@ pub mixed_cut_of_kind : {E G : Type 0} (answers : E → Frac → Frac → Type 0
 mixed_cut_of_kind answers weighs rule slopes continuous row (Cut terms weights) h = (
   h.0,
   h.1,
-  terms_of_kind answers rule (whole_entries continuous row.entries) terms h.2,
-  weights_of_slopes weighs slopes (continuous_entries continuous row.entries) weights h.3,
+  zip_weaker (IsTermOf answers rule) (IsTermOfKind rule.kind) (whole_entries continuous row.entries)
+      terms (λ e t p. p.of_kind) h.2,
+  zip_weaker (IsWeightTermOf weighs slopes) (IsWeightTerm slopes.up slopes.down)
+      (continuous_entries continuous row.entries) weights (λ e t p. p.of_slopes) h.3,
 )
 mixed_cut_of_kind answers weighs rule slopes continuous row Integral h = h
 mixed_cut_of_kind answers weighs rule slopes continuous row OtherFraction h = h

@@ -1,11 +1,11 @@
-use Rattle.std.proofs.Common.{All, List, refl, sym, subst}
-use Rattle.std.specs.List.{AllZip}
+use Rattle.std.proofs.Common.{All, List, sym, subst}
 use Rattle.gj_shape.specs.Limits.{IsRowNumber}
+use Rattle.gj_rule.specs.Kind.{IsKindValue}
 use Rattle.gj_row.specs.declared.tableau.Entry.{Entry}
 use Rattle.gj_cut.specs.RowCuts.{IsTermOf, HoldsFor}
 use Rattle.gj_cut.specs.declared.cut.Term.{Term}
 use Rattle.gj_cut.specs.declared.cut.RowCut.TheVariants.{Cut}
-use Rattle.gj_cut.proofs.RowTerms.{entries_in_range, holds_at}
+use Rattle.gj_cut.proofs.RowTerms.{entries_in_range, kind_holds, values_of}
 use Rattle.gj_cut.proofs.row_cuts.cut_at_place.Goals as goal
 
 pub terms-requires : goal.terms-requires
@@ -21,6 +21,6 @@ returns-clause-holds g c minimal =
     let answers = g.E.Evaluator.answers in
     let items = c.in_ok-terms.terms.items in
     subst (λ (terms : List Term). HoldsFor row (Cut terms)) (sym c.of.ensures)
-    (holds_at answers rule rule.kind row items refl c.requires.bounds minimal c.requires.side.1
-    (subst (λ (entries : List Entry). AllZip (IsTermOf answers rule) entries items)
-    c.as_slice.ensures c.in_ok-terms.ensures))
+    (kind_holds rule.kind row items c.requires.bounds minimal c.requires.side.1
+    (values_of (IsTermOf answers rule) (IsKindValue rule.kind) c.as_slice.result.now items
+    (λ e t p. (p.of_kind.entry_is, p.of_kind.value_is)) c.in_ok-terms.ensures))
