@@ -1,27 +1,31 @@
 -- The columns of terms; the line of a row with a mixed cut: its columns, and that its cut holds.
-use Rattle.std.proofs.Common.{◌≡◌, ℕ, ◌+◌, ◌<◌, Bool, not, List, [], ◌∷◌, All, get_or, length, map, filter, take, refl, sym, ap, ap₂, subst, subst₂, ◌∙◌, ◌++◌}
+use Rattle.std.proofs.Common.{◌≡◌, ℕ, ◌+◌, ◌<◌, Bool, true, false, not, List, [], ◌∷◌, All, get_or, length, map, filter, take, refl, sym, ap, ap₂, subst, subst₂, ◌∙◌, ◌++◌}
 use Rattle.std.specs.List.{AllZip}
-use Rattle.std.proofs.lemmas.List.{flat_map_more}
+use Rattle.std.proofs.lemmas.List.{flat_map_more, length-map}
 use Rattle.std.proofs.lemmas.List.Elements.{All-nil, All-cons, All-head, All-tail, All-filter}
 use Rattle.gj_frac.specs.declared.Frac.{Frac}
-use Rattle.gj_shape.specs.FunctionData.{FunctionData}
 use Rattle.gj_row.specs.TableauLimits.{IsRowWithinLimits}
 use Rattle.gj_row.specs.declared.tableau.Entry.{Entry}
 use Rattle.gj_row.specs.declared.tableau.Row.{Row}
 use Rattle.gj_rule.specs.declared.kind.RuleKind.{RuleKind}
 use Rattle.gj_rule.specs.declared.kind.RuleKind.TheVariants as kind
 use Rattle.gj_cut.proofs.RowTerms.{zip_next}
-use Rattle.gj_cut.specs.RowCuts.{IsTermOfKind}
+use Rattle.gj_cut.specs.RowCuts.{IsCutOfKind, IsGmicCutOf, IsTermOfKind}
+use Rattle.gj_cut.specs.declared.cut.RowCut.{RowCut}
+use Rattle.gj_cut.specs.declared.cut.RowCut.TheVariants as row_cut
 use Rattle.gj_cut.specs.declared.cut.Term.{Term}
-use Rattle.gj_mixed.specs.MixedCuts.{IsMixedCutOfKind, IsGmicMixedCutOf, IsWeightTerm, MixedHoldsFor, is_continuous}
+use Rattle.gj_mixed.specs.MixedCuts.{IsMixedCutOfKind, IsGmicMixedCutOf, IsWeightTerm, MixedHoldsFor, is_continuous, without_weights}
 use Rattle.gj_mixed.specs.MixedRows.{MixedCutHolds}
 use Rattle.gj_mixed.specs.declared.cut.MixedCut.{MixedCut}
 use Rattle.gj_mixed.specs.declared.cut.MixedCut.TheVariants as mixed_cut
 use Rattle.gj_proof.specs.declared.cut.CutLine.{CutLine}
 use Rattle.gj_proof.specs.declared.cut.CutLine.TheVariants.{Cut, Skip}
+use Rattle.gj_proof.specs.CutRules.{MakesContinuousCuts}
 use Rattle.gj_proof.specs.declared.cut.CutRule.{CutRule}
+use Rattle.gj_proof.specs.declared.cut.CutRule.TheVariants.{Gmic, Table}
 use Rattle.gj_proof.specs.declared.cut.CutTerm.{CutTerm}
-use Rattle.gj_cut_text.specs.MixedLines.{AppendsLines, AreInColumns, AreMadeLines, IsMadeLine, IsMixedLineFor, IsNamedTerm, LineHolds, MixedLineHolds, NamesMixedCut, mixed_row_text}
+use Rattle.gj_cut_text.specs.Columns.{begins_with_c, continuous_columns}
+use Rattle.gj_cut_text.specs.MixedLines.{AppendsLines, AreInColumns, IsMadeCut, IsMadeLine, IsMixedCutBy, IsNamedTerm, IsWholeCutBy, LineHolds, MakesCutsIn, MixedLineHolds, NamesMixedCut, mixed_row_text}
 use Rattle.gj_cut_text.specs.declared.mixed_lines.MixedLine.{MixedLine}
 
 -- ---- the columns of terms
@@ -63,6 +67,61 @@ gmic_in_columns continuous n row (mixed_cut.Cut terms weights) limits (f, up, do
     cut_in_columns (kind.Gmic f) up down continuous n row (mixed_cut.Cut terms weights) limits h
 gmic_in_columns continuous n row mixed_cut.Integral limits h = tt
 gmic_in_columns continuous n row mixed_cut.OtherFraction limits h = tt
+
+pub cut_has_columns : (k : RuleKind) (n : ℕ) (row : Row) (cut : RowCut) → IsRowWithinLimits n row →
+    IsCutOfKind k row cut → AreInColumns n (without_weights cut)
+cut_has_columns k n row (row_cut.Cut terms) limits h = (
+  terms_in_columns (IsTermOfKind k) n row.entries terms (λ e t p. p.column_is) limits.below h.2,
+  All-nil (λ t. t.column < n),
+)
+cut_has_columns k n row row_cut.Integral limits h = tt
+cut_has_columns k n row row_cut.OtherFraction limits h = tt
+
+pub gmic_has_columns : (n : ℕ) (row : Row) (cut : RowCut) → IsRowWithinLimits n row →
+    IsGmicCutOf row cut → AreInColumns n (without_weights cut)
+gmic_has_columns n row (row_cut.Cut terms) limits (f, h) =
+    cut_has_columns (kind.Gmic f) n row (row_cut.Cut terms) limits h
+gmic_has_columns n row row_cut.Integral limits h = tt
+gmic_has_columns n row row_cut.OtherFraction limits h = tt
+
+pub made_in_columns : (mixed : Bool) (r : CutRule) (columns : List (List ℕ)) (n : ℕ) (row : Row)
+    (cut : MixedCut) → IsRowWithinLimits n row → IsMadeCut mixed r columns row cut →
+    AreInColumns n cut
+made_in_columns true Gmic columns n row cut limits (h, holds) =
+    gmic_in_columns (continuous_columns columns) n row cut limits h
+made_in_columns true (Table f) columns n row cut limits ((up, down, slopes, h), holds) =
+    cut_in_columns (kind.Table f) up down (continuous_columns columns) n row cut limits h
+made_in_columns false Gmic columns n row cut limits (whole, is, h) =
+    subst (AreInColumns n) (sym is) (gmic_has_columns n row whole limits h)
+made_in_columns false (Table f) columns n row cut limits (whole, is, h) =
+    subst (AreInColumns n) (sym is) (cut_has_columns (kind.Table f) n row whole limits h)
+
+pub mixed_made : (mixed : Bool) (r : CutRule) (columns : List (List ℕ)) (row : Row)
+    (cut made : MixedCut) → mixed ≡ true → cut ≡ made → IsMixedCutBy r columns row made →
+    MixedHoldsFor row made → IsMadeCut mixed r columns row cut
+mixed_made mixed r columns row cut made on same by holds =
+    subst₂ (λ (b : Bool) (c : MixedCut). IsMadeCut b r columns row c) (sym on) (sym same)
+    (by, holds)
+
+pub whole_made : (mixed : Bool) (r : CutRule) (columns : List (List ℕ)) (row : Row)
+    (cut made : MixedCut) (whole : RowCut) → mixed ≡ false → cut ≡ made →
+    made ≡ without_weights whole → IsWholeCutBy r row whole → IsMadeCut mixed r columns row cut
+whole_made mixed r columns row cut made whole off same is by =
+    subst (λ (b : Bool). IsMadeCut b r columns row cut) (sym off) (whole, same ∙ is, by)
+
+-- ---- rows that are gone through
+
+pub row_within : (n : ℕ) (rows : List Row) (i : ℕ) (row : Row) → i < length rows →
+    row ≡ get_or rows i row → All (IsRowWithinLimits n) rows → IsRowWithinLimits n row
+row_within n rows i row below here h = subst (IsRowWithinLimits n) (sym here) (h i row below)
+
+-- it is known of each of its columns whether it is continuous
+pub columns_flagged : (columns : List (List ℕ)) (flags : List Bool) (row : Row) →
+    flags ≡ continuous_columns columns → IsRowWithinLimits (length columns) row →
+    All (λ (e : Entry). e.column < length flags) row.entries
+columns_flagged columns flags row are limits =
+    subst (λ n. All (λ (e : Entry). e.column < n) row.entries)
+    (sym (ap length are ∙ length-map columns begins_with_c)) limits.below
 
 -- ---- cuts that hold
 
@@ -108,47 +167,34 @@ named_holds columns row mixed_cut.OtherFraction (Cut name right terms) weighed h
 
 -- ---- all rows
 
-pub lines_of_made : (r : CutRule) (columns : List (List ℕ)) (rows : List Row)
-    (lines : List MixedLine) → AreMadeLines r columns rows lines →
-    AllZip (IsMixedLineFor r columns) rows lines
-lines_of_made r columns [] [] h = tt
-lines_of_made r columns [] (m ∷ lines) h = absurd h
-lines_of_made r columns (row ∷ rows) [] h = absurd h
-lines_of_made r columns (row ∷ rows) (m ∷ lines) h =
-    (h.0.line_is, lines_of_made r columns rows lines h.1)
-
 pub made_hold : (r : CutRule) (columns : List (List ℕ)) (rows : List Row) (lines : List MixedLine) →
-    AreMadeLines r columns rows lines →
-    All MixedLineHolds lines
+    AllZip (IsMadeLine true r columns) rows lines → All MixedLineHolds lines
 made_hold r columns [] [] h = All-nil MixedLineHolds
 made_hold r columns [] (m ∷ lines) h = absurd h
 made_hold r columns (row ∷ rows) [] h = absurd h
 made_hold r columns (row ∷ rows) (m ∷ lines) h =
-    All-cons MixedLineHolds m lines h.0.holds (made_hold r columns rows lines h.1)
+    All-cons MixedLineHolds m lines
+    (named_holds columns row h.0.cut m.line m.weights h.0.is_made.1 h.0.names)
+    (made_hold r columns rows lines h.1)
 
 -- the lines of one row more
-pub one_row_more : (r : CutRule) (columns : List (List ℕ)) (rows : List Row) (i : ℕ) (row : Row)
-    (old now new : List ℕ) (m : MixedLine) →
-    i < length rows → row ≡ get_or rows i row → AppendsLines r columns (take i rows) old now →
-    IsMadeLine r columns row m →
-    new ≡ now ++ mixed_row_text m → AppendsLines r columns (take (i + 1) rows) old new
-one_row_more r columns rows i row old now new m below here h made pushed = record {
+pub one_row_more : (mixed : Bool) (r : CutRule) (columns : List (List ℕ)) (rows : List Row) (i : ℕ)
+    (row : Row) (old now new : List ℕ) (m : MixedLine) →
+    i < length rows → row ≡ get_or rows i row →
+    AppendsLines mixed r columns (take i rows) old now → IsMadeLine mixed r columns row m →
+    new ≡ now ++ mixed_row_text m → AppendsLines mixed r columns (take (i + 1) rows) old new
+one_row_more mixed r columns rows i row old now new m below here h made pushed = record {
   lines = h.lines ++ m ∷ [];
-  are_made = zip_next (IsMadeLine r columns) rows i row h.lines
+  are_made = zip_next (IsMadeLine mixed r columns) rows i row h.lines
       (h.lines ++ m ∷ []) m below here refl h.are_made made;
   appended = pushed ∙ ap (λ text. text ++ mixed_row_text m) h.appended
       ∙ flat_map_more mixed_row_text old h.lines m;
 }
 
--- ---- kinds
-
-function_of : FunctionData → RuleKind → FunctionData
-function_of other (kind.Table f) = f
-function_of other (kind.Gmic x) = other
-
-pub same_function : (f g : FunctionData) → kind.Table f ≡ kind.Table g → f ≡ g
-unfolding function_of
-same_function f g e = ap (function_of f) e
+-- a function is minimal and continuous
+pub makes_mixed : (r : CutRule) → MakesContinuousCuts r → MakesCutsIn true r
+makes_mixed Gmic h = tt
+makes_mixed (Table f) h = (h.0, λ e. h.1)
 
 -- ---- the text
 

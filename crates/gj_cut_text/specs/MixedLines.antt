@@ -1,14 +1,18 @@
 -- The lines of rows with continuous columns (Gomory and Johnson 1972; the form is own).
-use Rattle.std.specs.Prelude.{ℕ, ◌≡◌, ◌<◌, List, [], ◌∷◌, ◌++◌, All, codes, flat_map, get_or, map}
+use Rattle.std.specs.Prelude.{ℕ, ◌≡◌, ◌<◌, Bool, true, false, List, [], ◌∷◌, ◌++◌, All, codes, flat_map, get_or, map}
 use Rattle.std.specs.List.{AllZip}
 use Rattle.gj_frac.specs.declared.Frac.{Frac}
+use Rattle.gj_shape.specs.FunctionData.{IsContinuous}
+use Rattle.gj_shape.specs.Table.{IsMinimal}
 use Rattle.gj_lex.specs.NumberText.{fraction_text}
 use Rattle.gj_function_lines.specs.FunctionLines.{line}
 use Rattle.gj_row.specs.declared.tableau.Row.{Row}
 use Rattle.gj_row.specs.declared.tableau.Tableau.{Tableau}
 use Rattle.gj_rule.specs.declared.kind.RuleKind.TheVariants as kind
+use Rattle.gj_cut.specs.RowCuts.{IsCutOfKind, IsGmicCutOf}
+use Rattle.gj_cut.specs.declared.cut.RowCut.{RowCut}
 use Rattle.gj_cut.specs.declared.cut.Term.{Term}
-use Rattle.gj_mixed.specs.MixedCuts.{IsMixedCutOfKind, IsGmicMixedCutOf}
+use Rattle.gj_mixed.specs.MixedCuts.{IsMixedCutOfKind, IsGmicMixedCutOf, MixedHoldsFor, without_weights}
 use Rattle.gj_mixed.specs.MixedRows.{MixedCutHolds}
 use Rattle.gj_mixed.specs.Slopes.{AreSlopesAtZero}
 use Rattle.gj_mixed.specs.declared.cut.MixedCut.{MixedCut}
@@ -99,20 +103,34 @@ pub record AreMixedCutsOf («rule» : CutRule) (tableau : Tableau) (text : List 
 
 -- ---- what is made
 
--- the line of a row by the rule, whose cut holds
-pub record IsMadeLine («rule» : CutRule) (columns : List (List ℕ)) (row : Row) (m : MixedLine) :
-    Type 0 where
-  pub line_is : IsMixedLineFor «rule» columns row m
-  pub holds : MixedLineHolds m
+-- the rule makes cuts: a function is minimal, and continuous if columns are
+abbrev pub MakesCutsIn : Bool → CutRule → Type 0
+MakesCutsIn mixed Gmic = Unit {0}
+MakesCutsIn mixed (Table f) = IsMinimal f × (mixed ≡ true → IsContinuous f)
 
-abbrev pub AreMadeLines : CutRule → List (List ℕ) → List Row → List MixedLine → Type 0
-AreMadeLines r columns rows lines = AllZip (IsMadeLine r columns) rows lines
+-- the cut of the row by the rule, where all columns are whole
+abbrev pub IsWholeCutBy : CutRule → Row → RowCut → Type 0
+IsWholeCutBy (Table f) row cut = IsCutOfKind (kind.Table f) row cut
+IsWholeCutBy Gmic row cut = IsGmicCutOf row cut
+
+-- what is made of a row: if columns are continuous, its mixed cut, which holds; else its cut
+abbrev pub IsMadeCut : Bool → CutRule → List (List ℕ) → Row → MixedCut → Type 0
+IsMadeCut true r columns row cut = IsMixedCutBy r columns row cut × MixedHoldsFor row cut
+IsMadeCut false r columns row cut = (whole : RowCut) × (cut ≡ without_weights whole)
+    × IsWholeCutBy r row whole
+
+-- the line of a row with what is made of it
+pub record IsMadeLine (mixed : Bool) (r : CutRule) (columns : List (List ℕ)) (row : Row)
+    (m : MixedLine) : Type 0 where
+  pub cut : MixedCut
+  pub is_made : IsMadeCut mixed r columns row cut
+  pub names : NamesMixedCut columns row cut m.line m.weights
 
 -- the new text is the old one, with the lines of the rows behind it
-pub record AppendsLines (r : CutRule) (columns : List (List ℕ)) (rows : List Row)
+pub record AppendsLines (mixed : Bool) (r : CutRule) (columns : List (List ℕ)) (rows : List Row)
     (old new : List ℕ) : Type 0 where
   pub lines : List MixedLine
-  pub are_made : AreMadeLines r columns rows lines
+  pub are_made : AllZip (IsMadeLine mixed r columns) rows lines
   pub appended : new ≡ old ++ flat_map mixed_row_text lines
 
 -- the columns of the terms of a cut are among so many

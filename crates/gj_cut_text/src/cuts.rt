@@ -4,7 +4,7 @@ ghost use Rattle.gj_row.specs.TableauLimits.{IsTableau};
 ghost use Rattle.gj_cut_text.specs.CutClaim.{IsTextOfCuts};
 ghost use Rattle.gj_cut_text.specs.CutRules.{PassesTests};
 
-use crate::lines::push_cut_lines;
+use crate::lines::push_row_lines;
 use gj_proof::{CutRule, push_rule_lines};
 use gj_row::Tableau;
 use std::alloc::{AllocError, Global};
@@ -29,7 +29,7 @@ pub fn cuts_text(alloc: Global, rule: &CutRule, tableau: &Tableau) -> Result<Vec
 {
     let mut text = Vec::from_slice(alloc, b"gj-proof 1\nclaim cut\n")?;
     push_rule_lines(alloc, &mut text, rule)?;
-    push_cut_lines(alloc, &mut text, rule, tableau)?;
+    push_row_lines(alloc, &mut text, rule, tableau, false)?;
     text.extend_from_slice(b"end\n")?;
     Ok(text)
 }

@@ -1,44 +1,58 @@
-//! The lines of the cuts of a tableau whose columns are all whole, with the names of its columns.
-ghost use Rattle.std.specs.Prelude.{◌≡◌, ◌++◌, All, OnOk, length};
+//! The lines of the cuts of the rows of a tableau, with the names of its columns.
+ghost use Rattle.std.specs.Prelude.{◌≡◌, All, OnOk, length, true};
+ghost use Rattle.gj_shape.specs.FunctionData.{IsContinuous, IsWithinBounds};
+ghost use Rattle.gj_shape.specs.Limits.{IsRowNumber};
+ghost use Rattle.gj_shape.specs.Table.{IsMinimal};
 ghost use Rattle.gj_theory.specs.Cuts.{IsValueOf};
 ghost use Rattle.gj_row.specs.TableauLimits.{IsTableau, IsRowWithinLimits};
 ghost use Rattle.gj_rule.specs.Kept.{Evaluates};
-ghost use Rattle.gj_shape.specs.Limits.{IsRowNumber};
 ghost use Rattle.gj_rule.specs.declared.kind.RuleKind.TheVariants as kind;
-ghost use Rattle.gj_proof.specs.ProofText.{row_text};
-ghost use Rattle.gj_proof.specs.declared.cut.CutLine.{CutLine};
+ghost use Rattle.gj_mixed.specs.Slopes.{AreSlopesAtZero, IsSlope, IsWeight, Weighs};
+ghost use Rattle.gj_proof.specs.ProofText.{IsBoundedRule};
 ghost use Rattle.gj_proof.specs.declared.cut.CutRule.TheVariants.{Gmic, Table};
-ghost use Rattle.gj_cut_text.specs.CutLines.{AppendsCuts, HasColumns, NamesCut};
+ghost use Rattle.gj_cut_text.specs.Columns.{continuous_columns};
+ghost use Rattle.gj_cut_text.specs.MixedLines.{AppendsLines, MakesCutsIn};
 
-use crate::named::push_cut_row;
-use gj_cut::{RowCut, cut_row, gmic_cut_row};
+use crate::columns::continuous_columns;
+use crate::mixed::push_cut;
+use gj_cut::{cut_row, gmic_cut_row};
 use gj_frac::Frac;
 use gj_lex::Name;
-use gj_proof::{CutRule, SkipReason, push_skip_line};
+use gj_mixed::{MixedCut, Slopes, SlopesAtZero, cut_mixed, gmic_cut_mixed};
+use gj_proof::CutRule;
 use gj_row::{Row, Tableau};
 use gj_rule::{Evaluator, Rule, RuleKind, table_value};
 use gj_shape::Shape;
 use std::alloc::{AllocError, Global};
 
 /// Appends the lines of each row of the tableau, in their order: its cut by the rule, or why it has
-/// none. The cut of a row is printed before that of the next is made.
+/// none. The cut of a row is made and printed before that of the next, so that no more than one is
+/// kept.
 ///
-/// The only error is want of memory.
-pub(crate) fn push_cut_lines(
+/// If `mixed`, the columns whose names begin with `c:` are continuous, and so is a function. Else
+/// every column is taken for whole. The only error is want of memory.
+pub(crate) fn push_row_lines(
     alloc: Global,
     out: &mut Vec<u8>,
     rule: &CutRule,
     tableau: &Tableau,
+    mixed: bool,
 ) -> Result<(), AllocError>
-    requires { IsTableau tableau.now }
-    ensures { OnOk result (AppendsCuts rule.now tableau.now.columns tableau.now.rows
+    requires bounded { IsBoundedRule rule.now }
+    requires makes { MakesCutsIn mixed rule.now }
+    requires tableau { IsTableau tableau.now }
+    ensures { OnOk result (AppendsLines mixed rule.now tableau.now.columns tableau.now.rows
         out.old.items out.new.items) }
 {
     let columns = tableau.columns.as_slice();
     let rows = tableau.rows.as_slice();
+    let flags = continuous_columns(alloc, columns, mixed)?;
+    let continuous = flags.as_slice();
     match rule {
-        CutRule::Gmic => push_gmic_lines(alloc, out, columns, rows),
-        CutRule::Table(shape) => push_function_lines(alloc, out, shape, columns, rows),
+        CutRule::Gmic => push_gmic_lines(alloc, out, columns, rows, mixed, continuous),
+        CutRule::Table(shape) => {
+            push_function_lines(alloc, out, shape, columns, rows, mixed, continuous)
+        }
     }
 }
 
@@ -48,69 +62,100 @@ fn push_gmic_lines(
     out: &mut Vec<u8>,
     columns: &[Name],
     rows: &[Row],
+    mixed: bool,
+    continuous: &[bool],
 ) -> Result<(), AllocError>
-    requires { All (IsRowWithinLimits (length columns.now)) rows.now }
-    ensures { OnOk result (AppendsCuts Gmic columns.now rows.now out.old.items out.new.items) }
+    requires flags { mixed ≡ true → continuous.now ≡ continuous_columns columns.now }
+    requires rows { All (IsRowWithinLimits (length columns.now)) rows.now }
+    ensures { OnOk result (AppendsLines mixed Gmic columns.now rows.now
+        out.old.items out.new.items) }
 {
     for row in rows {
-        let cut = gmic_cut_row(alloc, row)?;
+        let cut = if mixed {
+            gmic_cut_mixed(alloc, row, continuous)?
+        } else {
+            let whole = gmic_cut_row(alloc, row)?;
+            MixedCut::of_whole(alloc, whole)
+        };
         push_cut(out, columns, row, &cut)?;
     }
     Ok(())
 }
 
-/// Appends the lines of each row by the function.
+/// Appends the lines of each row by a minimal function.
 fn push_function_lines(
     alloc: Global,
     out: &mut Vec<u8>,
     shape: &Shape,
     columns: &[Name],
     rows: &[Row],
+    mixed: bool,
+    continuous: &[bool],
 ) -> Result<(), AllocError>
-    requires { All (IsRowWithinLimits (length columns.now)) rows.now }
-    ensures { OnOk result (AppendsCuts (Table shape.now) columns.now rows.now
+    requires bounds { IsWithinBounds shape.now }
+    requires minimal { IsMinimal shape.now }
+    requires jumps_not { mixed ≡ true → IsContinuous shape.now }
+    requires flags { mixed ≡ true → continuous.now ≡ continuous_columns columns.now }
+    requires rows { All (IsRowWithinLimits (length columns.now)) rows.now }
+    ensures { OnOk result (AppendsLines mixed (Table shape.now) columns.now rows.now
         out.old.items out.new.items) }
 {
     let kept = shape.copy(alloc)?;
+    let at_zero = SlopesAtZero::of_function(shape);
     let eval = |x: Frac|
         requires { IsRowNumber x }
         ensures { IsValueOf shape.entry.now x result }
     { table_value(shape, x) };
-    push_lines_by(alloc, out, kept, eval, columns, rows)?;
+    push_lines_by(
+        alloc,
+        out,
+        kept,
+        eval,
+        at_zero,
+        |c| at_zero.weight(c),
+        columns,
+        rows,
+        mixed,
+        continuous,
+    )?;
     Ok(())
 }
 
-/// Appends the lines of each row by the function with this evaluator.
-fn push_lines_by<E: Evaluator>(
+/// Appends the lines of each row by the function with this evaluator, and the slopes with this one.
+fn push_lines_by<E: Evaluator, G: Evaluator>(
     alloc: Global,
     out: &mut Vec<u8>,
     shape: Shape,
     eval: E,
+    at_zero: SlopesAtZero,
+    weigh: G,
     columns: &[Name],
     rows: &[Row],
+    mixed: bool,
+    continuous: &[bool],
 ) -> Result<(), AllocError>
+    requires minimal { IsMinimal shape }
+    requires jumps_not { mixed ≡ true → IsContinuous shape }
     requires evaluates { Evaluates E.can_answer E.answers (kind.Table shape) eval }
+    requires up { IsSlope at_zero.up }
+    requires down { IsSlope at_zero.down }
+    requires weighs { Weighs G.can_answer G.answers at_zero.up at_zero.down weigh }
+    requires slopes { AreSlopesAtZero shape at_zero.up at_zero.down }
+    requires flags { mixed ≡ true → continuous.now ≡ continuous_columns columns.now }
     requires rows { All (IsRowWithinLimits (length columns.now)) rows.now }
-    ensures { OnOk result (AppendsCuts (Table shape) columns.now rows.now
+    ensures { OnOk result (AppendsLines mixed (Table shape) columns.now rows.now
         out.old.items out.new.items) }
 {
     let rule = Rule::new(RuleKind::Table(shape), eval);
+    let slopes = Slopes::new(at_zero.up, at_zero.down, weigh);
     for row in rows {
-        let cut = cut_row(alloc, &rule, row)?;
+        let cut = if mixed {
+            cut_mixed(alloc, &rule, &slopes, row, continuous)?
+        } else {
+            let whole = cut_row(alloc, &rule, row)?;
+            MixedCut::of_whole(alloc, whole)
+        };
         push_cut(out, columns, row, &cut)?;
     }
     Ok(())
-}
-
-/// Appends the lines of a row with this cut, with the names of its columns.
-fn push_cut(out: &mut Vec<u8>, columns: &[Name], row: &Row, cut: &RowCut) -> Result<(), AllocError>
-    requires { HasColumns (length columns.now) cut.now }
-    ensures { OnOk result ((line : CutLine) × NamesCut columns.now row.now cut.now line
-        × (out.new.items ≡ out.old.items ++ row_text line)) }
-{
-    match cut {
-        RowCut::Cut(terms) => push_cut_row(out, columns, row, terms.as_slice()),
-        RowCut::Integral => push_skip_line(out, &row.basic, row.rhs, SkipReason::Integral),
-        RowCut::OtherFraction => push_skip_line(out, &row.basic, row.rhs, SkipReason::Other),
-    }
 }

@@ -7,7 +7,7 @@ ghost use Rattle.gj_cut_text.specs.MixedLines.{AreInColumns, AreMixedCutsOf};
 ghost use Rattle.gj_cut_text.specs.MixedLines.{NamesMixedCut, mixed_row_text};
 ghost use Rattle.gj_cut_text.specs.declared.mixed_lines.MixedLine.{MixedLine};
 
-use crate::mixed_lines::push_mixed_lines;
+use crate::lines::push_row_lines;
 use crate::named::{push_cut_row, push_weights};
 use gj_lex::Name;
 use gj_mixed::MixedCut;
@@ -27,7 +27,7 @@ pub fn mixed_text(alloc: Global, rule: &CutRule, tableau: &Tableau) -> Result<Ve
 {
     let mut text = Vec::from_slice(alloc, b"gj-mixed 1\n")?;
     push_rule_lines(alloc, &mut text, rule)?;
-    push_mixed_lines(alloc, &mut text, rule, tableau)?;
+    push_row_lines(alloc, &mut text, rule, tableau, true)?;
     text.extend_from_slice(b"end\n")?;
     Ok(text)
 }

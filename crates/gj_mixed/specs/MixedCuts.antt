@@ -1,6 +1,6 @@
 -- The cut of a row with whole and continuous columns by a rule and slopes (Gomory and Johnson
 -- 1972).
-use Rattle.std.specs.Prelude.{◌≡◌, Bool, false, not, List, map, filter, slice_index_or}
+use Rattle.std.specs.Prelude.{◌≡◌, Bool, false, not, List, [], map, filter, slice_index_or}
 use Rattle.std.specs.List.{AllZip}
 use Rattle.gj_frac.specs.declared.Frac.{Frac}
 use Rattle.gj_frac.specs.Fraction.{IsWhole}
@@ -10,6 +10,8 @@ use Rattle.gj_rule.specs.declared.kind.RuleKind.TheVariants.{Gmic}
 use Rattle.gj_row.specs.declared.tableau.Entry.{Entry}
 use Rattle.gj_row.specs.declared.tableau.Row.{Row}
 use Rattle.gj_cut.specs.RowCuts.{HasPart, IsTermOfKind, IsTermOf}
+use Rattle.gj_cut.specs.declared.cut.RowCut.{RowCut}
+use Rattle.gj_cut.specs.declared.cut.RowCut.TheVariants as row_cut
 use Rattle.gj_cut.specs.declared.cut.Term.{Term}
 use Rattle.gj_mixed.specs.MixedRows.{MixedCutHolds}
 use Rattle.gj_mixed.specs.Slopes.{IsWeight, AreGmicSlopes, KeptSlopes}
@@ -71,6 +73,12 @@ IsGmicMixedCutOf continuous row (Cut terms weights) =
     × IsMixedCutOfKind (Gmic f) up down continuous row (Cut terms weights)
 IsGmicMixedCutOf continuous row Integral = IsWhole row.rhs
 IsGmicMixedCutOf continuous row OtherFraction = ⊥
+
+-- the cut of a row whose columns are all whole has no weights
+abbrev pub without_weights : RowCut → MixedCut
+without_weights (row_cut.Cut terms) = Cut terms []
+without_weights row_cut.Integral = Integral
+without_weights row_cut.OtherFraction = OtherFraction
 
 -- the cut, if there is one, holds at each solution of the row
 abbrev pub MixedHoldsFor : Row → MixedCut → Type 0

@@ -5,7 +5,8 @@
 //! columns are the slopes at 0 times their entries. It holds if the rule is minimal: at each
 //! solution of the row in whole numbers and, for the continuous columns, in fractions, the nonbasic
 //! ones not negative, the sum of all terms is at least 1. [`gmic_cut_mixed`] makes the
-//! mixed-integer cut of a row, and [`mixed_term`] is the term of an entry in both.
+//! mixed-integer cut of a row, and [`mixed_term`] is the term of an entry in both. The cut of a row
+//! whose columns are all whole is one without weights, [`MixedCut::of_whole`].
 //!
 //! [`Slopes`] keeps slopes beside a closure that answers the weights, as a `Rule` of `gj_rule`
 //! keeps its evaluator. [`SlopesAtZero`] are the slopes of a function or of the mixed-integer cut,

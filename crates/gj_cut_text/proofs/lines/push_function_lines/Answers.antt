@@ -1,6 +1,6 @@
 use Rattle.std.proofs.Common.{sym, subst}
 use Rattle.gj_shape.specs.Table.{IsMinimal}
-use Rattle.gj_cut_text.proofs.mixed_lines.push_function_lines.Goals as goal
+use Rattle.gj_cut_text.proofs.lines.push_function_lines.Goals as goal
 
 pub push_lines_by-requires-clause-minimal : goal.push_lines_by-requires-clause-minimal
 push_lines_by-requires-clause-minimal c =
