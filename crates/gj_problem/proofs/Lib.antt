@@ -21,6 +21,8 @@ pub mod WideRoundings
 pub mod OneRounding
 pub mod NarrowRoundings
 pub mod WideScales
+pub mod Runs
+pub mod WeightedRuns
 mod Combinations
 mod Multiples
 mod DoneUpTo

@@ -10,3 +10,4 @@ pub mod OneDenominator
 pub mod Combinations
 pub mod Signs
 pub mod EntriesOver
+pub mod Sparse

@@ -9,6 +9,7 @@ ghost use Rattle.gj_problem.specs.EntriesOver.{AreEntriesOver, IsNumeratorPushed
 
 use crate::faults::Fault;
 use crate::problem::{Entry, Inequality};
+use crate::sparse::Sparse;
 use crate::sums::{Sum, push_some};
 use gj_frac::{Frac, Wide, checked_product, checked_total, gcd};
 use gj_shape::List;
@@ -43,6 +44,26 @@ impl Combination {
         ensures { IfOk result (StartsAt columns right) }
     {
         let common = common_factor(factors)?;
+        Combination::over(alloc, columns, right, common)
+    }
+
+    /// No coefficient, against 0, over a common denominator of the multipliers.
+    pub(crate) fn for_multipliers(
+        alloc: Global,
+        columns: usize,
+        multipliers: &Sparse,
+    ) -> Result<Combination, Fault>
+        ensures { IfOk result (StartsAt columns 0) }
+    {
+        let common = common_multiplier(multipliers)?;
+        Combination::over(alloc, columns, 0, common)
+    }
+
+    /// No coefficient, against this whole number, over this denominator of factors.
+    fn over(alloc: Global, columns: usize, right: u32, common: i128) -> Result<Combination, Fault>
+        requires { IsDenominator common }
+        ensures { IfOk result (StartsAt columns right) }
+    {
         let right = checked_product(i128::from(right), common)?;
         let numerators = vec![in alloc; 0; columns]?;
         Ok(Combination {
@@ -399,6 +420,17 @@ fn common_factor(factors: &[Frac]) -> Result<i128, Wide>
     let mut common = 1;
     for factor in factors {
         common = common_with(common, *factor)?;
+    }
+    Ok(common)
+}
+
+/// A common denominator of the multipliers.
+fn common_multiplier(multipliers: &Sparse) -> Result<i128, Wide>
+    ensures { IfOk result IsDenominator }
+{
+    let mut common = 1;
+    for run in multipliers.runs() {
+        common = common_with(common, run.value)?;
     }
     Ok(common)
 }

@@ -16,6 +16,7 @@ mod rounding;
 mod row;
 mod scales;
 mod slacks;
+mod sparse;
 mod sums;
 pub mod theorems;
 
@@ -27,4 +28,5 @@ pub use problem::{Column, Constraint, Entry, Inequality, Problem, Sense};
 pub use rounding::{RoundedCut, below_on_grid, rounded};
 pub use row::{MadeRow, Row, row_of};
 pub use scales::divided;
+pub use sparse::{Run, Sparse};
 pub use sums::Sum;

@@ -8,6 +8,7 @@ use crate::faults::Fault;
 use crate::pieces::Piece;
 use crate::problem::Problem;
 use crate::slacks::{Aggregate, added_up};
+use crate::sparse::Sparse;
 use gj_frac::Frac;
 use std::alloc::Global;
 
@@ -38,7 +39,7 @@ pub enum MadeRow {
 pub fn row_of(
     alloc: Global,
     problem: &Problem,
-    multipliers: &[Frac],
+    multipliers: &Sparse,
     at_upper: &[bool],
 ) -> Result<MadeRow, Fault>
     requires multipliers { length multipliers.now ≡ length problem.now.constraints }

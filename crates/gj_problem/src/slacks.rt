@@ -19,6 +19,7 @@ use crate::faults::Fault;
 use crate::pieces::Piece;
 use crate::problem::{Constraint, Entry, Inequality, Problem, Sense};
 use crate::scales::{divided, scale, with_sign};
+use crate::sparse::Sparse;
 use crate::sums::Sum;
 use gj_frac::Frac;
 use gj_shape::List;
@@ -38,7 +39,7 @@ pub(crate) fn added_up(
     alloc: Global,
     problem: &Problem,
     constraints: &[Constraint],
-    multipliers: &[Frac],
+    multipliers: &Sparse,
 ) -> Result<Aggregate, Fault>
     requires { length multipliers.now ≡ length constraints.now }
     ensures sum { IfOk result (λ made.
@@ -71,7 +72,7 @@ fn added_over_one(
     alloc: Global,
     problem: &Problem,
     constraints: &[Constraint],
-    multipliers: &[Frac],
+    multipliers: &Sparse,
 ) -> Result<Aggregate, Fault>
     requires { length multipliers.now ≡ length constraints.now }
     ensures sum { IfOk result (λ made.
@@ -84,13 +85,17 @@ fn added_over_one(
         (¬ IsWideSum problem.now (weighted multipliers.now constraints.now)) }
 {
     let columns = problem.columns.as_slice().len();
-    let sum = Combination::of_none(alloc, columns, 0, multipliers)?;
+    let sum = Combination::for_multipliers(alloc, columns, multipliers)?;
     let mut made = Combined {
         sum,
         slacks: Vec::new(alloc),
     };
-    for (constraint, multiplier) in constraints.iter().zip(multipliers) {
-        add_over_one(alloc, &mut made, problem, constraint, *multiplier)?;
+    let runs = multipliers.runs();
+    let mut place = 0;
+    for run in runs {
+        let index = place + run.zeros;
+        add_over_one(alloc, &mut made, problem, &constraints[index], run.value)?;
+        place = index + 1;
     }
     let Combined { sum, slacks } = made;
     let sum = sum.sum(alloc)?;
@@ -129,7 +134,7 @@ fn added_one_by_one(
     alloc: Global,
     problem: &Problem,
     constraints: &[Constraint],
-    multipliers: &[Frac],
+    multipliers: &Sparse,
 ) -> Result<Aggregate, Fault>
     requires { length multipliers.now ≡ length constraints.now }
     ensures sum { IfOk result (λ made.
@@ -149,8 +154,12 @@ fn added_one_by_one(
         sum,
         slacks: Vec::new(alloc),
     };
-    for (constraint, multiplier) in constraints.iter().zip(multipliers) {
-        add_weighted(alloc, &mut made, problem, constraint, *multiplier)?;
+    let runs = multipliers.runs();
+    let mut place = 0;
+    for run in runs {
+        let index = place + run.zeros;
+        add_weighted(alloc, &mut made, problem, &constraints[index], run.value)?;
+        place = index + 1;
     }
     Ok(made)
 }

@@ -1,17 +1,9 @@
-use Rattle.std.proofs.Common.{◌≡◌, List, length, take}
-use Rattle.gj_fields.specs.Rational.{Rational, rational, ◌-ℚ◌}
-use Rattle.gj_problem.specs.Rows.{dot}
-use Rattle.gj_problem.specs.Aggregates.{AreMadeOf, weighted, aggregate_at, HasNoSlack, IsSlack}
-use Rattle.gj_problem.specs.WideRows.{IsWideSum}
+use Rattle.gj_problem.specs.Aggregates.{weighted}
+use Rattle.gj_problem.proofs.Runs.{IsReached}
+use Rattle.gj_problem.proofs.WeightedRuns.{IsAddedUp}
 use Rattle.gj_problem.proofs.slacks.added_one_by_one.Given as goal
 
-abbrev pub invariant-loop-constraint : goal.invariant-loop-constraint
-invariant-loop-constraint l = record {
-  count : length l.made.sum.coefficients.items ≡ length l.problem.columns;
-  adds : (point : List Rational) →
-      dot l.made.sum.coefficients.items point -ℚ rational l.made.sum.right
-      ≡ aggregate_at point (take (length l.yielded) (weighted l.multipliers l.constraints));
-  slacks : AreMadeOf HasNoSlack (IsSlack l.problem)
-      (take (length l.yielded) (weighted l.multipliers l.constraints)) l.made.slacks.items;
-  narrow : IsWideSum l.problem (take (length l.yielded) (weighted l.multipliers l.constraints)) → ⊥;
-}
+abbrev pub invariant-loop-run : goal.invariant-loop-run
+invariant-loop-run l =
+    IsReached (λ front. IsAddedUp l.problem l.made.sum.coefficients.items l.made.sum.right
+    l.made.slacks.items (weighted front l.constraints)) l.multipliers l.runs l.run-index l.place

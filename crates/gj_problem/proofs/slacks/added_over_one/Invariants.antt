@@ -1,15 +1,12 @@
-use Rattle.std.proofs.Common.{List, length, take}
+use Rattle.std.proofs.Common.{List}
 use Rattle.gj_frac.specs.declared.Frac.{Frac}
-use Rattle.gj_problem.specs.Aggregates.{AreMadeOf, IsAggregate, weighted, HasNoSlack, IsSlack}
+use Rattle.gj_problem.specs.Aggregates.{weighted}
 use Rattle.gj_problem.specs.Combinations.{HasParts}
-use Rattle.gj_problem.specs.WideRows.{IsWideSum}
+use Rattle.gj_problem.proofs.Runs.{IsReached}
+use Rattle.gj_problem.proofs.WeightedRuns.{IsAddedUp}
 use Rattle.gj_problem.proofs.slacks.added_over_one.Given as goal
 
-abbrev pub invariant-loop-constraint : goal.invariant-loop-constraint
-invariant-loop-constraint l = record {
-  sum : (cs : List Frac) × (r : Frac) × HasParts l.made.sum cs r
-      × IsAggregate l.problem (take (length l.yielded) (weighted l.multipliers l.constraints)) cs r;
-  slacks : AreMadeOf HasNoSlack (IsSlack l.problem)
-      (take (length l.yielded) (weighted l.multipliers l.constraints)) l.made.slacks.items;
-  narrow : IsWideSum l.problem (take (length l.yielded) (weighted l.multipliers l.constraints)) → ⊥;
-}
+abbrev pub invariant-loop-run : goal.invariant-loop-run
+invariant-loop-run l = (cs : List Frac) × (r : Frac) × HasParts l.made.sum cs r
+    × IsReached (λ front. IsAddedUp l.problem cs r l.made.slacks.items (weighted front l.constraints))
+    l.multipliers l.runs l.run-index l.place

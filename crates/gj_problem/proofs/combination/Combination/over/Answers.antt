@@ -2,16 +2,16 @@ use Rattle.std.proofs.Common.{rules, ◌≡◌, ℤ, pos, ◌<ℤ◌, ◌*ℤ◌
 use Rattle.std.proofs.lemmas.Int.{to_z-of_z}
 use Rattle.gj_frac.specs.Fraction.{Fits}
 use Rattle.gj_problem.proofs.Combinations.{none_over}
-use Rattle.gj_problem.proofs.combination.Combination.of_none.Goals as goal
+use Rattle.gj_problem.proofs.combination.Combination.over.Goals as goal
 use mir.Syntax.{w128}
 
 pub returns : goal.returns
 returns c =
-    let common = c.in_ok-common.common in
+    let common = c.args.common in
     let d = to_z w128 (of_z w128 common) in
     let some : pos 0 <ℤ d =
     subst (λ (z : ℤ). pos 0 <ℤ z) (sym (to_z-of_z w128 common (search rules)))
-    c.in_ok-common.ensures.some in
+    c.requires.some in
     let m = to_z w128 (of_z w128 c.in_ok-right.right) in
     let m_same = to_z-of_z w128 c.in_ok-right.right (search rules) ∙ c.in_ok-right.ensures.1 in
     let m_is : m ≡ pos c.args.right *ℤ d = m_same
