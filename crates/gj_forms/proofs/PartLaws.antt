@@ -1,5 +1,6 @@
 -- Laws of parts: each is exact that is made of exact ones.
-use Rattle.std.proofs.Common.{◌≡◌, inl, inr, ℕ, List, [], ◌++◌, length, Result, Err, IfErr, refl, sym, ap, subst, ◌∙◌, append-nil, append_assoc}
+use Rattle.std.proofs.Common.{◌≡◌, inl, inr, ℕ, List, [], ◌++◌, length, Result, Ok, Err, IfErr, refl, sym, ap, subst, ◌∙◌, append-nil, append_assoc}
+use Rattle.std.specs.Borrow.{Bor}
 use Rattle.gj_lex.specs.declared.spelling.Spelling.{Spelling}
 use Rattle.gj_lex.specs.declared.spelling.Spelling.TheVariants.{Lenient, Strict}
 use Rattle.gj_lex.specs.declared.reason.Reason.{Reason}
@@ -10,7 +11,7 @@ use Rattle.gj_forms.specs.declared.line_fault.LineFault.TheVariants.{Broken}
 use Rattle.gj_forms.specs.declared.line_fault.LineFault.TheVariants as of_line
 use Rattle.gj_forms.specs.LineFaults.{IsRefusedFor}
 use Rattle.gj_forms.specs.TextLines.{HasLine, HasNoLine, HasNothing, HasSomething}
-use Rattle.gj_forms.specs.Parts.{LineRule, words_rule, Part, line_part, empty_part, then_part, made_part, framed_part, end_part, IsExactRule, IsExactPart, IsFaultOf, IsNoLine, IsTail}
+use Rattle.gj_forms.specs.Parts.{LineRule, words_rule, Part, line_part, empty_part, then_part, made_part, framed_part, end_part, IsExactRule, IsExactPart, IsFaultOf, IsReading, IsNoLine, IsTail}
 use Rattle.gj_forms.proofs.LenientLines.{one_next_line, next_not_skipped, next_suffix}
 use Rattle.gj_forms.proofs.StrictLines.{one_strict_line, strict_suffix}
 
@@ -304,6 +305,14 @@ pub fault_in_next : {A B : Type 0} (p : Part A) (next : A → Part B) (text : Li
 fault_in_next p next text a middle (Refused left e) h (start, left_is, f) =
     (start, left_is, inr (a, middle, h, f))
 fault_in_next p next text a middle (Memory m) h k = tt
+
+-- what came of reading the part behind the first came of reading both
+pub reading_behind : {A B : Type 0} (p : Part A) (next : A → Part B) (text : List ℕ) (a : A)
+    (middle : List ℕ) (result : Result (B × Bor (List ℕ)) PartFault) →
+    p.Reads text a middle → IsReading (next a) middle result →
+    IsReading (then_part p next) text result
+reading_behind p next text a middle (Ok r) h k = (a, middle, h, k)
+reading_behind p next text a middle (Err e) h k = fault_in_next p next text a middle e h k
 
 -- the part that a thing is made of has a fault
 pub fault_in_made : {A B : Type 0} (Makes : A → B → Type 0) (p : Part A) (text : List ℕ)

@@ -1,5 +1,5 @@
 -- Parts that are told apart by how the text begins are exact if both are.
-use Rattle.std.proofs.Common.{◌≡◌, ◌↔◌, inl, inr, ℕ, ◌<◌, List, [], ◌∷◌, ◌++◌, length, Bool, IsTrue, Result, Ok, Err, IfOk, IfErr, refl, sym, ap, subst, ◌∙◌, arith, length-append}
+use Rattle.std.proofs.Common.{◌≡◌, ◌↔◌, inl, inr, ℕ, ◌<◌, List, [], ◌∷◌, ◌++◌, length, Bool, IsTrue, Result, Ok, Err, IfErr, refl, sym, ap, subst, ◌∙◌, arith, length-append}
 use Rattle.std.specs.Result.{is_ok}
 use Rattle.std.specs.Borrow.{Bor}
 use Rattle.std.specs.List.{join_with_byte}
@@ -10,7 +10,7 @@ use Rattle.gj_forms.specs.declared.fault.PartFault.TheVariants.{Refused, Memory}
 use Rattle.gj_lex.specs.declared.spelling.Spelling.{Spelling}
 use Rattle.gj_lex.specs.declared.spelling.Spelling.TheVariants.{Lenient, Strict}
 use Rattle.gj_forms.specs.TextLines.{IsFirstLine, ended, unended, HasNextLine, here, further, HasLine}
-use Rattle.gj_forms.specs.Parts.{LineRule, words_rule, line_part, Part, BeginsWithLine, BeginsWithWord, where_part, IsExactPart, IsFaultOf, IsRefusal, IsNoLine}
+use Rattle.gj_forms.specs.Parts.{LineRule, words_rule, line_part, Part, BeginsWithLine, BeginsWithWord, where_part, IsExactPart, IsFaultOf, IsReading, IsPassing, IsRefusal, IsNoLine}
 use Rattle.gj_forms.proofs.PartLaws.{one_line, line_or_none}
 
 module _ {A : Type 0} (Begins : List ℕ → Type 0) (p q : Part A)
@@ -73,6 +73,19 @@ pub fault_else : {A : Type 0} (Begins : List ℕ → Type 0) (p q : Part A) (tex
 fault_else Begins p q text (Refused left e) not (start, left_is, h) = (start, left_is, inr (not, h))
 fault_else Begins p q text (Memory a) not h = tt
 
+-- what came of reading the part that the text begins with came of reading either
+pub reading_where : {A : Type 0} (Begins : List ℕ → Type 0) (p q : Part A) (text : List ℕ)
+    (result : Result (A × Bor (List ℕ)) PartFault) → Begins text →
+    IsReading p text result → IsReading (where_part Begins p q) text result
+reading_where Begins p q text (Ok r) is h = inl (is, h)
+reading_where Begins p q text (Err e) is h = fault_where Begins p q text e is h
+
+pub reading_else : {A : Type 0} (Begins : List ℕ → Type 0) (p q : Part A) (text : List ℕ)
+    (result : Result (A × Bor (List ℕ)) PartFault) → (Begins text → ⊥) →
+    IsReading q text result → IsReading (where_part Begins p q) text result
+reading_else Begins p q text (Ok r) not h = inr (not, h)
+reading_else Begins p q text (Err e) not h = fault_else Begins p q text e not h
+
 -- ---- how a text begins
 
 -- a text whose next line has some words begins with no other
@@ -131,12 +144,11 @@ begins_otherwise s text wanted (Memory a) h sure is = sure
 -- so the test for these words tells it
 pub line_is_told : (s : Spelling) (text : List ℕ) (wanted : List (List ℕ))
     (r : Result (Bor (List ℕ)) PartFault) (told : Bool) →
-    told ≡ is_ok r → IfOk r (λ rest. (line_part s (words_rule wanted)).Reads text tt rest.now) →
-    IfErr r (IsFaultOf (line_part s (words_rule wanted)) text) → IfErr r IsRefusal →
+    told ≡ is_ok r → IsPassing (line_part s (words_rule wanted)) text r → IfErr r IsRefusal →
     IsTrue told ↔ BeginsWithLine s wanted text
-line_is_told s text wanted (Ok rest) told is found fault sure =
+line_is_told s text wanted (Ok rest) told is found sure =
     (λ h. begins_so s text rest.now wanted found, λ h. is)
-line_is_told s text wanted (Err e) told is found fault sure = (
+line_is_told s text wanted (Err e) told is fault sure = (
   λ h. absurd (false≢true (sym is ∙ h)),
   λ h. absurd
       (begins_otherwise s text wanted e fault sure h),

@@ -1,6 +1,9 @@
 -- Parts of texts: what each spells, and where a text that does not spell it is at fault first
 -- (own). A form of text is a part made of lines, one after the other.
 use Rattle.std.specs.Prelude.{ℕ, ◌≡◌, ◌≢◌, ◌⊎◌, List, ◌∷◌, ◌++◌, length}
+use Rattle.std.specs.Prelude.{Result, Ok, Err, Vec}
+use Rattle.std.specs.Borrow.{Bor}
+use Rattle.std.specs.declared.alloc.Global.{Global}
 use Rattle.std.proofs.Common.{inl, inr}
 use Rattle.gj_lex.specs.declared.spelling.Spelling.{Spelling}
 use Rattle.gj_lex.specs.declared.reason.Reason.{Reason}
@@ -143,6 +146,23 @@ pub record IsExactPart {A : Type 0} (Reads : List ℕ → A → List ℕ → Typ
 abbrev pub IsFaultOf : {A : Type 0} → Part A → List ℕ → PartFault → Type 0
 IsFaultOf p text (Refused left e) = (start : List ℕ) × (left ≡ length start) × p.Faults text start e
 IsFaultOf p text (Memory a) = Unit {0}
+
+-- what came of reading a part at the front of a text: what it spells, with what follows, or its
+-- fault
+abbrev pub IsReading : {A : Type 0} → Part A → List ℕ → Result (A × Bor (List ℕ)) PartFault → Type 0
+IsReading p text (Ok r) = p.Reads text r.0 r.1.now
+IsReading p text (Err e) = IsFaultOf p text e
+
+-- the same of a part that spells a list
+abbrev pub IsListReading : {A : Type 0} → Part (List A) → List ℕ →
+    Result (Vec A Global × Bor (List ℕ)) PartFault → Type 0
+IsListReading p text (Ok r) = p.Reads text r.0.items r.1.now
+IsListReading p text (Err e) = IsFaultOf p text e
+
+-- the same of a part that spells nothing
+abbrev pub IsPassing : Part (Unit {0}) → List ℕ → Result (Bor (List ℕ)) PartFault → Type 0
+IsPassing p text (Ok rest) = p.Reads text tt rest.now
+IsPassing p text (Err e) = IsFaultOf p text e
 
 -- the fault is no want of memory
 abbrev pub IsRefusal : PartFault → Type 0

@@ -8,7 +8,7 @@ ghost use Rattle.gj_lex.specs.Words.{is_blank, word_texts};
 ghost use Rattle.gj_forms.specs.TextLines.{AreBytesOf, HasFirstWords, HasNextLine, IsSkipped};
 ghost use Rattle.gj_forms.specs.TextLines.{IsSkippedText, HasLine, HasNothing, IsWord};
 ghost use Rattle.gj_forms.specs.TextLines.{HasStrictLine, IsLineNumber};
-ghost use Rattle.gj_forms.specs.Parts.{line_part, words_rule, IsFaultOf, IsRefusal, IsNoLine};
+ghost use Rattle.gj_forms.specs.Parts.{line_part, words_rule, IsPassing, IsRefusal, IsNoLine};
 ghost use Rattle.gj_forms.specs.Parts.{IsTail};
 
 use crate::fault::PartFault;
@@ -27,6 +27,20 @@ pub struct TextLine<'a> {
     pub rest: &'a [u8],
 }
 
+impl<'a> TextLine<'a> {
+    /// What was read of the line, with what follows it, or the fault of the line for this reason.
+    pub fn with_rest<T>(self, read: Result<T, Reason>) -> Result<(T, &'a [u8]), PartFault>
+        ensures found { IfOk result (λ r. (read ≡ Ok r.0) × (r.1.now ≡ self.entry.rest.now)) }
+        ensures fault { IfErr result (λ e. (reason : Reason) × (read ≡ Err reason)
+            × (e ≡ PartFault.Refused (length self.entry.start.now) reason)) }
+    {
+        match read {
+            Ok(thing) => Ok((thing, self.rest)),
+            Err(reason) => Err(PartFault::at(self.start, reason)),
+        }
+    }
+}
+
 /// The next line of the text. If there is none, the fault is `Form`: in lenient spelling at the end
 /// of the text, and in strict spelling at the bytes that are no line. It takes no memory.
 pub fn line_at(spelling: Spelling, text: &[u8]) -> Result<TextLine<'_>, PartFault>
@@ -43,11 +57,8 @@ pub fn line_at(spelling: Spelling, text: &[u8]) -> Result<TextLine<'_>, PartFaul
 /// What follows the next line of the text, if that has the words of `words` and no others. It takes
 /// no memory.
 pub fn words_at<'a>(spelling: Spelling, text: &'a [u8], words: &[u8]) -> Result<&'a [u8], PartFault>
-    ensures found { IfOk result
-        (λ rest. (line_part spelling (words_rule (word_texts words.now))).Reads
-        text.now tt rest.now) }
-    ensures fault { IfErr result (IsFaultOf (line_part spelling
-        (words_rule (word_texts words.now))) text.now) }
+    ensures passed { IsPassing (line_part spelling (words_rule (word_texts words.now)))
+        text.now result }
     ensures no_memory { IfErr result IsRefusal }
 {
     let line = line_at(spelling, text)?;

@@ -1,6 +1,5 @@
 //! The lines of a function, read.
-ghost use Rattle.std.specs.Prelude.{IfOk, IfErr};
-ghost use Rattle.gj_forms.specs.Parts.{IsFaultOf};
+ghost use Rattle.gj_forms.specs.Parts.{IsReading};
 ghost use Rattle.gj_function_lines.specs.FunctionGrammar.{function_part};
 
 use crate::head::{order_at, place_at};
@@ -22,8 +21,7 @@ pub fn function_at(
     spelling: Spelling,
     text: &[u8],
 ) -> Result<(Shape, &[u8]), PartFault>
-    ensures found { IfOk result (λ r. (function_part spelling).Reads text.now r.0 r.1.now) }
-    ensures fault { IfErr result (IsFaultOf (function_part spelling) text.now) }
+    ensures { IsReading (function_part spelling) text.now result }
 {
     let (order, rest) = order_at(spelling, text)?;
     let (place, rest) = place_at(spelling, rest, order)?;

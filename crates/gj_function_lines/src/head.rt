@@ -3,7 +3,7 @@ ghost use Rattle.std.specs.Prelude.{◌≡◌, ◌↔◌, IfSome, IfNone, IfOk, 
 ghost use Rattle.std.specs.Str.Parse.{digits_value};
 ghost use Rattle.gj_lex.specs.Words.{word_texts};
 ghost use Rattle.gj_lex.specs.SpelledNumbers.{IsCountWord};
-ghost use Rattle.gj_forms.specs.Parts.{line_part, IsFaultOf};
+ghost use Rattle.gj_forms.specs.Parts.{line_part, IsReading};
 ghost use Rattle.gj_shape.specs.Given.{IsOrder};
 ghost use Rattle.gj_function_lines.specs.FunctionGrammar.{order_rule, place_rule};
 
@@ -14,15 +14,10 @@ use gj_shape::GREATEST_ORDER;
 
 /// The order in the next line, from 2 to 1,000, and what follows the line.
 pub(crate) fn order_at(spelling: Spelling, text: &[u8]) -> Result<(u32, &[u8]), PartFault>
-    ensures found { IfOk result
-        (λ r. (line_part spelling (order_rule spelling)).Reads text.now r.0 r.1.now) }
-    ensures fault { IfErr result (IsFaultOf (line_part spelling (order_rule spelling)) text.now) }
+    ensures { IsReading (line_part spelling (order_rule spelling)) text.now result }
 {
     let line = line_at(spelling, text)?;
-    match order_in(spelling, line.bytes) {
-        Ok(order) => Ok((order, line.rest)),
-        Err(reason) => Err(PartFault::at(line.start, reason)),
-    }
+    line.with_rest(order_in(spelling, line.bytes))
 }
 
 /// The order that the line gives, or the rule that it breaks first.
@@ -70,16 +65,10 @@ pub(crate) fn place_at(
     order: u32,
 ) -> Result<(u32, &[u8]), PartFault>
     requires { IsOrder order }
-    ensures found { IfOk result
-        (λ r. (line_part spelling (place_rule spelling order)).Reads text.now r.0 r.1.now) }
-    ensures fault { IfErr result (IsFaultOf (line_part spelling
-        (place_rule spelling order)) text.now) }
+    ensures { IsReading (line_part spelling (place_rule spelling order)) text.now result }
 {
     let line = line_at(spelling, text)?;
-    match place_in(spelling, line.bytes, order) {
-        Ok(place) => Ok((place, line.rest)),
-        Err(reason) => Err(PartFault::at(line.start, reason)),
-    }
+    line.with_rest(place_in(spelling, line.bytes, order))
 }
 
 /// The place that the line gives, or the rule that it breaks first.

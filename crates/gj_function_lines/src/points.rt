@@ -2,7 +2,7 @@
 ghost use Rattle.std.specs.Prelude.{◌≡◌, ◌↔◌, ◌++◌, [], ◌∷◌, ℕ, List, length, codes, IsTrue};
 ghost use Rattle.std.specs.Prelude.{IfSome, IfNone, IfOk, IfErr, OnOk, All};
 ghost use Rattle.gj_lex.specs.Words.{word_texts};
-ghost use Rattle.gj_forms.specs.Parts.{line_part, IsFaultOf};
+ghost use Rattle.gj_forms.specs.Parts.{line_part, IsFaultOf, IsReading};
 ghost use Rattle.gj_shape.specs.Given.{IsSmall, HasCommonDenominator};
 ghost use Rattle.gj_shape.specs.Points.{all_fractions, IsPointFault};
 ghost use Rattle.gj_shape.specs.declared.points.Point.{Point};
@@ -45,8 +45,7 @@ pub(crate) fn points_at(
     text: &[u8],
     count: u32,
 ) -> Result<(Points, &[u8]), PartFault>
-    ensures found { IfOk result (λ r. (points_part spelling count []).Reads text.now r.0 r.1.now) }
-    ensures fault { IfErr result (IsFaultOf (points_part spelling count []) text.now) }
+    ensures { IsReading (points_part spelling count []) text.now result }
 {
     let mut points = Points::with_room(alloc, count as usize)?;
     let mut rest = text;

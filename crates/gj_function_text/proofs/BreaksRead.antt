@@ -1,10 +1,11 @@
 -- How the lines of breakpoints that were read make the lines of the text, and a fault of theirs one
 -- of the text.
-use Rattle.std.proofs.Common.{◌≡◌, ◌⊎◌, inl, inr, ℕ, List, length, refl}
+use Rattle.std.proofs.Common.{◌≡◌, ◌⊎◌, inl, inr, ℕ, List, length, Result, Ok, Err, refl}
+use Rattle.std.specs.Borrow.{Bor}
 use Rattle.gj_forms.specs.declared.fault.PartFault.{PartFault}
 use Rattle.gj_lex.specs.declared.spelling.Spelling.TheVariants.{Lenient}
 use Rattle.gj_forms.specs.TextLines.{HasLine}
-use Rattle.gj_forms.specs.Parts.{line_part, loop_part, IsFaultOf}
+use Rattle.gj_forms.specs.Parts.{line_part, loop_part, IsFaultOf, IsReading}
 use Rattle.gj_forms.proofs.PartLaws.{fault_in_made}
 use Rattle.gj_forms.proofs.WhereLaws.{fault_where, fault_else}
 use Rattle.gj_forms.proofs.LoopRead.{LeadsOn, leads_on, leads_to_end, leads_to_fault}
@@ -74,13 +75,6 @@ module _ (first : BreakList) (text : List ℕ) where
   break_on s t rest behind h not line =
       leads_on next_break first text s t rest behind h (inr (not, (t, line, refl)))
 
-  pub breaks_end : (s : BreakList) (rest end : List ℕ) (f : FunctionData) →
-      LeadsOn next_break first text s rest → EndsHere s rest →
-      (line_part Lenient (end_rule s)).Reads rest f end →
-      (loop_part next_break first).Reads text f end
-  breaks_end s rest end f h ends line =
-      leads_to_end next_break first text s rest f end h (inl (ends, (f, line, refl)))
-
   pub fault_in_break : (s : BreakList) (rest : List ℕ) (e : PartFault) →
       LeadsOn next_break first text s rest → (EndsHere s rest → ⊥) →
       IsFaultOf (line_part Lenient (break_rule s)) rest e →
@@ -91,11 +85,14 @@ module _ (first : BreakList) (text : List ℕ) where
       (fault_in_made {B = BreakList ⊎ FunctionData} (λ (t : BreakList) next. next ≡ inl t)
       (line_part Lenient (break_rule s)) rest e fault))
 
-  pub fault_at_end : (s : BreakList) (rest : List ℕ) (e : PartFault) →
+  pub breaks_end : (s : BreakList) (rest : List ℕ)
+      (result : Result (FunctionData × Bor (List ℕ)) PartFault) →
       LeadsOn next_break first text s rest → EndsHere s rest →
-      IsFaultOf (line_part Lenient (end_rule s)) rest e →
-      IsFaultOf (loop_part next_break first) text e
-  fault_at_end s rest e h ends fault =
+      IsReading (line_part Lenient (end_rule s)) rest result →
+      IsReading (loop_part next_break first) text result
+  breaks_end s rest (Ok r) h ends line =
+      leads_to_end next_break first text s rest r.0 r.1.now h (inl (ends, (r.0, line, refl)))
+  breaks_end s rest (Err e) h ends fault =
       leads_to_fault next_break first text s rest e h
       (fault_where (EndsHere s) (last_of s) (more_of s) rest e ends
       (fault_in_made {B = BreakList ⊎ FunctionData} (λ (f : FunctionData) next. next ≡ inr f)

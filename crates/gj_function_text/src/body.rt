@@ -1,6 +1,5 @@
 //! What tells the function in a function text, read.
-ghost use Rattle.std.specs.Prelude.{IfOk, IfErr};
-ghost use Rattle.gj_forms.specs.Parts.{IsFaultOf};
+ghost use Rattle.gj_forms.specs.Parts.{IsReading};
 ghost use Rattle.gj_function_text.specs.FunctionText.{body_part};
 
 use crate::family::family_at;
@@ -13,8 +12,7 @@ use std::alloc::Global;
 /// The function that the next lines tell, and what follows them: one line, if it begins with
 /// `family`, and else the lines of the order, of f and of the points.
 pub(crate) fn body_at(alloc: Global, text: &[u8]) -> Result<(Shape, &[u8]), PartFault>
-    ensures found { IfOk result (λ r. body_part.Reads text.now r.0 r.1.now) }
-    ensures fault { IfErr result (IsFaultOf body_part text.now) }
+    ensures { IsReading body_part text.now result }
 {
     if begins_with_word(Spelling::Lenient, text, b"family") {
         family_at(alloc, text)

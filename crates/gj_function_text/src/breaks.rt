@@ -3,7 +3,7 @@ ghost use Rattle.std.specs.Prelude.{◌≡◌, ◌≢◌, ◌≤◌, ◌↔◌, 
 ghost use Rattle.std.specs.Prelude.{unsigned_abs};
 ghost use Rattle.gj_frac.specs.Fraction.{denominator, IsInside};
 ghost use Rattle.gj_lex.specs.Words.{word_texts};
-ghost use Rattle.gj_forms.specs.Parts.{line_part, loop_part, IsFaultOf};
+ghost use Rattle.gj_forms.specs.Parts.{line_part, loop_part, IsFaultOf, IsReading};
 ghost use Rattle.gj_shape.specs.Limits.{greatest_order};
 ghost use Rattle.gj_shape.specs.Breaks.{no_breaks};
 ghost use Rattle.gj_function_text.specs.BreaksText.{start_rule, break_rule, end_rule, EndsHere};
@@ -20,8 +20,7 @@ use std::alloc::Global;
 /// The function that the next lines tell by its breakpoints, and what follows their line `end`: `f
 /// F`, and a line `point X V` or `point X L V R` for each breakpoint.
 pub(crate) fn breaks_at(alloc: Global, text: &[u8]) -> Result<(Shape, &[u8]), PartFault>
-    ensures found { IfOk result (λ r. breaks_part.Reads text.now r.0 r.1.now) }
-    ensures fault { IfErr result (IsFaultOf breaks_part text.now) }
+    ensures { IsReading breaks_part text.now result }
 {
     let (breaks, lines) = start_at(alloc, text)?;
     more_breaks_at(alloc, lines, breaks)
@@ -29,9 +28,7 @@ pub(crate) fn breaks_at(alloc: Global, text: &[u8]) -> Result<(Shape, &[u8]), Pa
 
 /// f in the next line, and what follows the line.
 fn start_at(alloc: Global, text: &[u8]) -> Result<(Breaks, &[u8]), PartFault>
-    ensures found { IfOk result
-        (λ r. (line_part Spelling.Lenient start_rule).Reads text.now r.0 r.1.now) }
-    ensures fault { IfErr result (IsFaultOf (line_part Spelling.Lenient start_rule) text.now) }
+    ensures { IsReading (line_part Spelling.Lenient start_rule) text.now result }
 {
     let line = line_at(Spelling::Lenient, text)?;
     match start_in(line.bytes) {
@@ -79,8 +76,7 @@ fn is_coarse(x: Frac) -> bool
 /// The function whose further breakpoints the next lines tell, up to their line `end`, and what
 /// follows that line.
 fn more_breaks_at(alloc: Global, text: &[u8], first: Breaks) -> Result<(Shape, &[u8]), PartFault>
-    ensures found { IfOk result (λ r. (loop_part next_break first).Reads text.now r.0 r.1.now) }
-    ensures fault { IfErr result (IsFaultOf (loop_part next_break first) text.now) }
+    ensures { IsReading (loop_part next_break first) text.now result }
 {
     let mut breaks = first;
     let mut rest = text;
@@ -135,10 +131,7 @@ fn last_at<'a>(
     breaks: &Breaks,
 ) -> Result<(Shape, &'a [u8]), PartFault>
     requires some { breaks.now.breaks ≢ [] }
-    ensures found { IfOk result (λ r. (line_part Spelling.Lenient
-        (end_rule breaks.now)).Reads text.now r.0 r.1.now) }
-    ensures fault { IfErr result (IsFaultOf (line_part Spelling.Lenient
-        (end_rule breaks.now)) text.now) }
+    ensures { IsReading (line_part Spelling.Lenient (end_rule breaks.now)) text.now result }
 {
     let line = line_at(Spelling::Lenient, text)?;
     if !has_words(line.bytes, b"end") {

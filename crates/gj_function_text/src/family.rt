@@ -3,7 +3,7 @@ ghost use Rattle.std.specs.Prelude.{◌≡◌, ◌↔◌, All, IfSome, IfNone, I
 ghost use Rattle.std.specs.Str.Parse.{digits_value};
 ghost use Rattle.gj_forms.specs.LineFaults.{IsRefusedFor};
 ghost use Rattle.gj_lex.specs.Words.{word_texts};
-ghost use Rattle.gj_forms.specs.Parts.{IsFaultOf};
+ghost use Rattle.gj_forms.specs.Parts.{IsReading};
 ghost use Rattle.gj_lex.specs.SpelledNumbers.{IsCountWord};
 ghost use Rattle.gj_forms.specs.LineForms.{AreOfForm};
 ghost use Rattle.gj_function_text.specs.FamilyLine.{family_form, AreSigns, IsReasonOf, family_rule};
@@ -30,8 +30,7 @@ pub(crate) enum LineWords<'a> {
 
 /// The function of a family that the next line names, and what follows the line.
 pub(crate) fn family_at(alloc: Global, text: &[u8]) -> Result<(Shape, &[u8]), PartFault>
-    ensures found { IfOk result (λ r. family_part.Reads text.now r.0 r.1.now) }
-    ensures fault { IfErr result (IsFaultOf family_part text.now) }
+    ensures { IsReading family_part text.now result }
 {
     let line = line_at(Spelling::Lenient, text)?;
     match family_in(alloc, line.bytes) {

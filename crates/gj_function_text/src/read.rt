@@ -1,6 +1,6 @@
 //! Function texts, read.
 ghost use Rattle.std.specs.Prelude.{◌≡◌, ◌≤◌, List, ℕ, drop, length, IfOk, IfErr, MatchResult};
-ghost use Rattle.gj_forms.specs.Parts.{IsFaultOf};
+ghost use Rattle.gj_forms.specs.Parts.{IsFaultOf, IsReading};
 ghost use Rattle.gj_shape.specs.FunctionData.{FunctionData};
 ghost use Rattle.gj_function_text.specs.FunctionText.{points_text, breaks_text, function_text};
 ghost use Rattle.gj_function_text.specs.FunctionText.{whole_function_text, IsFunctionText};
@@ -83,8 +83,7 @@ fn whole_function_text_at(alloc: Global, text: &[u8]) -> Result<Shape, PartFault
 
 /// The function whose function text is at the front, and what follows the line `end`.
 fn function_text_at(alloc: Global, text: &[u8]) -> Result<(Shape, &[u8]), PartFault>
-    ensures found { IfOk result (λ r. IsFunctionText text.now r.0 r.1.now) }
-    ensures fault { IfErr result (IsFaultOf function_text text.now) }
+    ensures { IsReading function_text text.now result }
 {
     if begins_with_line(Spelling::Lenient, text, b"gj-function 2") {
         breaks_text_at(alloc, text)
@@ -96,8 +95,7 @@ fn function_text_at(alloc: Global, text: &[u8]) -> Result<(Shape, &[u8]), PartFa
 /// The function whose text by points, or as one of a family, is at the front, and what follows the
 /// line `end`.
 fn points_text_at(alloc: Global, text: &[u8]) -> Result<(Shape, &[u8]), PartFault>
-    ensures found { IfOk result (λ r. points_text.Reads text.now r.0 r.1.now) }
-    ensures fault { IfErr result (IsFaultOf points_text text.now) }
+    ensures { IsReading points_text text.now result }
 {
     let rest = words_at(Spelling::Lenient, text, b"gj-function 1")?;
     let (shape, rest) = body_at(alloc, rest)?;
@@ -107,8 +105,7 @@ fn points_text_at(alloc: Global, text: &[u8]) -> Result<(Shape, &[u8]), PartFaul
 
 /// The function whose text by breakpoints is at the front, and what follows the line `end`.
 fn breaks_text_at(alloc: Global, text: &[u8]) -> Result<(Shape, &[u8]), PartFault>
-    ensures found { IfOk result (λ r. breaks_text.Reads text.now r.0 r.1.now) }
-    ensures fault { IfErr result (IsFaultOf breaks_text text.now) }
+    ensures { IsReading breaks_text text.now result }
 {
     let rest = words_at(Spelling::Lenient, text, b"gj-function 2")?;
     breaks_at(alloc, rest)

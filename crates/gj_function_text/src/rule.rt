@@ -1,7 +1,7 @@
 //! Rule texts, read.
 ghost use Rattle.std.specs.Prelude.{◌≡◌, ◌≤◌, ◌↔◌, List, ℕ, drop, length, IfOk, IfErr, MatchResult};
 ghost use Rattle.std.specs.Prelude.{IsTrue};
-ghost use Rattle.gj_forms.specs.Parts.{IsFaultOf, IsRefusal};
+ghost use Rattle.gj_forms.specs.Parts.{IsRefusal, IsPassing};
 ghost use Rattle.gj_function_text.specs.RuleText.{rule_text, IsRuleText, IsFirstFaultOfRule};
 ghost use Rattle.gj_function_text.specs.RuleText.{BeginsAsRule};
 
@@ -41,8 +41,7 @@ pub fn read_rule(bytes: &[u8]) -> Result<usize, (u64, Reason)>
 
 /// What follows the line `end` of the rule text at the front.
 fn rule_text_at(text: &[u8]) -> Result<&[u8], PartFault>
-    ensures found { IfOk result (λ rest. IsRuleText text.now rest.now) }
-    ensures fault { IfErr result (IsFaultOf rule_text text.now) }
+    ensures passed { IsPassing rule_text text.now result }
     ensures no_memory { IfErr result IsRefusal }
 {
     let rest = words_at(Spelling::Lenient, text, b"gj-rule 1")?;

@@ -2,7 +2,7 @@
 ghost use Rattle.std.specs.Prelude.{◌≡◌, ◌≢◌, ◌≤◌, ◌++◌, [], ◌∷◌, ℕ, codes, IfOk, IfErr, IfSome};
 ghost use Rattle.std.specs.Prelude.{◌<◌, IfNone, decimal};
 ghost use Rattle.gj_lex.specs.Words.{word_texts};
-ghost use Rattle.gj_forms.specs.Parts.{IsFaultOf};
+ghost use Rattle.gj_forms.specs.Parts.{IsListReading, IsReading};
 ghost use Rattle.gj_forms.specs.LineForms.{AreOfForm, AreLine, BreaksForm};
 ghost use Rattle.gj_shape.specs.Limits.{greatest_order};
 ghost use Rattle.gj_shape.specs.declared.faces.FaceKind.{FaceKind};
@@ -45,8 +45,7 @@ pub fn cover_lines_at(
     order: u32,
 ) -> Result<(Vec<CoverLine>, &[u8]), PartFault>
     requires { order ≤ greatest_order }
-    ensures found { IfOk result (λ r. (covered_part order).Reads text.now r.0.items r.1.now) }
-    ensures fault { IfErr result (IsFaultOf (covered_part order) text.now) }
+    ensures { IsListReading (covered_part order) text.now result }
 {
     let mut lines = Vec::new(alloc);
     let mut rest = text;
@@ -61,17 +60,13 @@ pub fn cover_lines_at(
 /// The line of a covered interval that comes next, and what follows it. It takes no memory.
 fn cover_line_at(text: &[u8], order: u32) -> Result<(CoverLine, &[u8]), PartFault>
     requires { order ≤ greatest_order }
-    ensures found { IfOk result (λ r. (form_part (cover_form order)).Reads text.now r.0 r.1.now) }
-    ensures fault { IfErr result (IsFaultOf (form_part (cover_form order)) text.now) }
+    ensures { IsReading (form_part (cover_form order)) text.now result }
 {
     if let Some((line, rest)) = printed_cover_line(text, order) {
         return Ok((line, rest));
     }
     let line = line_at(Spelling::Strict, text)?;
-    match cover_line_in(line.bytes, order) {
-        Ok(cover) => Ok((cover, line.rest)),
-        Err(reason) => Err(PartFault::at(line.start, reason)),
-    }
+    line.with_rest(cover_line_in(line.bytes, order))
 }
 
 /// The line of a covered interval that the text begins with as it is printed, and what follows it.

@@ -5,7 +5,7 @@ ghost use Rattle.gj_forms.specs.LineFaults.{IsRefusedFor};
 ghost use Rattle.gj_lex.specs.Name.{IsName};
 ghost use Rattle.gj_lex.specs.NumberText.{fraction_text};
 ghost use Rattle.gj_lex.specs.Words.{word_texts};
-ghost use Rattle.gj_forms.specs.Parts.{BeginsWithWord, IsFaultOf};
+ghost use Rattle.gj_forms.specs.Parts.{BeginsWithWord, IsFaultOf, IsListReading, IsReading};
 ghost use Rattle.gj_forms.specs.TextLines.{HasLine};
 ghost use Rattle.gj_lex.specs.declared.spelling.Spelling.TheVariants.{Strict};
 ghost use Rattle.gj_lex.specs.declared.reason.Reason.TheVariants.{Number};
@@ -60,8 +60,7 @@ pub(crate) struct HeadWords<'a> {
 /// The rule that the next lines tell, and what follows them: the line `rule gmic`, or the lines of
 /// a function.
 pub(crate) fn rule_at(alloc: Global, text: &[u8]) -> Result<(CutRule, &[u8]), PartFault>
-    ensures found { IfOk result (λ r. rule_part.Reads text.now r.0 r.1.now) }
-    ensures fault { IfErr result (IsFaultOf rule_part text.now) }
+    ensures { IsReading rule_part text.now result }
 {
     if begins_with_line(Spelling::Strict, text, b"rule gmic") {
         let rest = words_at(Spelling::Strict, text, b"rule gmic")?;
@@ -75,8 +74,7 @@ pub(crate) fn rule_at(alloc: Global, text: &[u8]) -> Result<(CutRule, &[u8]), Pa
 
 /// The rows up to a line `end`, and that line with what follows it.
 pub(crate) fn rows_at(alloc: Global, text: &[u8]) -> Result<(Vec<CutLine>, &[u8]), PartFault>
-    ensures found { IfOk result (λ r. rows_part.Reads text.now r.0.items r.1.now) }
-    ensures fault { IfErr result (IsFaultOf rows_part text.now) }
+    ensures { IsListReading rows_part text.now result }
 {
     let mut rows = Vec::new(alloc);
     let mut rest = text;
@@ -90,8 +88,7 @@ pub(crate) fn rows_at(alloc: Global, text: &[u8]) -> Result<(Vec<CutLine>, &[u8]
 
 /// The row in the next lines, and what follows them.
 fn row_at(alloc: Global, text: &[u8]) -> Result<(CutLine, &[u8]), PartFault>
-    ensures found { IfOk result (λ r. row_part.Reads text.now r.0 r.1.now) }
-    ensures fault { IfErr result (IsFaultOf row_part text.now) }
+    ensures { IsReading row_part text.now result }
 {
     let (head, rest) = head_at(alloc, text)?;
     match head.kind {
@@ -105,8 +102,7 @@ fn row_at(alloc: Global, text: &[u8]) -> Result<(CutLine, &[u8]), PartFault>
 
 /// What the first line of a row tells, and what follows the line.
 fn head_at(alloc: Global, text: &[u8]) -> Result<(RowHead, &[u8]), PartFault>
-    ensures found { IfOk result (λ r. (form_part head_form).Reads text.now r.0 r.1.now) }
-    ensures fault { IfErr result (IsFaultOf (form_part head_form) text.now) }
+    ensures { IsReading (form_part head_form) text.now result }
 {
     let line = line_at(Spelling::Strict, text)?;
     match head_in(alloc, line.bytes) {
@@ -174,8 +170,7 @@ fn skip_reason(word: &[u8]) -> Option<SkipReason>
 
 /// The terms in the next lines, as long as these begin with `term`, and what follows them.
 fn terms_at(alloc: Global, text: &[u8]) -> Result<(Vec<CutTerm>, &[u8]), PartFault>
-    ensures found { IfOk result (λ r. terms_part.Reads text.now r.0.items r.1.now) }
-    ensures fault { IfErr result (IsFaultOf terms_part text.now) }
+    ensures { IsListReading terms_part text.now result }
 {
     let mut terms = Vec::new(alloc);
     let mut rest = text;

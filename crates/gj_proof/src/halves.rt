@@ -3,7 +3,7 @@ ghost use Rattle.std.specs.Prelude.{◌≡◌, ◌++◌, ℤ, List, map, decimal
 ghost use Rattle.std.specs.Fmt.{signed_decimal};
 ghost use Rattle.gj_frac.specs.Fraction.{Fits};
 ghost use Rattle.gj_lex.specs.Words.{word_texts};
-ghost use Rattle.gj_forms.specs.Parts.{IsFaultOf};
+ghost use Rattle.gj_forms.specs.Parts.{IsFaultOf, IsReading};
 ghost use Rattle.gj_forms.specs.LineForms.{AreLine, BreaksForm};
 ghost use Rattle.gj_proof.specs.ProofText.{pair_line};
 ghost use Rattle.gj_proof.specs.ProofGrammar.{IsHeadInBounds, halves_form, pair_form, form_part};
@@ -28,8 +28,7 @@ pub struct HalvesHead {
 
 /// The halves in the next lines, and what follows them.
 pub(crate) fn halves_at(alloc: Global, text: &[u8]) -> Result<(Halves, &[u8]), PartFault>
-    ensures found { IfOk result (λ r. halves_part.Reads text.now r.0 r.1.now) }
-    ensures fault { IfErr result (IsFaultOf halves_part text.now) }
+    ensures { IsReading halves_part text.now result }
 {
     let (head, rest) = halves_head_at(text)?;
     let ((first, second), rest) = pairs_at(alloc, rest, head.order)?;
@@ -44,14 +43,10 @@ pub(crate) fn halves_at(alloc: Global, text: &[u8]) -> Result<(Halves, &[u8]), P
 
 /// The order and the scale in the next line, and what follows the line. It takes no memory.
 pub fn halves_head_at(text: &[u8]) -> Result<(HalvesHead, &[u8]), PartFault>
-    ensures found { IfOk result (λ r. (form_part halves_form).Reads text.now r.0 r.1.now) }
-    ensures fault { IfErr result (IsFaultOf (form_part halves_form) text.now) }
+    ensures { IsReading (form_part halves_form) text.now result }
 {
     let line = line_at(Spelling::Strict, text)?;
-    match halves_head_in(line.bytes) {
-        Ok(head) => Ok((head, line.rest)),
-        Err(reason) => Err(PartFault::at(line.start, reason)),
-    }
+    line.with_rest(halves_head_in(line.bytes))
 }
 
 /// The order and the scale that the line tells.
@@ -111,17 +106,13 @@ fn pairs_at(
 
 /// The pair of values in the next line, and what follows the line. It takes no memory.
 fn pair_at(text: &[u8]) -> Result<((i128, i128), &[u8]), PartFault>
-    ensures found { IfOk result (λ r. (form_part pair_form).Reads text.now r.0 r.1.now) }
-    ensures fault { IfErr result (IsFaultOf (form_part pair_form) text.now) }
+    ensures { IsReading (form_part pair_form) text.now result }
 {
     if let Some((pair, rest)) = printed_pair(text) {
         return Ok((pair, rest));
     }
     let line = line_at(Spelling::Strict, text)?;
-    match pair_in(line.bytes) {
-        Ok(pair) => Ok((pair, line.rest)),
-        Err(reason) => Err(PartFault::at(line.start, reason)),
-    }
+    line.with_rest(pair_in(line.bytes))
 }
 
 /// The pair of values that the text begins with as it is printed, and what follows its line. It is

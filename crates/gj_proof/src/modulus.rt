@@ -1,7 +1,7 @@
 //! The line of the modulus, read.
 ghost use Rattle.std.specs.Prelude.{IfOk, IfErr};
 ghost use Rattle.gj_lex.specs.Words.{word_texts};
-ghost use Rattle.gj_forms.specs.Parts.{IsFaultOf};
+ghost use Rattle.gj_forms.specs.Parts.{IsPassing};
 ghost use Rattle.gj_forms.specs.LineForms.{AreLine, BreaksForm};
 ghost use Rattle.gj_proof.specs.ProofGrammar.{modulus_form, form_part, modulus_part};
 
@@ -13,8 +13,7 @@ use gj_lex::{Reason, Spelling};
 /// What follows the line of the modulus in a text by residues; the text itself in one by whole
 /// numbers, which has none. It takes no memory.
 pub(crate) fn modulus_at(text: &[u8], numbers: Numbers) -> Result<&[u8], PartFault>
-    ensures found { IfOk result (λ rest. (modulus_part numbers).Reads text.now tt rest.now) }
-    ensures fault { IfErr result (IsFaultOf (modulus_part numbers) text.now) }
+    ensures { IsPassing (modulus_part numbers) text.now result }
 {
     match numbers {
         Numbers::Whole => Ok(text),
@@ -24,8 +23,7 @@ pub(crate) fn modulus_at(text: &[u8], numbers: Numbers) -> Result<&[u8], PartFau
 
 /// What follows the line of the modulus, which has to come next. It takes no memory.
 pub fn behind_modulus(text: &[u8]) -> Result<&[u8], PartFault>
-    ensures found { IfOk result (λ rest. (form_part modulus_form).Reads text.now tt rest.now) }
-    ensures fault { IfErr result (IsFaultOf (form_part modulus_form) text.now) }
+    ensures { IsPassing (form_part modulus_form) text.now result }
 {
     let line = line_at(Spelling::Strict, text)?;
     match test_modulus(line.bytes) {

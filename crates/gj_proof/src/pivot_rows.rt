@@ -1,7 +1,7 @@
 //! The groups of a row, its steps and its pivot, read.
 ghost use Rattle.std.specs.Prelude.{◌≡◌, ◌≤◌, [], ◌∷◌, codes, IfOk, IfErr};
 ghost use Rattle.gj_lex.specs.Words.{word_texts};
-ghost use Rattle.gj_forms.specs.Parts.{IsFaultOf};
+ghost use Rattle.gj_forms.specs.Parts.{IsListReading, IsReading};
 ghost use Rattle.gj_lex.specs.declared.reason.Reason.TheVariants.{Number};
 ghost use Rattle.gj_forms.specs.LineForms.{AreLine, BreaksForm};
 ghost use Rattle.gj_shape.specs.Limits.{greatest_order};
@@ -23,8 +23,7 @@ pub(crate) fn groups_at(
     text: &[u8],
     order: u32,
 ) -> Result<(Vec<PivotRow>, &[u8]), PartFault>
-    ensures found { IfOk result (λ r. (groups_part order).Reads text.now r.0.items r.1.now) }
-    ensures fault { IfErr result (IsFaultOf (groups_part order) text.now) }
+    ensures { IsListReading (groups_part order) text.now result }
 {
     let mut rows = Vec::new(alloc);
     let mut rest = text;
@@ -38,8 +37,7 @@ pub(crate) fn groups_at(
 
 /// The group in the next lines, and what follows them.
 fn group_at(alloc: Global, text: &[u8], order: u32) -> Result<(PivotRow, &[u8]), PartFault>
-    ensures found { IfOk result (λ r. (group_part order).Reads text.now r.0 r.1.now) }
-    ensures fault { IfErr result (IsFaultOf (group_part order) text.now) }
+    ensures { IsReading (group_part order) text.now result }
 {
     let (name, rest) = row_name_at(text, order)?;
     let (columns, rest) = steps_at(alloc, rest, GREATEST_ORDER)?;
@@ -58,8 +56,7 @@ fn group_at(alloc: Global, text: &[u8], order: u32) -> Result<(PivotRow, &[u8]),
 /// The steps in the next lines, as long as these begin with `reduce`, each of them a column below
 /// the limit, and what follows them.
 pub fn steps_at(alloc: Global, text: &[u8], limit: u32) -> Result<(Vec<u32>, &[u8]), PartFault>
-    ensures found { IfOk result (λ r. (steps_part limit).Reads text.now r.0.items r.1.now) }
-    ensures fault { IfErr result (IsFaultOf (steps_part limit) text.now) }
+    ensures { IsListReading (steps_part limit) text.now result }
 {
     let mut columns = Vec::new(alloc);
     let mut rest = text;
@@ -74,15 +71,10 @@ pub fn steps_at(alloc: Global, text: &[u8], limit: u32) -> Result<(Vec<u32>, &[u
 /// The column below the limit in the next line, behind the word, and what follows the line. It
 /// takes no memory.
 pub fn column_at<'a>(text: &'a [u8], word: &[u8], limit: u32) -> Result<(u32, &'a [u8]), PartFault>
-    ensures found { IfOk result
-        (λ r. (form_part (column_form word.now limit)).Reads text.now r.0 r.1.now) }
-    ensures fault { IfErr result (IsFaultOf (form_part (column_form word.now limit)) text.now) }
+    ensures { IsReading (form_part (column_form word.now limit)) text.now result }
 {
     let line = line_at(Spelling::Strict, text)?;
-    match column_in(line.bytes, word, limit) {
-        Ok(column) => Ok((column, line.rest)),
-        Err(reason) => Err(PartFault::at(line.start, reason)),
-    }
+    line.with_rest(column_in(line.bytes, word, limit))
 }
 
 /// The column below the limit of the line, behind the word.
@@ -98,15 +90,10 @@ fn column_in(line: &[u8], word: &[u8], limit: u32) -> Result<u32, Reason>
 
 /// The name of the row in the next line, and what follows the line. It takes no memory.
 fn row_name_at(text: &[u8], order: u32) -> Result<(RowName, &[u8]), PartFault>
-    ensures found { IfOk result
-        (λ r. (form_part (row_name_form order)).Reads text.now r.0 r.1.now) }
-    ensures fault { IfErr result (IsFaultOf (form_part (row_name_form order)) text.now) }
+    ensures { IsReading (form_part (row_name_form order)) text.now result }
 {
     let line = line_at(Spelling::Strict, text)?;
-    match row_name_in(line.bytes, order) {
-        Ok(name) => Ok((name, line.rest)),
-        Err(reason) => Err(PartFault::at(line.start, reason)),
-    }
+    line.with_rest(row_name_in(line.bytes, order))
 }
 
 /// The name of the row that the line tells.

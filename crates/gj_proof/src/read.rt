@@ -1,9 +1,9 @@
 //! Proof texts, read.
 
-ghost use Rattle.std.specs.Prelude.{◌≡◌, [], IfOk, IfErr, IfSome, IfNone, MatchResult};
+ghost use Rattle.std.specs.Prelude.{◌≡◌, [], IfOk, IfErr, MatchResult};
 ghost use Rattle.gj_lex.specs.Words.{word_texts};
-ghost use Rattle.gj_forms.specs.Parts.{IsFaultOf};
-ghost use Rattle.gj_forms.specs.LineForms.{AreOfForm, AreLine};
+ghost use Rattle.gj_forms.specs.Parts.{IsFaultOf, IsReading};
+ghost use Rattle.gj_forms.specs.LineForms.{AreLine, BreaksForm};
 ghost use Rattle.gj_proof.specs.ProofText.{IsBounded, IsProofText, extreme_claim};
 ghost use Rattle.gj_proof.specs.ProofGrammar.{title_form, claim_form, form_part, claim_part};
 ghost use Rattle.gj_proof.specs.ProofGrammar.{extreme_part, proof_text};
@@ -72,60 +72,53 @@ fn proof_at(alloc: Global, text: &[u8]) -> Result<Proof, PartFault>
 
 /// The numbers that the first line of the text tells, and what follows the line.
 fn numbers_at(text: &[u8]) -> Result<(Numbers, &[u8]), PartFault>
-    ensures found { IfOk result (λ r. (form_part title_form).Reads text.now r.0 r.1.now) }
-    ensures fault { IfErr result (IsFaultOf (form_part title_form) text.now) }
+    ensures { IsReading (form_part title_form) text.now result }
 {
     let line = line_at(Spelling::Strict, text)?;
-    match numbers_in(line.bytes) {
-        Some(numbers) => Ok((numbers, line.rest)),
-        None => Err(PartFault::at(line.start, Reason::Form)),
-    }
+    line.with_rest(numbers_in(line.bytes))
 }
 
 /// The numbers that the line tells.
-fn numbers_in(line: &[u8]) -> Option<Numbers>
-    ensures found { IfSome result (AreLine title_form (word_texts line.now)) }
-    ensures none { IfNone result (AreOfForm title_form (word_texts line.now) → ⊥) }
+fn numbers_in(line: &[u8]) -> Result<Numbers, Reason>
+    ensures found { IfOk result (AreLine title_form (word_texts line.now)) }
+    ensures fault { IfErr result (BreaksForm title_form (word_texts line.now)) }
 {
     if has_words(line, b"gj-proof 1") {
-        return Some(Numbers::Whole);
+        return Ok(Numbers::Whole);
     }
     if has_words(line, b"gj-proof 2") {
-        return Some(Numbers::Residues);
+        return Ok(Numbers::Residues);
     }
-    None
+    Err(Reason::Form)
 }
 
 /// The word of the claim in the first line of what follows the title, and what follows the line.
 fn claim_word_at(text: &[u8], numbers: Numbers) -> Result<(ClaimWord, &[u8]), PartFault>
-    ensures found { IfOk result (λ r. (form_part (claim_form numbers)).Reads text.now r.0 r.1.now) }
-    ensures fault { IfErr result (IsFaultOf (form_part (claim_form numbers)) text.now) }
+    ensures { IsReading (form_part (claim_form numbers)) text.now result }
 {
     let line = line_at(Spelling::Strict, text)?;
-    match claim_word_of(line.bytes, numbers) {
-        Some(word) => Ok((word, line.rest)),
-        None => Err(PartFault::at(line.start, Reason::Form)),
-    }
+    line.with_rest(claim_word_of(line.bytes, numbers))
 }
 
 /// The word of the claim in the line, in a text of these numbers.
-fn claim_word_of(line: &[u8], numbers: Numbers) -> Option<ClaimWord>
-    ensures found { IfSome result (AreLine (claim_form numbers) (word_texts line.now)) }
-    ensures none { IfNone result (AreOfForm (claim_form numbers) (word_texts line.now) → ⊥) }
+fn claim_word_of(line: &[u8], numbers: Numbers) -> Result<ClaimWord, Reason>
+    ensures found { IfOk result (AreLine (claim_form numbers) (word_texts line.now)) }
+    ensures fault { IfErr result (BreaksForm (claim_form numbers) (word_texts line.now)) }
 {
-    let field = field_of(line, b"claim")?;
+    let Some(field) = field_of(line, b"claim") else {
+        return Err(Reason::Form);
+    };
     for word in ClaimWord::ALL {
         if field == word.word().as_bytes() && word.numbers() == numbers {
-            return Some(word);
+            return Ok(word);
         }
     }
-    None
+    Err(Reason::Form)
 }
 
 /// The claim of this word in the lines of its subject and its own, and what follows them.
 fn claim_at(alloc: Global, text: &[u8], word: ClaimWord) -> Result<(Claim, &[u8]), PartFault>
-    ensures found { IfOk result (λ r. (claim_part word).Reads text.now r.0 r.1.now) }
-    ensures fault { IfErr result (IsFaultOf (claim_part word) text.now) }
+    ensures { IsReading (claim_part word) text.now result }
 {
     match word {
         ClaimWord::Minimal => minimal_at(alloc, text),
@@ -138,8 +131,7 @@ fn claim_at(alloc: Global, text: &[u8], word: ClaimWord) -> Result<(Claim, &[u8]
 
 /// The claim that the function of the next lines is minimal, and what follows them.
 fn minimal_at(alloc: Global, text: &[u8]) -> Result<(Claim, &[u8]), PartFault>
-    ensures found { IfOk result (λ r. (claim_part Minimal).Reads text.now r.0 r.1.now) }
-    ensures fault { IfErr result (IsFaultOf (claim_part Minimal) text.now) }
+    ensures { IsReading (claim_part Minimal) text.now result }
 {
     let (shape, rest) = function_at(alloc, Spelling::Strict, text)?;
     Ok((Claim::Minimal(shape), rest))
@@ -148,8 +140,7 @@ fn minimal_at(alloc: Global, text: &[u8]) -> Result<(Claim, &[u8]), PartFault>
 /// The claim that the function of the next lines is not minimal, as the violation behind it shows,
 /// and what follows.
 fn not_minimal_at(alloc: Global, text: &[u8]) -> Result<(Claim, &[u8]), PartFault>
-    ensures found { IfOk result (λ r. (claim_part NotMinimal).Reads text.now r.0 r.1.now) }
-    ensures fault { IfErr result (IsFaultOf (claim_part NotMinimal) text.now) }
+    ensures { IsReading (claim_part NotMinimal) text.now result }
 {
     let (shape, rest) = function_at(alloc, Spelling::Strict, text)?;
     let (violation, rest) = violation_at(rest)?;
@@ -158,8 +149,7 @@ fn not_minimal_at(alloc: Global, text: &[u8]) -> Result<(Claim, &[u8]), PartFaul
 
 /// The claim about the cuts of the next lines by the rule before them, and what follows.
 fn cut_at(alloc: Global, text: &[u8]) -> Result<(Claim, &[u8]), PartFault>
-    ensures found { IfOk result (λ r. (claim_part Cut).Reads text.now r.0 r.1.now) }
-    ensures fault { IfErr result (IsFaultOf (claim_part Cut) text.now) }
+    ensures { IsReading (claim_part Cut) text.now result }
 {
     let (rule, rest) = rule_at(alloc, text)?;
     let (rows, rest) = rows_at(alloc, rest)?;
@@ -169,8 +159,7 @@ fn cut_at(alloc: Global, text: &[u8]) -> Result<(Claim, &[u8]), PartFault>
 /// The claim that the function of the next lines is extreme, as the lines and the groups behind it
 /// show by these numbers, and what follows.
 fn extreme_at(alloc: Global, text: &[u8], numbers: Numbers) -> Result<(Claim, &[u8]), PartFault>
-    ensures found { IfOk result (λ r. (extreme_part numbers).Reads text.now r.0 r.1.now) }
-    ensures fault { IfErr result (IsFaultOf (extreme_part numbers) text.now) }
+    ensures { IsReading (extreme_part numbers) text.now result }
 {
     let (shape, rest) = function_at(alloc, Spelling::Strict, text)?;
     let order = shape.order();
@@ -200,8 +189,7 @@ fn extreme_claim(
 /// The claim that the function of the next lines is not extreme, as the halves behind it show, and
 /// what follows.
 fn not_extreme_at(alloc: Global, text: &[u8]) -> Result<(Claim, &[u8]), PartFault>
-    ensures found { IfOk result (λ r. (claim_part NotExtreme).Reads text.now r.0 r.1.now) }
-    ensures fault { IfErr result (IsFaultOf (claim_part NotExtreme) text.now) }
+    ensures { IsReading (claim_part NotExtreme) text.now result }
 {
     let (shape, rest) = function_at(alloc, Spelling::Strict, text)?;
     let (halves, rest) = halves_at(alloc, rest)?;

@@ -2,7 +2,7 @@
 
 ghost use Rattle.std.specs.Prelude.{IfOk, IfErr};
 ghost use Rattle.gj_lex.specs.Words.{word_texts};
-ghost use Rattle.gj_forms.specs.Parts.{IsFaultOf};
+ghost use Rattle.gj_forms.specs.Parts.{IsReading};
 ghost use Rattle.gj_forms.specs.LineForms.{AreLine, BreaksForm};
 ghost use Rattle.gj_proof.specs.ProofGrammar.{violation_form, form_part};
 
@@ -13,14 +13,10 @@ use gj_shape::Violation;
 
 /// The violation in the first line of the text, and what follows the line. It takes no memory.
 pub(crate) fn violation_at(text: &[u8]) -> Result<(Violation, &[u8]), PartFault>
-    ensures found { IfOk result (λ r. (form_part violation_form).Reads text.now r.0 r.1.now) }
-    ensures fault { IfErr result (IsFaultOf (form_part violation_form) text.now) }
+    ensures { IsReading (form_part violation_form) text.now result }
 {
     let line = line_at(Spelling::Strict, text)?;
-    match violation_of(line.bytes) {
-        Ok(violation) => Ok((violation, line.rest)),
-        Err(reason) => Err(PartFault::at(line.start, reason)),
-    }
+    line.with_rest(violation_of(line.bytes))
 }
 
 /// The violation of the line.

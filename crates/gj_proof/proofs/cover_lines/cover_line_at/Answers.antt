@@ -3,8 +3,8 @@ use Rattle.gj_proof.specs.ProofGrammar.{cover_form}
 use Rattle.gj_proof.proofs.ClearLines.{cover_is_clear}
 use Rattle.gj_proof.proofs.cover_lines.cover_line_at.Goals as goal
 
-pub returns-in-Some-clause-found : goal.returns-in-Some-clause-found
-returns-in-Some-clause-found c =
+pub returns-in-Some : goal.returns-in-Some
+returns-in-Some c =
     let printed = c.in-Some.ensures in
     let q = c.args.order in
     rw printed.0 (line_is_read (cover_form q) (cover_is_clear q c.requires) c.in-Some.line _

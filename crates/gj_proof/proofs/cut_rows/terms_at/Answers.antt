@@ -1,10 +1,8 @@
 use Rattle.gj_lex.specs.declared.spelling.Spelling.TheVariants.{Strict}
 use Rattle.std.proofs.lemmas.Result.{err_from_is_err_and}
-use Rattle.gj_forms.specs.Parts.{IsFaultOf}
-use Rattle.gj_forms.proofs.PartLaws.{passed_on}
 use Rattle.gj_forms.proofs.WhereLaws.{shorter_behind_line}
 use Rattle.gj_forms.specs.LineForms.{rule_of}
-use Rattle.gj_proof.specs.ProofGrammar.{term_form, form_part, terms_part}
+use Rattle.gj_proof.specs.ProofGrammar.{term_form, form_part}
 use Rattle.gj_proof.proofs.CutTexts.{BeginsTerm}
 use Rattle.gj_forms.proofs.ListRead.{while_on, while_end, while_at_fault}
 use Rattle.gj_proof.proofs.cut_rows.terms_at.Goals as goal
@@ -21,14 +19,14 @@ loop-terms-smaller c =
     let found = simp c.in-Some.is at c.in_ok-term.ensures.found in
     shorter_behind_line Strict (rule_of term_form) _ _ c.in-Some.term found
 
-pub returns-clause-found : goal.returns-clause-found
-returns-clause-found c =
+pub returns : goal.returns
+returns c =
     let none = simp c.in_default.is at c.in_ok-term.ensures.none in
     while_end (form_part term_form) BeginsTerm _ _ _ c.loop-terms.invariant none
 
-pub returns-in_err-term-clause-fault : goal.returns-in_err-term-clause-fault
-returns-in_err-term-clause-fault c =
+pub returns-in_err-term : goal.returns-in_err-term
+returns-in_err-term c =
     let p = err_from_is_err_and c.from_residual.result c.from_residual.ensures.1 in
     let fault = c.in_err-term.ensures.fault in
-    passed_on (IsFaultOf terms_part c.args.text.now) _ _ _ p.1 p.2
+    rw (p.1, p.2)
     (while_at_fault (form_part term_form) BeginsTerm _ _ _ _ c.loop-terms.invariant fault.0 fault.1)

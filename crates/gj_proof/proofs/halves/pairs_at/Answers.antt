@@ -15,11 +15,11 @@ loop-init c =
 
 pub loop-preserved : goal.loop-preserved
 loop-preserved c =
-    let fit = c.in_ok-x.ensures.found.3 in
+    let fit = c.in_ok-x.ensures.3 in
     let x = within_bits c.in_ok-x.x c.in_ok-x.x refl fit.1.0 in
     let y = within_bits c.in_ok-x.y c.in_ok-x.y refl fit.1.1 in
     pairs_on c.args.count c.loop.counter _ _ _ _ _ _ _ (c.in_ok-x.x, c.in_ok-x.y) c.loop.invariant
-    (omega arith) c.in_ok-x.ensures.found
+    (omega arith) c.in_ok-x.ensures
     (c.in_ok-push.ensures.items ∙ ap (λ (n : ℤ). c.loop.first.items ++ n ∷ []) x)
     (c.in_ok-push-2.ensures.items ∙ ap (λ (n : ℤ). c.loop.second.items ++ n ∷ []) y)
 
@@ -29,7 +29,7 @@ returns-in_err-x-clause-fault c =
     c.from_residual-in_err-x.ensures.1 in
     passed_on (IsFaultOf (pairs_part c.args.count) c.args.text.now) _ _ _ p.1 p.2
     (times_at_fault (form_part pair_form) c.args.count c.loop.counter _ _ _ c.loop.invariant.leaves
-    (omega arith) _ c.in_err-x.ensures.fault)
+    (omega arith) _ c.in_err-x.ensures)
 
 pub returns-clause-found : goal.returns-clause-found
 returns-clause-found c =

@@ -1,4 +1,4 @@
-use Rattle.std.proofs.Common.{◌≡◌, ℕ, ◌<◌, List, [], ◌∷◌, get_or, lit<, below_more, codes, rules, arith}
+use Rattle.std.proofs.Common.{◌≡◌, inl, ℕ, ◌<◌, List, [], ◌∷◌, get_or, lit<, below_more, codes, refl, rules, arith}
 use Rattle.gj_proof.specs.ProofGrammar.{numbers_of_word, claim_word_text}
 use Rattle.gj_proof.specs.declared.claim.ClaimWord.{ClaimWord}
 use Rattle.gj_proof.specs.declared.claim.ClaimWord.TheVariants.{Minimal, NotMinimal, Cut, Extreme, NotExtreme}
@@ -28,15 +28,18 @@ IsOther field numbers w = field ≡ claim_word_text w → numbers_of_word w ≡ 
 
 pub loop-word-preserved : goal.loop-word-preserved
 loop-word-preserved c =
-    below_more (λ k. IsOther c.in_ok-field.field.now c.args.numbers (word_at k))
+    below_more (λ k. IsOther c.in-Some.field.now c.args.numbers (word_at k))
     c.loop-word.word-index c.loop-word.invariant
     (elim c.else-eq.branch [
       | else-eq-via-then-eq+else-eq-2 w ↦ λ is of. search rules
       | else-eq-via-else-eq w ↦ λ is of. search rules
     ])
 
-pub returns-clause-none : goal.returns-clause-none
-returns-clause-none c = λ (w, is, of).
-    every_word (IsOther c.in_ok-field.field.now c.args.numbers)
-    (λ i below. c.loop-word.invariant i (omega arith)) w
-    (one_field _ _ _ c.in_ok-field.ensures.found is) of
+pub returns-clause-fault : goal.returns-clause-fault
+returns-clause-fault c =
+    inl (
+      refl,
+      λ (w, is, of). every_word (IsOther c.in-Some.field.now c.args.numbers)
+          (λ i below. c.loop-word.invariant i (omega arith)) w
+          (one_field _ _ _ c.in-Some.ensures.found is) of,
+    )
