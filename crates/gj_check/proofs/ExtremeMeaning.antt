@@ -46,13 +46,13 @@ use Rattle.gj_check.proofs.ExtremeDemands.{says}
 
 -- ---- the numbers of components
 
-abbrev number_of : (lines : List CoverLine) (q : ℕ) →
+pub abbrev number_of : (lines : List CoverLine) (q : ℕ) →
     ((i : ℕ) → i < q → (number : ℕ) × HasComponent lines number i) →
     (i : ℕ) → (i < q) ⊎ (q ≤ i) → ℕ
 number_of lines q has i (inl low) = (has i low).0
 number_of lines q has i (inr high) = 0
 
-number_is : (lines : List CoverLine) (q : ℕ) (has : (i : ℕ) → i < q →
+pub number_is : (lines : List CoverLine) (q : ℕ) (has : (i : ℕ) → i < q →
     (number : ℕ) × HasComponent lines number i) →
     (i : ℕ) (place : (i < q) ⊎ (q ≤ i)) → i < q →
     HasComponent lines (number_of lines q has i place) i

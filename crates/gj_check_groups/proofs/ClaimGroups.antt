@@ -167,7 +167,7 @@ sizes_on_groups : (numbers : Numbers) (g r : ℕ) → All IsOnGroups (size_deman
 sizes_on_groups Whole g r = All-cons IsOnGroups (size g r) [] tt (All-nil IsOnGroups)
 sizes_on_groups Residues g r = All-nil IsOnGroups
 
-steps_on_groups : (numbers : Numbers) (g r : ℕ) (columns : List ℕ) →
+pub steps_on_groups : (numbers : Numbers) (g r : ℕ) (columns : List ℕ) →
     All IsOnGroups (step_demands_by numbers g r columns)
 steps_on_groups numbers g r [] = All-nil IsOnGroups
 steps_on_groups numbers g r (c ∷ columns) =

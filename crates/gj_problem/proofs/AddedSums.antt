@@ -246,7 +246,7 @@ dot_zero (suc n) z [] none = refl
 dot_zero (suc n) z (v ∷ point) none = ap₂ (λ a b. a *ℚ v +ℚ b) none (dot_zero n z point none)
     ∙ zero_step v
 
-zero_minus : whole (pos 0) -ℚ whole (pos 0) ≡ whole (pos 0)
+pub zero_minus : whole (pos 0) -ℚ whole (pos 0) ≡ whole (pos 0)
 zero_minus = by_ring_q [] (search ring_q depth 30) refl
 
 pub nothing_minus : (d : Rational) (r z : Frac) → d ≡ whole (pos 0) → r ≡ z →

@@ -94,7 +94,7 @@ multiple_more es i e made f old new below here h new_is column value =
     (zip_joined R (take i es) (e ∷ []) old (made ∷ []) h
     ((column, product_value f e.value made.value value), tt))
 
-scaled_step : (f v x s : Rational) → (f *ℚ v) *ℚ x +ℚ f *ℚ s ≡ f *ℚ (v *ℚ x +ℚ s)
+pub scaled_step : (f v x s : Rational) → (f *ℚ v) *ℚ x +ℚ f *ℚ s ≡ f *ℚ (v *ℚ x +ℚ s)
 scaled_step f v x s = by_ring_q (f ∷ v ∷ x ∷ s ∷ []) (search ring_q depth 40) refl
 
 multiple_sum : (point : List Rational) (x : Rational) (es fs : List Entry) →

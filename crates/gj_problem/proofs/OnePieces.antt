@@ -38,7 +38,7 @@ scale_some right es false n h = omega arith
 
 -- ---- one entry
 
-same_most : (x y : Rational) → x ≡ y → x ≤ℚ y
+pub same_most : (x y : Rational) → x ≡ y → x ≤ℚ y
 same_most x y e = subst (λ z. x ≤ℚ z) e (record { crosswise = omega (arith, ints) })
 
 -- what is equal times a whole number above 0 is equal

@@ -50,7 +50,7 @@ same_coefficients (c ∷ cs) (d ∷ ds) n h =
     (λ (point : List Rational). sym (no_time (rational c) (dot cs point))
     ∙ h (whole (pos 0) ∷ point) ∙ no_time (rational d) (dot ds point)))
 
-turned_twice : (r : Rational) → r ≡ whole (pos 0) -ℚ (whole (pos 0) -ℚ r)
+pub turned_twice : (r : Rational) → r ≡ whole (pos 0) -ℚ (whole (pos 0) -ℚ r)
 turned_twice r = by_ring_q (r ∷ []) (search ring_q depth 40) refl
 
 right_at : (cs : List Frac) (r : Frac) → rational r ≡ whole (pos 0) -ℚ (dot cs [] -ℚ rational r)

@@ -91,7 +91,7 @@ IsTakenOut full cs point pieces =
 none_taken : whole (pos 0) ≡ whole (pos 0) +ℚ (whole (pos 0) -ℚ whole (pos 0))
 none_taken = by_ring_q [] (search ring_q depth 40) refl
 
-one_left : (a b d : Rational) → a +ℚ (b +ℚ d) ≡ (a +ℚ b) +ℚ d
+pub one_left : (a b d : Rational) → a +ℚ (b +ℚ d) ≡ (a +ℚ b) +ℚ d
 one_left a b d = by_ring_q (a ∷ b ∷ d ∷ []) (search ring_q depth 40) refl
 
 one_taken : (s t z a b : Rational) → (s -ℚ t) +ℚ (z +ℚ (a -ℚ b)) ≡ z +ℚ ((s +ℚ a) -ℚ (t +ℚ b))

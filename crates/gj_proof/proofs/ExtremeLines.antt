@@ -25,7 +25,7 @@ pub covered_bytes : (i : ℕ) (lines : List CoverLine) →
 covered_bytes i [] = refl
 covered_bytes i (l ∷ lines) = ap (λ t. cover_line l ++ t) (covered_bytes (i + 1) lines)
 
-reduction_bytes : (g r : ℕ) (columns : List ℕ) →
+pub reduction_bytes : (g r : ℕ) (columns : List ℕ) →
     bytes (reduction_lines g r columns) ≡ flat_map reduction_line columns
 reduction_bytes g r [] = refl
 reduction_bytes g r (c ∷ columns) =
@@ -48,7 +48,7 @@ group_bytes g (row ∷ rows) =
     regroup : (a b c d : List ℕ) → a ++ (b ++ (c ++ d)) ≡ (a ++ b ++ c) ++ d
     regroup a b c d = simp append_assoc
 
-modulus_bytes : (n : Numbers) → bytes (modulus_lines n) ≡ modulus_text n
+pub modulus_bytes : (n : Numbers) → bytes (modulus_lines n) ≡ modulus_text n
 modulus_bytes Whole = refl
 modulus_bytes Residues = append-nil modulus_line
 

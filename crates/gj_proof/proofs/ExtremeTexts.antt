@@ -99,7 +99,7 @@ behind_name_is_exact name =
     (form_part pivot_form)
     (part_is_exact pivot_form pivot_is_clear))
 
-group_is_exact : (q : ℕ) → q ≤ 1000 → IsExactPart (group_part q).Reads (group_part q).Faults
+pub group_is_exact : (q : ℕ) → q ≤ 1000 → IsExactPart (group_part q).Reads (group_part q).Faults
 group_is_exact q small =
     then_part_is_exact (form_part (row_name_form q)) behind_name
     (part_is_exact (row_name_form q) (row_name_is_clear q small))

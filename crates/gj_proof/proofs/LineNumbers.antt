@@ -112,12 +112,12 @@ number_of_violation f v =
 
 -- ---- line feeds
 
-feeds_of_fields : (fs : List Field) → AreGood fs → line_feeds (bytes_of fs) ≡ 1
+pub feeds_of_fields : (fs : List Field) → AreGood fs → line_feeds (bytes_of fs) ≡ 1
 feeds_of_fields fs good =
     one_feed (form_of (λ (t : Unit {0}). fs))
     (record { of_form = λ t h. tt; good = λ t h. good; one = λ a b h k e. refl }) tt tt
 
-feeds_of_points : (points : List Point) → line_feeds (flat_map point_line points) ≡ length points
+pub feeds_of_points : (points : List Point) → line_feeds (flat_map point_line points) ≡ length points
 feeds_of_points [] = refl
 feeds_of_points (p ∷ points) =
     let one = feeds_of_fields (point_form.fields (printed_numbers p))
@@ -233,7 +233,7 @@ own_at c text a b l within p is =
     regroup a b c d e = simp append_assoc
 
 -- a line that is among these stands behind some and before others
-parted : (ls : List OwnLine) (l : OwnLine) → Contains ls l →
+pub parted : (ls : List OwnLine) (l : OwnLine) → Contains ls l →
     (a b : List OwnLine) × (ls ≡ a ++ l ∷ b)
 parted [] l (i, below, is) = absurd (omega arith)
 parted (m ∷ ls) l (zero, below, is) = ([], ls, ap (λ k. k ∷ ls) is)

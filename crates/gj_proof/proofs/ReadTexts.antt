@@ -300,7 +300,7 @@ text_is_read (claims.NotExtreme f h) text b p =
 
 -- ---- what is read is the text of a claim
 
-function_found : (text : List ℕ) (f : FunctionData) (rest : List ℕ) →
+pub function_found : (text : List ℕ) (f : FunctionData) (rest : List ℕ) →
     (function_part Strict).Reads text f rest →
     IsWithinBounds f × (lines : List ℕ) × AreFunctionLines f lines × (text ≡ lines ++ rest)
 function_found text f rest h =
