@@ -147,12 +147,22 @@ fn with_constraint(
     if task.problem.constraints.as_slice().len() >= MOST_CONSTRAINTS {
         return Err(LineFault::Broken(Reason::Large));
     }
+    let entries = Vec::with_capacity(alloc, likely_entries(task))?;
     task.problem.constraints.push(Constraint {
-        entries: List::of(Vec::new(alloc)),
+        entries: List::of(entries),
         sense,
         right,
     })?;
     Ok(())
+}
+
+/// How many entries of the next constraint to make room for: as many as the last one has. So at most
+/// as much room is made as all entries take.
+fn likely_entries(task: &Task) -> usize {
+    match task.problem.constraints.as_slice().last() {
+        Some(last) => last.entries.as_slice().len(),
+        None => 0,
+    }
 }
 
 /// Adds an entry of the last constraint. The places are those of the task's columns.
