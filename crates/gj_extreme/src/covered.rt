@@ -10,7 +10,7 @@ ghost use Rattle.gj_extreme.specs.Decision.{AreAllCovered, IsDecision};
 ghost use Rattle.gj_extreme.specs.RowsToCome.{AreInserted};
 
 use crate::faults::DecideFault;
-use crate::groups::groups_of;
+use crate::groups::{groups_of, numbers_of};
 use crate::inserted_rows::{Rows, rows_of};
 use crate::residues::extreme_by_residues;
 use crate::slopes::slope_halves;
@@ -20,7 +20,7 @@ use gj_faces::TightPairs;
 use gj_proof::Claim;
 use gj_shape::{List, Shape};
 use gj_system::SlopeRows;
-use std::alloc::{AllocError, Global};
+use std::alloc::Global;
 
 /// The claim that the function is extreme, if the rows leave no other slopes than 0, and that it is
 /// not, if they do.
@@ -71,16 +71,4 @@ fn extreme_or_kernel(
     }
     let halves = slope_halves(alloc, shape, component, rows)?;
     Ok(Claim::NotExtreme(shape.copy(alloc)?, halves))
-}
-
-/// The numbers of the components, if each interval has one.
-fn numbers_of(alloc: Global, component: &[Option<u32>]) -> Result<Vec<u32>, AllocError>
-    requires { All IsSome component.now }
-    ensures { IfOk result (λ v. map Some v.items ≡ component.now) }
-{
-    let mut numbers = Vec::with_capacity(alloc, component.len())?;
-    for number in component {
-        numbers.push(number.unwrap())?;
-    }
-    Ok(numbers)
 }

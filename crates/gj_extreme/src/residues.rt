@@ -2,22 +2,20 @@
 //! passes.
 ghost use Rattle.std.specs.Prelude.{◌≡◌, ◌<◌, ◌++◌, List, length, map, All, IfOk, OnOk};
 ghost use Rattle.gj_faces.specs.TightPairs.{AreTightPairsOf};
-ghost use Rattle.gj_shape.specs.Elimination.{KeptRow, Passes};
+ghost use Rattle.gj_shape.specs.Elimination.{Passes};
 ghost use Rattle.gj_shape.specs.FunctionData.{FunctionData, IsContinuous, IsWithinBounds};
 ghost use Rattle.gj_shape.specs.SlopeRows.{row_of, row_names, component_in};
 ghost use Rattle.gj_shape.specs.Table.{IsMinimal};
 ghost use Rattle.gj_shape.specs.declared.extremality.RowName.{RowName};
-ghost use Rattle.gj_elim.specs.KeptRows.{log_row};
 ghost use Rattle.gj_system.specs.Components.{IsNameBelow};
-ghost use Rattle.gj_extreme.specs.Decision.{AreAllCovered, IsDecision, group_of, slope_elimination};
+ghost use Rattle.gj_extreme.specs.Decision.{AreAllCovered, IsDecision, slope_elimination};
 ghost use Rattle.gj_extreme.specs.RowsToCome.{pairs_from};
 
 use crate::faults::DecideFault;
-use crate::groups::groups_of;
+use crate::groups::groups_by_number;
 use gj_cover::Cover;
-use gj_elim::LogRow;
 use gj_faces::TightPairs;
-use gj_proof::{Claim, PivotRow};
+use gj_proof::Claim;
 use gj_residue::{ListedRows, log_by_residues};
 use gj_shape::{List, RowName, Shape};
 use gj_system::SlopeRows;
@@ -101,21 +99,4 @@ fn rows_of(
         rows.push(List::of(row))?;
     }
     Ok(ListedRows::new(rows))
-}
-
-/// The groups of the kept rows, each with the name that has its number.
-fn groups_by_number(
-    alloc: Global,
-    names: &[RowName],
-    log: &[LogRow],
-) -> Result<Vec<PivotRow>, AllocError>
-    requires { All (λ line. line.number < length names.now) log.now }
-    ensures { IfOk result (λ v. (f : FunctionData) (kept : List KeptRow) → names.now ≡ row_names f →
-        log.now ≡ map log_row kept → v.items ≡ map (group_of f) kept) }
-{
-    let mut kept = Vec::with_capacity(alloc, log.len())?;
-    for line in log {
-        kept.push(names[line.number as usize])?;
-    }
-    groups_of(alloc, kept.as_slice(), log)
 }

@@ -50,7 +50,7 @@ returns-then-is_full c =
       needed = rows.fits;
       all = all;
       rows_are = c.of.ensures
-          ∙ c.in_ok-groups.ensures f slope.kept (c.as_slice.ensures.value ∙ rows.names) lines;
+          ∙ c.in_ok-groups.ensures (name_of f) slope.kept (c.as_slice.ensures.value ∙ rows.names) lines;
     } in (
       (c.in_ok-copy.ensures, c.requires.minimal, c.requires.continuous, are),
       extreme_has_text Whole f c.in_ok-copy.field-0 c.args.cover.lines c.of.result c.requires.limits

@@ -1,7 +1,9 @@
-use Rattle.std.proofs.Common.{◌≡◌, ◌<◌, length, sym, ap, subst, subst₂, ◌∙◌}
+use Rattle.std.proofs.Common.{◌≡◌, ◌<◌, length, map, get_or, sym, ap, subst, subst₂, ◌∙◌}
 use Rattle.std.specs.Prelude.{All}
 use Rattle.std.proofs.lemmas.List.{length-map}
+use Rattle.gj_shape.specs.Elimination.{KeptRow}
 use Rattle.gj_shape.specs.SlopeRows.{row_of, row_names, component_in}
+use Rattle.gj_shape.specs.declared.extremality.RowName.TheVariants.{Period}
 use Rattle.gj_residue.specs.Settled.{IsFullLog}
 use Rattle.gj_system.specs.Components.{IsNameBelow}
 use Rattle.gj_proof.specs.declared.numbers.Numbers.TheVariants.{Residues}
@@ -9,6 +11,7 @@ use Rattle.gj_extreme.specs.Decision.{elimination_over}
 use Rattle.gj_extreme.specs.Faults.{of_settling}
 use Rattle.gj_extreme.proofs.ClaimTexts.{extreme_has_text}
 use Rattle.gj_extreme.proofs.DecidedHalves.{begun_columns}
+use Rattle.gj_extreme.proofs.GroupLists.{record_of}
 use Rattle.gj_extreme.proofs.FaultCases.{settling_cause, handed_decision, memory_decision}
 use Rattle.gj_extreme.proofs.ResidueRows.{names_are_below, rows_by_residues, wide_by_residues, rows_are, log_of}
 use Rattle.gj_extreme.proofs.residues.extreme_by_residues.Goals as goal
@@ -75,12 +78,14 @@ returns c =
     c.in_ok-rows.ensures c.requires.components c.place.ensures.value
     (c.as_slice.ensures.value ∙ c.in_ok-names.ensures.names) in
     let full = subst (λ m. IsFullLog m all log) c.columns.ensures c.in_ok-log.ensures.log in
+    let kept = (elimination_over Residues f comp n).kept in
     let rows = rows_by_residues f c.args.cover.lines comp n all log c.of.result c.requires.covered
     c.requires.passes are full
     (c.of.ensures
-    ∙ c.in_ok-groups.ensures f (elimination_over Residues f comp n).kept (c.as_slice-2.ensures.value
-    ∙ c.in_ok-names.ensures.names)
-    (c.as_slice-3.ensures.value ∙ log_of f comp n all log are full)) in (
+    ∙ c.in_ok-groups.ensures Period kept
+    (c.as_slice-3.ensures.value ∙ log_of f comp n all log are full)
+    ∙ ap (λ names. map (λ (k : KeptRow). record_of (get_or names k.number Period) k.reduce k.pivot)
+    kept) (c.as_slice-2.ensures.value ∙ c.in_ok-names.ensures.names)) in (
       (c.in_ok-copy.ensures, c.requires.minimal, c.requires.continuous, rows),
       extreme_has_text Residues f c.in_ok-copy.field-0 c.args.cover.lines c.of.result
           c.in_ok-names.ensures.limits c.in_ok-copy.ensures rows,

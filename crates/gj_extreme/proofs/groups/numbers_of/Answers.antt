@@ -1,6 +1,6 @@
 use Rattle.std.proofs.Common.{◌≡◌, length, take, ap, ◌∙◌, arith}
 use Rattle.std.proofs.Math.Seq.{take-length}
-use Rattle.gj_extreme.proofs.covered.numbers_of.Goals as goal
+use Rattle.gj_extreme.proofs.groups.numbers_of.Goals as goal
 
 pub returns : goal.returns
 returns c =
