@@ -1,4 +1,5 @@
--- The columns of terms; the line of a row with a mixed cut: its columns, and that its cut holds.
+-- The columns of terms; what is made of a row; the line of a row with a mixed cut: its columns, and
+-- that its cut holds.
 use Rattle.std.proofs.Common.{◌≡◌, ℕ, ◌+◌, ◌<◌, Bool, true, false, not, List, [], ◌∷◌, All, get_or, length, map, filter, take, refl, sym, ap, ap₂, subst, subst₂, ◌∙◌, ◌++◌}
 use Rattle.std.specs.List.{AllZip}
 use Rattle.std.proofs.lemmas.List.{flat_map_more, length-map}
@@ -84,17 +85,7 @@ gmic_has_columns n row (row_cut.Cut terms) limits (f, h) =
 gmic_has_columns n row row_cut.Integral limits h = tt
 gmic_has_columns n row row_cut.OtherFraction limits h = tt
 
-pub made_in_columns : (mixed : Bool) (r : CutRule) (columns : List (List ℕ)) (n : ℕ) (row : Row)
-    (cut : MixedCut) → IsRowWithinLimits n row → IsMadeCut mixed r columns row cut →
-    AreInColumns n cut
-made_in_columns true Gmic columns n row cut limits (h, holds) =
-    gmic_in_columns (continuous_columns columns) n row cut limits h
-made_in_columns true (Table f) columns n row cut limits ((up, down, slopes, h), holds) =
-    cut_in_columns (kind.Table f) up down (continuous_columns columns) n row cut limits h
-made_in_columns false Gmic columns n row cut limits (whole, is, h) =
-    subst (AreInColumns n) (sym is) (gmic_has_columns n row whole limits h)
-made_in_columns false (Table f) columns n row cut limits (whole, is, h) =
-    subst (AreInColumns n) (sym is) (cut_has_columns (kind.Table f) n row whole limits h)
+-- ---- what is made of a row
 
 pub mixed_made : (mixed : Bool) (r : CutRule) (columns : List (List ℕ)) (row : Row)
     (cut made : MixedCut) → mixed ≡ true → cut ≡ made → IsMixedCutBy r columns row made →

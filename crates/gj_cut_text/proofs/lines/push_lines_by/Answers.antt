@@ -1,4 +1,4 @@
-use Rattle.std.proofs.Common.{Bool, List, length, sym, subst, subst₂}
+use Rattle.std.proofs.Common.{Bool, List, length, sym, subst, subst₂, ◌∙◌}
 use Rattle.gj_frac.specs.declared.Frac.{Frac}
 use Rattle.gj_cut.proofs.RowTerms.{cut_of_kind}
 use Rattle.gj_cut.specs.RowCuts.{IsCutOfKind}
@@ -8,8 +8,8 @@ use Rattle.gj_mixed.specs.MixedCuts.{IsMixedCutOfKind}
 use Rattle.gj_mixed.specs.Slopes.{AreSlopesAtZero, AreSlopesOfKind}
 use Rattle.gj_mixed.proofs.MixedTerms.{mixed_cut_of_kind}
 use Rattle.gj_proof.specs.declared.cut.CutRule.TheVariants.{Table}
-use Rattle.gj_cut_text.specs.MixedLines.{IsMadeCut}
-use Rattle.gj_cut_text.proofs.MixedRowLines.{columns_flagged, made_in_columns, mixed_made, one_row_more, row_within, whole_made}
+use Rattle.gj_cut_text.specs.MixedLines.{AreInColumns, IsMadeCut}
+use Rattle.gj_cut_text.proofs.MixedRowLines.{columns_flagged, cut_has_columns, cut_in_columns, mixed_made, one_row_more, row_within, whole_made}
 use Rattle.gj_cut_text.proofs.lines.push_lines_by.Goals as goal
 use Rattle.gj_cut_text.proofs.lines.push_lines_by.Goals.{then-mixed+in_ok-cut, else-mixed+in_ok-whole}
 
@@ -42,41 +42,23 @@ cut_row-requires g c =
 
 pub push_cut-requires : goal.push_cut-requires
 push_cut-requires g c =
-    let columns = c.args.columns.now in
-    let shape = c.args.shape in
+    let n = length c.args.columns.now in
     let row = c.row-item.result in
     let answers = g.E.Evaluator.answers in
-    let weighs = g.G.Evaluator.answers in
     let rule = c.new-rule.result in
     let slopes = c.new-slopes.result in
-    let made : IsMadeCut c.args.mixed (Table shape) columns row c.if-mixed.cut =
+    let flags = c.args.continuous.now in
+    let limits = row_within n c.args.rows.now c.loop-row.row-index row c.loop-row-test.true
+    c.row-item.is c.requires.rows in
     elim c.if-mixed.branch [
-      | then-mixed+in_ok-cut w ↦
-          let cut = w.in_ok-cut.cut in
-          let flags = c.args.continuous.now in
-          mixed_made c.args.mixed (Table shape) columns row c.if-mixed.cut cut w.if-mixed.true
-          w.cut-is (
-            slopes.up,
-            slopes.down,
-            subst₂ (λ (u d : Frac). AreSlopesAtZero shape u d) (sym c.new-slopes.ensures.up)
-                (sym c.new-slopes.ensures.down) c.requires.slopes,
-            subst₂ (λ (k : RuleKind) (f : List Bool). IsMixedCutOfKind k slopes.up slopes.down f row
-                cut) c.new-rule.ensures.kind (c.requires.flags w.if-mixed.true)
-                (mixed_cut_of_kind answers weighs rule slopes flags row cut
-                w.in_ok-cut.ensures.cut),
-          )
-          (w.in_ok-cut.ensures.holds
-          (subst IsMinimalKind (sym c.new-rule.ensures.kind) c.requires.minimal))
-      | else-mixed+in_ok-whole w ↦ whole_made c.args.mixed (Table shape) columns row
-          c.if-mixed.cut w.of_whole-cut.result w.in_ok-whole.whole w.if-mixed.false w.cut-is
-          w.of_whole-cut.ensures
-          (subst (λ (k : RuleKind). IsCutOfKind k row w.in_ok-whole.whole) c.new-rule.ensures.kind
+      | then-mixed+in_ok-cut w ↦ subst (AreInColumns n) (sym w.cut-is)
+          (cut_in_columns rule.kind slopes.up slopes.down flags n row w.in_ok-cut.cut limits
+          (mixed_cut_of_kind answers g.G.Evaluator.answers rule slopes flags row w.in_ok-cut.cut
+          w.in_ok-cut.ensures.cut))
+      | else-mixed+in_ok-whole w ↦ subst (AreInColumns n) (sym (w.cut-is ∙ w.of_whole-cut.ensures))
+          (cut_has_columns rule.kind n row w.in_ok-whole.whole limits
           (cut_of_kind answers rule row w.in_ok-whole.whole w.in_ok-whole.ensures.cut))
-    ] in
-    made_in_columns c.args.mixed (Table shape) columns (length columns) row c.if-mixed.cut
-    (row_within (length columns) c.args.rows.now c.loop-row.row-index row c.loop-row-test.true
-    c.row-item.is c.requires.rows)
-    made
+    ]
 
 pub loop-row-preserved : goal.loop-row-preserved
 loop-row-preserved g c =
