@@ -59,7 +59,7 @@ pub(crate) fn push_weights(
 }
 
 /// Appends the lines of terms with this word, a few at a time, so that room is asked for once for
-/// all of them.
+/// all of them. Without terms no room is cleared.
 #[inline(always)]
 fn push_lines(
     out: &mut Vec<u8>,
@@ -72,6 +72,9 @@ fn push_lines(
     ensures { OnOk result (out.new.items
         ≡ out.old.items ++ flat_map (named_line word.now columns.now) terms.now) }
 {
+    if terms.is_empty() {
+        return Ok(());
+    }
     let mut text = [0; FEW_SPACE];
     let mut left = terms;
     while !left.is_empty() {
