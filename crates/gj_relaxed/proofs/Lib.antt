@@ -12,3 +12,4 @@ mod OneRelaxing
 mod NarrowRelaxing
 mod SideForms
 pub mod OneRelaxedCut
+mod SideRuns

@@ -13,8 +13,7 @@ use crate::cutters::OnGrid;
 use crate::forms::RelaxedParts;
 use crate::problems::{RelaxedProblem, relaxed_problem};
 use crate::rows::RightMove;
-use gj_frac::Frac;
-use gj_problem::{Fault, Problem};
+use gj_problem::{Fault, Problem, Sparse};
 use gj_safe_cut::{ByFunction, ByGmic, RowCutter, SafeCut, cut_of_problem};
 use gj_shape::Shape;
 use std::alloc::{AllocError, Global};
@@ -32,7 +31,7 @@ pub fn gmic_relaxed_cut(
     alloc: Global,
     problem: &Problem,
     parts: &RelaxedParts,
-    multipliers: &[Frac],
+    multipliers: &Sparse,
     at_upper: &[bool],
     grid: u32,
 ) -> Result<SafeCut, AllocError>
@@ -67,7 +66,7 @@ pub fn function_relaxed_cut(
     shape: &Shape,
     problem: &Problem,
     parts: &RelaxedParts,
-    multipliers: &[Frac],
+    multipliers: &Sparse,
     at_upper: &[bool],
     grid: u32,
 ) -> Result<SafeCut, AllocError>
@@ -98,7 +97,7 @@ fn relaxed_cut<C: RowCutter>(
     by: &C,
     problem: &Problem,
     parts: &RelaxedParts,
-    multipliers: &[Frac],
+    multipliers: &Sparse,
     at_upper: &[bool],
     grid: u32,
 ) -> Result<SafeCut, AllocError>
@@ -126,7 +125,7 @@ fn cut_on_grid<C: RowCutter>(
     by: &C,
     problem: &Problem,
     parts: &RelaxedParts,
-    multipliers: &[Frac],
+    multipliers: &Sparse,
     at_upper: &[bool],
     grid: u32,
 ) -> Result<SafeCut, Fault>
@@ -146,7 +145,8 @@ fn cut_on_grid<C: RowCutter>(
 {
     match relaxed_problem(alloc, problem, parts, multipliers, grid)? {
         RelaxedProblem::Problem(relaxed, kept) => {
-            cut_of_problem(alloc, by, &relaxed, kept.as_slice(), at_upper)
+            let kept = Sparse::of(alloc, kept.as_slice())?;
+            cut_of_problem(alloc, by, &relaxed, &kept, at_upper)
         }
         RelaxedProblem::Free(column) => Ok(SafeCut::Free(column)),
     }

@@ -6,7 +6,7 @@ ghost use Rattle.gj_relaxed.specs.RelaxedForms.{ArePartsOf};
 use crate::forms::RelaxedParts;
 use crate::sides::{Sides, relaxed_sides};
 use gj_frac::Frac;
-use gj_problem::{Fault, Problem};
+use gj_problem::{Fault, Problem, Sparse};
 use gj_shape::List;
 use std::alloc::Global;
 
@@ -32,7 +32,7 @@ pub fn relaxed_problem(
     alloc: Global,
     problem: &Problem,
     parts: &RelaxedParts,
-    multipliers: &[Frac],
+    multipliers: &Sparse,
     grid: u32,
 ) -> Result<RelaxedProblem, Fault>
     requires grid { 0 < grid }

@@ -15,7 +15,7 @@ ghost use Rattle.gj_relaxed.specs.RelaxedForms.{AreForms, IsSideOf};
 
 use crate::forms::{Forms, rounded_with_sign, with_sign};
 use gj_frac::Frac;
-use gj_problem::{Constraint, Fault, Problem, RoundedCut, Sense};
+use gj_problem::{Constraint, Fault, Problem, RoundedCut, Sense, Sparse};
 use gj_shape::List;
 use std::alloc::{AllocError, Global};
 
@@ -51,7 +51,7 @@ pub(crate) fn relaxed_sides(
     alloc: Global,
     problem: &Problem,
     forms: &[Forms],
-    multipliers: &[Frac],
+    multipliers: &Sparse,
     grid: u64,
 ) -> Result<Sides, Fault>
     requires grid { 0 < grid }
@@ -66,21 +66,23 @@ pub(crate) fn relaxed_sides(
         multipliers: Vec::new(alloc),
     };
     let constraints = problem.constraints.as_slice();
-    let mut index = 0;
-    for (constraint, multiplier) in constraints.iter().zip(multipliers) {
+    let runs = multipliers.runs();
+    let mut place = 0;
+    for run in runs {
+        let index = place + run.zeros;
         let form = form_at(forms, index);
-        index += 1;
         if let Some(column) = add_side(
             alloc,
             &mut made,
             problem,
             form,
-            constraint,
-            *multiplier,
+            &constraints[index],
+            run.value,
             grid,
         )? {
             return Ok(Sides::Free(column));
         }
+        place = index + 1;
     }
     Ok(Sides::All(made))
 }
@@ -88,8 +90,7 @@ pub(crate) fn relaxed_sides(
 /// The form with this index.
 fn form_at(forms: &[Forms], index: usize) -> &Forms
     requires { index < length forms.now }
-    ensures form { result.now ≡ get_or forms.now index result.now }
-    ensures next { index + 1 < 2 ^ 64 }
+    ensures { result.now ≡ get_or forms.now index result.now }
 {
     &forms[index]
 }

@@ -8,8 +8,7 @@ ghost use Rattle.gj_safe_cut.specs.SafeCuts.{SafeCutHasTerms};
 use crate::cut::SafeCut;
 use crate::cutters::ByFunction;
 use crate::problem_cuts::safe_cut;
-use gj_frac::Frac;
-use gj_problem::Problem;
+use gj_problem::{Problem, Sparse};
 use gj_shape::Shape;
 use std::alloc::{AllocError, Global};
 
@@ -25,7 +24,7 @@ pub fn function_safe_cut(
     alloc: Global,
     shape: &Shape,
     problem: &Problem,
-    multipliers: &[Frac],
+    multipliers: &Sparse,
     at_upper: &[bool],
 ) -> Result<SafeCut, AllocError>
     requires minimal { IsMinimal shape.now }

@@ -6,8 +6,7 @@ ghost use Rattle.gj_safe_cut.specs.SafeCuts.{SafeCutHolds, SafeCutHasTerms};
 
 use crate::cut::SafeCut;
 use crate::cutters::{ByGmic, RowCutter};
-use gj_frac::Frac;
-use gj_problem::{Fault, MadeRow, Problem, row_of};
+use gj_problem::{Fault, MadeRow, Problem, Sparse, row_of};
 use std::alloc::{AllocError, Global};
 
 /// The mixed-integer cut of the row that the multipliers make of the problem, in its columns.
@@ -20,7 +19,7 @@ use std::alloc::{AllocError, Global};
 pub fn gmic_safe_cut(
     alloc: Global,
     problem: &Problem,
-    multipliers: &[Frac],
+    multipliers: &Sparse,
     at_upper: &[bool],
 ) -> Result<SafeCut, AllocError>
     requires multipliers { length multipliers.now ≡ length problem.now.constraints }
@@ -40,7 +39,7 @@ pub(crate) fn safe_cut<C: RowCutter>(
     alloc: Global,
     by: &C,
     problem: &Problem,
-    multipliers: &[Frac],
+    multipliers: &Sparse,
     at_upper: &[bool],
 ) -> Result<SafeCut, AllocError>
     requires multipliers { length multipliers.now ≡ length problem.now.constraints }
@@ -66,7 +65,7 @@ pub fn cut_of_problem<C: RowCutter>(
     alloc: Global,
     by: &C,
     problem: &Problem,
-    multipliers: &[Frac],
+    multipliers: &Sparse,
     at_upper: &[bool],
 ) -> Result<SafeCut, Fault>
     requires multipliers { length multipliers.now ≡ length problem.now.constraints }

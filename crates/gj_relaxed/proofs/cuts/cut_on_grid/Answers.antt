@@ -1,4 +1,4 @@
-use Rattle.std.proofs.Common.{inr, IfOk, OnOk, List, subst}
+use Rattle.std.proofs.Common.{inr, IfOk, OnOk, List, subst, ◌∙◌}
 use Rattle.std.proofs.lemmas.Result.{IfOk-weaker, on_ok_weaker}
 use Rattle.gj_frac.specs.declared.Frac.{Frac}
 use Rattle.gj_safe_cut.specs.SafeCuts.{IsOfProblem}
@@ -10,8 +10,8 @@ use Rattle.gj_relaxed.proofs.NarrowRelaxing.{narrow_of_relaxed_problem, narrow_o
 use Rattle.gj_relaxed.proofs.RelaxedCuts.{of_relaxed_problem}
 use Rattle.gj_relaxed.proofs.cuts.cut_on_grid.Goals as goal
 
-pub returns-in-Problem-clause-cut : goal.returns-in-Problem-clause-cut
-returns-in-Problem-clause-cut g c =
+pub returns-in_ok-kept-in-Problem-clause-cut : goal.returns-in_ok-kept-in-Problem-clause-cut
+returns-in_ok-kept-in-Problem-clause-cut g c =
     let n = c.args.grid in
     let p = c.args.problem.now in
     let ms = c.args.multipliers.now in
@@ -25,10 +25,10 @@ returns-in-Problem-clause-cut g c =
     IfOk-weaker c.cut_of_problem.result (IsCut p' ms' ups) (IsRelaxedCutOf n IsCut p ms ups)
     (of_relaxed_problem n IsCut p p' ms ms' ups is)
     (subst (λ (xs : List Frac). IfOk c.cut_of_problem.result (IsCut p' xs ups))
-    c.as_slice.ensures.value c.cut_of_problem.ensures.cut)
+    (c.in_ok-kept-in-Problem.ensures ∙ c.as_slice.ensures.value) c.cut_of_problem.ensures.cut)
 
-pub returns-in-Problem-clause-wide : goal.returns-in-Problem-clause-wide
-returns-in-Problem-clause-wide g c = λ fault.
+pub returns-in_ok-kept-in-Problem-clause-wide : goal.returns-in_ok-kept-in-Problem-clause-wide
+returns-in_ok-kept-in-Problem-clause-wide g c = λ fault.
     let n = c.args.grid in
     let p = c.args.problem.now in
     let ms = c.args.multipliers.now in
@@ -39,12 +39,13 @@ returns-in-Problem-clause-wide g c = λ fault.
       c.in-Problem.kept.items,
       subst (λ (made : RelaxedProblem). IsRelaxedOf n p ms made) c.in-Problem.is
           c.in_ok-relaxed.ensures.relaxed,
-      subst (λ (xs : List Frac). IsCut p' xs c.args.at_upper.now Wide) c.as_slice.ensures.value
+      subst (λ (xs : List Frac). IsCut p' xs c.args.at_upper.now Wide)
+          (c.in_ok-kept-in-Problem.ensures ∙ c.as_slice.ensures.value)
           (c.cut_of_problem.ensures.wide fault),
     )
 
-pub returns-in-Problem-clause-narrow : goal.returns-in-Problem-clause-narrow
-returns-in-Problem-clause-narrow g c =
+pub returns-in_ok-kept-in-Problem-clause-narrow : goal.returns-in_ok-kept-in-Problem-clause-narrow
+returns-in_ok-kept-in-Problem-clause-narrow g c =
     let n = c.args.grid in
     let p = c.args.problem.now in
     let ms = c.args.multipliers.now in
@@ -58,7 +59,7 @@ returns-in-Problem-clause-narrow g c =
     on_ok_weaker c.cut_of_problem.result
     (narrow_of_relaxed_problem n IsCut p ms ups c.in_ok-relaxed.ensures.narrow p' ms' is)
     (subst (λ (xs : List Frac). OnOk c.cut_of_problem.result (IsCut p' xs ups Wide → ⊥))
-    c.as_slice.ensures.value c.cut_of_problem.ensures.narrow)
+    (c.in_ok-kept-in-Problem.ensures ∙ c.as_slice.ensures.value) c.cut_of_problem.ensures.narrow)
 
 pub returns-in-Free-clause-narrow : goal.returns-in-Free-clause-narrow
 returns-in-Free-clause-narrow g c =
