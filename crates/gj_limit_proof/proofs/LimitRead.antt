@@ -1,11 +1,12 @@
 -- The lines of a proof text about a function that jumps, read one after another: the fault of a
 -- line is that of the text.
-use Rattle.std.proofs.Common.{◌≡◌, inr, ℕ, List, refl, subst}
+use Rattle.std.proofs.Common.{◌≡◌, inr, ℕ, List, Result, refl, subst}
+use Rattle.std.specs.Borrow.{Bor}
 use Rattle.gj_lex.specs.declared.spelling.Spelling.TheVariants.{Strict}
 use Rattle.gj_forms.specs.declared.fault.PartFault.{PartFault}
-use Rattle.gj_forms.specs.Parts.{empty_part, made_part, end_part, IsFaultOf, IsTail}
-use Rattle.gj_forms.proofs.PartLaws.{fault_in_first, fault_in_next, fault_in_made, tail_refused}
-use Rattle.gj_forms.proofs.WhereLaws.{fault_where, fault_else}
+use Rattle.gj_forms.specs.Parts.{empty_part, made_part, end_part, IsFaultOf, IsReading, IsTail}
+use Rattle.gj_forms.proofs.PartLaws.{fault_in_first, fault_in_next, fault_in_made, reading_behind, tail_refused}
+use Rattle.gj_forms.proofs.WhereLaws.{fault_where, fault_else, reading_else}
 use Rattle.gj_shape.specs.FunctionData.{FunctionData}
 use Rattle.gj_shape.specs.declared.extremality.CoverLine.{CoverLine}
 use Rattle.gj_function_lines.specs.FunctionGrammar.{function_part}
@@ -98,25 +99,19 @@ fault_in_halves text middle f e reads h =
 -- ---- the claim
 
 module _ (text : List ℕ) (not : BeginsNotExtreme text → ⊥) where
-  extreme_fault : (e : PartFault) → IsFaultOf named_extreme text e → IsFaultOf claim_part text e
-  extreme_fault e h = fault_else BeginsNotExtreme named_not_extreme named_extreme text e not h
-
   pub fault_in_extreme_line : (e : PartFault) → IsFaultOf (words_part extreme_words) text e →
       IsFaultOf claim_part text e
   fault_in_extreme_line e h =
-      extreme_fault e (fault_in_first (words_part extreme_words) (λ t. extreme_part) text e h)
+      fault_else BeginsNotExtreme named_not_extreme named_extreme text e not
+      (fault_in_first (words_part extreme_words) (λ t. extreme_part) text e h)
 
-  pub fault_in_extreme : (e : PartFault) (middle : List ℕ) →
-      (words_part extreme_words).Reads text tt middle →
-      IsFaultOf extreme_part middle e → IsFaultOf claim_part text e
-  fault_in_extreme e middle named h =
-      extreme_fault e (fault_in_next (words_part extreme_words)
-      (λ t. extreme_part) text tt middle e named h)
-
-  pub extreme_claim_read : (c : LimitClaim) (middle rest : List ℕ) →
-      (words_part extreme_words).Reads text tt middle →
-      extreme_part.Reads middle c rest → claim_part.Reads text c rest
-  extreme_claim_read c middle rest named h = inr (not, (tt, middle, named, h))
+  pub extreme_claim_read : (middle : List ℕ)
+      (result : Result (LimitClaim × Bor (List ℕ)) PartFault) →
+      (words_part extreme_words).Reads text tt middle → IsReading extreme_part middle result →
+      IsReading claim_part text result
+  extreme_claim_read middle result named h =
+      reading_else BeginsNotExtreme named_not_extreme named_extreme text result not
+      (reading_behind (words_part extreme_words) (λ t. extreme_part) text tt middle result named h)
 
 -- ---- the text
 

@@ -1,6 +1,5 @@
 //! The groups of a row, its steps and its pivot, read.
-ghost use Rattle.std.specs.Prelude.{IfOk, IfErr};
-ghost use Rattle.gj_forms.specs.Parts.{IsFaultOf};
+ghost use Rattle.gj_forms.specs.Parts.{IsListReading, IsReading};
 ghost use Rattle.gj_limit_proof.specs.LimitGrammar.{group_part, groups_part};
 
 use crate::bounds::GREATEST_COLUMNS;
@@ -18,8 +17,7 @@ pub(crate) fn groups_at(
     text: &[u8],
     order: u32,
 ) -> Result<(Vec<LimitPivotRow>, &[u8]), PartFault>
-    ensures found { IfOk result (λ r. (groups_part order).Reads text.now r.0.items r.1.now) }
-    ensures fault { IfErr result (IsFaultOf (groups_part order) text.now) }
+    ensures { IsListReading (groups_part order) text.now result }
 {
     let mut rows = Vec::new(alloc);
     let mut rest = text;
@@ -33,8 +31,7 @@ pub(crate) fn groups_at(
 
 /// The group in the next lines, and what follows them.
 fn group_at(alloc: Global, text: &[u8], order: u32) -> Result<(LimitPivotRow, &[u8]), PartFault>
-    ensures found { IfOk result (λ r. (group_part order).Reads text.now r.0 r.1.now) }
-    ensures fault { IfErr result (IsFaultOf (group_part order) text.now) }
+    ensures { IsReading (group_part order) text.now result }
 {
     let (name, rest) = row_at(text, order)?;
     let (columns, rest) = steps_at(alloc, rest, GREATEST_COLUMNS)?;

@@ -2,7 +2,7 @@
 ghost use Rattle.std.specs.Prelude.{◌≡◌, ◌++◌, List, map, IfOk, IfErr, IfSome, IfNone};
 ghost use Rattle.std.specs.Prelude.{◌↔◌, ℕ, IsTrue};
 ghost use Rattle.gj_lex.specs.Words.{word_texts};
-ghost use Rattle.gj_forms.specs.Parts.{IsFaultOf};
+ghost use Rattle.gj_forms.specs.Parts.{IsFaultOf, IsReading};
 ghost use Rattle.gj_limit_proof.specs.LimitText.{pair_line};
 ghost use Rattle.gj_limit_proof.specs.LimitGrammar.{AllFit, AreTwiceThree, pair_rule, pair_part};
 ghost use Rattle.gj_limit_proof.specs.LimitGrammar.{pairs_part, side_numbers_of, halves_part};
@@ -20,8 +20,7 @@ use std::alloc::Global;
 
 /// The halves in the next lines, and what follows them.
 pub(crate) fn limit_halves_at(alloc: Global, text: &[u8]) -> Result<(LimitHalves, &[u8]), PartFault>
-    ensures found { IfOk result (λ r. halves_part.Reads text.now r.0 r.1.now) }
-    ensures fault { IfErr result (IsFaultOf halves_part text.now) }
+    ensures { IsReading halves_part text.now result }
 {
     let (head, rest) = halves_head_at(text)?;
     let ((first, second), rest) = pairs_at(alloc, rest, head.order)?;
@@ -61,17 +60,13 @@ fn pairs_at(
 /// The numbers of both halves at a point, in the next line, and what follows the line. It takes no
 /// memory.
 fn pair_at(text: &[u8]) -> Result<((Triple, Triple), &[u8]), PartFault>
-    ensures found { IfOk result (λ r. pair_part.Reads text.now r.0 r.1.now) }
-    ensures fault { IfErr result (IsFaultOf pair_part text.now) }
+    ensures { IsReading pair_part text.now result }
 {
     if let Some((pair, rest)) = printed_values(text) {
         return Ok((pair, rest));
     }
     let line = line_at(Spelling::Strict, text)?;
-    match pair_in(line.bytes) {
-        Ok(pair) => Ok((pair, line.rest)),
-        Err(reason) => Err(PartFault::at(line.start, reason)),
-    }
+    line.with_rest(pair_in(line.bytes))
 }
 
 /// The numbers of both halves, of which neither jumps, that the text begins with as they are

@@ -1,7 +1,7 @@
 //! Proof texts about functions that jump, read.
 
 ghost use Rattle.std.specs.Prelude.{◌≡◌, [], IfOk, IfErr, MatchResult};
-ghost use Rattle.gj_forms.specs.Parts.{IsFaultOf};
+ghost use Rattle.gj_forms.specs.Parts.{IsFaultOf, IsPassing, IsReading};
 ghost use Rattle.gj_proof.specs.FirstFault.{IsMemoryFault};
 ghost use Rattle.gj_proof.specs.ProofGrammar.{form_part};
 ghost use Rattle.gj_limit_proof.specs.FirstFault.{NamesFirstFault};
@@ -60,8 +60,7 @@ fn proof_at(alloc: Global, text: &[u8]) -> Result<LimitProof, PartFault>
 
 /// What follows the first line of the text. It takes no memory.
 fn behind_title(text: &[u8]) -> Result<&[u8], PartFault>
-    ensures found { IfOk result (λ rest. (form_part title_form).Reads text.now tt rest.now) }
-    ensures fault { IfErr result (IsFaultOf (form_part title_form) text.now) }
+    ensures { IsPassing (form_part title_form) text.now result }
 {
     let line = line_at(Spelling::Strict, text)?;
     if !has_words(line.bytes, b"gj-proof 3") {
@@ -72,8 +71,7 @@ fn behind_title(text: &[u8]) -> Result<&[u8], PartFault>
 
 /// The claim in the line of its word, those of its function and its own, and what follows them.
 fn claim_at(alloc: Global, text: &[u8]) -> Result<(LimitClaim, &[u8]), PartFault>
-    ensures found { IfOk result (λ r. claim_part.Reads text.now r.0 r.1.now) }
-    ensures fault { IfErr result (IsFaultOf claim_part text.now) }
+    ensures { IsReading claim_part text.now result }
 {
     if begins_with_line(Spelling::Strict, text, b"claim not-extreme") {
         let rest = words_at(Spelling::Strict, text, b"claim not-extreme")?;
@@ -86,8 +84,7 @@ fn claim_at(alloc: Global, text: &[u8]) -> Result<(LimitClaim, &[u8]), PartFault
 /// The claim that the function of the next lines is extreme, as the lines and the groups behind it
 /// show, and what follows.
 fn extreme_at(alloc: Global, text: &[u8]) -> Result<(LimitClaim, &[u8]), PartFault>
-    ensures found { IfOk result (λ r. extreme_part.Reads text.now r.0 r.1.now) }
-    ensures fault { IfErr result (IsFaultOf extreme_part text.now) }
+    ensures { IsReading extreme_part text.now result }
 {
     let (shape, rest) = function_at(alloc, Spelling::Strict, text)?;
     let order = shape.order();
@@ -101,8 +98,7 @@ fn extreme_at(alloc: Global, text: &[u8]) -> Result<(LimitClaim, &[u8]), PartFau
 /// The numbers of the groups behind it: residues, if the next line tells the modulus, and what
 /// follows that line. It takes no memory.
 fn numbers_at(text: &[u8]) -> Result<(Numbers, &[u8]), PartFault>
-    ensures found { IfOk result (λ r. numbers_part.Reads text.now r.0 r.1.now) }
-    ensures fault { IfErr result (IsFaultOf numbers_part text.now) }
+    ensures { IsReading numbers_part text.now result }
 {
     if !begins_with_word(Spelling::Strict, text, b"modulus") {
         return Ok((Numbers::Whole, text));
@@ -114,8 +110,7 @@ fn numbers_at(text: &[u8]) -> Result<(Numbers, &[u8]), PartFault>
 /// The claim that the function of the next lines is not extreme, as the halves behind it show, and
 /// what follows.
 fn not_extreme_at(alloc: Global, text: &[u8]) -> Result<(LimitClaim, &[u8]), PartFault>
-    ensures found { IfOk result (λ r. not_extreme_part.Reads text.now r.0 r.1.now) }
-    ensures fault { IfErr result (IsFaultOf not_extreme_part text.now) }
+    ensures { IsReading not_extreme_part text.now result }
 {
     let (shape, rest) = function_at(alloc, Spelling::Strict, text)?;
     let (halves, rest) = limit_halves_at(alloc, rest)?;

@@ -1,7 +1,7 @@
 //! The first line of a group, read.
 ghost use Rattle.std.specs.Prelude.{◌≡◌, ◌<◌, ℕ, List, length, IfOk, IfErr, IfSome, IfNone};
 ghost use Rattle.gj_lex.specs.Words.{word_texts};
-ghost use Rattle.gj_forms.specs.Parts.{IsFaultOf};
+ghost use Rattle.gj_forms.specs.Parts.{IsReading};
 ghost use Rattle.gj_forms.specs.LineForms.{AreLine, BreaksForm};
 ghost use Rattle.gj_shape.specs.Faces.{corners_of};
 ghost use Rattle.gj_shape.specs.declared.faces.FaceKind.{FaceKind};
@@ -29,14 +29,10 @@ pub(crate) struct RowWords<'a> {
 
 /// The row in the next line, and what follows the line. It takes no memory.
 pub(crate) fn row_at(text: &[u8], order: u32) -> Result<(LimitRow, &[u8]), PartFault>
-    ensures found { IfOk result (λ r. (form_part (row_form order)).Reads text.now r.0 r.1.now) }
-    ensures fault { IfErr result (IsFaultOf (form_part (row_form order)) text.now) }
+    ensures { IsReading (form_part (row_form order)) text.now result }
 {
     let line = line_at(Spelling::Strict, text)?;
-    match row_in(line.bytes, order) {
-        Ok(row) => Ok((row, line.rest)),
-        Err(reason) => Err(PartFault::at(line.start, reason)),
-    }
+    line.with_rest(row_in(line.bytes, order))
 }
 
 /// The row that the line tells.

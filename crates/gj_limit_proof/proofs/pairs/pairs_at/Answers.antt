@@ -13,7 +13,7 @@ loop-init c = pairs_begin c.args.count _ _ _ c.no_numbers-first.ensures c.no_num
 pub loop-preserved : goal.loop-preserved
 loop-preserved c =
     pairs_on c.args.count c.loop.counter _ _ _ _ _ _ _ (c.in_ok-x.x, c.in_ok-x.y) c.loop.invariant
-    (omega arith) c.in_ok-x.ensures.found
+    (omega arith) c.in_ok-x.ensures
     c.in_ok-push_triple.ensures c.in_ok-push_triple-2.ensures
 
 pub returns-in_err-x-clause-fault : goal.returns-in_err-x-clause-fault
@@ -21,7 +21,7 @@ returns-in_err-x-clause-fault c =
     let p = err_from_is_err_and c.from_residual.result c.from_residual.ensures.1 in
     passed_on (IsFaultOf (pairs_part c.args.count) c.args.text.now) _ _ _ p.1 p.2
     (times_at_fault pair_part c.args.count c.loop.counter _ _ _ c.loop.invariant.leaves
-    (omega arith) _ c.in_err-x.ensures.fault)
+    (omega arith) _ c.in_err-x.ensures)
 
 pub returns-clause-found : goal.returns-clause-found
 returns-clause-found c =

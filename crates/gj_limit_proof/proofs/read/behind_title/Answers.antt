@@ -3,8 +3,8 @@ use Rattle.std.proofs.lemmas.Bool.{false≢true}
 use Rattle.gj_lex.specs.Words.{word_texts}
 use Rattle.gj_limit_proof.proofs.read.behind_title.Goals as goal
 
-pub returns-then-not-has_words-clause-fault : goal.returns-then-not-has_words-clause-fault
-returns-then-not-has_words-clause-fault c =
+pub returns-then-not-has_words : goal.returns-then-not-has_words
+returns-then-not-has_words c =
     let line = c.in_ok-line.line in
     rw c.at.ensures (
       line.start.now,

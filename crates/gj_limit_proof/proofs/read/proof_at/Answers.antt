@@ -13,36 +13,36 @@ returns-in_err-claim-clause-fault c =
     let p = err_from_is_err_and c.from_residual-in_err-claim.result
     c.from_residual-in_err-claim.ensures.1 in
     passed_on (IsFaultOf limit_proof_text c.args.text.now) _ _ _ p.1 p.2
-    (fault_in_claim _ _ _ c.in_ok-rest.ensures.found c.in_err-claim.ensures.fault)
+    (fault_in_claim _ _ _ c.in_ok-rest.ensures c.in_err-claim.ensures)
 
 pub returns-in_err-rest-2-clause-fault : goal.returns-in_err-rest-2-clause-fault
 returns-in_err-rest-2-clause-fault c =
     let p = err_from_is_err_and c.from_residual-in_err-rest-2.result
     c.from_residual-in_err-rest-2.ensures.1 in
     passed_on (IsFaultOf limit_proof_text c.args.text.now) _ _ _ p.1 p.2
-    (fault_in_last _ _ _ c.in_ok-rest.ensures.found _ _ c.in_ok-claim.ensures.found
-    c.in_err-rest-2.ensures.fault)
+    (fault_in_last _ _ _ c.in_ok-rest.ensures _ _ c.in_ok-claim.ensures
+    c.in_err-rest-2.ensures.passed)
 
 pub returns-in_err-end_at-clause-fault : goal.returns-in_err-end_at-clause-fault
 returns-in_err-end_at-clause-fault c =
     let p = err_from_is_err_and c.from_residual-in_err-end_at.result
     c.from_residual-in_err-end_at.ensures.1 in
     passed_on (IsFaultOf limit_proof_text c.args.text.now) _ _ _ p.1 p.2
-    (fault_behind_last _ _ _ c.in_ok-rest.ensures.found _ _ c.in_ok-claim.ensures.found _
-    c.in_ok-rest-2.ensures.found
+    (fault_behind_last _ _ _ c.in_ok-rest.ensures _ _ c.in_ok-claim.ensures _
+    c.in_ok-rest-2.ensures.passed
     c.in_err-end_at.ensures.fault)
 
 pub of-requires : goal.of-requires
 of-requires c =
-    let whole = lines_read _ _ _ _ _ c.in_ok-rest.ensures.found c.in_ok-claim.ensures.found
-    c.in_ok-rest-2.ensures.found
+    let whole = lines_read _ _ _ _ _ c.in_ok-rest.ensures c.in_ok-claim.ensures
+    c.in_ok-rest-2.ensures.passed
     c.in_ok-end_at.ensures.ended in
     record { text = (read_is_text _ _ whole).1.has_text }
 
 pub returns-clause-found : goal.returns-clause-found
 returns-clause-found c =
-    let whole = lines_read _ _ _ _ _ c.in_ok-rest.ensures.found c.in_ok-claim.ensures.found
-    c.in_ok-rest-2.ensures.found
+    let whole = lines_read _ _ _ _ _ c.in_ok-rest.ensures c.in_ok-claim.ensures
+    c.in_ok-rest-2.ensures.passed
     c.in_ok-end_at.ensures.ended in
     subst (λ (d : LimitClaim). limit_proof_text.Reads c.args.text.now d [])
     (sym c.of.ensures.claim) whole
