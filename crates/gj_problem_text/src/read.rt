@@ -3,7 +3,7 @@ ghost use Rattle.std.specs.Prelude.{◌≡◌, ◌≤◌, List, ℕ, codes, leng
 ghost use Rattle.std.specs.Prelude.{IfSome, IfNone, OnSome};
 ghost use Rattle.std.specs.Prelude.{MatchResult};
 ghost use Rattle.gj_forms.specs.LineFaults.{IsRefusedFor};
-ghost use Rattle.gj_forms.specs.Parts.{BeginsWithWord, IsFaultOf, IsNoLine};
+ghost use Rattle.gj_forms.specs.Parts.{BeginsWithWord, IsFaultOf, IsNoLine, IsReading};
 ghost use Rattle.gj_forms.specs.TextLines.{HasLine};
 ghost use Rattle.gj_lex.specs.Words.{word_texts};
 ghost use Rattle.gj_problem_text.specs.FirstFault.{IsMemoryFault, NamesFirstFault};
@@ -77,8 +77,7 @@ pub(crate) fn unruled_text_at(alloc: Global, text: &[u8]) -> Result<Task, PartFa
 
 /// The task that the next lines tell, up to their line `end`, and what follows that line.
 fn lines_at(alloc: Global, text: &[u8]) -> Result<(Task, &[u8]), PartFault>
-    ensures found { IfOk result (λ r. lines_part.Reads text.now r.0 r.1.now) }
-    ensures fault { IfErr result (IsFaultOf lines_part text.now) }
+    ensures { IsReading lines_part text.now result }
 {
     let mut task = no_task(alloc);
     let mut places = Places::none(alloc);
