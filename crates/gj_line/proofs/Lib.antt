@@ -1,4 +1,3 @@
 pub mod ThenLaws
 pub mod NamedLines
-pub mod KindLaws
 pub mod SpelledNumbers

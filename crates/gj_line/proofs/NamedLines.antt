@@ -1,16 +1,13 @@
 -- Lines whose first word is known, behind which fields stand: their bytes, and what their words tell.
-use Rattle.std.proofs.Common.{◌≡◌, inl, inr, ℕ, List, [], ◌∷◌, ◌++◌, refl, sym, ap, subst, ◌∙◌}
+use Rattle.std.proofs.Common.{◌≡◌, ℕ, List, [], ◌∷◌, ◌++◌, refl, sym, ap, subst, ◌∙◌}
 use Rattle.std.proofs.lemmas.List.{append_assoc}
 use Rattle.gj_lex.specs.declared.spelling.Spelling.{Spelling}
-use Rattle.gj_lex.specs.declared.reason.Reason.{Reason}
-use Rattle.gj_forms.specs.Parts.{line_part}
-use Rattle.gj_forms.specs.LineForms.{Field, word_of, others_of, with_numbers, bytes_of, LineForm, line_of, AreOfForm}
+use Rattle.gj_forms.specs.LineForms.{Field, word_of, others_of, bytes_of, LineForm, line_of}
 use Rattle.gj_forms.specs.LineForms.Field.{word}
-use Rattle.gj_forms.specs.SpelledForms.{Spell, rule_in}
-use Rattle.gj_forms.proofs.FieldWords.{IsGood, AreGood, head_and_tail}
+use Rattle.gj_forms.specs.SpelledForms.{Spell}
+use Rattle.gj_forms.proofs.FieldWords.{head_and_tail}
 use Rattle.gj_forms.proofs.SpelledLaws.{IsClearForm}
-use Rattle.gj_forms.proofs.SpelledLines.{line_is_spelled}
-use Rattle.gj_line.specs.FieldForms.{named_form, tail_of, AllGood, AreClearFields, IsKnownWord}
+use Rattle.gj_line.specs.FieldForms.{named_form, tail_of, AreClearFields}
 
 -- ---- bytes
 
@@ -24,16 +21,6 @@ module _ {A : Type 0} (name : List ℕ) (by : LineForm A) where
   pub line_is : (a : A) → line_of (named_form name by) a ≡ name ++ tail_of (by.fields a)
   line_is a = tail_bytes (word name) (by.fields a)
 
-  -- what is read as it is printed is the line of a thing
-  pub is_printed : (a : A) (w text rest behind : List ℕ) → w ≡ name → text ≡ w ++ rest →
-      (rest ≡ tail_of (by.fields a) ++ behind) × by.HasLine a →
-      (text ≡ line_of (named_form name by) a ++ behind) × by.HasLine a
-  is_printed a w text rest behind first begins read = (
-    begins ∙ (λ i. first i ++ read.0 i) ∙ sym (append_assoc name (tail_of (by.fields a)) behind)
-        ∙ ap (λ u. u ++ behind) (sym (line_is a)),
-    read.1,
-  )
-
   -- what is appended is the line of a thing
   pub is_pushed : (a : A) (w old mid new : List ℕ) → w ≡ name → mid ≡ old ++ w →
       new ≡ mid ++ tail_of (by.fields a) →
@@ -44,56 +31,14 @@ module _ {A : Type 0} (name : List ℕ) (by : LineForm A) where
 
 -- ---- words
 
-all_good : (f : Field) (fs : List Field) → IsGood f → AllGood fs → AreGood (f ∷ fs)
-all_good f [] h k = h
-all_good f (g ∷ fs) h k = (h, all_good g fs k.0 k.1)
-
 module _ {A : Type 0} (s : Spelling) (name : List ℕ) (by : LineForm A) where
-  of_fields : (ws : List (List ℕ)) → AreOfForm by ws → AreOfForm (named_form name by) (name ∷ ws)
-  of_fields ws (a, e, h) = (a, ap (λ v. name ∷ v) e, h)
-
-  fields_of : (ws : List (List ℕ)) → AreOfForm (named_form name by) (name ∷ ws) → AreOfForm by ws
-  fields_of ws (a, e, h) = (a, (head_and_tail _ _ _ _ e).1, h)
-
-  breaks : (ws : List (List ℕ)) (e : Reason) → (rule_in s by).Breaks ws e →
-      (rule_in s (named_form name by)).Breaks (name ∷ ws) e
-  breaks ws e (inl h) = inl (h.0, λ k. h.1 (fields_of ws k))
-  breaks ws e (inr h) = inr (h.0, of_fields ws h.1, λ a k. h.2 a (k.0.1, k.1))
-
-  -- the fields behind the name break their form
-  pub line_breaks : (words : List (List ℕ)) (w : List ℕ) (ws : List (List ℕ)) (e : Reason) →
-      w ≡ name → words ≡ w ∷ ws →
-      (rule_in s by).Breaks ws e → (rule_in s (named_form name by)).Breaks words e
-  line_breaks words w ws e first begins h =
-      subst (λ v. (rule_in s (named_form name by)).Breaks v e)
-      (sym (begins ∙ ap (λ v. v ∷ ws) first)) (breaks ws e h)
-
-  -- or they spell a thing
+  -- the fields behind the name spell a thing
   pub line_spells : (words : List (List ℕ)) (w : List ℕ) (ws : List (List ℕ)) (a : A) → w ≡ name →
       words ≡ w ∷ ws →
       Spell s by ws a → Spell s (named_form name by) words a
   line_spells words w ws a first begins h =
       subst (λ v. Spell s (named_form name by) v a) (sym (begins ∙ ap (λ v. v ∷ ws) first))
       ((refl, h.0), h.1)
-
-  -- words that begin otherwise are not of the form
-  pub other_name : (words : List (List ℕ)) (w : List ℕ) → w ≡ name →
-      ((ws : List (List ℕ)) → words ≡ w ∷ ws → ⊥) →
-      AreOfForm (named_form name by) words → ⊥
-  other_name words w first none (a, e, h) =
-      none (with_numbers (by.fields a) (others_of words))
-      (e ∙ ap (λ v. v ∷ with_numbers (by.fields a) (others_of words)) (sym first))
-
-module _ {A : Type 0} (name : List ℕ) (by : LineForm A) (known : IsKnownWord name)
-    (clear : AreClearFields by) where
-  -- the line of a thing is read as the thing
-  pub line_is_read : (s : Spelling) (a : A) (text rest : List ℕ) →
-      (text ≡ line_of (named_form name by) a ++ rest) × by.HasLine a →
-      (line_part s (rule_in s (named_form name by))).Reads text a rest
-  line_is_read s a text rest h =
-      line_is_spelled s (named_form name by) a text rest
-      (all_good (word name) (by.fields a) known.plain (clear.good a h.1)) h.1
-      known.no_comment h.0
 
 -- ---- the form is clear
 

@@ -1,16 +1,15 @@
 -- Forms of one field, and of fields one behind another (own).
-use Rattle.std.specs.Prelude.{ℕ, pos, ◌<ℤ◌, ◌≡◌, ◌≢◌, ◌<◌, ◌⊎◌, List, [], ◌∷◌, ◌++◌, get_or}
+use Rattle.std.specs.Prelude.{ℕ, pos, ◌<ℤ◌, ◌≡◌, ◌⊎◌, List, [], ◌∷◌, ◌++◌}
 use Rattle.gj_frac.specs.Fraction.{numerator}
 use Rattle.gj_frac.specs.declared.Frac.{Frac}
 use Rattle.gj_lex.specs.Name.{IsName}
 use Rattle.gj_lex.specs.declared.spelling.Spelling.{Spelling}
 use Rattle.gj_lex.specs.declared.reason.Reason.{Reason}
 use Rattle.gj_lex.specs.declared.reason.Reason.TheVariants as reason
-use Rattle.gj_lex.proofs.WordBytes.{IsPlain}
-use Rattle.gj_forms.specs.LineForms.{Field, word_of, with_numbers, first_of, LineForm, form_of}
+use Rattle.gj_forms.specs.LineForms.{Field, word_of, with_numbers, LineForm, form_of}
 use Rattle.gj_forms.specs.LineForms.Field.{word, fraction, count, whole}
 use Rattle.gj_forms.specs.SpelledForms.{IsWordOf}
-use Rattle.gj_forms.proofs.FieldWords.{IsGood, IfAlike, AreAlike}
+use Rattle.gj_forms.proofs.FieldWords.{IfAlike, AreAlike}
 
 -- ---- one field
 
@@ -20,10 +19,6 @@ pub record FieldForm (A : Type 0) : Type 1 where
   pub field : A → Field
   pub HasForm : A → Type 0
   pub HasWord : A → Type 0
-
--- a count below a limit
-abbrev pub count_below : ℕ → FieldForm ℕ
-count_below limit = record { field = count; HasForm = λ n. Unit {0}; HasWord = λ n. n < limit }
 
 -- a fraction
 abbrev pub any_fraction : FieldForm Frac
@@ -41,10 +36,6 @@ positive_fraction = record {
 -- a name
 abbrev pub name_word : FieldForm (List ℕ)
 name_word = record { field = word; HasForm = IsName; HasWord = IsName }
-
--- a known word
-abbrev pub known_word : List ℕ → FieldForm (Unit {0})
-known_word w = record { field = λ t. word w; HasForm = λ t. Unit {0}; HasWord = λ t. Unit {0} }
 
 -- ---- fields one behind another
 
@@ -98,38 +89,14 @@ WordBreaks {A} s f w e =
 -- what is asked of the form of a field
 pub record IsClearField {A : Type 0} (f : FieldForm A) : Type 0 where
   pub of_form : (a : A) → f.HasWord a → f.HasForm a
-  pub good : (a : A) → f.HasWord a → IsGood (f.field a)
   pub alike : (a b : A) (w : List ℕ) → given (f.field a) w ≡ given (f.field b) w →
       IfAlike (f.field a) (f.field b) (Unit {0})
   pub tell : (a b : A) → f.field a ≡ f.field b → a ≡ b
 
--- all are good
-abbrev pub AllGood : List Field → Type 0
-AllGood [] = Unit {0}
-AllGood (f ∷ fs) = IsGood f × AllGood fs
-
 -- what is asked of the form of fields
 pub record AreClearFields {A : Type 0} (form : LineForm A) : Type 0 where
   pub of_form : (a : A) → form.HasLine a → form.HasForm a
-  pub good : (a : A) → form.HasLine a → AllGood (form.fields a)
   pub alike : (a b : A) (words : List (List ℕ)) →
       with_numbers (form.fields a) words ≡ with_numbers (form.fields b) words →
       AreAlike (form.fields a) (form.fields b)
   pub tell : (a b : A) → form.fields a ≡ form.fields b → a ≡ b
-
--- a word that may stand anywhere in a line: it is plain, and no line that begins with it is skipped
-pub record IsKnownWord (w : List ℕ) : Type 0 where
-  pub plain : IsPlain w
-  pub no_comment : get_or w 0 0 ≢ 35
-
--- the lines of the form that begin with the name tell the things of one kind, and have these fields
--- behind the name
-pub record IsKind {A B : Type 0} (form : LineForm B) (name : List ℕ) (by : LineForm A) (make : A →
-    B) : Type 0 where
-  pub fields : (a : A) → form.fields (make a) ≡ word name ∷ by.fields a
-  pub has_form : (a : A) → by.HasForm a → form.HasForm (make a)
-  pub had_form : (a : A) → form.HasForm (make a) → by.HasForm a
-  pub has_line : (a : A) → by.HasLine a → form.HasLine (make a)
-  pub had_line : (a : A) → form.HasLine (make a) → by.HasLine a
-  pub made : (b : B) (words : List (List ℕ)) → first_of (with_numbers (form.fields b) words)
-      ≡ name → first_of words ≡ name → (a : A) × (b ≡ make a)

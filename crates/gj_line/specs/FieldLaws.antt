@@ -1,16 +1,14 @@
 -- Fields one behind another are clear if each is.
-use Rattle.std.proofs.Common.{◌≡◌, ℕ, ◌≤◌, ◌^◌, List, ◌∷◌, refl, sym, ◌∙◌, arith}
+use Rattle.std.proofs.Common.{◌≡◌, ℕ, List, ◌∷◌, refl, sym, ◌∙◌}
 use Rattle.gj_frac.specs.declared.Frac.{Frac}
-use Rattle.gj_forms.proofs.PlainWords.{name_is_plain}
 use Rattle.gj_forms.specs.LineForms.{Field, with_numbers, first_of, others_of, LineForm}
 use Rattle.gj_forms.specs.LineForms.Field.{word, fraction, count, whole}
 use Rattle.gj_forms.proofs.FieldWords.{IfAlike, AreAlike, head_and_tail}
-use Rattle.gj_line.specs.FieldForms.{FieldForm, count_below, any_fraction, positive_fraction, name_word, known_word, no_form, then_form, given, IsClearField, AreClearFields, IsKnownWord}
+use Rattle.gj_line.specs.FieldForms.{FieldForm, any_fraction, positive_fraction, name_word, no_form, then_form, given, IsClearField, AreClearFields}
 
 pub no_form_is_clear : AreClearFields no_form
 no_form_is_clear = record {
   of_form = λ a h. tt;
-  good = λ a h. tt;
   alike = λ a b ws h. tt;
   tell =
       λ a b h. refl;
@@ -59,7 +57,6 @@ module _ {A B : Type 0} (f : FieldForm A) (g : LineForm B) (first : IsClearField
   pub then_is_clear : AreClearFields (then_form f g)
   then_is_clear = record {
     of_form = λ a h. (first.of_form a.0 h.0, others.of_form a.1 h.1);
-    good = λ a h. (first.good a.0 h.0, others.good a.1 h.1);
     alike = alike;
     tell = tell;
   }
@@ -69,26 +66,12 @@ module _ {A B : Type 0} (f : FieldForm A) (g : LineForm B) (first : IsClearField
 pub same_word : (v w : List ℕ) → word v ≡ word w → v ≡ w
 same_word v w e = cc
 
-same_count : (m n : ℕ) → count m ≡ count n → m ≡ n
-same_count m n e = cc
-
 same_fraction : (x y : Frac) → fraction x ≡ fraction y → x ≡ y
 same_fraction x y e = cc
-
-pub count_is_clear : (limit : ℕ) → limit ≤ 2 ^ 32 → IsClearField (count_below limit)
-count_is_clear limit small =
-    record {
-      of_form = λ a h. tt;
-      good = λ n h. omega arith;
-      alike = λ a b w h. tt;
-      tell =
-          same_count;
-    }
 
 pub fraction_is_clear : IsClearField any_fraction
 fraction_is_clear = record {
   of_form = λ a h. tt;
-  good = λ x h. tt;
   alike = λ a b w h. tt;
   tell =
       same_fraction;
@@ -97,7 +80,6 @@ fraction_is_clear = record {
 pub positive_is_clear : IsClearField positive_fraction
 positive_is_clear = record {
   of_form = λ a h. tt;
-  good = λ x h. tt;
   alike = λ a b w h. tt;
   tell =
       same_fraction;
@@ -106,18 +88,7 @@ positive_is_clear = record {
 pub name_is_clear : IsClearField name_word
 name_is_clear = record {
   of_form = λ a h. h;
-  good = name_is_plain;
   alike = λ a b w h. tt;
   tell =
       same_word;
 }
-
-pub known_is_clear : (w : List ℕ) → IsKnownWord w → IsClearField (known_word w)
-known_is_clear w known =
-    record {
-      of_form = λ t h. tt;
-      good = λ t h. known.plain;
-      alike = λ t u v h. tt;
-      tell =
-          λ t u h. refl;
-    }

@@ -1,5 +1,5 @@
 //! A field of a line.
-ghost use Rattle.std.specs.Prelude.{◌≡◌, ◌++◌, ◌∷◌, [], IfOk, IfErr, IfSome, OnOk};
+ghost use Rattle.std.specs.Prelude.{◌≡◌, ◌++◌, ◌∷◌, [], IfOk, IfErr, OnOk};
 ghost use Rattle.gj_forms.specs.LineForms.{word_of};
 ghost use Rattle.gj_forms.specs.SpelledForms.{IsWordOf};
 ghost use Rattle.gj_line.specs.FieldForms.{FieldForm, WordBreaks, IsClearField};
@@ -23,13 +23,6 @@ pub trait Field<'a> {
     ghost form: { Self → FieldForm Told };
 
     ghost is_clear: { (f : Self) → is_field f → IsClearField (form f) };
-
-    /// The value with whose printed word the text begins, and what follows that word.
-    fn printed(&self, text: &'a [u8]) -> Option<(Self::Value, &'a [u8])>
-        requires { is_field self.now }
-        ensures { IfSome result (λ r. (text.now ≡
-            word_of ((form self.now).field (told r.0)) ++ r.1.now) ×
-            (form self.now).HasWord (told r.0)) };
 
     /// The value that the word spells, or which rule it breaks.
     fn of_word(&self, spelling: Spelling, word: &'a [u8]) -> Result<Self::Value, Reason>

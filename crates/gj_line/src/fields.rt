@@ -1,5 +1,5 @@
 //! Fields of a line, one behind another.
-ghost use Rattle.std.specs.Prelude.{◌≡◌, ◌++◌, ◌∷◌, [], ℕ, List, IfOk, IfErr, IfSome, OnOk};
+ghost use Rattle.std.specs.Prelude.{◌≡◌, ◌++◌, ◌∷◌, [], ℕ, List, IfOk, IfErr, OnOk};
 ghost use Rattle.gj_lex.specs.Words.{word_texts};
 ghost use Rattle.gj_lex.specs.declared.reason.Reason.TheVariants.{Form};
 ghost use Rattle.gj_forms.specs.LineForms.{LineForm, word_of};
@@ -9,7 +9,7 @@ ghost use Rattle.gj_line.specs.FieldLaws.{no_form_is_clear, then_is_clear};
 
 use crate::field::Field;
 use gj_forms::{has_no_word, split_word};
-use gj_lex::{Reason, Spelling, behind_byte};
+use gj_lex::{Reason, Spelling};
 use std::alloc::AllocError;
 
 /// How the fields of a line behind its first word are read and written.
@@ -28,13 +28,6 @@ pub trait Fields<'a> {
     ghost form: { Self → LineForm Told };
 
     ghost are_clear: { (f : Self) → are_fields f → AreClearFields (form f) };
-
-    /// The values with whose printed words and a line feed the text begins, and what follows.
-    fn printed(&self, text: &'a [u8]) -> Option<(Self::Values, &'a [u8])>
-        requires { are_fields self.now }
-        ensures { IfSome result (λ r. (text.now ≡
-            tail_of ((form self.now).fields (told r.0)) ++ r.1.now) ×
-            (form self.now).HasLine (told r.0)) };
 
     /// The values that the words of the line spell, or which rule they break.
     fn of_words(&self, spelling: Spelling, line: &'a [u8]) -> Result<Self::Values, Reason>
@@ -62,11 +55,6 @@ impl<'a> Fields<'a> for () {
 
     ghost form = { λ f. no_form };
 
-    #[inline(always)]
-    fn printed(&self, text: &'a [u8]) -> Option<((), &'a [u8])> {
-        Some(((), behind_byte(text, b'\n')?))
-    }
-
     fn of_words(&self, _spelling: Spelling, line: &'a [u8]) -> Result<(), Reason> {
         if !has_no_word(line) {
             return Err(Reason::Form);
@@ -92,13 +80,6 @@ impl<'a, H: Field<'a>, T: Fields<'a>> Fields<'a> for (H, T) {
     ghost are_fields = { λ f. H.is_field f.0 × T.are_fields f.1 };
 
     ghost form = { λ f. then_form (H.form f.0) (T.form f.1) };
-
-    #[inline(always)]
-    fn printed(&self, text: &'a [u8]) -> Option<((H::Value, T::Values), &'a [u8])> {
-        let (value, rest) = self.0.printed(behind_byte(text, b' ')?)?;
-        let (values, rest) = self.1.printed(rest)?;
-        Some(((value, values), rest))
-    }
 
     fn of_words(
         &self,

@@ -1,10 +1,9 @@
 //! Lines that read and write themselves.
 //!
-//! A [`Field`] is a word of a line that is read and written: a name, a fraction, a count below a
-//! limit, a known word. [`Fields`] are tuples of such, and [`Named`] is a known first word with
-//! fields behind it. [`next_line`] and [`push_line`] read and write the lines of such a form. A form
-//! with lines of several kinds is read by the first word and by [`Fields::of_words`] of each kind:
-//! `proofs/KindLaws.antt` has the laws.
+//! A [`Field`] is a word of a line that is read and written: a name, or a fraction. [`Fields`] are
+//! tuples of such, and [`Named`] is a known first word with fields behind it. [`push_line`] writes
+//! the lines of such a form. They are read by the first word, and by [`Fields::of_words`] of what
+//! stands behind it.
 #![tactic(auto)]
 
 mod field;
@@ -15,6 +14,6 @@ mod word;
 
 pub use field::Field;
 pub use fields::Fields;
-pub use line::{lines_are_exact, next_line, push_line};
-pub use numbers::{CountBelow, Fraction, NameWord, PositiveFraction};
-pub use word::{Known, KnownWord, Named};
+pub use line::push_line;
+pub use numbers::{Fraction, NameWord, PositiveFraction};
+pub use word::{KnownWord, Named};

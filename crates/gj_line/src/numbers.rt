@@ -1,65 +1,17 @@
 //! Fields that are numbers, and names.
-ghost use Rattle.std.specs.Prelude.{◌≡◌, ◌↔◌, ◌≤◌, ◌^◌, ◌++◌, ◌∷◌, [], ℕ, List, pos, ◌<ℤ◌, IsTrue};
+ghost use Rattle.std.specs.Prelude.{◌≡◌, ◌↔◌, ◌≤◌, ◌++◌, ◌∷◌, [], ℕ, List, pos, ◌<ℤ◌, IsTrue};
 ghost use Rattle.std.specs.Prelude.{length, drop, OnOk};
 ghost use Rattle.gj_frac.specs.Fraction.{numerator};
 ghost use Rattle.gj_frac.specs.declared.Frac.{Frac};
 ghost use Rattle.gj_lex.specs.Name.{IsName};
 ghost use Rattle.gj_lex.specs.NumberText.{fraction_text};
-ghost use Rattle.gj_line.specs.FieldForms.{count_below, any_fraction, positive_fraction, name_word};
-ghost use Rattle.gj_line.specs.FieldLaws.{count_is_clear, fraction_is_clear, positive_is_clear};
-ghost use Rattle.gj_line.specs.FieldLaws.{name_is_clear};
+ghost use Rattle.gj_line.specs.FieldForms.{any_fraction, positive_fraction, name_word};
+ghost use Rattle.gj_line.specs.FieldLaws.{fraction_is_clear, positive_is_clear, name_is_clear};
 
 use crate::field::Field;
 use gj_frac::Frac;
-use gj_lex::{
-    Reason, Spelling, count_of, fraction_of, print_count, printed_fraction, printed_number,
-    write_spaced,
-};
+use gj_lex::{Reason, Spelling, fraction_of, write_spaced};
 use std::alloc::AllocError;
-
-/// A count below a limit.
-#[derive(Clone, Copy)]
-pub struct CountBelow {
-    pub limit: u32,
-}
-
-impl<'a> Field<'a> for CountBelow {
-    type Value = u32;
-
-    ghost Told = { ℕ };
-
-    ghost told = { λ v. v };
-
-    ghost is_field = { λ f. f.limit ≤ 2 ^ 32 };
-
-    ghost form = { λ f. count_below f.limit };
-
-    #[inline(always)]
-    fn printed(&self, text: &'a [u8]) -> Option<(u32, &'a [u8])> {
-        let (count, rest) = printed_number::<false>(text)?;
-        if count >= u64::from(self.limit) {
-            return None;
-        }
-        Some((count as u32, rest))
-    }
-
-    fn of_word(&self, spelling: Spelling, word: &'a [u8]) -> Result<u32, Reason> {
-        let Some(n) = count_of(spelling, word) else {
-            return Err(Reason::Number);
-        };
-        if n >= self.limit {
-            return Err(Reason::Number);
-        }
-        Ok(n)
-    }
-
-    fn push(&self, out: &mut Vec<u8>, value: u32) -> Result<(), AllocError> {
-        out.push(b' ')?;
-        print_count(out, value)
-    }
-
-    ghost is_clear = { λ f h. count_is_clear f.limit h };
-}
 
 /// A fraction.
 #[derive(Clone, Copy)]
@@ -75,11 +27,6 @@ impl<'a> Field<'a> for Fraction {
     ghost is_field = { λ f. Unit {0} };
 
     ghost form = { λ f. any_fraction };
-
-    #[inline(always)]
-    fn printed(&self, text: &'a [u8]) -> Option<(Frac, &'a [u8])> {
-        printed_fraction::<false>(text)
-    }
 
     fn of_word(&self, spelling: Spelling, word: &'a [u8]) -> Result<Frac, Reason> {
         match fraction_of(spelling, word) {
@@ -109,15 +56,6 @@ impl<'a> Field<'a> for PositiveFraction {
     ghost is_field = { λ f. Unit {0} };
 
     ghost form = { λ f. positive_fraction };
-
-    #[inline(always)]
-    fn printed(&self, text: &'a [u8]) -> Option<(Frac, &'a [u8])> {
-        let (x, rest) = printed_fraction::<false>(text)?;
-        if !is_positive(x) {
-            return None;
-        }
-        Some((x, rest))
-    }
 
     fn of_word(&self, spelling: Spelling, word: &'a [u8]) -> Result<Frac, Reason> {
         let Some(x) = fraction_of(spelling, word) else {
@@ -180,15 +118,6 @@ impl<'a> Field<'a> for NameWord {
 
     ghost form = { λ f. name_word };
 
-    #[inline(always)]
-    fn printed(&self, text: &'a [u8]) -> Option<(&'a [u8], &'a [u8])> {
-        let (name, rest) = text.split_at(end_of_word(text));
-        if !is_name(name) {
-            return None;
-        }
-        Some((name, rest))
-    }
-
     fn of_word(&self, _spelling: Spelling, word: &'a [u8]) -> Result<&'a [u8], Reason> {
         if !is_name(word) {
             return Err(Reason::Form);
@@ -202,16 +131,6 @@ impl<'a> Field<'a> for NameWord {
     }
 
     ghost is_clear = { λ f h. name_is_clear };
-}
-
-/// Where the first space or line feed stands, or where the text ends.
-#[inline(never)]
-fn end_of_word(text: &[u8]) -> usize
-    ensures { result ≤ length text.now }
-{
-    text.iter()
-        .position(|byte| *byte == b' ' || *byte == b'\n')
-        .unwrap_or(text.len())
 }
 
 /// The greatest length of a name.
