@@ -25,7 +25,7 @@ use Rattle.gj_problem_text.proofs.ClearLines.{told_rule_is_exact}
 use Rattle.gj_problem_text.proofs.ExactTasks as tasks
 use Rattle.gj_problem_text.proofs.ExactTasks.{never, unless, met}
 use Rattle.gj_derivation_text.specs.StepLines.{rule_kind, step_form}
-use Rattle.gj_derivation_text.specs.KnownWords.{rule_is_clear}
+use Rattle.gj_derivation_text.specs.RuleWords.{rule_is_clear}
 use Rattle.gj_derivation_text.specs.OpenSteps.{begun, StepsGoOn, lines_of_step}
 use Rattle.gj_derivation_text.specs.DerivationText.{title_words, new_name, AddsName, IsTaken, AddsLine, RefusesLine, AreBarred, problem_rule, next_of_problem, problem_part, Head, Begins, RefusesHead, head_rule, placed_line, names_of, with_step, step_part, next_step, derivation_part}
 use Rattle.gj_derivation_text.specs.declared.drafts.Drafts.{Drafts}

@@ -50,7 +50,7 @@ use Rattle.gj_derivation_text.specs.VerdictLines.{left_out_line}
 use Rattle.gj_derivation_text.specs.declared.drafts.Drafts.{Drafts}
 use Rattle.gj_derivation_text.specs.declared.input.DerivationInput.{DerivationInput}
 use Rattle.gj_derivation_text.specs.declared.input.DraftInput.{DraftInput}
-use Rattle.gj_derivation_text.specs.KnownWords.{rule_is_clear}
+use Rattle.gj_derivation_text.specs.RuleWords.{rule_is_plain}
 use Rattle.gj_derivation_text.proofs.PrintedLeftOut.{IsAhead, left_out_is_ahead, steps_ahead}
 use Rattle.gj_derivation_text.proofs.PrintedProblemLines.{told, task_of, problem_is_read}
 use Rattle.gj_derivation_text.proofs.PrintedStepLines.{names_before, step_lines_are_read}
@@ -65,7 +65,7 @@ head_line : (name : List ℕ) (x : Step) (text rest : List ℕ) → IsName name 
 head_line name x text rest is_name is =
     has_its_line Lenient (step_form.fields (name, (x.combination.rule, tt))) text rest (
       known (codes "step") refl,
-      (name_is_plain name is_name, rule_is_clear.good x.combination.rule tt),
+      (name_is_plain name is_name, rule_is_plain x.combination.rule),
     ) (λ e. omega (arith, e)) is
 
 module _ (f : Option FunctionData) (has_function : Bool)
@@ -119,7 +119,7 @@ module _ (f : Option FunctionData) (has_function : Bool)
 
       spelled : Spell Lenient step_form words head
       spelled = spells_its_thing Lenient step_form head
-          (known (codes "step") refl, (name_is_plain name is_name, rule_is_clear.good rule tt))
+          (known (codes "step") refl, (name_is_plain name is_name, rule_is_plain rule))
           (is_name, (tt, tt))
 
       needs : rule ≡ Function → IsTrue has_function

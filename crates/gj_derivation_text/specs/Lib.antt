@@ -6,4 +6,4 @@ pub mod Readable
 pub mod PrintedDerivation
 pub mod VerdictLines
 pub mod LinesRead
-pub mod KnownWords
+pub mod RuleWords

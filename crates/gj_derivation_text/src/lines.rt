@@ -9,12 +9,11 @@ ghost use Rattle.gj_problem_text.specs.NumberLines.{Tell, number_rule};
 ghost use Rattle.gj_problem_text.specs.NumberWords.{IsNumberWord};
 ghost use Rattle.gj_derivation.specs.declared.step.StepRule.{StepRule};
 ghost use Rattle.gj_derivation_text.specs.StepLines.{rule_word, rule_kind, line_form};
-ghost use Rattle.gj_derivation_text.specs.KnownWords.{step_word, by_word, upper_word, times_word};
-ghost use Rattle.gj_derivation_text.specs.KnownWords.{claim_word, term_word, rule_is_clear};
+ghost use Rattle.gj_derivation_text.specs.RuleWords.{rule_is_clear};
 ghost use Rattle.gj_derivation_text.specs.LinesRead.{line_told};
 
 use gj_derivation::StepRule;
-use gj_forms::{behind_text, only_word};
+use gj_forms::only_word;
 use gj_frac::Frac;
 use gj_lex::{Reason, Spelling};
 use gj_line::{Field, Fraction, KnownWord, NameWord, Named, PositiveFraction};
@@ -37,20 +36,6 @@ impl<'a> Field<'a> for RuleWord {
     ghost form = { λ f. rule_kind };
 
     ghost is_clear = { λ f h. rule_is_clear };
-
-    #[inline(always)]
-    fn printed(&self, text: &'a [u8]) -> Option<(StepRule, &'a [u8])> {
-        if let Some(rest) = behind_text(text, b"linear") {
-            return Some((StepRule::Linear, rest));
-        }
-        if let Some(rest) = behind_text(text, b"gmic") {
-            return Some((StepRule::Gmic, rest));
-        }
-        if let Some(rest) = behind_text(text, b"function") {
-            return Some((StepRule::Function, rest));
-        }
-        None
-    }
 
     fn of_word(&self, _spelling: Spelling, word: &'a [u8]) -> Result<StepRule, Reason> {
         match rule_of(word) {
@@ -100,8 +85,6 @@ pub(crate) struct StepWord;
 impl KnownWord for StepWord {
     ghost spelled = { codes "step" };
 
-    ghost is_word = { step_word };
-
     fn text(&self) -> &'static [u8] {
         b"step"
     }
@@ -113,8 +96,6 @@ pub(crate) struct ByWord;
 
 impl KnownWord for ByWord {
     ghost spelled = { codes "by" };
-
-    ghost is_word = { by_word };
 
     fn text(&self) -> &'static [u8] {
         b"by"
@@ -128,8 +109,6 @@ pub(crate) struct UpperWord;
 impl KnownWord for UpperWord {
     ghost spelled = { codes "upper" };
 
-    ghost is_word = { upper_word };
-
     fn text(&self) -> &'static [u8] {
         b"upper"
     }
@@ -141,8 +120,6 @@ pub(crate) struct TimesWord;
 
 impl KnownWord for TimesWord {
     ghost spelled = { codes "times" };
-
-    ghost is_word = { times_word };
 
     fn text(&self) -> &'static [u8] {
         b"times"
@@ -156,8 +133,6 @@ pub(crate) struct ClaimWord;
 impl KnownWord for ClaimWord {
     ghost spelled = { codes "claim" };
 
-    ghost is_word = { claim_word };
-
     fn text(&self) -> &'static [u8] {
         b"claim"
     }
@@ -169,8 +144,6 @@ pub(crate) struct TermWord;
 
 impl KnownWord for TermWord {
     ghost spelled = { codes "term" };
-
-    ghost is_word = { term_word };
 
     fn text(&self) -> &'static [u8] {
         b"term"

@@ -8,7 +8,7 @@ ghost use Rattle.gj_lex.specs.Name.{IsName};
 ghost use Rattle.gj_lex.specs.Words.{word_texts};
 ghost use Rattle.gj_lex.specs.declared.spelling.Spelling.TheVariants.{Lenient};
 ghost use Rattle.gj_forms.specs.LineFaults.{IsRefusedFor};
-ghost use Rattle.gj_forms.specs.Parts.{loop_part, IsFaultOf, IsRefusal};
+ghost use Rattle.gj_forms.specs.Parts.{loop_part, IsFaultOf, IsReading, IsRefusal};
 ghost use Rattle.gj_derivation.specs.declared.step.StepRule.TheVariants.{Function};
 ghost use Rattle.gj_problem_text.specs.Tasks.{most_columns};
 ghost use Rattle.gj_derivation_text.specs.OpenSteps.{begun, AreUsedBy, EndsHere, step_line_rule};
@@ -226,10 +226,8 @@ fn lines_of_step_at<'a>(
     text: &'a [u8],
 ) -> Result<(Draft, &'a [u8]), PartFault>
     requires { length names.now.columns ≤ most_columns }
-    ensures found { IfOk result (λ r. (lines_of_step names.now (begun rule)).Reads
-        text.now r.0 r.1.now) }
+    ensures read { IsReading (lines_of_step names.now (begun rule)) text.now result }
     ensures shorter { IfOk result (λ r. length r.1.now ≤ length text.now) }
-    ensures fault { IfErr result (IsFaultOf (lines_of_step names.now (begun rule)) text.now) }
 {
     let mut step = begun(alloc, rule);
     let mut used = none_used(alloc, rule);

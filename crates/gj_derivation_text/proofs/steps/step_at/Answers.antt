@@ -16,7 +16,7 @@ returns-in_err-draft-clause-fault c =
     (fault_in_lines drafts c.args.has_function c.args.drafts.now c.args.text.now c.args.names.now
     c.requires.names
     ((head.name.now, (head.rule, tt)), head.left) head.rest.now c.in_ok-head.ensures.found _
-    c.in_err-draft.ensures.fault)
+    c.in_err-draft.ensures.read)
 
 pub returns-clause-found : goal.returns-clause-found
 returns-clause-found c =
@@ -24,5 +24,5 @@ returns-clause-found c =
     step_read c.args.names.now.drafts c.args.has_function c.args.drafts.now c.args.text.now
     c.args.names.now c.requires.names
     ((head.name.now, (head.rule, tt)), head.left) head.rest.now c.in_ok-head.ensures.found _ _ _
-    c.in_ok-draft.ensures.found
+    c.in_ok-draft.ensures.read
     c.in_ok-push_step.ensures.added

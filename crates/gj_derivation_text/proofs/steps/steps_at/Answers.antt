@@ -39,7 +39,7 @@ returns-in_err-rest-2-clause-fault c =
     (fault_at_end drafts c.args.has_function _ c.args.drafts.now c.args.text.now _ _
     (ap (λ (m : Names). m.drafts) c.loop-alloc.invariant.names) c.loop-alloc.invariant.leads _
     (c.loop-alloc-test.ensures.0 refl)
-    c.in_err-rest-2.ensures.fault)
+    c.in_err-rest-2.ensures.passed)
 
 pub returns-clause-found : goal.returns-clause-found
 returns-clause-found c =
@@ -47,4 +47,4 @@ returns-clause-found c =
     _
     (ap (λ (m : Names). m.drafts) c.loop-alloc.invariant.names) c.loop-alloc.invariant.leads _
     (c.loop-alloc-test.ensures.0 refl)
-    c.in_ok-rest-2.ensures.found
+    c.in_ok-rest-2.ensures.passed
