@@ -10,7 +10,7 @@ ghost use Rattle.gj_extreme.specs.Decision.{AreAllCovered, IsDecision};
 ghost use Rattle.gj_extreme.specs.RowsToCome.{AreInserted};
 
 use crate::faults::DecideFault;
-use crate::groups::{groups_of, numbers_of};
+use crate::groups::{PivotRows, groups_of, numbers_of};
 use crate::inserted_rows::{Rows, rows_of};
 use crate::residues::extreme_by_residues;
 use crate::slopes::slope_halves;
@@ -66,7 +66,7 @@ fn extreme_or_kernel(
     ensures { IsDecision shape.now result }
 {
     if rows.is_full() {
-        let groups = groups_of(alloc, rows.names.as_slice(), rows.basis.log())?;
+        let groups = groups_of::<PivotRows>(alloc, rows.names.as_slice(), rows.basis.log())?;
         return Ok(Claim::Extreme(shape.copy(alloc)?, cover.lines, List::of(groups)));
     }
     let halves = slope_halves(alloc, shape, component, rows)?;

@@ -17,7 +17,7 @@ mod uncovered;
 
 pub use decision::{decide, decide_by_cover};
 pub use faults::DecideFault;
-pub use groups::{Group, groups_by_number, groups_of, numbers_of};
+pub use groups::{GroupMaker, groups_by_number, groups_of, numbers_of};
 pub use laws::{
     decided_claims, decided_texts_are_short, few_components_are_not_wide,
     two_slopes_are_decided_extreme,

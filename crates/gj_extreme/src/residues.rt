@@ -12,7 +12,7 @@ ghost use Rattle.gj_extreme.specs.Decision.{AreAllCovered, IsDecision, slope_eli
 ghost use Rattle.gj_extreme.specs.RowsToCome.{pairs_from};
 
 use crate::faults::DecideFault;
-use crate::groups::groups_by_number;
+use crate::groups::{PivotRows, groups_by_number};
 use gj_cover::Cover;
 use gj_faces::TightPairs;
 use gj_proof::Claim;
@@ -43,7 +43,7 @@ pub(crate) fn extreme_by_residues(
     let names = names_of(alloc, shape, pairs)?;
     let mut rows = rows_of(alloc, shape.place(), system, names.as_slice())?;
     let log = log_by_residues(alloc, system.columns(), &mut rows)?;
-    let groups = groups_by_number(alloc, names.as_slice(), log.as_slice())?;
+    let groups = groups_by_number::<PivotRows>(alloc, names.as_slice(), log.as_slice())?;
     Ok(Claim::ExtremeByResidues(shape.copy(alloc)?, cover.lines, List::of(groups)))
 }
 

@@ -47,10 +47,10 @@ returns g c =
     on_ok_along c.groups_of.result
     (λ v. (name_of : KeptRow → _) (kept : List KeptRow) →
     c.as_slice.result.now ≡ map name_of kept → AreLoggedRows kept c.args.log.now →
-    v.items ≡ map (λ k. g.G.Group.made (name_of k) k.reduce k.pivot) kept)
+    v.items ≡ map (λ k. g.M.GroupMaker.made (name_of k) k.reduce k.pivot) kept)
     (λ v. (none : _) (kept : List KeptRow) → c.args.log.now ≡ map log_row kept →
     v.items
-    ≡ map (λ k. g.G.Group.made (get_or c.args.names.now k.number none) k.reduce k.pivot) kept)
+    ≡ map (λ k. g.M.GroupMaker.made (get_or c.args.names.now k.number none) k.reduce k.pivot) kept)
     (λ v given none kept log.
     let whole = ap length log ∙ length-map kept log_row in
     let all : c.loop-line.line-index ≡ length kept = omega arith in

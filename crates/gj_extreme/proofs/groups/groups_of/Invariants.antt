@@ -8,4 +8,4 @@ invariant-loop-name g l =
     (name_of : KeptRow → _) (kept : List KeptRow) → l.names ≡ map name_of kept →
     AreLoggedRows kept l.log →
     l.groups.items
-    ≡ map (λ k. g.G.Group.made (name_of k) k.reduce k.pivot) (take (length l.yielded) kept)
+    ≡ map (λ k. g.M.GroupMaker.made (name_of k) k.reduce k.pivot) (take (length l.yielded) kept)
