@@ -8,18 +8,19 @@ ghost use Rattle.gj_limit_extreme.specs.Decision.{AreAllCovered, IsDecision, col
 ghost use Rattle.gj_limit_extreme.specs.RowsToCome.{AreInserted};
 
 use crate::faults::LimitDecideFault;
-use crate::groups::groups_of;
+use crate::groups::LimitPivotRows;
 use crate::inserted_rows::{Rows, rows_of};
 use crate::kernel::kernel_halves;
 use crate::residues::extreme_by_residues;
 use gj_cover::Cover;
 use gj_elim::ElimFault;
+use gj_extreme::{groups_of, numbers_of};
 use gj_limit_faces::TightLimits;
 use gj_limit_proof::LimitClaim;
 use gj_limit_system::LimitRows;
 use gj_proof::Numbers;
 use gj_shape::{List, Shape};
-use std::alloc::{AllocError, Global};
+use std::alloc::Global;
 
 /// The claim that the function is extreme, if the rows leave only 0, and that it is not, if they do
 /// not.
@@ -59,7 +60,7 @@ fn rows_or_kernel(
     ensures { IsDecision shape.now result }
 {
     if rows.is_full() {
-        let groups = groups_of(alloc, rows.names.as_slice(), rows.basis.log())?;
+        let groups = groups_of::<LimitPivotRows>(alloc, rows.names.as_slice(), rows.basis.log())?;
         return Ok(LimitClaim::Extreme(
             Numbers::Whole,
             shape.copy(alloc)?,
@@ -69,16 +70,4 @@ fn rows_or_kernel(
     }
     let halves = kernel_halves(alloc, shape, component, rows)?;
     Ok(LimitClaim::NotExtreme(shape.copy(alloc)?, halves))
-}
-
-/// The numbers of the components, if each interval has one.
-fn numbers_of(alloc: Global, component: &[Option<u32>]) -> Result<Vec<u32>, AllocError>
-    requires { All IsSome component.now }
-    ensures { IfOk result (λ v. map Some v.items ≡ component.now) }
-{
-    let mut numbers = Vec::with_capacity(alloc, component.len())?;
-    for number in component {
-        numbers.push(number.unwrap())?;
-    }
-    Ok(numbers)
 }

@@ -1,36 +1,24 @@
 //! The rows that are kept, as a proof has them.
-ghost use Rattle.std.specs.Prelude.{◌≡◌, List, length, map, IfOk};
-ghost use Rattle.gj_shape.specs.Elimination.{KeptRow};
-ghost use Rattle.gj_shape.specs.FunctionData.{FunctionData};
-ghost use Rattle.gj_extreme.specs.RowsToCome.{AreLoggedRows};
-ghost use Rattle.gj_limit_extreme.specs.Decision.{group_of};
-ghost use Rattle.gj_limit_extreme.specs.RowsToCome.{name_of};
-
-use gj_elim::LogRow;
+use gj_extreme::GroupMaker;
 use gj_limit_proof::LimitPivotRow;
 use gj_limit_system::LimitRow;
 use gj_shape::List;
-use std::alloc::{AllocError, Global};
 
-/// The group of each row that is kept: its name, the steps that change it, and its pivot.
-pub(crate) fn groups_of(
-    alloc: Global,
-    names: &[LimitRow],
-    log: &[LogRow],
-) -> Result<Vec<LimitPivotRow>, AllocError>
-    requires { length names.now ≡ length log.now }
-    ensures { IfOk result (λ v. (f : FunctionData) (kept : List KeptRow) →
-        names.now ≡ map (name_of f) kept →
-        AreLoggedRows kept log.now → v.items ≡ map (group_of f) kept) }
-{
-    let mut groups = Vec::with_capacity(alloc, log.len())?;
-    for (name, line) in names.iter().zip(log) {
-        let reduce = Vec::from_slice(alloc, line.reduce.as_slice())?;
-        groups.push(LimitPivotRow {
-            name: *name,
-            reduce: List::of(reduce),
-            pivot: line.pivot,
-        })?;
+/// Makes the groups of a function that jumps.
+pub(crate) struct LimitPivotRows;
+
+impl GroupMaker for LimitPivotRows {
+    type Name = LimitRow;
+
+    type Group = LimitPivotRow;
+
+    ghost made = { λ n r p. record { name = n; reduce = r; pivot = p } };
+
+    fn group(name: LimitRow, reduce: List<u32>, pivot: u32) -> LimitPivotRow {
+        LimitPivotRow {
+            name,
+            reduce,
+            pivot,
+        }
     }
-    Ok(groups)
 }

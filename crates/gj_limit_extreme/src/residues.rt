@@ -1,23 +1,22 @@
 //! The decision on a function whose intervals are all covered, if a number of the plain elimination
 //! passes.
-ghost use Rattle.std.specs.Prelude.{◌≡◌, ◌<◌, List, length, map, All, IfOk};
-ghost use Rattle.gj_elim.specs.KeptRows.{log_row};
+ghost use Rattle.std.specs.Prelude.{◌≡◌, IfOk};
 ghost use Rattle.gj_limit_faces.specs.TightLimits.{AreTightLimitsOf};
 ghost use Rattle.gj_limit_system.specs.LimitRows.{limit_rows};
-ghost use Rattle.gj_shape.specs.Elimination.{KeptRow, Passes};
+ghost use Rattle.gj_shape.specs.Elimination.{Passes};
 ghost use Rattle.gj_shape.specs.FunctionData.{FunctionData, IsWithinBounds};
 ghost use Rattle.gj_shape.specs.Table.{IsMinimal};
-ghost use Rattle.gj_limit_extreme.specs.Decision.{AreAllCovered, IsDecision, group_of};
+ghost use Rattle.gj_limit_extreme.specs.Decision.{AreAllCovered, IsDecision};
 ghost use Rattle.gj_limit_extreme.specs.Decision.{limit_elimination};
 ghost use Rattle.gj_limit_extreme.specs.SystemRows.{columns_in, IsSystemOf};
 
 use crate::faults::LimitDecideFault;
-use crate::groups::groups_of;
+use crate::groups::LimitPivotRows;
 use crate::named_rows::NamedRows;
 use gj_cover::Cover;
-use gj_elim::LogRow;
+use gj_extreme::groups_by_number;
 use gj_limit_faces::TightLimits;
-use gj_limit_proof::{LimitClaim, LimitPivotRow};
+use gj_limit_proof::LimitClaim;
 use gj_limit_system::{LimitRow, LimitRows, push_tight_rows};
 use gj_proof::Numbers;
 use gj_residue::log_by_residues;
@@ -47,7 +46,7 @@ pub(crate) fn extreme_by_residues(
     let listed = Vec::from_slice(alloc, names.as_slice())?;
     let mut rows = NamedRows::new(system, listed);
     let log = log_by_residues(alloc, columns, &mut rows)?;
-    let groups = groups_by_number(alloc, names.as_slice(), log.as_slice())?;
+    let groups = groups_by_number::<LimitPivotRows>(alloc, names.as_slice(), log.as_slice())?;
     Ok(LimitClaim::Extreme(
         Numbers::Residues,
         shape.copy(alloc)?,
@@ -69,22 +68,4 @@ fn names_of(alloc: Global, shape: &Shape, limits: &TightLimits) -> Result<Vec<Li
         push_tight_rows(alloc, shape, limits, a, &mut names)?;
     }
     Ok(names)
-}
-
-/// The groups of the kept rows, each with the name that has its number.
-fn groups_by_number(
-    alloc: Global,
-    names: &[LimitRow],
-    log: &[LogRow],
-) -> Result<Vec<LimitPivotRow>, AllocError>
-    requires { All (λ line. line.number < length names.now) log.now }
-    ensures { IfOk result (λ v. (f : FunctionData) (kept : List KeptRow) →
-        names.now ≡ limit_rows f → log.now ≡ map log_row kept →
-        v.items ≡ map (group_of f) kept) }
-{
-    let mut kept = Vec::with_capacity(alloc, log.len())?;
-    for line in log {
-        kept.push(names[line.number as usize])?;
-    }
-    groups_of(alloc, kept.as_slice(), log)
 }

@@ -38,7 +38,7 @@ returns-then-is_full c =
       needed = rows.fits;
       all = all;
       rows_are = c.of.ensures
-          ∙ c.in_ok-groups.ensures f kept (c.as_slice.ensures.value ∙ rows.names
+          ∙ c.in_ok-groups.ensures (name_of f) kept (c.as_slice.ensures.value ∙ rows.names
           ∙ ap (map (name_of f)) (sym rows.kept)) lines;
     } in (
       (c.in_ok-copy.ensures, c.requires.minimal, are),

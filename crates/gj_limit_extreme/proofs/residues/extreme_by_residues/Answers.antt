@@ -1,9 +1,13 @@
-use Rattle.std.proofs.Common.{◌≡◌, ◌<◌, length, sym, ap, subst, subst₂, ◌∙◌}
+use Rattle.std.proofs.Common.{◌≡◌, ◌<◌, ℕ, List, length, map, get_or, sym, ap, subst, subst₂, ◌∙◌}
 use Rattle.std.specs.Prelude.{All}
 use Rattle.std.proofs.lemmas.List.{length-map}
 use Rattle.gj_residue.specs.Settled.{IsFullLog}
+use Rattle.gj_shape.specs.Elimination.{KeptRow}
 use Rattle.gj_shape.specs.SlopeRows.{component_in}
 use Rattle.gj_limit_system.specs.LimitRows.{IsLimitRowBelow}
+use Rattle.gj_limit_system.specs.declared.limit_row.LimitRow.{LimitRow}
+use Rattle.gj_limit_system.specs.declared.limit_row.LimitRow.TheVariants.{F}
+use Rattle.gj_limit_proof.specs.declared.claim.LimitPivotRow.{LimitPivotRow}
 use Rattle.gj_proof.specs.declared.numbers.Numbers.TheVariants.{Residues}
 use Rattle.gj_limit_extreme.specs.Decision.{elimination_over}
 use Rattle.gj_limit_extreme.specs.Faults.{of_settling}
@@ -13,6 +17,9 @@ use Rattle.gj_limit_extreme.proofs.DecidedGroups.{system_columns}
 use Rattle.gj_limit_extreme.proofs.FaultCases.{settling_cause, handed_decision}
 use Rattle.gj_limit_extreme.proofs.ResidueRows.{rows_are, log_of, rows_by_residues, wide_by_residues}
 use Rattle.gj_limit_extreme.proofs.residues.extreme_by_residues.Goals as goal
+
+abbrev made : LimitRow → List ℕ → ℕ → LimitPivotRow
+made name reduce pivot = record { name = name; reduce = reduce; pivot = pivot }
 
 pub new-rows-requires : goal.new-rows-requires
 new-rows-requires c =
@@ -74,14 +81,15 @@ returns c =
     ∙ rows_are f s c.in_ok-listed.listed.items c.requires.system names in
     let full = subst (λ m. IsFullLog m all log) c.columns-columns.ensures.value
     c.in_ok-log.ensures.log in
+    let kept = (elimination_over Residues f c.args.system.component (columns_in s)).kept in
     let rows = rows_by_residues f s c.args.cover c.requires.system c.requires.count
     c.requires.covered c.requires.passes all log c.of.result
     left full
     (c.of.ensures
-    ∙ c.in_ok-groups.ensures f
-    (elimination_over Residues f c.args.system.component (columns_in s)).kept
-    (c.as_slice-2.ensures.value ∙ c.in_ok-names.ensures.names) (c.as_slice-3.ensures.value
-    ∙ log_of f s all log left full)) in (
+    ∙ c.in_ok-groups.ensures F kept
+    (c.as_slice-3.ensures.value ∙ log_of f s all log left full)
+    ∙ ap (λ names. map (λ (k : KeptRow). made (get_or names k.number F) k.reduce k.pivot) kept)
+    (c.as_slice-2.ensures.value ∙ c.in_ok-names.ensures.names)) in (
       (c.in_ok-copy.ensures, c.requires.minimal, rows),
       extreme_has_text Residues f c.in_ok-copy.field-0 c.args.cover.lines c.of.result
           c.in_ok-names.ensures.limits c.in_ok-copy.ensures rows,
