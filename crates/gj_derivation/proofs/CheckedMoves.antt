@@ -223,9 +223,6 @@ ranks_as x y r s is fits = subst (λ t. MatchOrdering t (IsLess x y) (x ≡ y) (
 pub at_most_itself : (x : Rational) → x ≤ℚ x
 at_most_itself x = record { crosswise = omega (arith, ints) }
 
-pub at_most_same : (x y : Rational) → x ≡ y → x ≤ℚ y
-at_most_same x y e = subst (λ z. x ≤ℚ z) e (at_most_itself x)
-
 pub at_most_if_less : (x y : Frac) (r : Ordering) → r ≡ compare_values x y → r ≡ Less →
     rational x ≤ℚ rational y
 at_most_if_less x y r is fits = let less : IsLess x y =

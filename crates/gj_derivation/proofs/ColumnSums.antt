@@ -7,6 +7,7 @@ use Rattle.gj_problem.specs.Problems.{value_at, sum_at}
 use Rattle.gj_problem.proofs.AddedSums.{zero_step}
 use Rattle.gj_fields.proofs.RationalLaws.{mul_zero_q}
 use Rattle.gj_derivation.specs.Derivations.{Line, unit, coefficient_in}
+use Rattle.gj_problem.proofs.OneColumn.{scaled_step}
 
 -- the coefficients, each times its column
 abbrev pub column_sum : List Rational → (ℕ → Rational) → Rational
@@ -40,15 +41,12 @@ column_sum_more (v ∷ point) a xs ys =
     ∙ more_columns a (xs zero) (ys zero) v (column_sum point (λ j. xs (suc j)))
     (column_sum point (λ j. ys (suc j)))
 
-times_columns : (a x v f : Rational) → (a *ℚ x) *ℚ v +ℚ a *ℚ f ≡ a *ℚ (x *ℚ v +ℚ f)
-times_columns a x v f = by_ring_q (a ∷ x ∷ v ∷ f ∷ []) (search ring_q depth 40) refl
-
 pub column_sum_times : (point : List Rational) (a : Rational) (xs : ℕ → Rational) →
     column_sum point (λ j. a *ℚ xs j) ≡ a *ℚ column_sum point xs
 column_sum_times [] a xs = sym (mul_zero_q a)
 column_sum_times (v ∷ point) a xs =
     ap (λ w. (a *ℚ xs zero) *ℚ v +ℚ w) (column_sum_times point a (λ j. xs (suc j)))
-    ∙ times_columns a (xs zero) v (column_sum point (λ j. xs (suc j)))
+    ∙ scaled_step a (xs zero) v (column_sum point (λ j. xs (suc j)))
 
 -- ---- sums of entries
 

@@ -19,9 +19,9 @@ use Rattle.gj_derivation.specs.declared.step.Verdict.TheVariants.{Accepted, Sign
 use Rattle.gj_problem.specs.Moves.{IsUnmoved, IsMovedUp, IsMovedDown, IsMovedBy, HasLower, HasUpper, AreMovedBy}
 use Rattle.gj_derivation.specs.Derivations.{Line, coefficient_in, line_of, times, IsSigned, AreSigned, IsUsableFor, IsCutOf, IsBase, Follows}
 use Rattle.gj_derivation.specs.Checks.{IsFirstUnsigned, IsUnmovable, IsVerdict}
-use Rattle.gj_derivation.proofs.CheckedMoves.{at_most_same}
 use Rattle.gj_derivation.proofs.OneBase.{cut_is_one, sum_or_cut, no_cut_of_sum, one_base}
 use Rattle.gj_derivation.proofs.OneRightSide.{follows_if}
+use Rattle.gj_problem.proofs.OnePieces.{same_most}
 
 -- ---- moves
 
@@ -30,12 +30,12 @@ pub not_moved : (c : Column) (x y s : Rational) → IsUnmovable c x y →
 not_moved c x y s stuck moved =
     ⊎_elim
     (λ (a : (y ≤ℚ x → ⊥) × (c.lower ≡ None)).
-    ⊎_elim (λ (k : IsUnmoved x y s). a.0 (at_most_same y x k.same))
+    ⊎_elim (λ (k : IsUnmoved x y s). a.0 (same_most y x k.same))
     (⊎_elim (λ (k : IsMovedUp (HasLower c) x y s). let (l, is, rounded) = k.bound_is in let both =
     sym a.1 ∙ is in absurd (cc))
     (λ (k : IsMovedDown (HasUpper c) x y s). a.0 k.lesser)) moved)
     (λ (a : (x ≤ℚ y → ⊥) × (c.upper ≡ None)).
-    ⊎_elim (λ (k : IsUnmoved x y s). a.0 (at_most_same x y (sym k.same)))
+    ⊎_elim (λ (k : IsUnmoved x y s). a.0 (same_most x y (sym k.same)))
     (⊎_elim (λ (k : IsMovedUp (HasLower c) x y s). a.0 k.greater)
     (λ (k : IsMovedDown (HasUpper c) x y s). let (u, is, rounded) = k.bound_is in let both = sym a.1
     ∙ is in absurd (cc))) moved)

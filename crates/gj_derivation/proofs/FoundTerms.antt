@@ -13,8 +13,9 @@ use Rattle.gj_problem.specs.Moves.{IsGridValue, IsBelowOnGrid, IsGridCoefficient
 use Rattle.gj_derivation.specs.Derivations.{unit}
 use Rattle.gj_derivation.specs.Checks.{claimed_at, IsUnmovable, IsFirstUnmovable}
 use Rattle.gj_derivation.specs.Drafts.{IsFoundFor, AreFoundFor, IsFirstNotFound}
-use Rattle.gj_derivation.proofs.CheckedMoves.{at_most_itself, at_most_same}
+use Rattle.gj_derivation.proofs.CheckedMoves.{at_most_itself}
 use Rattle.gj_derivation.proofs.OneBase.{first_is, later_is}
+use Rattle.gj_problem.proofs.OnePieces.{same_most}
 
 -- ---- on the grid
 
@@ -174,14 +175,14 @@ not_stuck_by n None (Some u) x y h stuck =
     ⊎_elim (λ (k : (y ≤ℚ x → ⊥) × (None ≡ None)). k.0 h.at_most)
     (λ (k : (x ≤ℚ y → ⊥) × (Some u ≡ None)). let e = k.1 in absurd (cc)) stuck
 not_stuck_by n None None x y h stuck =
-    ⊎_elim (λ (k : (y ≤ℚ x → ⊥) × (None ≡ None)). k.0 (at_most_same y x h.1))
-    (λ (k : (x ≤ℚ y → ⊥) × (None ≡ None)). k.0 (at_most_same x y (sym h.1))) stuck
+    ⊎_elim (λ (k : (y ≤ℚ x → ⊥) × (None ≡ None)). k.0 (same_most y x h.1))
+    (λ (k : (x ≤ℚ y → ⊥) × (None ≡ None)). k.0 (same_most x y (sym h.1))) stuck
 
 not_stuck : (grid : Option ℕ) (c : Column) (x y : Rational) → IsFoundFor grid c x y →
     IsUnmovable c x y → ⊥
 not_stuck None c x y h stuck =
-    ⊎_elim (λ (k : (y ≤ℚ x → ⊥) × (c.lower ≡ None)). k.0 (at_most_same y x h))
-    (λ (k : (x ≤ℚ y → ⊥) × (c.upper ≡ None)). k.0 (at_most_same x y (sym h))) stuck
+    ⊎_elim (λ (k : (y ≤ℚ x → ⊥) × (c.lower ≡ None)). k.0 (same_most y x h))
+    (λ (k : (x ≤ℚ y → ⊥) × (c.upper ≡ None)). k.0 (same_most x y (sym h))) stuck
 not_stuck (Some n) c x y h stuck = not_stuck_by n c.lower c.upper x y h stuck
 
 pub found_moves : (grid : Option ℕ) (columns : List Column) (xs ys : ℕ → Rational) (j : ℕ) →

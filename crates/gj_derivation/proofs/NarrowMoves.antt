@@ -9,7 +9,7 @@ use Rattle.gj_frac.specs.Fraction.{numerator}
 use Rattle.gj_fields.specs.Rational.{Rational, whole, rational, ◌+ℚ◌, ◌*ℚ◌, neg_ℚ, ◌-ℚ◌}
 use Rattle.gj_fields.proofs.RationalLaws.{mul_zero_q}
 use Rattle.gj_fields.proofs.RationalRing.{by_ring_q, ring_q}
-use Rattle.gj_problem.proofs.AddedSums.{zero_frac}
+use Rattle.gj_problem.proofs.AddedSums.{zero_frac, zero_minus}
 use Rattle.gj_problem.proofs.OneMove.{no_shift, one_shift}
 use Rattle.gj_problem.proofs.OneRow.{rational_injective}
 use Rattle.gj_problem.proofs.Prefixes.{default_unused}
@@ -98,9 +98,6 @@ no_multiple f x none = ap (λ w. f *ℚ w) none ∙ mul_zero_q f
 pub zero_turned : neg_ℚ (whole (pos 0)) ≡ whole (pos 0)
 zero_turned = by_ring_q [] (search ring_q depth 40) refl
 
-zero_less : whole (pos 0) -ℚ whole (pos 0) ≡ whole (pos 0)
-zero_less = by_ring_q [] (search ring_q depth 40) refl
-
 pub none_of : (x : Frac) → rational x ≡ whole (pos 0) → numerator x ≡ pos 0
 none_of x is = num_of_whole x (pos 0) is
 
@@ -126,7 +123,7 @@ narrow_moved_none c factor coefficient y right none no_claim =
     × (((pos 0 <ℤ numerator d) × IsWideTimesBound (HasLower c) d)
     ⊎ ((numerator d <ℤ pos 0) × IsWideTimesBound (HasUpper c) d))).
     let stays : numerator l.0 ≡ pos 0 =
-    none_of l.0 (l.1 ∙ ap₂ (λ a b. a -ℚ b) y_none x_none ∙ zero_less) in
+    none_of l.0 (l.1 ∙ ap₂ (λ a b. a -ℚ b) y_none x_none ∙ zero_minus) in
     ⊎_elim
     (λ (h : (pos 0 <ℤ numerator l.0) × IsWideTimesBound (HasLower c) l.0).
     let above = h.0 in omega (arith, ints))

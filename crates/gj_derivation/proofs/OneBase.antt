@@ -1,11 +1,10 @@
 -- A step has one base, or one thing that stands against it.
-use Rattle.std.proofs.Common.{◌≡◌, ◌⊎◌, inl, inr, ◌↔◌, ℕ, zero, suc, ◌<◌, Bool, true, false, IsTrue, Contains, Option, Some, None, IfSome, List, [], ◌∷◌, length, get_or, pos, refl, sym, ap, ap₂, subst, subst₂, ◌∙◌, arith}
+use Rattle.std.proofs.Common.{◌≡◌, ◌⊎◌, inl, inr, ◌↔◌, ℕ, zero, suc, ◌<◌, Bool, false, IsTrue, Contains, Option, Some, None, IfSome, List, [], ◌∷◌, length, get_or, pos, refl, sym, ap, ap₂, subst, subst₂, ◌∙◌, arith}
 use Rattle.gj_frac.specs.declared.Frac.{Frac}
 use Rattle.gj_shape.specs.FunctionData.{FunctionData}
 use Rattle.gj_fields.specs.Rational.{Rational, whole, rational, ◌+ℚ◌, ◌*ℚ◌, ◌-ℚ◌}
-use Rattle.gj_fields.proofs.RationalRing.{by_ring_q, ring_q}
 use Rattle.gj_problem.proofs.OneColumn.{nothing_sum, put_back}
-use Rattle.gj_problem.proofs.OneRow.{rational_injective, dot_none, one_time, no_time}
+use Rattle.gj_problem.proofs.OneRow.{rational_injective, dot_none, one_time, no_time, turned_twice}
 use Rattle.gj_problem.specs.declared.problem.Inequality.{Inequality}
 use Rattle.gj_problem.specs.declared.problem.Problem.{Problem}
 use Rattle.gj_problem.specs.Problems.{sum_at, surplus_at}
@@ -18,6 +17,7 @@ use Rattle.gj_derivation.specs.declared.step.Multiplier.{Multiplier}
 use Rattle.gj_derivation.specs.declared.step.StepRule.{StepRule}
 use Rattle.gj_derivation.specs.declared.step.StepRule.TheVariants.{Linear, Gmic, Function}
 use Rattle.gj_derivation.specs.Derivations.{Line, unit, coefficient_in, line_of, AreMultipliers, AreAtUpper, IsUsable, IsUsableFor, IsCutBy, IsCutOf, IsBaseBy, IsBase}
+use Rattle.gj_problem.proofs.OnePieces.{one_test}
 
 -- ---- one list of multipliers
 
@@ -42,12 +42,6 @@ pub one_multipliers : (p : Problem) (named : List Multiplier) (xs ys : List Frac
 one_multipliers p named xs ys h k = same_numbers xs ys (h.count ∙ sym k.count) (λ i. h.are i
     ∙ sym (k.are i))
 
-same_flag : (a b : Bool) (P : Type 0) → (IsTrue a ↔ P) → (IsTrue b ↔ P) → a ≡ b
-same_flag true true P h k = refl
-same_flag true false P h k = sym (k.1 (h.0 refl))
-same_flag false true P h k = h.1 (k.0 refl)
-same_flag false false P h k = refl
-
 same_flags : (P : ℕ → Type 0) (us vs : List Bool) → length us ≡ length vs →
     ((j : ℕ) → j < length us → (IsTrue (get_or us j false) ↔ P j)) →
     ((j : ℕ) → j < length us → (IsTrue (get_or vs j false) ↔ P j)) → us ≡ vs
@@ -56,7 +50,7 @@ same_flags P [] (b ∷ vs) n h k = absurd (omega arith)
 same_flags P (a ∷ us) [] n h k = absurd (omega arith)
 same_flags P (a ∷ us) (b ∷ vs) n h k =
     ap₂ (λ (x : Bool) (xs : List Bool). x ∷ xs)
-    (same_flag a b (P zero) (h zero (omega arith)) (k zero (omega arith)))
+    (one_test a b (P zero) (h zero (omega arith)) (k zero (omega arith)))
     (same_flags (λ j. P (suc j)) us vs (omega arith) (λ j below. h (suc j) (omega arith))
     (λ j below. k (suc j) (omega arith)))
 
@@ -110,9 +104,6 @@ one_cut f p c q r usable h k =
 
 -- ---- one line
 
-right_from : (r : Rational) → r ≡ whole (pos 0) -ℚ (whole (pos 0) -ℚ r)
-right_from r = by_ring_q (r ∷ []) (search ring_q depth 40) refl
-
 -- the right side and the coefficients, by what the inequality has above its right side
 pub right_of : (q : Inequality) (sum : List Rational → Rational) (r : Rational) →
     sum [] ≡ whole (pos 0) →
@@ -120,7 +111,7 @@ pub right_of : (q : Inequality) (sum : List Rational → Rational) (r : Rational
 right_of q sum r none h =
     let at_none : whole (pos 0) -ℚ rational q.right ≡ whole (pos 0) -ℚ r =
     ap (λ w. w -ℚ rational q.right) (sym (nothing_sum q.entries)) ∙ h [] ∙ ap (λ w. w -ℚ r) none in
-    right_from (rational q.right) ∙ ap (λ w. whole (pos 0) -ℚ w) at_none ∙ sym (right_from r)
+    turned_twice (rational q.right) ∙ ap (λ w. whole (pos 0) -ℚ w) at_none ∙ sym (turned_twice r)
 
 pub coefficients_of : (q : Inequality) (sum : List Rational → Rational) (r : Rational) →
     sum [] ≡ whole (pos 0) →

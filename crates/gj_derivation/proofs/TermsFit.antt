@@ -70,7 +70,7 @@ not_wide_at x f v none one wide =
 
 -- ---- terms in the order of their columns
 
-terms_end : (j n : ℕ) (es : List Entry) → AreTermsWithin j n es → j ≤ n
+pub terms_end : (j n : ℕ) (es : List Entry) → AreTermsWithin j n es → j ≤ n
 terms_end j n [] h = h
 terms_end j n (e ∷ es) h = let rest = terms_end (e.column + 1) n es h.2 in omega (arith, h.0)
 

@@ -26,6 +26,8 @@ use Rattle.gj_derivation.specs.declared.step.Step.{Step}
 use Rattle.gj_derivation.specs.declared.step.StepRule.TheVariants.{Linear, Function}
 use Rattle.gj_derivation_text.specs.DerivationInputs.{as_draft}
 use Rattle.gj_derivation_text.specs.Readable.{AreNewBelow, AreIndices, IsReadable, AreReadableTerms, IsReadableClaim, IsReadableDraft, AreReadableDrafts}
+use Rattle.gj_derivation.proofs.TermsFit.{terms_end}
+use Rattle.gj_problem_text.proofs.ExactTasks.{one_some}
 
 -- ---- lines that are reached
 
@@ -34,14 +36,10 @@ pub record AreOwn (r : Reached) : Type 0 where
   pub below : (i a : ℕ) → line_at r i ≡ Some a → a < length r.problem.constraints
   pub one : (i j a : ℕ) → line_at r i ≡ Some a → line_at r j ≡ Some a → i ≡ j
 
--- so it is at first
-same_some : (a b : ℕ) → Some a ≡ Some b → a ≡ b
-same_some a b e = cc
-
 counted : (n k i a : ℕ) → slice_index_or (map Some (range_with_len k n)) i None ≡ Some a →
     (a ≡ k + i) × (i < n)
 counted zero k i a e = absurd (let no : None ≡ Some a = e in cc)
-counted (suc n) k zero a e = (omega (arith, same_some k a e), omega arith)
+counted (suc n) k zero a e = (omega (arith, one_some k a e), omega arith)
 counted (suc n) k (suc i) a e =
     let (is, below) = counted n (k + 1) i a e in
     (omega (arith, is), omega (arith, below))
@@ -98,7 +96,7 @@ own_step r s h = record { below = below; one = one }
         (line_at r i ≡ Some a) ⊎ ((i ≡ length r.lines) × (a ≡ n))
     cases i a e = elim (pushed r.lines (Some n) i a e) [
       | inl s ↦ inl s
-      | inr (same, is) ↦ inr (same, sym (same_some n a is))
+      | inr (same, is) ↦ inr (same, sym (one_some n a is))
     ]
 
     below : (i a : ℕ) → line_at new i ≡ Some a → a < length new.problem.constraints
@@ -162,17 +160,12 @@ readable_placed f columns n r c placed own h p = record {
   none_turned = λ linear. p.at_upper ∙ h.none_turned (sym p.rule ∙ linear);
 }
 
--- terms that ascend are of different columns
-within_at_most : (j k : ℕ) (entries : List Entry) → AreTermsWithin j k entries → j ≤ k
-within_at_most j k [] h = h
-within_at_most j k (e ∷ entries) h = omega (arith, h.0, within_at_most (e.column + 1) k entries h.2)
-
 ascending_new : (j k : ℕ) (taken : List ℕ) (entries : List Entry) →
     ((a : ℕ) → Contains taken a → a < j) → AreTermsWithin j k entries →
     AreNewBelow k taken (map (λ (e : Entry). e.column) entries)
 ascending_new j k taken [] low h = tt
 ascending_new j k taken (e ∷ entries) low h = (
-  omega (arith, within_at_most (e.column + 1) k entries h.2),
+  omega (arith, terms_end (e.column + 1) k entries h.2),
   λ inside. absurd (omega (arith, low e.column inside, h.0)),
   ascending_new (e.column + 1) k (taken ++ e.column ∷ []) entries more h.2,
 )

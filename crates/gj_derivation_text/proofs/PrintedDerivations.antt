@@ -55,6 +55,7 @@ use Rattle.gj_derivation_text.proofs.PrintedLeftOut.{IsAhead, left_out_is_ahead,
 use Rattle.gj_derivation_text.proofs.PrintedProblemLines.{told, task_of, problem_is_read}
 use Rattle.gj_derivation_text.proofs.PrintedStepLines.{names_before, step_lines_are_read}
 use Rattle.gj_derivation_text.proofs.TextRead as read
+use Rattle.gj_derivation_text.proofs.DerivedReadable.{kept_count}
 
 -- ---- one step
 
@@ -265,15 +266,6 @@ module _ (f : Option FunctionData) (has_function : Bool)
       (λ start words end found. ahead start words end (skips start words end found)) refl
 
 -- ---- the whole text
-
-kept_count : (names : List (List ℕ)) (xs : List Shown) → length names ≡ length xs →
-    length (kept_names names xs) ≡ length (steps_of xs)
-kept_count [] [] count = refl
-kept_count [] (x ∷ xs) count = absurd (omega (arith, count))
-kept_count (name ∷ names) [] count = absurd (omega (arith, count))
-kept_count (name ∷ names) (shown.Step x ∷ xs) count =
-    omega (arith, kept_count names xs (omega (arith, count)))
-kept_count (name ∷ names) (shown.Against v ∷ xs) count = kept_count names xs (omega (arith, count))
 
 module _ (d : DerivationInput) (constraints names : List (List ℕ)) (xs : List Shown) (text : List ℕ)
     (h : IsReadableDerivation d)

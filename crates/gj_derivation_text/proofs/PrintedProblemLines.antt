@@ -18,7 +18,7 @@ use Rattle.gj_problem.specs.declared.problem.Entry.{Entry}
 use Rattle.gj_problem.specs.declared.problem.Problem.{Problem}
 use Rattle.gj_problem_text.specs.CutText.{AreNames}
 use Rattle.gj_problem_text.specs.PrintedInput.{all_entries, IsRequestOf}
-use Rattle.gj_problem_text.specs.PrintedProblem.{column_told, entry_told, constraint_told}
+use Rattle.gj_problem_text.specs.PrintedProblem.{entry_told, constraint_told}
 use Rattle.gj_problem_text.specs.PrintedProblem.{each_told, problem_told, printed, problem_lines}
 use Rattle.gj_problem_text.specs.ProblemLines.{ProblemLine, column, constraint, entry, upper, sum}
 use Rattle.gj_problem_text.specs.ProblemLines.{grid, round, problem_fields, problem_form}
@@ -28,7 +28,7 @@ use Rattle.gj_problem_text.specs.declared.task.Request.{Request}
 use Rattle.gj_problem_text.specs.declared.task.Task.{Task}
 use Rattle.gj_problem_text.proofs.PrintedInputs.{no_comment}
 use Rattle.gj_problem_text.proofs.NumberLines.{tells_its_thing}
-use Rattle.gj_problem_text.proofs.PrintedTasks.{IsPrintedLine, AddsAll, no_place, next_differs}
+use Rattle.gj_problem_text.proofs.PrintedTasks.{IsPrintedLine, AddsAll, no_place, next_differs, columns_told}
 use Rattle.gj_problem_text.proofs.PrintedTasks.{task_is_told}
 use Rattle.gj_derivation_text.specs.DerivationText.{new_name, AddsName, AreBarred, next_of_problem}
 use Rattle.gj_derivation_text.specs.DerivationText.{problem_part}
@@ -168,9 +168,6 @@ names_behind [] ms = refl
 names_behind (l ∷ ls) ms =
     ap (λ (names : List (List ℕ)). with_new (new_name l) names) (names_behind ls ms)
     ∙ with_behind (new_name l) (names_told ls) (names_told ms)
-
-abbrev columns_told : List (List ℕ) → List Column → List ProblemLine
-columns_told names columns = each_told (λ name c. column_told name c ∷ []) names columns
 
 columns_own : (names : List (List ℕ)) (columns : List Column) →
     AreOwn (columns_told names columns) × (names_told (columns_told names columns) ≡ [])

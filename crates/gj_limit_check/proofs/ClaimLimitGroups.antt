@@ -14,7 +14,6 @@ use Rattle.gj_limit_system.specs.LimitRows.{row_value}
 use Rattle.gj_limit_system.specs.Unknowns.{right_column, slope_column, columns_for, value_from, interval_before, limits_from}
 use Rattle.gj_limit_system.specs.declared.limit_row.LimitRow.{LimitRow}
 use Rattle.gj_proof.specs.declared.numbers.Numbers.{Numbers}
-use Rattle.gj_proof.specs.declared.numbers.Numbers.TheVariants.{Whole, Residues}
 use Rattle.gj_proof.specs.PresentRows.{arithmetic_of, AreNumbersOf, entries_or_none}
 use Rattle.gj_proof.specs.ProofText.{modulus_lines}
 use Rattle.gj_proof.specs.Rules.{Demand, AtIndex, MeetsReduce, MeetsSize, MeetsPivotBy, step_demands_by, line_of_demand}
@@ -22,7 +21,7 @@ use Rattle.gj_proof.specs.Rules.Demand.{row, reduce, size, pivot}
 use Rattle.gj_check_groups.specs.GroupOutcomes.{stepped}
 use Rattle.gj_check_groups.specs.Groups.{IsRuleOf}
 use Rattle.gj_check_groups.specs.declared.failure.GroupFailure.{GroupFailure}
-use Rattle.gj_check_groups.proofs.ClaimGroups.{Agree, IsNumbering, IsOnGroups}
+use Rattle.gj_check_groups.proofs.ClaimGroups.{Agree, IsNumbering, IsOnGroups, steps_on_groups}
 use Rattle.gj_limit_proof.specs.declared.claim.LimitClaim.TheVariants.{Extreme}
 use Rattle.gj_limit_proof.specs.declared.claim.LimitPivotRow.{LimitPivotRow}
 use Rattle.gj_limit_proof.specs.LimitRowsKept.{unit_at, begun_row, row_kept_by, rows_behind_by, rows_before_by}
@@ -76,17 +75,6 @@ kept_agree numbers f one other n kept (g ∷ rows) same some =
     (kept ++ row_kept_by (arithmetic_of numbers) f other n kept g ∷ []) rows same some
 
 -- ---- demand by demand
-
-steps_on_groups : (numbers : Numbers) (g r : ℕ) (columns : List ℕ) →
-    All IsOnGroups (step_demands_by numbers g r columns)
-steps_on_groups numbers g r [] = All-nil IsOnGroups
-steps_on_groups Whole g r (c ∷ columns) =
-    let more = step_demands_by Whole g (r + 1) columns in
-    All-cons IsOnGroups (reduce g r) (size g r ∷ more) tt
-    (All-cons IsOnGroups (size g r) more tt (steps_on_groups Whole g (r + 1) columns))
-steps_on_groups Residues g r (c ∷ columns) =
-    All-cons IsOnGroups (reduce g r) (step_demands_by Residues g (r + 1) columns) tt
-    (steps_on_groups Residues g (r + 1) columns)
 
 on_groups : (numbers : Numbers) (g : ℕ) (rows : List LimitPivotRow) →
     All IsOnGroups (group_demands_by numbers g rows)

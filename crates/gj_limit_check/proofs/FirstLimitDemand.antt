@@ -13,7 +13,7 @@ use Rattle.gj_limit_proof.specs.declared.claim.LimitClaim.{LimitClaim}
 use Rattle.gj_limit_proof.specs.LimitRules.{demands_of, DemandHolds, MeetsLimitRules}
 use Rattle.gj_limit_proof.specs.LimitText.{HasNumber}
 use Rattle.gj_limit_check.specs.FirstFailure.{IsFirstLimitFailure, IsLimitFaultOf, IsWantOfLimitMemory}
-use Rattle.gj_limit_check.proofs.PlainClaims.{one_number}
+use Rattle.gj_limit_proof.proofs.LimitLineNumbers.{one_number}
 
 -- ---- one first failure
 

@@ -34,8 +34,9 @@ use Rattle.gj_limit_check.specs.LimitCoverLines.{MeetsCover, AreComponentsOf, Is
 use Rattle.gj_limit_check.proofs.ClaimLimitGroups.{groups_hold, groups_fail}
 use Rattle.gj_check.proofs.FirstDemand.{FirstFails, fails_here, fails_behind, fails_next, fails_in_front}
 use Rattle.gj_limit_check.proofs.FirstLimitDemand.{failure_of}
-use Rattle.gj_limit_check.proofs.PlainClaims.{number_of_claim, number_of_cover_line, number_of_end}
+use Rattle.gj_limit_check.proofs.PlainClaims.{number_of_cover_line, number_of_end}
 use Rattle.gj_limit_check.proofs.PlainRules.{zero_function, MeetLimitCovers, plain_rules}
+use Rattle.gj_limit_proof.proofs.LimitLineNumbers.{number_of_claim}
 
 module _ (numbers : Numbers) (f : FunctionData) (lines : List CoverLine)
     (rows : List LimitPivotRow) where

@@ -1,5 +1,5 @@
 -- If the rules of a claim that a function that may jump is extreme hold, it is.
-use Rattle.std.proofs.Common.{◌≡◌, ℕ, ◌⊎◌, inl, inr, ◌+◌, ◌<◌, ◌≤◌, ℤ, pos, List, [], ◌∷◌, ◌++◌, All, length, map, get_or, refl, sym, ap, subst, ◌∙◌, append_assoc, arith}
+use Rattle.std.proofs.Common.{◌≡◌, ℕ, ◌⊎◌, ◌+◌, ◌<◌, ◌≤◌, ℤ, pos, List, [], ◌∷◌, ◌++◌, All, length, map, get_or, refl, sym, ap, subst, ◌∙◌, append_assoc, arith}
 use Rattle.std.specs.List.{range_with_len}
 use Rattle.std.proofs.lemmas.Bool.{cases_lt}
 use Rattle.std.proofs.lemmas.List.{length-append, length_push}
@@ -7,7 +7,7 @@ use Rattle.std.proofs.lemmas.List.FromFn.{length-map-range_with_len, get_or-map-
 use Rattle.std.proofs.lemmas.List.Elements.{All-nil, All-cons, All-head, All-tail, All-get_or}
 use Rattle.gj_lemmas.proofs.Lists.{All-front, All-back, made_has}
 use Rattle.gj_shape.specs.Additive.{IsTight}
-use Rattle.gj_shape.specs.Cover.{HasComponent, components_in}
+use Rattle.gj_shape.specs.Cover.{components_in}
 use Rattle.gj_shape.specs.Elimination.{KeptRow}
 use Rattle.gj_shape.specs.FirstViolation.Test.{zero_at_zero}
 use Rattle.gj_shape.specs.FunctionData.{FunctionData, IsWithinBounds, at}
@@ -37,21 +37,9 @@ use Rattle.gj_limit_proof.proofs.LinearRows.{linear_same, row_linear, named_prod
 use Rattle.gj_limit_check.proofs.LineCovers.{covered_by_line}
 use Rattle.gj_limit_check.proofs.PlainRules.{zero_function, MeetLimitCovers, plain_rules}
 use Rattle.gj_limit_check.proofs.SolutionNumbers.{number, row_solved, solution_zero}
+use Rattle.gj_check.proofs.ExtremeMeaning.{number_of, number_is}
 
 -- ---- the numbers of components
-
-abbrev number_of : (lines : List CoverLine) (q : ℕ) →
-    ((i : ℕ) → i < q → (number : ℕ) × HasComponent lines number i) →
-    (i : ℕ) → (i < q) ⊎ (q ≤ i) → ℕ
-number_of lines q has i (inl low) = (has i low).0
-number_of lines q has i (inr high) = 0
-
-number_is : (lines : List CoverLine) (q : ℕ) (has : (i : ℕ) → i < q →
-    (number : ℕ) × HasComponent lines number i) →
-    (i : ℕ) (place : (i < q) ⊎ (q ≤ i)) → i < q →
-    HasComponent lines (number_of lines q has i place) i
-number_is lines q has i (inl below) low = (has i below).1
-number_is lines q has i (inr high) low = absurd (omega arith)
 
 -- ---- the groups of a claim
 

@@ -24,7 +24,8 @@ use Rattle.gj_limit_check.specs.HalvesLines.{halves_rule, halves_fault_line}
 use Rattle.gj_check.proofs.FirstDemand.{FirstFails, fails_here, fails_behind, fails_next, fails_in_front}
 use Rattle.gj_check.proofs.HalvesDemands.{pair_demands-append}
 use Rattle.gj_limit_check.proofs.FirstLimitDemand.{failure_of}
-use Rattle.gj_limit_check.proofs.PlainClaims.{number_of_claim, number_of_halves_line, number_of_pair_line}
+use Rattle.gj_limit_check.proofs.PlainClaims.{number_of_halves_line, number_of_pair_line}
+use Rattle.gj_limit_proof.proofs.LimitLineNumbers.{number_of_claim}
 
 -- a demand on halves holds
 abbrev holds : FunctionData → LimitHalves → Demand → Type 0

@@ -1,13 +1,10 @@
 -- The lines of a claim about a function that may jump have the numbers of those of a claim about a
 -- continuous one that has as many of each kind.
-use Rattle.std.proofs.Common.{◌≡◌, ◌≢◌, ℕ, ◌+◌, ◌<◌, ℤ, List, [], ◌∷◌, ◌++◌, All, length, map, zip, refl, sym, ap, subst, ◌∙◌, arith}
+use Rattle.std.proofs.Common.{◌≡◌, ◌≢◌, ℕ, ◌+◌, ◌<◌, ℤ, List, [], ◌∷◌, ◌++◌, length, map, zip, refl, sym, ap, subst, ◌∙◌, arith}
 use Rattle.std.specs.List.{range_with_len}
-use Rattle.std.proofs.lemmas.List.{append_assoc, map-append, length-map, length-append}
-use Rattle.std.proofs.lemmas.List.Elements.{All-nil, All-cons}
+use Rattle.std.proofs.lemmas.List.{append_assoc, length-map, length-append}
 use Rattle.std.proofs.lemmas.List.FromFn.{length-map-range_with_len}
 use Rattle.std.proofs.lemmas.Slice.Zip.{length-zip}
-use Rattle.gj_lemmas.proofs.FirstThatFails.{first_failing, one_first_failing}
-use Rattle.gj_lemmas.proofs.Lists.{All-front}
 use Rattle.gj_shape.specs.FunctionData.{FunctionData}
 use Rattle.gj_shape.specs.Perturbation.{AreHalvesInBounds}
 use Rattle.gj_shape.specs.declared.extremality.CoverLine.{CoverLine}
@@ -31,29 +28,11 @@ use Rattle.gj_limit_proof.specs.declared.claim.LimitClaim.{LimitClaim}
 use Rattle.gj_limit_proof.specs.declared.claim.LimitClaim.TheVariants.{Extreme, NotExtreme}
 use Rattle.gj_limit_proof.specs.declared.claim.LimitPivotRow.{LimitPivotRow}
 use Rattle.gj_limit_proof.specs.declared.triple.Triple.{Triple}
-use Rattle.gj_limit_proof.specs.LimitText.{AreLimitHalvesInBounds, function_of, group_lines, extreme_lines, pair_lines, pairs_of, own_lines, proof_lines_of, HasNumber}
+use Rattle.gj_limit_proof.specs.LimitText.{AreLimitHalvesInBounds, group_lines, extreme_lines, pair_lines, pairs_of, proof_lines_of, HasNumber}
+use Rattle.gj_limit_proof.proofs.LimitLines.{names_append}
 
 -- ---- one number
 
-pub one_number : (c : LimitClaim) (l : ProofLine) (n m : ℕ) → HasNumber c l n → HasNumber c l m →
-    n ≡ m
-one_number c l n m h k =
-    let P : ProofLine → Type 0 = λ k. k ≢ l in
-    let lines = proof_lines_of c in
-    let same = one_first_failing (All P) (All-front P) lines h.before k.before l l
-    (first_failing P lines h.before h.after l h.place h.first (λ other. other refl))
-    (first_failing P lines k.before k.after l k.place k.first (λ other. other refl)) in
-    h.number ∙ ap (λ b. length b + 1) same.0 ∙ sym k.number
-
--- the line of the claim is the second
-pub number_of_claim : (c : LimitClaim) → HasNumber c claim 2
-number_of_claim c = record {
-  before = title ∷ [];
-  after = (order ∷ place ∷ map point (range_with_len 0 (function_of c).order)) ++ map (λ l. l.name)
-      (own_lines c) ++ last ∷ [];
-  place = refl;
-  first = All-cons (λ k. k ≢ claim) title [] (λ e. cc) (All-nil (λ k. k ≢ claim));
-  number = refl;
 }
 
 -- ---- the other claim
@@ -77,9 +56,6 @@ plain_claim (Extreme numbers f lines rows) = extreme_claim numbers f lines (map 
 plain_claim (NotExtreme f h) = claims.NotExtreme f (plain_halves h)
 
 -- ---- its lines
-
-names_append : (a b : List OwnLine) → names (a ++ b) ≡ names a ++ names b
-names_append a b = map-append (λ (l : OwnLine). l.name) a b
 
 group_names : (g : ℕ) (rows : List LimitPivotRow) →
     names (group_lines g rows) ≡ names (plain.group_lines g (map plain_row rows))

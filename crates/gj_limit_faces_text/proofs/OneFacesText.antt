@@ -11,7 +11,7 @@ use Rattle.gj_verdict_text.specs.FacesText.{uncovered_line}
 use Rattle.gj_limit_faces_text.specs.LimitFacesText.{IsLimitFacesText}
 use Rattle.gj_limit_faces_text.proofs.OneLimitCover.{one_limit_cover}
 
-one_picked : {X : Type 0} (P : X → Type 0) {xs ys zs : List X} → ArePicked P xs ys →
+pub one_picked : {X : Type 0} (P : X → Type 0) {xs ys zs : List X} → ArePicked P xs ys →
     ArePicked P xs zs → ys ≡ zs
 one_picked P none none = refl
 one_picked P (kept {x} p h) (kept q k) = ap (λ l. x ∷ l) (one_picked P h k)
@@ -20,7 +20,7 @@ one_picked P (dropped p h) (kept q k) = absurd (p q)
 one_picked P (dropped p h) (dropped q k) = one_picked P h k
 
 -- the text of these faces, cover lines and intervals
-abbrev listing : ℕ → List Face → List CoverLine → List ℕ → List ℕ
+pub abbrev listing : ℕ → List Face → List CoverLine → List ℕ → List ℕ
 listing q listed lines intervals =
     line (codes "gj-faces 1") ++ order_line q ++ flat_map (λ face. line (face_text face)) listed
     ++ flat_map cover_line lines

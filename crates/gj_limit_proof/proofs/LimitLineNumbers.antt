@@ -1,26 +1,21 @@
 -- The numbers of the lines of a proof text about a function that jumps.
-use Rattle.std.proofs.Common.{◌≡◌, inl, inr, ℕ, zero, suc, ◌+◌, List, [], ◌∷◌, ◌++◌, All, Contains, length, map, flat_map, codes, refl, sym, ap, subst, subst₂, ◌∙◌, arith}
+use Rattle.std.proofs.Common.{◌≡◌, inl, inr, ℕ, suc, ◌+◌, List, [], ◌∷◌, ◌++◌, All, length, map, flat_map, codes, refl, sym, ap, subst, subst₂, ◌∙◌, arith}
 use Rattle.std.specs.List.{range_with_len}
 use Rattle.std.proofs.lemmas.List.{append_assoc, map-append, length-map}
 use Rattle.std.proofs.lemmas.List.FromFn.{length-map-range_with_len}
 use Rattle.gj_lemmas.proofs.Lists.{All-front}
-use Rattle.gj_forms.specs.LineForms.{Field, bytes_of, form_of}
 use Rattle.gj_forms.specs.TextLines.{line_feeds}
-use Rattle.gj_forms.proofs.FieldWords.{AreGood}
-use Rattle.gj_forms.proofs.LineFeeds.{one_feed}
 use Rattle.gj_forms.proofs.LineNumbers.{line_feeds_append}
 use Rattle.gj_forms.proofs.PlainWords.{known}
 use Rattle.gj_shape.specs.FunctionData.{FunctionData, IsWithinBounds}
-use Rattle.gj_shape.specs.declared.points.Point.{Point}
 use Rattle.gj_shape.proofs.GivenPoints.{count_of_points}
-use Rattle.gj_function_lines.specs.FunctionLines.{line, order_form, order_line, place_form, place_line, point_form, numbers_of as printed_numbers, point_line, AreFunctionLines}
-use Rattle.gj_function_lines.proofs.ClearLines.{good_point}
+use Rattle.gj_function_lines.specs.FunctionLines.{line, order_form, order_line, place_form, place_line, point_line, AreFunctionLines}
 use Rattle.gj_proof.specs.ProofText.{ProofLine, OwnLine, Subject, function, subject_lines, subject_of}
 use Rattle.gj_proof.specs.ProofText as plain
 use Rattle.gj_proof.specs.ProofText.ProofLine.{claim, order, place, point, last}
 use Rattle.gj_proof.proofs.LineLists.{names, bytes, bytes_append, HasOneFeed, feeds_of_own}
 use Rattle.gj_proof.proofs.LineNumbers as plain_numbers
-use Rattle.gj_proof.proofs.LineNumbers.{StandsAt}
+use Rattle.gj_proof.proofs.LineNumbers.{StandsAt, feeds_of_fields, feeds_of_points, parted}
 use Rattle.gj_limit_proof.specs.LimitText.{function_of, IsBounded, own_lines, proof_lines_of, HasBytes, HasNumber, IsLimitProofText}
 use Rattle.gj_limit_proof.specs.declared.claim.LimitClaim.{LimitClaim}
 use Rattle.gj_limit_proof.specs.declared.claim.LimitClaim.TheVariants.{Extreme, NotExtreme}
@@ -117,20 +112,6 @@ number_of_own c a b l is =
 
 -- ---- line feeds
 
-feeds_of_fields : (fs : List Field) → AreGood fs → line_feeds (bytes_of fs) ≡ 1
-feeds_of_fields fs good =
-    one_feed (form_of (λ (t : Unit {0}). fs))
-    (record { of_form = λ t h. tt; good = λ t h. good; one = λ a b h k e. refl }) tt tt
-
-feeds_of_points : (points : List Point) → line_feeds (flat_map point_line points) ≡ length points
-feeds_of_points [] = refl
-feeds_of_points (p ∷ points) =
-    let one = feeds_of_fields (point_form.fields (printed_numbers p))
-    (good_point (printed_numbers p)) in
-    let more = feeds_of_points points in
-    let both = line_feeds_append (point_line p) (flat_map point_line points) in
-    omega arith
-
 -- the lines of a function have as many line feeds
 feeds_of_function : (f : FunctionData) (text : List ℕ) → IsWithinBounds f →
     AreFunctionLines f text →
@@ -200,14 +181,6 @@ own_at c text a b l within p is =
   where
     regroup : (a b c d e : List ℕ) → a ++ (b ++ (c ++ d)) ++ e ≡ a ++ b ++ (c ++ (d ++ e))
     regroup a b c d e = simp append_assoc
-
--- a line that is among these stands behind some and before others
-parted : (ls : List OwnLine) (l : OwnLine) → Contains ls l →
-    (a b : List OwnLine) × (ls ≡ a ++ l ∷ b)
-parted [] l (i, below, is) = absurd (omega arith)
-parted (m ∷ ls) l (zero, below, is) = ([], ls, ap (λ k. k ∷ ls) is)
-parted (m ∷ ls) l (suc i, below, is) =
-    let h = parted ls l (i, omega (arith, below), is) in (m ∷ h.0, h.1, ap (λ k. m ∷ k) h.2)
 
 pub line_of_number : (c : LimitClaim) (text bytes : List ℕ) (l : ProofLine) (n : ℕ) → IsBounded c →
     IsLimitProofText c text →

@@ -1,7 +1,7 @@
 -- The lines of a claim's own: their names are those of the lines of a claim of texts 1 and 2, so
 -- that they differ; and each has one line feed, at its end.
 use Rattle.std.proofs.Common.{◌≡◌, ℕ, ℤ, pos, ◌+◌, ◌<◌, ◌≤◌, List, [], ◌∷◌, ◌++◌, All, map, flat_map, zip, refl, sym, ap, ◌∙◌, arith}
-use Rattle.std.proofs.lemmas.List.{append_assoc, append-nil, map-append}
+use Rattle.std.proofs.lemmas.List.{append_assoc, map-append}
 use Rattle.std.proofs.lemmas.List.Elements.{All-nil, All-cons, All-head, All-tail, All-append}
 use Rattle.gj_lemmas.proofs.Lists.{All-front, All-back}
 use Rattle.gj_forms.proofs.LineFeeds.{one_feed}
@@ -11,7 +11,7 @@ use Rattle.gj_shape.specs.declared.extremality.LimitHalves.{LimitHalves}
 use Rattle.gj_shape.specs.declared.extremality.RowName.TheVariants.{Period}
 use Rattle.gj_function_lines.specs.FaceLines.{cover_line}
 use Rattle.gj_proof.specs.ProofGrammar.{halves_form}
-use Rattle.gj_proof.specs.ProofText.{ProofLine, OwnLine, Subject, function, IsCoverLineBelow, reduction_line, pivot_line, modulus_line, modulus_text, covered_lines, reduction_lines, modulus_lines, extreme_claim, subject_of}
+use Rattle.gj_proof.specs.ProofText.{ProofLine, OwnLine, Subject, function, IsCoverLineBelow, reduction_line, pivot_line, covered_lines, reduction_lines, modulus_lines, extreme_claim, subject_of}
 use Rattle.gj_proof.specs.ProofText as plain
 use Rattle.gj_proof.specs.declared.claim.Claim.{Claim}
 use Rattle.gj_proof.specs.declared.claim.Claim.TheVariants as plain_claims
@@ -19,7 +19,7 @@ use Rattle.gj_proof.specs.declared.numbers.Numbers.{Numbers}
 use Rattle.gj_proof.specs.declared.numbers.Numbers.TheVariants.{Whole, Residues}
 use Rattle.gj_proof.specs.declared.pivot.PivotRow.{PivotRow}
 use Rattle.gj_proof.proofs.ClearLines.{halves_is_clear}
-use Rattle.gj_proof.proofs.ExtremeLines.{covered_bytes, extreme_have_one_feed}
+use Rattle.gj_proof.proofs.ExtremeLines.{covered_bytes, extreme_have_one_feed, reduction_bytes, modulus_bytes}
 use Rattle.gj_proof.proofs.LineLists.{names, bytes, bytes_append, HasOneFeed}
 use Rattle.gj_limit_proof.specs.LimitGrammar.{row_form, pair_form}
 use Rattle.gj_limit_proof.specs.LimitText.{function_of, IsBounded, HasText, group_line, group_text, pair_line, pairs_of, halves_line, group_lines, extreme_lines, pair_lines, own_lines, extreme_text, own_text, greatest_columns, IsLimitPivotRowBelow}
@@ -63,7 +63,7 @@ same_subject (NotExtreme f h) = refl
 abbrev own_line : ProofLine → List ℕ → OwnLine
 own_line name bytes = record { name = name; bytes = bytes }
 
-names_append : (a b : List OwnLine) → names (a ++ b) ≡ names a ++ names b
+pub names_append : (a b : List OwnLine) → names (a ++ b) ≡ names a ++ names b
 names_append a b = map-append (λ (o : OwnLine). o.name) a b
 
 same_names_of_groups : (g : ℕ) (rows : List LimitPivotRow) →
@@ -106,12 +106,6 @@ same_names (NotExtreme f h) = ap (λ ns. ProofLine.halves ∷ ns) (same_names_of
 
 -- ---- their bytes
 
-reduction_bytes : (g r : ℕ) (columns : List ℕ) →
-    bytes (reduction_lines g r columns) ≡ flat_map reduction_line columns
-reduction_bytes g r [] = refl
-reduction_bytes g r (c ∷ columns) =
-    ap (λ t. reduction_line c ++ t) (reduction_bytes g (r + 1) columns)
-
 group_bytes : (g : ℕ) (rows : List LimitPivotRow) →
     bytes (group_lines g rows) ≡ flat_map group_text rows
 group_bytes g [] = refl
@@ -128,10 +122,6 @@ group_bytes g (row ∷ rows) =
   where
     regroup : (a b c d : List ℕ) → a ++ (b ++ (c ++ d)) ≡ (a ++ b ++ c) ++ d
     regroup a b c d = simp append_assoc
-
-modulus_bytes : (n : Numbers) → bytes (modulus_lines n) ≡ modulus_text n
-modulus_bytes Whole = refl
-modulus_bytes Residues = append-nil modulus_line
 
 extreme_bytes : (n : Numbers) (lines : List CoverLine) (rows : List LimitPivotRow) →
     bytes (extreme_lines n lines rows) ≡ extreme_text n lines rows

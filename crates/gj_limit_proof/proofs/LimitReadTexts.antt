@@ -10,30 +10,29 @@ use Rattle.gj_forms.proofs.LineLaws.{part_is_exact, line_is_read, only_line}
 use Rattle.gj_forms.proofs.PartLaws.{line_part_is_exact, words_rule_is_exact, then_part_is_exact, then_read_is_exact, made_part_is_exact, end_part_is_exact}
 use Rattle.gj_forms.proofs.PlainWords.{apart}
 use Rattle.gj_forms.proofs.WhereLaws.{where_part_is_exact, other_line, other_word, begins_so}
-use Rattle.gj_shape.specs.FunctionData.{FunctionData, IsWithinBounds}
+use Rattle.gj_shape.specs.FunctionData.{FunctionData}
 use Rattle.gj_shape.specs.declared.extremality.CoverLine.{CoverLine}
 use Rattle.gj_shape.specs.declared.extremality.LimitHalves.{LimitHalves}
 use Rattle.gj_function_lines.specs.FaceLines.{cover_line}
 use Rattle.gj_function_lines.specs.FunctionGrammar.{function_part}
-use Rattle.gj_function_lines.specs.FunctionLines.{line, AreFunctionLines}
+use Rattle.gj_function_lines.specs.FunctionLines.{line}
 use Rattle.gj_function_lines.proofs.CanonicalFunctions.{canonical_lines_are_read}
 use Rattle.gj_function_lines.proofs.ExactFunctions.{function_part_is_exact}
 use Rattle.gj_function_lines.proofs.FunctionRead.{within_bounds}
-use Rattle.gj_function_lines.proofs.StrictFunctions.{strict_lines_are_canonical}
 use Rattle.gj_proof.specs.ProofGrammar.{form_part, covered_part}
 use Rattle.gj_proof.specs.ProofText.{claim_fields, modulus_text}
 use Rattle.gj_proof.specs.declared.numbers.Numbers.{Numbers}
 use Rattle.gj_proof.proofs.CutTexts.{BeginsEnd}
-use Rattle.gj_proof.proofs.ExtremeTexts.{covered_is_exact, covered_is_printed}
-use Rattle.gj_proof.proofs.ReadTexts.{last_part}
+use Rattle.gj_proof.proofs.ExtremeTexts.{covered_is_exact, covered_is_printed, groups_are_exact, halves_are_exact}
+use Rattle.gj_proof.proofs.ReadTexts.{last_part, function_found}
 use Rattle.gj_proof.proofs.StrictParts.{line_reads, line_found}
 use Rattle.gj_limit_proof.specs.LimitGrammar.{title_form, numbers_part, groups_part, extreme_part, halves_part, not_extreme_part, claim_part, limit_proof_text}
 use Rattle.gj_limit_proof.specs.LimitText.{IsBounded, title_fields, claim_word, group_text, halves_text, IsLimitProofText}
 use Rattle.gj_limit_proof.specs.declared.claim.LimitClaim.{LimitClaim}
 use Rattle.gj_limit_proof.specs.declared.claim.LimitClaim.TheVariants.{Extreme, NotExtreme}
 use Rattle.gj_limit_proof.specs.declared.claim.LimitPivotRow.{LimitPivotRow}
-use Rattle.gj_limit_proof.proofs.GroupTexts.{BeginsModulus, numbers_are_exact, numbers_are_printed, groups_are_exact, groups_are_printed, no_modulus_line}
-use Rattle.gj_limit_proof.proofs.HalvesTexts.{halves_are_exact, halves_are_printed}
+use Rattle.gj_limit_proof.proofs.GroupTexts.{BeginsModulus, numbers_are_exact, numbers_are_printed, groups_are_printed, no_modulus_line}
+use Rattle.gj_limit_proof.proofs.HalvesTexts.{halves_are_printed}
 use Rattle.gj_limit_proof.proofs.LimitForms.{title_is_clear}
 
 -- ---- the parts of a proof text
@@ -255,13 +254,6 @@ text_is_read (NotExtreme f h) text b p =
     regroup a b c d e = simp append_assoc
 
 -- ---- what is read is the text of a claim
-
-function_found : (text : List ℕ) (f : FunctionData) (rest : List ℕ) →
-    (function_part Strict).Reads text f rest →
-    IsWithinBounds f × (lines : List ℕ) × AreFunctionLines f lines × (text ≡ lines ++ rest)
-function_found text f rest h =
-    let (lines, are, is) = strict_lines_are_canonical f text rest h in
-    (within_bounds Strict text f rest h, lines, are, is)
 
 -- the text of a claim, behind the line of its word
 pub record ClaimFound (c : LimitClaim) (inner rest : List ℕ) : Type 0 where

@@ -44,7 +44,7 @@ one_bound word None (Some y) h k = absurd (k.0 h)
 one_bound word (Some x) None h k = absurd (h.0 k)
 one_bound word (Some x) (Some y) h k = ap Some (one_number_word word x y h.1 k.1)
 
-one_some : (i j : ℕ) → Some i ≡ Some j → i ≡ j
+pub one_some : (i j : ℕ) → Some i ≡ Some j → i ≡ j
 one_some i j e = cc
 
 pub one_index : (i j : ℕ) (at : Option ℕ) → at ≡ Some i → at ≡ Some j → i ≡ j

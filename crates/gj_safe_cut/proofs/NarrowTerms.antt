@@ -15,12 +15,10 @@ use Rattle.gj_safe_cut.specs.SafeCuts.{IsCoefficient, HasNoCoefficient, IsWideTe
 use Rattle.gj_safe_cut.specs.AddedTerms.{surplus_of, AreAdded, IsWideAdding, HasOneValue}
 use Rattle.gj_safe_cut.proofs.OneTerms.{one_coefficient, one_list}
 use Rattle.gj_safe_cut.proofs.TermSums.{IsBegun, combined_joined}
+use Rattle.gj_problem.proofs.TurnedColumns.{one_left}
 
 minus_one : (a : Rational) → a -ℚ whole (pos 1) ≡ (whole (pos 0) -ℚ whole (pos 1)) +ℚ a
 minus_one a = by_ring_q (a ∷ []) (search ring_q depth 40) refl
-
-regrouped : (x a b : Rational) → x +ℚ (a +ℚ b) ≡ (x +ℚ a) +ℚ b
-regrouped x a b = by_ring_q (x ∷ a ∷ b ∷ []) (search ring_q depth 40) refl
 
 module _ (IsValue : Frac → Frac → Type 0) (IsOut : Frac → Type 0) (up down : Frac)
     (one : HasOneValue IsValue) where
@@ -146,7 +144,7 @@ module _ (IsValue : Frac → Frac → Type 0) (IsOut : Frac → Type 0) (up down
             ∙ ap (λ v. x +ℚ v) (combined_joined Gives point ps k.0 ks ls head)
             ∙ ap (λ (us : List Frac). x +ℚ (combined_at point us ps +ℚ combined_at point ls k.0))
             (one_list IsValue up down one ps ks first.coefficients head first.given)
-            ∙ regrouped x (combined_at point first.coefficients ps) (combined_at point ls k.0)
+            ∙ one_left x (combined_at point first.coefficients ps) (combined_at point ls k.0)
             ∙ ap (λ v. v +ℚ combined_at point ls k.0) (sym (first.adds point));
         wide = w.wide;
       }))

@@ -16,12 +16,12 @@ use Rattle.gj_proof.specs.declared.claim.Claim.TheVariants as claim
 use Rattle.gj_proof.specs.declared.numbers.Numbers.{Numbers}
 use Rattle.gj_proof.specs.declared.numbers.Numbers.TheVariants.{Whole, Residues}
 use Rattle.gj_proof.specs.ProofText.{claim_fields, title_fields, IsProofText}
-use Rattle.gj_json.specs.JsonText.{IsProofByte, IsEnded}
+use Rattle.gj_json.specs.JsonText.{IsProofByte}
 use Rattle.gj_limit_proof.specs.declared.claim.LimitClaim.{LimitClaim}
 use Rattle.gj_limit_proof.specs.declared.claim.LimitClaim.TheVariants.{Extreme, NotExtreme}
 use Rattle.gj_limit_proof.specs.LimitText.{function_of, title_fields as limit_title_fields, claim_word, own_text, IsBounded, IsLimitProofText}
 use Rattle.gj_limit_proof.proofs.LimitOneText.{one_claim, no_fault}
-use Rattle.gj_limit_proof.proofs.PrintedBytes.{text_bytes, text_is_ended}
+use Rattle.gj_limit_proof.proofs.PrintedBytes.{text_bytes}
 use Rattle.gj_limit_extreme.specs.Decision.{IsLimitDecided}
 use Rattle.gj_top.specs.Check.{BeginsAsLimitProof}
 use Rattle.gj_top.specs.Derivation.{BeginsAsDerivation}
@@ -86,9 +86,6 @@ texts_differ c d text p q = proof_begins_by_no_limits c text p (limit_begins d t
 pub limit_proof_bytes : (c : LimitClaim) (text : List ℕ) → IsBounded c → IsLimitProofText c text →
     All IsProofByte text
 limit_proof_bytes = text_bytes
-
-pub limit_proof_is_ended : (c : LimitClaim) (text : List ℕ) → IsLimitProofText c text → IsEnded text
-limit_proof_is_ended = text_is_ended
 
 -- ---- inputs
 

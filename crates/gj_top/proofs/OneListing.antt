@@ -1,5 +1,5 @@
 -- The commands `faces`, `fill` and `demo` have one answer.
-use Rattle.std.proofs.Common.{◌≡◌, ◌≢◌, inl, inr, ℕ, ◌+◌, ◌*◌, ◌<◌, Bool, true, false, cond, ◌&&◌, ℤ, pos, neg_ℤ, int_lt, ◌+ℤ◌, ◌*ℤ◌, unsigned_abs, List, [], ◌∷◌, ◌++◌, All, length, codes, map, flat_map, refl, sym, ap, ap₂, subst, ◌∙◌, arith}
+use Rattle.std.proofs.Common.{◌≡◌, ◌≢◌, inl, inr, ℕ, ◌+◌, ◌*◌, ◌<◌, Bool, true, false, cond, ◌&&◌, ℤ, pos, neg_ℤ, int_lt, ◌+ℤ◌, ◌*ℤ◌, unsigned_abs, List, [], ◌∷◌, ◌++◌, All, length, codes, map, refl, sym, ap, ap₂, subst, ◌∙◌, arith}
 use Rattle.std.specs.List.{AllZip}
 use Rattle.std.proofs.lemmas.Int.{ints}
 use Rattle.std.proofs.lemmas.List.Elements.{All-head, All-tail}
@@ -10,19 +10,15 @@ use Rattle.gj_frac.specs.declared.Frac.{Frac}
 use Rattle.gj_frac.specs.Fraction.{IsRatio}
 use Rattle.gj_frac.proofs.SameValues.{same_from_is}
 use Rattle.gj_lex.specs.NumberText.{fraction_text}
-use Rattle.gj_function_lines.specs.FunctionLines.{line, order_line}
-use Rattle.gj_function_lines.specs.FaceLines.{face_text, cover_line}
+use Rattle.gj_function_lines.specs.FunctionLines.{line}
 use Rattle.gj_shape.specs.Additive.{IsTight}
 use Rattle.gj_shape.specs.Cover.{components_in}
 use Rattle.gj_shape.specs.FirstViolation.{IsLeastFrom}
 use Rattle.gj_shape.specs.FunctionData.{FunctionData, IsWithinBounds, at}
-use Rattle.gj_shape.specs.declared.extremality.CoverLine.{CoverLine}
 use Rattle.gj_shape.specs.declared.extremality.Halves.{Halves}
-use Rattle.gj_shape.specs.declared.faces.Face.{Face}
 use Rattle.gj_shape.specs.TwoSlopes.{rise}
 use Rattle.gj_shape.proofs.AlikeFunctions.{alike_are_same, continuous_alike}
 use Rattle.gj_function_text.specs.FunctionText.{canonical_breaks_text, even_break}
-use Rattle.gj_faces.specs.Picked.{ArePicked, none, kept, dropped}
 use Rattle.gj_cover.proofs.Classes.{one_least}
 use Rattle.gj_extreme.specs.Decision.{IsDecided}
 use Rattle.gj_extreme.proofs.OneCover.{one_cover}
@@ -36,29 +32,14 @@ use Rattle.gj_demo.specs.Demo.{IsDemo, demo_number}
 use Rattle.gj_demo.specs.Summary.{IsSummary, HasSummary, lines_with}
 use Rattle.gj_top.specs.declared.reply.End.TheVariants as end
 use Rattle.gj_top.specs.Demo.{demo}
-use Rattle.gj_verdict_text.specs.FacesText.{IsFacesText, uncovered_line}
-use Rattle.gj_limit_faces_text.proofs.OneFacesText.{one_limit_faces_text}
+use Rattle.gj_verdict_text.specs.FacesText.{IsFacesText}
+use Rattle.gj_limit_faces_text.proofs.OneFacesText.{one_limit_faces_text, one_picked, listing}
 use Rattle.gj_top.specs.Faces.{IsJumpsFacesText}
 use Rattle.gj_top.specs.Fill.{IsFillText, NamesFirstPair, IsFillReply}
 use Rattle.gj_top.proofs.Determined.{AnswersOne, IsDetermined, one_done}
 use Rattle.gj_transform.proofs.OneTransform.{over_both}
 
 -- ---- faces
-
-one_picked : {X : Type 0} (P : X → Type 0) {xs ys zs : List X} → ArePicked P xs ys →
-    ArePicked P xs zs → ys ≡ zs
-one_picked P none none = refl
-one_picked P (kept {x} p h) (kept q k) = ap (λ l. x ∷ l) (one_picked P h k)
-one_picked P (kept p h) (dropped q k) = absurd (q p)
-one_picked P (dropped p h) (kept q k) = absurd (p q)
-one_picked P (dropped p h) (dropped q k) = one_picked P h k
-
--- the text of these faces, cover lines and intervals
-abbrev listing : ℕ → List Face → List CoverLine → List ℕ → List ℕ
-listing q listed lines intervals =
-    line (codes "gj-faces 1") ++ order_line q ++ flat_map (λ face. line (face_text face)) listed
-    ++ flat_map cover_line lines
-    ++ flat_map uncovered_line intervals ++ line (codes "end")
 
 pub one_faces_text : (f : FunctionData) (x y : List ℕ) → IsFacesText f x → IsFacesText f y → x ≡ y
 one_faces_text f x y h k =

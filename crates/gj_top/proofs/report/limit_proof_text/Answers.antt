@@ -1,5 +1,6 @@
-use Rattle.gj_top.proofs.LimitTexts.{limit_proof_bytes, limit_proof_is_ended}
+use Rattle.gj_top.proofs.LimitTexts.{limit_proof_bytes}
 use Rattle.gj_top.proofs.report.limit_proof_text.Goals as goal
+use Rattle.gj_limit_proof.proofs.PrintedBytes.{text_is_ended}
 
 pub report-requires-clause-bytes : goal.report-requires-clause-bytes
 report-requires-clause-bytes c =
@@ -10,4 +11,4 @@ report-requires-clause-bytes c =
 pub report-requires-clause-ended : goal.report-requires-clause-ended
 report-requires-clause-ended c =
     rw c.as_slice.ensures.value
-    (limit_proof_is_ended c.args.proof.now c.args.written.items c.requires.spelled)
+    (text_is_ended c.args.proof.now c.args.written.items c.requires.spelled)
