@@ -1,29 +1,32 @@
 -- What words tell, or why they tell nothing.
-use Rattle.std.proofs.Common.{◌≡◌, inr, ℕ, pos, ◌<◌, ◌^◌, List, [], ◌∷◌, ◌++◌, map, codes, refl, sym, ap, subst, arith}
+use Rattle.std.proofs.Common.{◌≡◌, inl, inr, ℕ, zero, suc, ◌+◌, pos, ◌<◌, ◌^◌, List, [], ◌∷◌, ◌++◌, map, replicate, codes, refl, sym, ap, subst, subst₂, ◌∙◌, arith}
+use Rattle.std.proofs.lemmas.Fmt.{decimal_digit}
+use Rattle.std.proofs.lemmas.Grind.{replicate_next}
 use Rattle.std.proofs.lemmas.Int.{ints}
 use Rattle.std.proofs.lemmas.List.{append_assoc, append-nil}
 use Rattle.gj_frac.specs.declared.Frac.{Frac}
-use Rattle.gj_lex.specs.SpelledNumbers.{IsCountWord}
+use Rattle.gj_lex.specs.SpelledNumbers.{IsCountWord, IsFractionWord}
 use Rattle.gj_lex.specs.declared.spelling.Spelling.TheVariants.{Lenient}
 use Rattle.gj_lex.specs.declared.reason.Reason.TheVariants as reason
-use Rattle.gj_lex.proofs.SpelledWords.{one_count}
+use Rattle.gj_lex.proofs.SpelledWords.{one_count, canonical_fraction}
 use Rattle.gj_forms.specs.LineForms.{with_numbers}
 use Rattle.gj_forms.specs.LineForms.Field.{fraction}
 use Rattle.gj_forms.proofs.PlainWords.{apart}
-use Rattle.gj_forms.proofs.WholeNumbers.{whole}
+use Rattle.gj_forms.proofs.WholeNumbers.{whole, text_over_one}
+use Rattle.gj_problem.specs.Sparse.{no_fraction}
 use Rattle.gj_problem.specs.declared.problem.Sense.{Sense}
 use Rattle.gj_problem_text.specs.NumberLines.{TellFields, Tell}
 use Rattle.gj_problem_text.specs.NumberWords.{IsNumberWord}
 use Rattle.gj_problem_text.specs.ProblemLines.{ProblemLine, column, constraint, entry, upper, sum, grid, round, sense_word, problem_form, told_rule}
 
 -- a number for a word that spells none
-zero : Frac
-zero = whole (pos 0) (omega (arith, ints))
+any_number : Frac
+any_number = whole (pos 0) (omega (arith, ints))
 
 -- no entry, constraint, grid or sum with such words has a value
 pub no_entry_value : (name w : List ℕ) → ((x : Frac) → IsNumberWord w x → ⊥) →
     told_rule.Breaks (codes "entry" ∷ name ∷ w ∷ []) reason.Number
-no_entry_value name w none = inr (refl, (entry name zero, refl, tt), other)
+no_entry_value name w none = inr (refl, (entry name any_number, refl, tt), other)
   where
     other : (a : ProblemLine) → Tell problem_form (codes "entry" ∷ name ∷ w ∷ []) a → ⊥
     other (entry v x) h = none x h.0.1.1.0
@@ -36,7 +39,7 @@ no_entry_value name w none = inr (refl, (entry name zero, refl, tt), other)
 
 pub no_right_side : (name w : List ℕ) (sense : Sense) → ((x : Frac) → IsNumberWord w x → ⊥) →
     told_rule.Breaks (codes "constraint" ∷ name ∷ sense_word sense ∷ w ∷ []) reason.Number
-no_right_side name w sense none = inr (refl, (constraint name sense zero, refl, tt), other)
+no_right_side name w sense none = inr (refl, (constraint name sense any_number, refl, tt), other)
   where
     other : (a : ProblemLine) →
         Tell problem_form (codes "constraint" ∷ name ∷ sense_word sense ∷ w ∷ []) a → ⊥
@@ -93,7 +96,7 @@ SpellNumbers xs words = TellFields (map fraction xs) words
 
 abbrev zeros : List (List ℕ) → List Frac
 zeros [] = []
-zeros (w ∷ words) = zero ∷ zeros words
+zeros (w ∷ words) = any_number ∷ zeros words
 
 any_numbers : (words : List (List ℕ)) → words ≡ with_numbers (map fraction (zeros words)) words
 any_numbers [] = refl
@@ -155,3 +158,47 @@ not_read words left behind numbers w h e none =
     no_first : (xs : List Frac) → SpellNumbers xs (w ∷ behind) → ⊥
     no_first [] k = k
     no_first (y ∷ ys) k = none y k.0
+
+-- ---- words `0`
+
+zero_spelled : IsNumberWord (codes "0") no_fraction
+zero_spelled =
+    inl (subst (λ (word : List ℕ). IsFractionWord Lenient word no_fraction)
+    (text_over_one no_fraction refl ∙ decimal_digit 0 (omega arith))
+    (canonical_fraction Lenient no_fraction))
+
+pub zeros_read : (n : ℕ) (words left behind : List (List ℕ)) (numbers : List Frac) →
+    AreRead words numbers left → left ≡ replicate n (codes "0") ++ behind →
+    AreRead words (numbers ++ replicate n no_fraction) behind
+zeros_read zero words left behind numbers h e =
+    subst₂ (λ (xs : List Frac) (ws : List (List ℕ)). AreRead words xs ws)
+    (sym (append-nil numbers)) e h
+zeros_read (suc n) words left behind numbers h e =
+    subst (λ (xs : List Frac). AreRead words xs behind)
+    (append_assoc numbers (no_fraction ∷ []) (replicate n no_fraction))
+    (zeros_read n words (replicate n (codes "0") ++ behind) behind (numbers ++ no_fraction ∷ [])
+    (one_more_read words left (replicate n (codes "0") ++ behind) numbers (codes "0") no_fraction h
+    e zero_spelled) refl)
+
+-- one more behind those that are counted
+pub counted_more : {A : Type 0} (n : ℕ) (y : A) (xs left behind : List A) →
+    xs ≡ replicate n y ++ left → left ≡ y ∷ behind → xs ≡ replicate (n + 1) y ++ behind
+counted_more n y xs left behind all next =
+    all ∙ ap (λ ys. replicate n y ++ ys) next ∙ sym (append_assoc (replicate n y) (y ∷ []) behind)
+    ∙ ap (λ ys. ys ++ behind) (sym (replicate_next n y))
+
+pub appended_more : {A : Type 0} (n : ℕ) (y : A) (start xs more : List A) →
+    xs ≡ start ++ replicate n y → more ≡ xs ++ y ∷ [] → more ≡ start ++ replicate (n + 1) y
+appended_more n y start xs more all next =
+    next ∙ ap (λ ys. ys ++ y ∷ []) all ∙ append_assoc start (replicate n y) (y ∷ [])
+    ∙ ap (λ ys. start ++ ys) (sym (replicate_next n y))
+
+pub none_read : (words : List (List ℕ)) → AreRead words [] words
+none_read words = record { spelled = λ xs k. k; broken = λ none. none }
+
+pub with_zeros_read : (n : ℕ) (words left behind : List (List ℕ)) (old new : List Frac) →
+    AreRead words old left → left ≡ replicate n (codes "0") ++ behind →
+    new ≡ old ++ replicate n no_fraction → AreRead words new behind
+with_zeros_read n words left behind old new h e more =
+    subst (λ (xs : List Frac). AreRead words xs behind) (sym more)
+    (zeros_read n words left behind old h e)

@@ -9,6 +9,6 @@ line_told (Column name is_whole low high) = column name.now is_whole low.now hig
 line_told (Constraint name sense right) = constraint name.now sense right
 line_told (Entry name value) = entry name.now value
 line_told (Upper name) = upper name.now
-line_told (Sum multipliers) = sum multipliers.items
+line_told (Sum multipliers) = sum multipliers
 line_told (Grid n) = grid n
 line_told (Round n) = round n

@@ -13,8 +13,7 @@ ghost use Rattle.gj_problem_text.specs.Ready.{HasMultipliers, IsReady};
 
 use crate::print::push_cut;
 use crate::task::{Request, Task};
-use gj_frac::Frac;
-use gj_problem::{Inequality, Problem, RoundedCut, rounded};
+use gj_problem::{Inequality, Problem, RoundedCut, Sparse, rounded};
 use gj_proof::CutRule;
 use gj_relaxed::{RelaxedParts, function_relaxed_cut, gmic_relaxed_cut};
 use gj_safe_cut::{SafeCut, function_safe_cut, gmic_safe_cut};
@@ -98,7 +97,7 @@ fn push_request(
                 rule,
                 task,
                 parts,
-                multipliers.as_slice(),
+                multipliers,
                 at_upper.as_slice(),
             )?;
             Ok(())
@@ -124,7 +123,7 @@ fn push_answer(
     rule: &CutRule,
     task: &Task,
     parts: &Option<RelaxedParts>,
-    multipliers: &[Frac],
+    multipliers: &Sparse,
     at_upper: &[bool],
 ) -> Result<(), AllocError>
     requires makes { MakesContinuousCuts rule.now }
@@ -149,7 +148,7 @@ fn answer_of(
     rule: &CutRule,
     task: &Task,
     parts: &Option<RelaxedParts>,
-    multipliers: &[Frac],
+    multipliers: &Sparse,
     at_upper: &[bool],
 ) -> Result<SafeCut, AllocError>
     requires makes { MakesContinuousCuts rule.now }
@@ -180,7 +179,7 @@ fn unrounded(
     round: Option<u32>,
     problem: &Problem,
     parts: &Option<RelaxedParts>,
-    multipliers: &[Frac],
+    multipliers: &Sparse,
     at_upper: &[bool],
 ) -> Result<SafeCut, AllocError>
     requires makes { MakesContinuousCuts rule.now }

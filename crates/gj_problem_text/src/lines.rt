@@ -1,10 +1,10 @@
 //! The lines of a problem text, read.
-ghost use Rattle.std.specs.Prelude.{◌≡◌, ◌∷◌, [], ℕ, Bool, List, codes, IfSome, IfNone, IfOk};
-ghost use Rattle.std.specs.Prelude.{IfErr, MatchOption};
+ghost use Rattle.std.specs.Prelude.{◌≡◌, ◌∷◌, ◌++◌, [], ℕ, Bool, List, codes, replicate};
+ghost use Rattle.std.specs.Prelude.{IfSome, IfNone, IfOk, IfErr};
 ghost use Rattle.gj_forms.specs.LineFaults.{IsRefusedFor};
 ghost use Rattle.gj_lex.specs.Words.{word_texts};
+ghost use Rattle.gj_problem.specs.Sparse.{no_fraction};
 ghost use Rattle.gj_problem.specs.declared.problem.Sense.{Sense};
-ghost use Rattle.gj_problem_text.specs.NumberWords.{IsNumberWord};
 ghost use Rattle.gj_problem_text.specs.ProblemLines.{kind_word, sense_word, told_rule};
 ghost use Rattle.gj_problem_text.specs.LinesRead.{line_told};
 
@@ -12,8 +12,8 @@ use crate::numbers::number_of;
 use gj_forms::{LineFault, only_word, split_word};
 use gj_frac::Frac;
 use gj_lex::{Reason, Spelling, count_of};
-use gj_problem::Sense;
-use std::alloc::Global;
+use gj_problem::{Sense, Sparse};
+use std::alloc::{AllocError, Global};
 
 /// A line with what it tells: names and bounds as they are spelled.
 #[derive(Drop)]
@@ -27,7 +27,7 @@ pub enum Line<'a> {
     /// The column with this name is turned by its upper bound.
     Upper(&'a [u8]),
     /// A multiplier for each constraint.
-    Sum(Vec<Frac>),
+    Sum(Sparse),
     /// The cuts are rounded to multiples of one over this.
     Grid(u32),
     /// They are made with all data on the grid of one over this.
@@ -251,33 +251,31 @@ fn sum_in(alloc: Global, rest: &[u8]) -> Result<Line<'_>, LineFault>
     ensures broken { IfErr result
         (IsRefusedFor (told_rule.Breaks (codes "sum" ∷ word_texts rest.now))) }
 {
-    let mut multipliers = Vec::new(alloc);
-    let mut left = rest;
-    while let Some((multiplier, behind)) = first_multiplier(left) {
-        let Some(multiplier) = multiplier else {
+    let mut multipliers = Sparse::new(alloc);
+    let mut left = with_zeros(&mut multipliers, rest)?;
+    while let Some((word, behind)) = split_word(left) {
+        let Some(multiplier) = number_of(word) else {
             return Err(LineFault::Broken(Reason::Number));
         };
         multipliers.push(multiplier)?;
-        left = behind;
+        left = with_zeros(&mut multipliers, behind)?;
     }
     Ok(Line::Sum(multipliers))
 }
 
-/// The number that the first word of the line spells, if it spells one, and what stands behind the
-/// word. Most multipliers are 0: that word is known without more.
-#[inline(always)]
-fn first_multiplier(line: &[u8]) -> Option<(Option<Frac>, &[u8])>
-    ensures found { IfSome result (λ r. (word : List ℕ)
-        × (word_texts line.now ≡ word ∷ word_texts r.1.now)
-        × MatchOption r.0 ((x : Frac) → IsNumberWord word x → ⊥)
-        (IsNumberWord word)) }
-    ensures none { IfNone result (word_texts line.now ≡ []) }
+/// Appends a 0 for each word `0` that the line begins with, and gives what stands behind them. Most
+/// multipliers are 0: that word is known without more.
+fn with_zeros<'a>(multipliers: &mut Sparse, line: &'a [u8]) -> Result<&'a [u8], AllocError>
+    ensures { IfOk result (λ left. (n : ℕ)
+        × (word_texts line.now ≡ replicate n (codes "0") ++ word_texts left.now)
+        × (multipliers.new ≡ multipliers.old ++ replicate n no_fraction)) }
 {
-    if let Some(behind) = behind_zero(line) {
-        return Some((Some(Frac::ratio(0, 1)), behind));
+    let mut left = line;
+    while let Some(behind) = behind_zero(left) {
+        multipliers.push_zero()?;
+        left = behind;
     }
-    let (word, behind) = split_word(line)?;
-    Some((number_of(word), behind))
+    Ok(left)
 }
 
 /// What stands behind the word `0`, if the line begins with it and one blank before and behind it.

@@ -17,7 +17,7 @@ use crate::task::{Request, Task};
 use gj_forms::{LineFault, name_of};
 use gj_frac::Frac;
 use gj_lex::Reason;
-use gj_problem::{Column, Constraint, Entry, Sense};
+use gj_problem::{Column, Constraint, Entry, Sense, Sparse};
 use gj_shape::List;
 use std::alloc::{AllocError, Global};
 use std::mem;
@@ -240,18 +240,18 @@ fn with_upper(task: &mut Task, places: &Places<'_>, name: &[u8]) -> Result<(), L
 }
 
 /// Asks for the row by these multipliers.
-fn with_sum(task: &mut Task, multipliers: Vec<Frac>) -> Result<(), LineFault>
-    ensures added { OnOk result (AddsSum task.old multipliers.items task.new) }
-    ensures refused { IfErr result (IsRefusedFor (RefusesSum task.old multipliers.items)) }
+fn with_sum(task: &mut Task, multipliers: Sparse) -> Result<(), LineFault>
+    ensures added { OnOk result (AddsSum task.old multipliers task.new) }
+    ensures refused { IfErr result (IsRefusedFor (RefusesSum task.old multipliers)) }
 {
-    if multipliers.len() != task.problem.constraints.as_slice().len() {
+    if !multipliers.has_length(task.problem.constraints.as_slice().len()) {
         return Err(LineFault::Broken(Reason::Form));
     }
     if !are_within_steps(u64::from(task.sums) + 1, steps_of_sum(task)) {
         return Err(LineFault::Broken(Reason::Large));
     }
     task.sums = task.sums.checked_add(1).ok_or(AllocError)?;
-    task.requests.push(Request::Sum(List::of(multipliers)))?;
+    task.requests.push(Request::Sum(multipliers))?;
     Ok(())
 }
 

@@ -1,7 +1,6 @@
 //! A problem, and which rows of it give cuts.
-use gj_frac::Frac;
 use gj_lex::Name;
-use gj_problem::Problem;
+use gj_problem::{Problem, Sparse};
 use gj_shape::List;
 
 /// What is asked of a problem.
@@ -10,7 +9,7 @@ pub enum Request {
     /// From here on the column with this index is turned by its upper bound, if it has one.
     Upper(u32),
     /// The cut of the row by these multipliers, one for each constraint.
-    Sum(List<Frac>),
+    Sum(Sparse),
 }
 
 /// A problem, and which rows of it give cuts.

@@ -1,5 +1,4 @@
-use Rattle.std.proofs.Common.{List, Bool, length, refl, ap, subst, subst₂, ◌∙◌}
-use Rattle.gj_frac.specs.declared.Frac.{Frac}
+use Rattle.std.proofs.Common.{List, Bool, length, refl, subst}
 use Rattle.gj_problem_text.specs.Cuts.{IsAnswer}
 use Rattle.gj_problem_text.specs.Ready.{HasMultipliers}
 use Rattle.gj_problem_text.proofs.answers.push_request.Goals as goal
@@ -11,9 +10,8 @@ returns-in_ok-push_answer-in-Sum-clause-step c =
       refl,
       (
         cut,
-        subst₂ (λ (ms : List Frac) (ups : List Bool). IsAnswer c.args.rule.now c.args.task.now ms
-            ups cut) c.as_slice.ensures
-            c.as_slice-in-Sum.ensures.value answer,
+        subst (λ (ups : List Bool). IsAnswer c.args.rule.now c.args.task.now
+            c.in-Sum.multipliers ups cut) c.as_slice.ensures.value answer,
         holds,
         pushed,
       ),
@@ -21,6 +19,5 @@ returns-in_ok-push_answer-in-Sum-clause-step c =
 
 pub push_answer-requires-clause-multipliers : goal.push_answer-requires-clause-multipliers
 push_answer-requires-clause-multipliers c =
-    ap length c.as_slice.ensures
-    ∙ subst (HasMultipliers (length c.args.task.now.problem.constraints)) c.in-Sum.is
+    subst (HasMultipliers (length c.args.task.now.problem.constraints)) c.in-Sum.is
     c.requires.multipliers

@@ -1,23 +1,34 @@
-use Rattle.std.proofs.Common.{MatchOption, subst}
+use Rattle.std.proofs.Common.{◌≡◌, List, sym, subst}
 use Rattle.gj_frac.specs.declared.Frac.{Frac}
-use Rattle.gj_problem_text.specs.NumberWords.{IsNumberWord}
-use Rattle.gj_problem_text.proofs.LinesTold.{one_more_read, all_read, not_read}
+use Rattle.gj_lex.specs.Words.{word_texts}
+use Rattle.gj_problem_text.proofs.LinesTold.{AreRead, none_read, one_more_read, with_zeros_read, all_read, not_read}
 use Rattle.gj_problem_text.proofs.lines.sum_in.Goals as goal
 
-pub returns-in_default-multiplier-clause-broken : goal.returns-in_default-multiplier-clause-broken
-returns-in_default-multiplier-clause-broken c =
-    let read = c.in-Some.ensures.found in
-    not_read _ _ _ _ read.0 c.loop-multiplier.invariant read.1
-    (subst (λ m. MatchOption m ((x : Frac) → IsNumberWord read.0 x → ⊥)
-    (IsNumberWord read.0)) c.in_default-multiplier.is read.2)
+pub loop-word-init : goal.loop-word-init
+loop-word-init c =
+    let words = word_texts c.args.rest.now in
+    let (n, left, numbers) = c.in_ok-left.ensures in
+    with_zeros_read n words words (word_texts c.in_ok-left.left.now) c.new-multipliers.result _
+    (subst (λ (xs : List Frac). AreRead words xs words) (sym c.new-multipliers.ensures)
+    (none_read words))
+    left numbers
 
-pub loop-multiplier-preserved : goal.loop-multiplier-preserved
-loop-multiplier-preserved c =
-    let read = c.in-Some.ensures.found in
-    rw c.in_ok-push.ensures.items
-    (one_more_read _ _ _ _ read.0 _ c.loop-multiplier.invariant read.1
-    (subst (λ m. MatchOption m ((x : Frac) → IsNumberWord read.0 x → ⊥)
-    (IsNumberWord read.0)) c.in-Some-multiplier.is read.2))
+pub loop-word-preserved : goal.loop-word-preserved
+loop-word-preserved c =
+    let words = word_texts c.args.rest.now in
+    let behind = word_texts c.in-Some.behind.now in
+    let (n, left, numbers) = c.in_ok-left-2.ensures in
+    with_zeros_read n words behind _ _ _
+    (subst (λ (xs : List Frac). AreRead words xs behind) (sym c.in_ok-push.ensures)
+    (one_more_read words (word_texts c.loop-word.left.now) behind c.loop-word.multipliers
+    c.in-Some.word.now c.in-Some-number_of.multiplier c.loop-word.invariant
+    c.in-Some.ensures.found c.in-Some-number_of.ensures.found))
+    left numbers
+
+pub returns-in_default-number_of-clause-broken : goal.returns-in_default-number_of-clause-broken
+returns-in_default-number_of-clause-broken c =
+    not_read _ _ _ _ c.in-Some.word.now c.loop-word.invariant c.in-Some.ensures.found
+    c.in_default-number_of.ensures.none
 
 pub returns-clause-told : goal.returns-clause-told
-returns-clause-told c = all_read _ _ _ c.loop-multiplier.invariant c.in_default.ensures.none
+returns-clause-told c = all_read _ _ _ c.loop-word.invariant c.in_default.ensures.none
