@@ -14,7 +14,7 @@ ghost use Rattle.gj_derivation.specs.Checks.{IsWideNamed};
 use crate::step::{Combination, Multiplier, StepRule, Verdict};
 use crate::terms::sum_of_terms;
 use gj_frac::{Frac, Wide};
-use gj_problem::{Fault, Problem, Sense, Sum};
+use gj_problem::{Fault, Problem, Sense, Sparse, Sum};
 use gj_safe_cut::{SafeCut, function_safe_cut, gmic_safe_cut};
 use gj_shape::Shape;
 use std::alloc::{AllocError, Global};
@@ -161,7 +161,7 @@ fn cut_base(
         combination.rule,
         function,
         problem,
-        multipliers.as_slice(),
+        &multipliers,
         at_upper.as_slice(),
     )?;
     base_from(alloc, problem, cut)
@@ -173,7 +173,7 @@ fn cut_by(
     rule: StepRule,
     function: Option<&Shape>,
     problem: &Problem,
-    multipliers: &[Frac],
+    multipliers: &Sparse,
     at_upper: &[bool],
 ) -> Result<SafeCut, AllocError>
     requires rule { rule ≡ StepRule.Linear → ⊥ }
@@ -216,13 +216,9 @@ fn base_from(alloc: Global, problem: &Problem, cut: SafeCut) -> Result<Base, Fau
 }
 
 /// The multiplier of each constraint: 0 for those that are not named.
-fn multipliers_of(
-    alloc: Global,
-    problem: &Problem,
-    named: &[Multiplier],
-) -> Result<Vec<Frac>, Fault>
+fn multipliers_of(alloc: Global, problem: &Problem, named: &[Multiplier]) -> Result<Sparse, Fault>
     requires { All (λ m. m.line < length problem.now.constraints) named.now }
-    ensures are { IfOk result (λ v. AreMultipliers problem.now named.now v.items) }
+    ensures are { IfOk result (λ v. AreMultipliers problem.now named.now v) }
     ensures wide { result ≡ Err Fault.Wide → IsWideNamed named.now }
     ensures narrow { OnOk result (¬ IsWideNamed named.now) }
 {
@@ -232,6 +228,7 @@ fn multipliers_of(
         let sum = multipliers[multiplier.line].checked_add(multiplier.value)?;
         multipliers[multiplier.line] = sum;
     }
+    let multipliers = Sparse::of(alloc, multipliers.as_slice())?;
     Ok(multipliers)
 }
 

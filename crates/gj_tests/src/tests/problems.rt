@@ -3,7 +3,9 @@
 use gj_frac::Frac;
 use gj_minimal::find_violation;
 use gj_port::{MemSink, MemSource};
-use gj_problem::{Column, Constraint, Entry, Inequality, Problem, RoundedCut, Sense, rounded};
+use gj_problem::{
+    Column, Constraint, Entry, Inequality, Problem, RoundedCut, Sense, Sparse, rounded,
+};
 use gj_safe_cut::{SafeCut, function_safe_cut, gmic_safe_cut};
 use gj_shape::{List, Shape};
 use gj_top::{Status, run};
@@ -49,8 +51,11 @@ fn problem(alloc: Global) -> Option<Problem> {
 
 /// The mixed-integer cut by the multipliers 3/5 and -1/5, which make the row of x.
 fn cut_of(alloc: Global, problem: &Problem) -> Option<Inequality> {
-    let multipliers = [Frac::ratio(3, 5), Frac::ratio(-1, 5)];
+    let multipliers = Sparse::of(alloc, &[Frac::ratio(3, 5), Frac::ratio(-1, 5)]).ok()?;
     let at_upper = [false, false, false];
+    if !multipliers.has_length(2) {
+        return None;
+    }
     if problem.constraints.as_slice().len() != 2 || problem.columns.as_slice().len() != 3 {
         return None;
     }
@@ -100,8 +105,11 @@ fn by_function(alloc: Global) -> Option<bool> {
         return None;
     }
     let problem = problem(alloc)?;
-    let multipliers = [Frac::ratio(3, 5), Frac::ratio(-1, 5)];
+    let multipliers = Sparse::of(alloc, &[Frac::ratio(3, 5), Frac::ratio(-1, 5)]).ok()?;
     let at_upper = [false, false, false];
+    if !multipliers.has_length(2) {
+        return None;
+    }
     if problem.constraints.as_slice().len() != 2 || problem.columns.as_slice().len() != 3 {
         return None;
     }

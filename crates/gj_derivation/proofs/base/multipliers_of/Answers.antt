@@ -1,4 +1,4 @@
-use Rattle.std.proofs.Common.{◌≡◌, ◌<◌, rules, ℕ, List, ap, pos, length, get_or, refl, sym, subst, ◌∙◌}
+use Rattle.std.proofs.Common.{◌≡◌, ◌<◌, rules, ℕ, List, ap, pos, length, get_or, refl, sym, subst, subst₂, ◌∙◌}
 use Rattle.std.proofs.lemmas.List.{length-replicate, take_all}
 use Rattle.gj_frac.specs.declared.Frac.{Frac}
 use Rattle.gj_fields.specs.Rational.{rational, ◌+ℚ◌}
@@ -66,9 +66,9 @@ loop-multiplier-preserved c =
 
 pub returns-clause-are : goal.returns-clause-are
 returns-clause-are c =
-    subst (λ (ms : List Multiplier). AreMultipliers c.args.problem.now ms
-    c.loop-multiplier.multipliers.items)
+    subst₂ (λ (ms : List Multiplier) (xs : List Frac). AreMultipliers c.args.problem.now ms xs)
     (take_all c.loop-multiplier.multiplier-index c.args.named.now c.loop-multiplier-test.false)
+    (sym (c.in_ok-multipliers-2.ensures ∙ c.as_slice.ensures.value))
     c.loop-multiplier.invariant.are
 
 pub returns-clause-narrow : goal.returns-clause-narrow
