@@ -46,7 +46,7 @@ use Rattle.gj_check.proofs.ExtremeDemands.{says}
 
 -- ---- the numbers of components
 
-pub abbrev number_of : (lines : List CoverLine) (q : ℕ) →
+abbrev pub number_of : (lines : List CoverLine) (q : ℕ) →
     ((i : ℕ) → i < q → (number : ℕ) × HasComponent lines number i) →
     (i : ℕ) → (i < q) ⊎ (q ≤ i) → ℕ
 number_of lines q has i (inl low) = (has i low).0

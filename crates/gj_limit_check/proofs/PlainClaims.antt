@@ -31,10 +31,6 @@ use Rattle.gj_limit_proof.specs.declared.triple.Triple.{Triple}
 use Rattle.gj_limit_proof.specs.LimitText.{AreLimitHalvesInBounds, group_lines, extreme_lines, pair_lines, pairs_of, proof_lines_of, HasNumber}
 use Rattle.gj_limit_proof.proofs.LimitLines.{names_append}
 
--- ---- one number
-
-}
-
 -- ---- the other claim
 
 -- a group with the same steps

@@ -20,7 +20,7 @@ one_picked P (dropped p h) (kept q k) = absurd (p q)
 one_picked P (dropped p h) (dropped q k) = one_picked P h k
 
 -- the text of these faces, cover lines and intervals
-pub abbrev listing : ℕ → List Face → List CoverLine → List ℕ → List ℕ
+abbrev pub listing : ℕ → List Face → List CoverLine → List ℕ → List ℕ
 listing q listed lines intervals =
     line (codes "gj-faces 1") ++ order_line q ++ flat_map (λ face. line (face_text face)) listed
     ++ flat_map cover_line lines

@@ -5,10 +5,9 @@ use Rattle.gj_frac.specs.declared.Frac.{Frac}
 use Rattle.gj_fields.specs.Rational.{Rational, whole, rational, ◌+ℚ◌, ◌*ℚ◌, ◌-ℚ◌}
 use Rattle.gj_fields.proofs.RationalLaws.{add_assoc_q, add_comm_q}
 use Rattle.gj_problem.specs.declared.problem.Column.{Column}
-use Rattle.gj_problem.specs.declared.problem.Constraint.{Constraint}
 use Rattle.gj_problem.specs.Problems.{sum_at}
 use Rattle.gj_problem.specs.declared.bounds.Held.{Held}
-use Rattle.gj_problem.specs.Aggregates.{AreMadeOf, Weighted, weighted, aggregate_at, held}
+use Rattle.gj_problem.specs.Aggregates.{AreMadeOf, Weighted, aggregate_at, held}
 use Rattle.gj_problem.specs.Steps.{IsMadeNext}
 use Rattle.gj_problem.proofs.MadePieces.{made_passed, made_more}
 
@@ -53,60 +52,6 @@ next_index : (j i : ℕ) → j + 1 + i ≡ j + suc i
 next_index j i = omega arith
 
 -- ---- constraints
-
-weighted_more : (ms : List Frac) (cs : List Constraint) (i : ℕ) (m : Frac) (c : Constraint) →
-    i < length ms → i < length cs →
-    m ≡ get_or ms i m → c ≡ get_or cs i c →
-    take (suc i) (weighted ms cs) ≡ take i (weighted ms cs) ++ record {
-      multiplier = m;
-      constraint =
-          c;
-    } ∷ []
-weighted_more [] cs i m c m_below c_below m_is c_is = none_below i m_below
-weighted_more (n ∷ ms) [] i m c m_below c_below m_is c_is = none_below i c_below
-weighted_more (n ∷ ms) (d ∷ cs) zero m c m_below c_below m_is c_is =
-    ap₂ (λ (a : Frac) (b : Constraint). let w : Weighted =
-    record { multiplier = a; constraint = b } in w ∷ []) (sym m_is) (sym c_is)
-weighted_more (n ∷ ms) (d ∷ cs) (suc i) m c m_below c_below m_is c_is =
-    ap (λ (ws : List Weighted). record { multiplier = n; constraint = d } ∷ ws)
-    (weighted_more ms cs i m c (next_below i (length ms) m_below)
-    (next_below i (length cs) c_below) m_is c_is)
-
-pub weighted_next : (ms : List Frac) (cs : List Constraint) (i : ℕ) (m : Frac) (c : Constraint) →
-    i < length ms → i < length cs →
-    m ≡ get_or ms i m → c ≡ get_or cs i c →
-    take (i + 1) (weighted ms cs) ≡ take i (weighted ms cs) ++ record {
-      multiplier = m;
-      constraint =
-          c;
-    } ∷ []
-weighted_next ms cs i m c m_below c_below m_is c_is =
-    ap (λ (k : ℕ). take k (weighted ms cs)) (add-one i)
-    ∙ weighted_more ms cs i m c m_below c_below m_is c_is
-
--- the constraints before, at and behind an index
-pub weighted_split : (ms : List Frac) (cs : List Constraint) (i : ℕ) (m : Frac) (c : Constraint) →
-    i < length ms → i < length cs →
-    m ≡ get_or ms i m → c ≡ get_or cs i c →
-    weighted ms cs ≡ take i (weighted ms cs) ++ record { multiplier = m; constraint = c } ∷ drop
-    (i + 1) (weighted ms cs)
-weighted_split ms cs i m c m_below c_below m_is c_is =
-    let ws = weighted ms cs in
-    let w : Weighted = record { multiplier = m; constraint = c } in
-    sym (take-append-drop (i + 1) ws)
-    ∙ ap (λ (xs : List Weighted). xs ++ drop (i + 1) ws)
-    (weighted_next ms cs i m c m_below c_below m_is c_is)
-    ∙ append_assoc (take i ws) (w ∷ []) (drop (i + 1) ws)
-
-weighted_length : (ms : List Frac) (cs : List Constraint) → length (weighted ms cs) ≤ length cs
-weighted_length [] cs = omega arith
-weighted_length (m ∷ ms) [] = omega arith
-weighted_length (m ∷ ms) (c ∷ cs) = let rest = weighted_length ms cs in omega arith
-
-pub weighted_all_taken : (ms : List Frac) (cs : List Constraint) (i : ℕ) → length cs ≤ i →
-    take i (weighted ms cs) ≡ weighted ms cs
-weighted_all_taken ms cs i h = let few = weighted_length ms cs in
-    take_all i (weighted ms cs) (omega arith)
 
 aggregate_more : (point : List Rational) (ws : List Weighted) (w : Weighted) →
     aggregate_at point (ws ++ w ∷ [])

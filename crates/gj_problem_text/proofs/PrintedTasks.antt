@@ -149,7 +149,7 @@ kind_is_plain : (is_whole : Bool) → IsPlain (kind_word is_whole)
 kind_is_plain true = known (codes "whole") refl
 kind_is_plain false = known (codes "continuous") refl
 
-pub abbrev columns_told : List (List ℕ) → List Column → List ProblemLine
+abbrev pub columns_told : List (List ℕ) → List Column → List ProblemLine
 columns_told names columns = each_told (λ name c. column_told name c ∷ []) names columns
 
 columns_joined : (s : Task) (name : List ℕ) (names : List (List ℕ)) (c : Column)
