@@ -40,6 +40,11 @@ pub memory_cause : (f : FunctionData) (x : LimitDecideFault) → IsMemoryFault x
 memory_cause f Wide memory = absurd memory
 memory_cause f (Memory m) memory = tt
 
+pub split_memory : {U : Type 0} (x : SplitFault) → (IsErrOf {T = U} (Err x) split.Wide → ⊥) →
+    IsMemoryFault (of_split x)
+split_memory split.Wide narrow = absurd (narrow refl)
+split_memory (split.Memory m) narrow = tt
+
 -- ---- a fault that is handed on
 
 pub handed : {T : Type 0} (P : LimitDecideFault → Type 0) (r : Result T LimitDecideFault)

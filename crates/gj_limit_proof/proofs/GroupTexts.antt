@@ -7,7 +7,7 @@ use Rattle.gj_forms.specs.LineForms.{LineForm, rule_of}
 use Rattle.gj_forms.specs.ListParts.{IsPrinted}
 use Rattle.gj_forms.specs.Parts.{Part, BeginsWithWord, empty_part, then_part, made_part, IsExactPart}
 use Rattle.gj_forms.proofs.LineLaws.{IsClear, part_is_exact, line_is_read, line_is_printed, begins_so, begins_not}
-use Rattle.gj_forms.proofs.ListLaws.{until_is_printed, then_is_printed}
+use Rattle.gj_forms.proofs.ListLaws.{until_part_is_exact, until_is_printed, then_is_printed}
 use Rattle.gj_forms.proofs.ListRead.{printed_as}
 use Rattle.gj_forms.proofs.PartLaws.{empty_part_is_exact, then_part_is_exact, made_part_is_exact}
 use Rattle.gj_forms.proofs.PlainWords.{known, apart}
@@ -92,6 +92,14 @@ behind_name_is_exact name =
     (λ columns. made_part_is_exact (makes_row name columns) (λ c r s h k. h ∙ sym k)
     (form_part pivot_form)
     (part_is_exact pivot_form pivot_is_clear))
+
+group_is_exact : (q : ℕ) → q ≤ 1000 → IsExactPart (group_part q).Reads (group_part q).Faults
+group_is_exact q small =
+    then_part_is_exact (form_part (row_form q)) behind_name
+    (part_is_exact (row_form q) (row_is_clear q small)) behind_name_is_exact
+
+pub groups_are_exact : (q : ℕ) → q ≤ 1000 → IsExactPart (groups_part q).Reads (groups_part q).Faults
+groups_are_exact q small = until_part_is_exact BeginsEnd (group_part q) (group_is_exact q small) []
 
 -- less is left behind a group
 pub shorter_behind_group : (q : ℕ) (text rest : List ℕ) (row : LimitPivotRow) →

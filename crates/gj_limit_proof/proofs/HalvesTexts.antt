@@ -8,9 +8,10 @@ use Rattle.std.proofs.lemmas.Simd.{map-map}
 use Rattle.gj_frac.specs.Fraction.{Fits}
 use Rattle.gj_forms.specs.LineForms.{line_of}
 use Rattle.gj_forms.specs.ListParts.{IsPrinted}
-use Rattle.gj_forms.specs.Parts.{Part, made_part}
-use Rattle.gj_forms.proofs.LineLaws.{line_is_printed}
-use Rattle.gj_forms.proofs.ListLaws.{then_is_printed, times_is_printed}
+use Rattle.gj_forms.specs.Parts.{Part, made_part, IsExactPart}
+use Rattle.gj_forms.proofs.LineLaws.{part_is_exact, line_is_printed}
+use Rattle.gj_forms.proofs.ListLaws.{times_part_is_exact, then_is_printed, times_is_printed}
+use Rattle.gj_forms.proofs.PartLaws.{then_part_is_exact, made_part_is_exact}
 use Rattle.gj_lemmas.proofs.Lists.{All-made}
 use Rattle.gj_shape.specs.FunctionData.{at}
 use Rattle.gj_shape.specs.declared.extremality.LimitHalves.{LimitHalves}
@@ -22,7 +23,7 @@ use Rattle.gj_proof.proofs.ClearLines.{halves_is_clear}
 use Rattle.gj_limit_proof.specs.LimitGrammar.{AllFit, pair_part, pairs_part, side_numbers_of, halves_part}
 use Rattle.gj_limit_proof.specs.LimitText.{triple_at, pair_line, pairs_of, halves_text, AreSideNumbersWithin, AreLimitHalvesInBounds}
 use Rattle.gj_limit_proof.specs.declared.triple.Triple.{Triple}
-use Rattle.gj_limit_proof.proofs.PairForms.{Pair, HavePairFit, pair_is_printed}
+use Rattle.gj_limit_proof.proofs.PairForms.{Pair, HavePairFit, pair_part_is_exact, pair_is_printed}
 use Rattle.gj_limit_proof.proofs.Triples.{pair_at, item_fits}
 
 -- what follows the first line of halves
@@ -39,6 +40,14 @@ abbrev pub behind_head : HalvesHead → Part LimitHalves
 behind_head head = made_part (makes_halves head) (pairs_part head.order)
 
 -- ---- they are exact
+
+pub halves_are_exact : IsExactPart halves_part.Reads halves_part.Faults
+halves_are_exact =
+    then_part_is_exact (form_part halves_form) behind_head
+    (part_is_exact halves_form halves_is_clear)
+    (λ head. made_part_is_exact (makes_halves head) (λ pairs g h k l. k ∙ sym l)
+    (pairs_part head.order)
+    (times_part_is_exact pair_part pair_part_is_exact head.order []))
 
 -- ---- triples and the numbers of a function
 

@@ -23,7 +23,7 @@ use Rattle.gj_proof.specs.ProofGrammar.{form_part, covered_part}
 use Rattle.gj_proof.specs.ProofText.{claim_fields, modulus_text}
 use Rattle.gj_proof.specs.declared.numbers.Numbers.{Numbers}
 use Rattle.gj_proof.proofs.CutTexts.{BeginsEnd}
-use Rattle.gj_proof.proofs.ExtremeTexts.{covered_is_exact, covered_is_printed, groups_are_exact, halves_are_exact}
+use Rattle.gj_proof.proofs.ExtremeTexts.{covered_is_exact, covered_is_printed}
 use Rattle.gj_proof.proofs.ReadTexts.{last_part, function_found}
 use Rattle.gj_proof.proofs.StrictParts.{line_reads, line_found}
 use Rattle.gj_limit_proof.specs.LimitGrammar.{title_form, numbers_part, groups_part, extreme_part, halves_part, not_extreme_part, claim_part, limit_proof_text}
@@ -31,8 +31,8 @@ use Rattle.gj_limit_proof.specs.LimitText.{IsBounded, title_fields, claim_word, 
 use Rattle.gj_limit_proof.specs.declared.claim.LimitClaim.{LimitClaim}
 use Rattle.gj_limit_proof.specs.declared.claim.LimitClaim.TheVariants.{Extreme, NotExtreme}
 use Rattle.gj_limit_proof.specs.declared.claim.LimitPivotRow.{LimitPivotRow}
-use Rattle.gj_limit_proof.proofs.GroupTexts.{BeginsModulus, numbers_are_exact, numbers_are_printed, groups_are_printed, no_modulus_line}
-use Rattle.gj_limit_proof.proofs.HalvesTexts.{halves_are_printed}
+use Rattle.gj_limit_proof.proofs.GroupTexts.{BeginsModulus, numbers_are_exact, numbers_are_printed, groups_are_exact, groups_are_printed, no_modulus_line}
+use Rattle.gj_limit_proof.proofs.HalvesTexts.{halves_are_exact, halves_are_printed}
 use Rattle.gj_limit_proof.proofs.LimitForms.{title_is_clear}
 
 -- ---- the parts of a proof text

@@ -73,12 +73,12 @@ word_bytes w h = All-weaker IsPrintable IsTextByte (λ b p. inr p) w h
 
 -- ---- numbers
 
-pub number_printable : (b : ℕ) → IsNumberByte b → IsPrintable b
+number_printable : (b : ℕ) → IsNumberByte b → IsPrintable b
 number_printable b (inl d) = (omega (arith, d), omega (arith, d))
 number_printable b (inr (inl e)) = (omega (arith, e), omega (arith, e))
 number_printable b (inr (inr e)) = (omega (arith, e), omega (arith, e))
 
-pub fraction_printable : (x : Frac) → All IsPrintable (fraction_text x)
+fraction_printable : (x : Frac) → All IsPrintable (fraction_text x)
 fraction_printable x = All-weaker IsNumberByte IsPrintable number_printable (fraction_text x)
     (fraction_bytes x)
 
@@ -160,7 +160,7 @@ function_bytes f text within a =
 
 -- ---- the lines of groups
 
-pub kind_printable : (kind : FaceKind) → All IsPrintable (face_word kind)
+kind_printable : (kind : FaceKind) → All IsPrintable (face_word kind)
 kind_printable Vertex = known (codes "vertex") refl
 kind_printable Horizontal = known (codes "horizontal") refl
 kind_printable Vertical = known (codes "vertical") refl

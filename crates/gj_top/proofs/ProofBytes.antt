@@ -11,17 +11,21 @@ use Rattle.std.proofs.lemmas.List.Elements.{All-nil, All-cons, All-head, All-tai
 use Rattle.gj_lemmas.proofs.Lists.{All-flat_map}
 use Rattle.std.proofs.lemmas.List.Sums.{AllPass-from_list_all}
 use Rattle.gj_frac.specs.Fraction.{Fits}
+use Rattle.gj_frac.specs.declared.Frac.{Frac}
 use Rattle.gj_shape.specs.Perturbation.{AreHalvesInBounds}
-use Rattle.gj_lex.proofs.WordBytes.{decimal_bytes}
+use Rattle.gj_lex.specs.NumberText.{fraction_text, IsNumberByte}
+use Rattle.gj_lex.proofs.WordBytes.{decimal_bytes, fraction_bytes}
 use Rattle.gj_function_lines.specs.FunctionLines.{line, order_form, order_line, place_form, place_line, PointNumbers, point_form, numbers_of as printed_numbers, point_line, AreFunctionLines}
 use Rattle.gj_function_lines.specs.FunctionLines.PointNumbers.{one, three}
-use Rattle.gj_function_lines.specs.FaceLines.{cover_fields, cover_line}
+use Rattle.gj_function_lines.specs.FaceLines.{face_word, cover_fields, cover_line}
 use Rattle.gj_forms.specs.LineForms.{Field, word_of, bytes_of}
 use Rattle.gj_shape.specs.FunctionData.{FunctionData, IsWithinBounds}
 use Rattle.gj_shape.specs.declared.extremality.CoverLine.{CoverLine}
 use Rattle.gj_shape.specs.declared.extremality.Halves.{Halves}
 use Rattle.gj_shape.specs.declared.extremality.RowName.{RowName}
 use Rattle.gj_shape.specs.declared.extremality.RowName.TheVariants.{Period, F, Pair}
+use Rattle.gj_shape.specs.declared.faces.FaceKind.{FaceKind}
+use Rattle.gj_shape.specs.declared.faces.FaceKind.TheVariants.{Vertex, Horizontal, Vertical, Diagonal, Lower, Upper}
 use Rattle.gj_shape.specs.declared.points.Point.{Point}
 use Rattle.gj_shape.specs.declared.violations.Violation.{Violation}
 use Rattle.gj_shape.specs.declared.violations.Violation.TheVariants as violation
@@ -42,7 +46,6 @@ use Rattle.gj_proof.specs.declared.pivot.PivotRow.{PivotRow}
 use Rattle.gj_proof.proofs.OwnLines.{names_of_terms}
 use Rattle.gj_forms.proofs.WholeNumbers.{whole, text_of_whole}
 use Rattle.gj_json.specs.JsonText.{IsPrintable, IsProofByte, IsEnded}
-use Rattle.gj_limit_proof.proofs.PrintedBytes.{kind_printable, number_printable, fraction_printable}
 
 -- ---- known texts
 
@@ -91,6 +94,15 @@ fields_bytes (f ∷ g ∷ fields) h =
     (fields_bytes (g ∷ fields) h.1))
 
 -- ---- numbers
+
+number_printable : (b : ℕ) → IsNumberByte b → IsPrintable b
+number_printable b (inl d) = (omega (arith, d), omega (arith, d))
+number_printable b (inr (inl e)) = (omega (arith, e), omega (arith, e))
+number_printable b (inr (inr e)) = (omega (arith, e), omega (arith, e))
+
+fraction_printable : (x : Frac) → All IsPrintable (fraction_text x)
+fraction_printable x = All-weaker IsNumberByte IsPrintable number_printable (fraction_text x)
+    (fraction_bytes x)
 
 decimal_printable : (n : ℕ) → n ≤ 4000 → All IsPrintable (decimal n)
 decimal_printable n small =
@@ -195,6 +207,14 @@ row_text_bytes l h =
     (terms_of l) (names_of_terms l h)))
 
 -- ---- the lines of an extreme function
+
+kind_printable : (kind : FaceKind) → All IsPrintable (face_word kind)
+kind_printable Vertex = known (codes "vertex") refl
+kind_printable Horizontal = known (codes "horizontal") refl
+kind_printable Vertical = known (codes "vertical") refl
+kind_printable Diagonal = known (codes "diagonal") refl
+kind_printable Lower = known (codes "lower") refl
+kind_printable Upper = known (codes "upper") refl
 
 cover_bytes : (q : ℕ) (l : CoverLine) → q ≤ 1000 → IsCoverLineBelow q l →
     All IsProofByte (cover_line l)

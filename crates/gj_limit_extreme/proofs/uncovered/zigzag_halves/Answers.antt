@@ -2,11 +2,10 @@ use Rattle.std.proofs.Common.{◌<◌, sym, subst}
 use Rattle.std.specs.Prelude.{All}
 use Rattle.gj_limit_halves.specs.LimitHalves.{AreLimitHalvesOf}
 use Rattle.gj_limit_extreme.specs.Faults.{of_split, IsMemoryFault}
-use Rattle.gj_limit_extreme.proofs.FaultCases.{handed}
+use Rattle.gj_limit_extreme.proofs.FaultCases.{handed, split_memory}
 use Rattle.gj_limit_extreme.proofs.ListedSides.{zigzag_sides_are, zigzag_can_split, zigzag_narrow}
 use Rattle.gj_limit_extreme.proofs.Zigzags.{class_within}
 use Rattle.gj_limit_extreme.proofs.uncovered.zigzag_halves.Goals as goal
-use Rattle.gj_extreme.proofs.FaultCases.{split_memory}
 
 pub zigzag_sides-requires-clause-within : goal.zigzag_sides-requires-clause-within
 zigzag_sides-requires-clause-within c =
