@@ -115,6 +115,8 @@ fn terms<E: Evaluator>(
 }
 
 /// The term of an entry: its coefficient is the rule's value there.
+// The loops over the entries of a row call it for each.
+#[inline(always)]
 pub fn term<E: Evaluator>(rule: &Rule<E>, entry: Entry) -> Term
     requires { IsRowNumber entry.value }
     ensures { IsTermOf E.answers rule.now entry result }

@@ -28,6 +28,8 @@ const FEW_SPACE: usize = FEW * LINE_SPACE;
 
 /// Appends the lines of a row with a cut of these terms, with the names of their columns. An error
 /// says that memory ran out; `out` may then have a part of them.
+// Its loop prints numbers in line: joined with the other it would call for each.
+#[inline(never)]
 pub fn push_cut_row(
     out: &mut Vec<u8>,
     columns: &[Name],
@@ -44,6 +46,7 @@ pub fn push_cut_row(
 }
 
 /// Appends the lines of the weights of continuous columns, with the names of these.
+#[inline(never)]
 pub(crate) fn push_weights(
     out: &mut Vec<u8>,
     columns: &[Name],
