@@ -102,23 +102,26 @@ fn push_function_lines(
 {
     let kept = shape.copy(alloc)?;
     let at_zero = SlopesAtZero::of_function(shape);
+    // Each way has an evaluator of its own, so that the compiler takes it into the one loop over
+    // entries that calls it.
+    if mixed {
+        let eval = |x: Frac|
+            requires { IsRowNumber x }
+            ensures { IsValueOf shape.entry.now x result }
+        { table_value(shape, x) };
+        let weigh = |c| at_zero.weight(c);
+        return push_lines_by(
+            alloc, out, kept, eval, at_zero, weigh, columns, rows, true, continuous,
+        );
+    }
     let eval = |x: Frac|
         requires { IsRowNumber x }
         ensures { IsValueOf shape.entry.now x result }
     { table_value(shape, x) };
+    let weigh = |c| at_zero.weight(c);
     push_lines_by(
-        alloc,
-        out,
-        kept,
-        eval,
-        at_zero,
-        |c| at_zero.weight(c),
-        columns,
-        rows,
-        mixed,
-        continuous,
-    )?;
-    Ok(())
+        alloc, out, kept, eval, at_zero, weigh, columns, rows, false, continuous,
+    )
 }
 
 /// Appends the lines of each row by the function with this evaluator, and the slopes with this one.

@@ -57,14 +57,13 @@ pub(crate) fn push_weights(
         × AllZip (IsNamedTerm columns.now) weights.now named
         × (out.new.items ≡ out.old.items ++ flat_map weight_line named)) }
 {
-    push_lines(out, b"weight ", columns, weights)?;
+    push_any_lines(out, b"weight ", columns, weights)?;
     Ok(())
 }
 
-/// Appends the lines of terms with this word, a few at a time, so that room is asked for once for
-/// all of them. Without terms no room is cleared.
+/// Appends the lines of terms with this word. Without terms no room is cleared.
 #[inline(always)]
-fn push_lines(
+fn push_any_lines(
     out: &mut Vec<u8>,
     word: &[u8],
     columns: &[Name],
@@ -78,6 +77,23 @@ fn push_lines(
     if terms.is_empty() {
         return Ok(());
     }
+    push_lines(out, word, columns, terms)
+}
+
+/// Appends the lines of terms with this word, a few at a time, so that room is asked for once for
+/// all of them.
+#[inline(always)]
+fn push_lines(
+    out: &mut Vec<u8>,
+    word: &[u8],
+    columns: &[Name],
+    terms: &[Term],
+) -> Result<(), AllocError>
+    requires word { length word.now ≤ WORD_SPACE }
+    requires columns { All (λ t. t.column < length columns.now) terms.now }
+    ensures { OnOk result (out.new.items
+        ≡ out.old.items ++ flat_map (named_line word.now columns.now) terms.now) }
+{
     let mut text = [0; FEW_SPACE];
     let mut left = terms;
     while !left.is_empty() {

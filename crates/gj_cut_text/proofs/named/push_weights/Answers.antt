@@ -8,6 +8,6 @@ returns c =
     let weights = c.args.weights.now in (
       map (named_term columns) weights,
       are_named columns weights,
-      c.in_ok-push_lines.ensures
+      c.in_ok-push_any_lines.ensures
           ∙ ap (λ xs. c.args.out.now.items ++ xs) (weight_lines_are columns weights),
     )
